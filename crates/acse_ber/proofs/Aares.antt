@@ -71,7 +71,8 @@ IsSkipped u text = IsOptionalByte text
 abbrev IsMaybe : ℕ → Unit {0} → List ℕ → Type 0
 IsMaybe present = IsChosen (present == 0) (IsNone tt) (IsGuarded (present == 1) (IsMade (λ (byte : ℕ). tt) IsByte))
 
-skipped_to : (text : List ℕ) (present : ℕ) (others : List ℕ) (u : Unit {0}) → text ≡ present ∷ others → IsMaybe present u others → IsOptionalByte text
+skipped_to : (text : List ℕ) (present : ℕ) (others : List ℕ) (u : Unit {0}) → text ≡ present
+    ∷ others → IsMaybe present u others → IsOptionalByte text
 skipped_to text present others u e (inl h) =
     let absent : present ≡ 0 = eqb-true present 0 h.0 in
     let none : others ≡ [] = h.1.1 in
@@ -258,10 +259,12 @@ IsError Absent text = ⊥
 IsError (Response bits limit) text = ⊥
 IsError (InitiateError error) text = IsInitiateError error text
 
-error_to : (info : Info) (text : List ℕ) → IsMade InitiateError (IsBehind (0x0E ∷ 0x01 ∷ 0x06 ∷ [])) info text → IsError info text
+error_to : (info : Info) (text : List ℕ) → IsMade InitiateError (IsBehind (0x0E ∷ 0x01 ∷ 0x06 ∷ []))
+    info text → IsError info text
 error_to info text s = subst (λ (i : Info). IsError i text) s.1 s.2
 
-error_from : (info : Info) (text : List ℕ) → IsError info text → IsMade InitiateError (IsBehind (0x0E ∷ 0x01 ∷ 0x06 ∷ [])) info text
+error_from : (info : Info) (text : List ℕ) → IsError info text
+    → IsMade InitiateError (IsBehind (0x0E ∷ 0x01 ∷ 0x06 ∷ [])) info text
 error_from Absent text s = absurd s
 error_from (Response bits limit) text s = absurd s
 error_from (InitiateError error) text s = (error, refl, s)
@@ -272,12 +275,14 @@ error_agrees =
     (made_agrees InitiateError (byte_behind (0x0E ∷ 0x01 ∷ 0x06 ∷ [])) (IsBehind (0x0E ∷ 0x01 ∷ 0x06 ∷ [])) (behind_agrees (0x0E ∷ 0x01 ∷ 0x06 ∷ []))) error_to error_from
 
 -- a result is a value or a fault
-told : {X : Type 0} (r : Result X AcseFault) → ((x : X) × (r ≡ Ok x)) ⊎ ((fault : AcseFault) × (r ≡ Err fault))
+told : {X : Type 0} (r : Result X AcseFault) → ((x : X) × (r ≡ Ok x))
+    ⊎ ((fault : AcseFault) × (r ≡ Err fault))
 told (Ok x) = inl (x, refl)
 told (Err fault) = inr (fault, refl)
 
 -- a result is not both a fault and a value
-not_both : {X : Type 0} (r : Result X AcseFault) (fault : AcseFault) (x : X) → r ≡ Err fault → r ≡ Ok x → ⊥
+not_both : {X : Type 0} (r : Result X AcseFault) (fault : AcseFault) (x : X) → r ≡ Err fault
+    → r ≡ Ok x → ⊥
 not_both (Ok y) fault x e f = absurd cc
 not_both (Err y) fault x e f = absurd cc
 
@@ -350,7 +355,8 @@ user_again body fields info e (inr h) = (Some h.0, inner_again 0xBE 0x04 body fi
 accepts : (outcome : ℕ) (b : Bool) → (not (outcome == 0) || b) ≡ true → outcome ≡ 0 → b ≡ true
 accepts outcome b e zero_is = sym (ap (λ (n : ℕ). not (n == 0) || b) zero_is) ∙ e
 
-accepts_again : (outcome : ℕ) (b : Bool) → (outcome ≡ 0 → b ≡ true) → (not (outcome == 0) || b) ≡ true
+accepts_again : (outcome : ℕ) (b : Bool) → (outcome ≡ 0 → b ≡ true)
+    → (not (outcome == 0) || b) ≡ true
 accepts_again outcome true if_zero = elim (outcome == 0) as (λ t. (not t || true) ≡ true) [ true ↦ refl | false ↦ refl ]
 accepts_again outcome false if_zero =
     let other : (outcome == 0) ≡ false = ne_eqb outcome 0 (λ e. let wrong : false ≡ true = if_zero e in absurd cc) in

@@ -10,22 +10,28 @@ use Rattle.acse_ber.specs.declared.fault.AcseFault.{AcseFault}
 use Rattle.acse_ber.proofs.Parts.{tagged_found, tagged_again, fields_found, fields_again, none_found, one_found, none_again, one_again, inner_found, inner_again, needed_ok}
 
 -- if the field of a tag was searched successfully, all fields are known
-pub fields_known : (tag : ℕ) (body : List ℕ) (o : Option (List ℕ)) → field_of tag body ≡ Ok o → (fields : List Field) × (fields_of body ≡ Ok fields)
+pub fields_known : (tag : ℕ) (body : List ℕ) (o : Option (List ℕ)) → field_of tag body ≡ Ok o
+    → (fields : List Field) × (fields_of body ≡ Ok fields)
 unfolding field_of
 fields_known tag body o e = let b = bind_ok (fields_of body) _ o e in (b.0, b.1)
 
 -- an APDU from its parts
-pub apdu_found : (tag : ℕ) (bytes body : List ℕ) (fields : List Field) → tag_contents tag bytes ≡ Ok body → fields_of body ≡ Ok fields → IsApdu tag fields bytes
+pub apdu_found : (tag : ℕ) (bytes body : List ℕ) (fields : List Field) → tag_contents tag bytes
+    ≡ Ok body → fields_of body ≡ Ok fields → IsApdu tag fields bytes
 apdu_found tag bytes body fields t f = record { body = body; is_tagged = tagged_found tag bytes body t; are_fields = fields_found (length body) body fields f }
 
-pub apdu_again : (tag : ℕ) (bytes : List ℕ) (fields : List Field) (a : IsApdu tag fields bytes) → (tag_contents tag bytes ≡ Ok a.body) × (fields_of a.body ≡ Ok fields)
+pub apdu_again : (tag : ℕ) (bytes : List ℕ) (fields : List Field) (a : IsApdu tag fields bytes)
+    → (tag_contents tag bytes ≡ Ok a.body) × (fields_of a.body ≡ Ok fields)
 apdu_again tag bytes fields a = (tagged_again tag bytes a.body a.is_tagged, fields_again fields (length a.body) a.body (omega arith) a.are_fields)
 
-mechanism_found : (body : List ℕ) (fields : List Field) (given : Option (List ℕ)) → fields_of body ≡ Ok fields → field_of 0x8B body ≡ Ok given → HasMechanism fields (unwrap_or given [])
+mechanism_found : (body : List ℕ) (fields : List Field) (given : Option (List ℕ)) → fields_of body
+    ≡ Ok fields → field_of 0x8B body ≡ Ok given → HasMechanism fields (unwrap_or given [])
 mechanism_found body fields None e f = inl (none_found 0x8B body fields e f, refl)
 mechanism_found body fields (Some contents) e f = inr (record { contents = contents; one = one_found 0x8B body fields contents e f; holds = refl })
 
-mechanism_again : (body : List ℕ) (fields : List Field) (mechanism : List ℕ) → fields_of body ≡ Ok fields → HasMechanism fields mechanism → (given : Option (List ℕ)) × (field_of 0x8B body ≡ Ok given) × (unwrap_or given [] ≡ mechanism)
+mechanism_again : (body : List ℕ) (fields : List Field) (mechanism : List ℕ) → fields_of body
+    ≡ Ok fields → HasMechanism fields mechanism → (given : Option (List ℕ))
+    × (field_of 0x8B body ≡ Ok given) × (unwrap_or given [] ≡ mechanism)
 mechanism_again body fields mechanism e (inl h) = (None, none_again 0x8B body fields e h.0, sym h.1)
 mechanism_again body fields mechanism e (inr h) = (Some h.contents, one_again 0x8B body fields h.contents e h.one, h.holds)
 

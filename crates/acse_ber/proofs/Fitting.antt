@@ -34,7 +34,8 @@ back_bytes a b whole parts bytes = λ i.
 -- ---- lengths
 
 -- the length of a length's text, by the number of bits of the length
-short_form : (n : ℕ) → ((n < 2 ^ 8) → length (length_text n) ≤ 2) × ((n < 2 ^ 16) → length (length_text n) ≤ 3)
+short_form : (n : ℕ) → ((n < 2 ^ 8) → length (length_text n) ≤ 2)
+    × ((n < 2 ^ 16) → length (length_text n) ≤ 3)
 short_form n =
     elim (cases_lt n 0x80) [
       | inl h ↦ rw (lt-ltb n 0x80 h) ((λ _. omega arith), (λ _. omega arith))
@@ -51,7 +52,8 @@ below_24 : (s : List ℕ) → IsBytes s → from_be_bytes w32 (0x00 ∷ s) < 2 ^
 below_24 s bytes = omega (arith, bytes 0, bytes 1, bytes 2)
 
 -- any form of a length below 2 ^ 16 is at least as long as the shortest
-pub length_is_short : (text : List ℕ) (n : ℕ) → IsBytes text → IsLength text n → (n < 2 ^ 16) × (length (length_text n) ≤ length text)
+pub length_is_short : (text : List ℕ) (n : ℕ) → IsBytes text → IsLength text n → (n < 2 ^ 16)
+    × (length (length_text n) ≤ length text)
 length_is_short text n bytes (inl h) =
     let len : length text ≡ 1 = ap (λ (s : List ℕ). length s) h.1 in
     (omega (arith, h.0), rw (lt-ltb n 0x80 h.0) (omega (arith, len)))
@@ -81,17 +83,21 @@ form_grows m n le =
       ])
     ]
   where
-    four : (n : ℕ) → 4 ≤ length (cond (ltb n (2 ^ 24)) (0x83 ∷ bytes_high_first 3 n) (0x84 ∷ bytes_high_first 4 n))
+    four : (n : ℕ) → 4 ≤ length (cond (ltb n (2 ^ 24)) (0x83 ∷ bytes_high_first 3 n) (0x84
+        ∷ bytes_high_first 4 n))
     four n = elim (ltb n (2 ^ 24)) as (λ b. 4 ≤ length (cond b (0x83 ∷ bytes_high_first 3 n) (0x84 ∷ bytes_high_first 4 n))) [ true ↦ omega arith | false ↦ omega arith ]
 
-    three : (n : ℕ) → 3 ≤ length (cond (ltb n (2 ^ 16)) (0x82 ∷ bytes_high_first 2 n) (cond (ltb n (2 ^ 24)) (0x83 ∷ bytes_high_first 3 n) (0x84 ∷ bytes_high_first 4 n)))
+    three : (n : ℕ) → 3 ≤ length (cond (ltb n (2 ^ 16)) (0x82 ∷ bytes_high_first 2 n)
+        (cond (ltb n (2 ^ 24)) (0x83 ∷ bytes_high_first 3 n) (0x84 ∷ bytes_high_first 4 n)))
     three n =
         elim (ltb n (2 ^ 16)) as (λ b. 3 ≤ length (cond b (0x82 ∷ bytes_high_first 2 n) (cond (ltb n (2 ^ 24)) (0x83 ∷ bytes_high_first 3 n) (0x84 ∷ bytes_high_first 4 n)))) [
           | true ↦ omega arith
           | false ↦ omega (arith, four n)
         ]
 
-    two : (n : ℕ) → 2 ≤ length (cond (ltb n (2 ^ 8)) (0x81 ∷ bytes_high_first 1 n) (cond (ltb n (2 ^ 16)) (0x82 ∷ bytes_high_first 2 n) (cond (ltb n (2 ^ 24)) (0x83 ∷ bytes_high_first 3 n) (0x84 ∷ bytes_high_first 4 n))))
+    two : (n : ℕ) → 2 ≤ length (cond (ltb n (2 ^ 8)) (0x81 ∷ bytes_high_first 1 n)
+        (cond (ltb n (2 ^ 16)) (0x82 ∷ bytes_high_first 2 n)
+        (cond (ltb n (2 ^ 24)) (0x83 ∷ bytes_high_first 3 n) (0x84 ∷ bytes_high_first 4 n))))
     two n =
         elim (ltb n (2 ^ 8)) as (λ b. 2 ≤ length (cond b (0x81 ∷ bytes_high_first 1 n) (cond (ltb n (2 ^ 16)) (0x82 ∷ bytes_high_first 2 n) (cond (ltb n (2 ^ 24)) (0x83 ∷ bytes_high_first 3 n) (0x84 ∷ bytes_high_first 4 n))))) [
           | true ↦ omega arith
@@ -115,7 +121,8 @@ least_grows : (a b : List ℕ) → length a ≤ length b → least a ≤ least b
 least_grows a b le = omega (arith, le, form_grows (length a) (length b) le)
 
 -- the contents of a tag are bytes, and the text has at least the minimum length
-pub tagged_fits : (tag : ℕ) (contents bytes : List ℕ) → IsBytes bytes → IsTagged tag contents bytes → IsBytes contents × (least contents ≤ length bytes)
+pub tagged_fits : (tag : ℕ) (contents bytes : List ℕ) → IsBytes bytes → IsTagged tag contents bytes
+    → IsBytes contents × (least contents ≤ length bytes)
 tagged_fits tag contents bytes are is =
     let behind : IsBytes (is.length_text ++ contents) = back_bytes (tag ∷ []) (is.length_text ++ contents) bytes is.parts are in
     let l = length_is_short is.length_text (length contents) (front_bytes is.length_text contents (is.length_text ++ contents) refl behind) is.is_length in (
@@ -126,7 +133,8 @@ tagged_fits tag contents bytes are is =
 -- ---- fields
 
 -- the only contents of a tag are bytes
-contents_are_bytes : (tag : ℕ) (fields : List Field) (body contents : List ℕ) → IsBytes body → AreFields fields body → contents_of tag fields ≡ contents ∷ [] → IsBytes contents
+contents_are_bytes : (tag : ℕ) (fields : List Field) (body contents : List ℕ) → IsBytes body
+    → AreFields fields body → contents_of tag fields ≡ contents ∷ [] → IsBytes contents
 contents_are_bytes tag [] body contents bytes are one = absurd cc
 contents_are_bytes tag (f ∷ fs) body contents bytes are one =
     elim (cases_Bool (f.tag == tag)) [
@@ -144,7 +152,8 @@ abbrev leasts : List (List ℕ) → ℕ
 leasts [] = 0
 leasts (contents ∷ more) = least contents + leasts more
 
-leasts_more : (tag : ℕ) (f : Field) (fs : List Field) → leasts (contents_of tag (f ∷ fs)) ≡ cond (f.tag == tag) (least f.contents) 0 + leasts (contents_of tag fs)
+leasts_more : (tag : ℕ) (f : Field) (fs : List Field) → leasts (contents_of tag (f ∷ fs))
+    ≡ cond (f.tag == tag) (least f.contents) 0 + leasts (contents_of tag fs)
 leasts_more tag f fs =
     elim (cases_Bool (f.tag == tag)) [
       | inl e ↦ rw e refl
@@ -152,7 +161,8 @@ leasts_more tag f fs =
     ]
 
 -- a field has at most one of the four tags
-one_share : (t w : ℕ) → cond (t == 0xA1) w 0 + cond (t == 0x8B) w 0 + cond (t == 0xAC) w 0 + cond (t == 0xBE) w 0 ≤ w
+one_share : (t w : ℕ) → cond (t == 0xA1) w 0 + cond (t == 0x8B) w 0 + cond (t == 0xAC) w 0
+    + cond (t == 0xBE) w 0 ≤ w
 one_share t w =
     elim (cases_eq t 0xA1) [
       | inl e ↦ rw e (omega arith)
@@ -188,19 +198,24 @@ fields_long (f ∷ fs) body bytes are =
 -- ---- AARQ
 
 -- an inner tag is no longer than the field that it fills
-inner_long : (tag inner outer : ℕ) (fields : List Field) (body text : List ℕ) → IsBytes body → AreFields fields body → HasInner tag inner fields (Some text) → length (tagged_text outer (tagged_text inner text)) ≤ leasts (contents_of tag fields)
+inner_long : (tag inner outer : ℕ) (fields : List Field) (body text : List ℕ) → IsBytes body
+    → AreFields fields body → HasInner tag inner fields (Some text)
+    → length (tagged_text outer (tagged_text inner text)) ≤ leasts (contents_of tag fields)
 inner_long tag inner outer fields body text bytes are has =
     let fits = tagged_fits inner text has.contents (contents_are_bytes tag fields body has.contents bytes are has.one) has.holds in
     let grows = least_grows (tagged_text inner text) has.contents (omega (arith, fits.1, tagged_long inner text)) in
     let all : leasts (contents_of tag fields) ≡ least has.contents + 0 = ap leasts has.one in
     omega (arith, grows, all, tagged_long outer (tagged_text inner text))
 
-password_long : (fields : List Field) (body : List ℕ) (password : Option (List ℕ)) → IsBytes body → AreFields fields body → HasInner 0xAC 0x80 fields password → length (password_text password) ≤ leasts (contents_of 0xAC fields)
+password_long : (fields : List Field) (body : List ℕ) (password : Option (List ℕ)) → IsBytes body
+    → AreFields fields body → HasInner 0xAC 0x80 fields password
+    → length (password_text password) ≤ leasts (contents_of 0xAC fields)
 password_long fields body None bytes are has = omega arith
 password_long fields body (Some password) bytes are has = inner_long 0xAC 0x80 0xAC fields body password bytes are has
 
 -- the ACSE requirements add four bytes
-mechanism_long : (fields : List Field) (mechanism : List ℕ) → HasMechanism fields mechanism → length (mechanism_text mechanism) ≤ 4 + leasts (contents_of 0x8B fields)
+mechanism_long : (fields : List Field) (mechanism : List ℕ) → HasMechanism fields mechanism
+    → length (mechanism_text mechanism) ≤ 4 + leasts (contents_of 0x8B fields)
 mechanism_long fields [] has = omega arith
 mechanism_long fields (byte ∷ bytes) (inl h) = let wrong : byte ∷ bytes ≡ [] = h.1 in absurd cc
 mechanism_long fields (byte ∷ bytes) (inr h) =
@@ -208,19 +223,22 @@ mechanism_long fields (byte ∷ bytes) (inr h) =
     omega (arith, all, tagged_long 0x8B (byte ∷ bytes))
 
 -- the number of bytes that an APDU leaves for its fields
-body_short : (tag : ℕ) (body bytes : List ℕ) → IsBytes bytes → IsTagged tag body bytes → length bytes ≤ 65535 → length body ≤ 65531
+body_short : (tag : ℕ) (body bytes : List ℕ) → IsBytes bytes → IsTagged tag body bytes
+    → length bytes ≤ 65535 → length body ≤ 65531
 body_short tag body bytes are is short =
     let behind : IsBytes (is.length_text ++ body) = back_bytes (tag ∷ []) (is.length_text ++ body) bytes is.parts are in
     let text : IsBytes is.length_text = front_bytes is.length_text body (is.length_text ++ body) refl behind in
     let whole : length bytes ≡ suc (length is.length_text + length body) = ap (λ (s : List ℕ). length s) is.parts ∙ ap suc (length-append is.length_text body) in
     short_by is.length_text (length body) (length bytes) text is.is_length whole short
   where
-    short_by : (text : List ℕ) (n all : ℕ) → IsBytes text → IsLength text n → all ≡ suc (length text + n) → all ≤ 65535 → n ≤ 65531
+    short_by : (text : List ℕ) (n all : ℕ) → IsBytes text → IsLength text n → all
+        ≡ suc (length text + n) → all ≤ 65535 → n ≤ 65531
     short_by text n all bytes (inl h) whole short = omega (arith, h.0)
     short_by text n all bytes (inr (inl e)) whole short = let below : n < 256 = subst IsBytes e bytes 1 in omega arith
     short_by text n all bytes (inr (inr (two, e, is))) whole short = omega (arith, whole, short, is.0, ap (λ (s : List ℕ). length s) e)
 
-pub aarq_fits : (bytes : List ℕ) (aarq : Aarq) → IsBytes bytes → length bytes ≤ 65535 → SpellsAarq bytes aarq → IsFitAarq aarq
+pub aarq_fits : (bytes : List ℕ) (aarq : Aarq) → IsBytes bytes → length bytes ≤ 65535
+    → SpellsAarq bytes aarq → IsFitAarq aarq
 aarq_fits bytes aarq are short s =
     let body = s.is_apdu.body in
     let tagged = tagged_fits 0x60 body bytes are s.is_apdu.is_tagged in
@@ -239,7 +257,8 @@ aarq_fits bytes aarq are short s =
 
 -- ---- AARE
 
-response_fits : (bits limit : ℕ) (text : List ℕ) → IsBytes text → IsResponse bits limit text → (bits < 2 ^ 24) × (limit < 2 ^ 16)
+response_fits : (bits limit : ℕ) (text : List ℕ) → IsBytes text → IsResponse bits limit text
+    → (bits < 2 ^ 24) × (limit < 2 ^ 16)
 response_fits bits limit text are is =
     let one = back_bytes (0x08 ∷ []) _ text is.parts are in
     let two = back_bytes is.quality _ _ refl one in
@@ -258,7 +277,8 @@ user_fits fields body info bytes are (inl h) = subst IsFitInfo (sym h.1) tt
 user_fits fields body info bytes are (inr (text, has, is)) =
     info_fits info text (tagged_fits 0x04 text has.contents (contents_are_bytes 0xBE fields body has.contents bytes are has.one) has.holds).0 is
 
-pub aare_fits : (bytes : List ℕ) (aare : Aare) → IsBytes bytes → SpellsAare bytes aare → IsFitAare aare
+pub aare_fits : (bytes : List ℕ) (aare : Aare) → IsBytes bytes → SpellsAare bytes aare
+    → IsFitAare aare
 aare_fits bytes aare are s =
     let tagged = tagged_fits 0x61 s.is_apdu.body bytes are s.is_apdu.is_tagged in
     record { info = user_fits s.fields s.is_apdu.body aare.info tagged.0 s.is_apdu.are_fields s.user; responds = s.responds }

@@ -15,7 +15,8 @@ use Rattle.acse_ber.specs.declared.fault.AcseFault.TheVariants.{Unreadable}
 abbrev pub IsThen : {X Z : Type 0} → (X → List ℕ → Type 0) → (X → Z → List ℕ → Type 0) → Z → List ℕ → Type 0
 IsThen {X = X} P Q z text = (x : X) × IsJoined (P x) (Q x z) text
 
-pub then_agrees : {X Z : Type 0} (first : List ℕ → Read X) (next : X → List ℕ → Read Z) (P : X → List ℕ → Type 0) (Q : X → Z → List ℕ → Type 0)
+pub then_agrees : {X Z : Type 0} (first : List ℕ → Read X) (next : X → List ℕ → Read Z) (P : X
+    → List ℕ → Type 0) (Q : X → Z → List ℕ → Type 0)
     → Agrees X first P → ((x : X) → Agrees Z (next x) (Q x)) → Agrees Z (λ bytes. first bytes >>= λ x. next x.0 x.1) (IsThen P Q)
 then_agrees first next P Q one others =
     agreeing.then_agrees first next P Q (IsThen P Q) one others (λ x z a b p q. (x, record { first = a; others = b; parts = refl; is_first = p; are_others = q }))
@@ -25,7 +26,8 @@ then_agrees first next P Q one others =
 abbrev pub IsGuarded : {X : Type 0} → Bool → (X → List ℕ → Type 0) → X → List ℕ → Type 0
 IsGuarded b P x text = (b ≡ true) × P x text
 
-pub guard_agrees : {X : Type 0} (b : Bool) (next : List ℕ → Read X) (P : X → List ℕ → Type 0) → Agrees X next P → Agrees X (λ bytes. guard b Unreadable >> next bytes) (IsGuarded b P)
+pub guard_agrees : {X : Type 0} (b : Bool) (next : List ℕ → Read X) (P : X → List ℕ → Type 0)
+    → Agrees X next P → Agrees X (λ bytes. guard b Unreadable >> next bytes) (IsGuarded b P)
 guard_agrees b next P agrees = record {
   takes = λ bytes x e.
       let g = guard_ok b Unreadable (next bytes) x e in
@@ -38,7 +40,9 @@ guard_agrees b next P agrees = record {
 abbrev pub IsChosen : {X : Type 0} → Bool → (X → List ℕ → Type 0) → (X → List ℕ → Type 0) → X → List ℕ → Type 0
 IsChosen b P Q x text = ((b ≡ true) × P x text) ⊎ ((b ≡ false) × Q x text)
 
-pub choice_agrees : {X : Type 0} (b : Bool) (one other : List ℕ → Read X) (P Q : X → List ℕ → Type 0) → Agrees X one P → Agrees X other Q → Agrees X (λ bytes. cond b (one bytes) (other bytes)) (IsChosen b P Q)
+pub choice_agrees : {X : Type 0} (b : Bool) (one other : List ℕ → Read X) (P Q : X → List ℕ
+    → Type 0) → Agrees X one P → Agrees X other Q
+    → Agrees X (λ bytes. cond b (one bytes) (other bytes)) (IsChosen b P Q)
 choice_agrees {X = X} b one other P Q whole_one whole_other = record {
   takes = λ bytes x e.
       elim (chosen b (one bytes) (other bytes) (done AcseFault x) e) [

@@ -19,7 +19,8 @@ use Rattle.acse_ber.proofs.Steps.{after, unrolled}
 -- ---- bytes
 
 -- a byte followed by others
-pub byte_before : {Q : List ℕ → Type 0} (byte : ℕ) (text : List ℕ) (j : IsJoined (IsByte byte) Q text) → text ≡ byte ∷ j.others
+pub byte_before : {Q : List ℕ → Type 0} (byte : ℕ) (text : List ℕ)
+    (j : IsJoined (IsByte byte) Q text) → text ≡ byte ∷ j.others
 byte_before byte text j = j.parts ∙ ap (λ (f : List ℕ). f ++ j.others) j.is_first
 
 -- a number of two bytes
@@ -35,7 +36,8 @@ size_agrees =
 abbrev pub IsLiteral : List ℕ → Unit {0} → List ℕ → Type 0
 IsLiteral expected u text = text ≡ expected
 
-pub literal_agrees : (expected : List ℕ) → Agrees (Unit {0}) (literal_at expected) (IsLiteral expected)
+pub literal_agrees : (expected : List ℕ) → Agrees (Unit {0}) (literal_at expected)
+    (IsLiteral expected)
 literal_agrees expected =
     let n = length expected in
     seen_as (literal_at expected) (IsThen (AreBytes n) (λ there. IsGuarded (bytes_eq there expected) (IsNone tt))) (IsLiteral expected)
@@ -55,7 +57,8 @@ IsCount n text = IsLength text n
 abbrev IsForm : ℕ → ℕ → List ℕ → Type 0
 IsForm first = IsChosen (nat_lt first 0x80) (IsNone first) (IsChosen (first == 0x81) IsByte (IsChosen (first == 0x82) IsSize (λ n text. ⊥)))
 
-length_to : (n : ℕ) (text : List ℕ) (first : ℕ) (others : List ℕ) → text ≡ first ∷ others → IsForm first n others → IsCount n text
+length_to : (n : ℕ) (text : List ℕ) (first : ℕ) (others : List ℕ) → text ≡ first ∷ others
+    → IsForm first n others → IsCount n text
 length_to n text first others e (inl h) =
     let low : first < 0x80 = ltb-true first 0x80 h.0 in
     let same : first ≡ n = h.1.0 in
@@ -114,11 +117,13 @@ tagged_agrees tag =
     (λ x text s. (tag, record { first = tag ∷ []; others = s.length_text ++ x; parts = s.parts; is_first = refl; are_others = (eq-eqb tag tag refl, (s.length_text, refl, s.is_length)) }))
 
 -- the contents of a tag that fill the bytes
-pub tagged_found : (tag : ℕ) (bytes contents : List ℕ) → tag_contents tag bytes ≡ Ok contents → IsTagged tag contents bytes
+pub tagged_found : (tag : ℕ) (bytes contents : List ℕ) → tag_contents tag bytes ≡ Ok contents
+    → IsTagged tag contents bytes
 unfolding tag_contents
 tagged_found tag bytes contents e = all_taken Unreadable (tagged_at tag) (IsTagged tag) (tagged_agrees tag) contents bytes e
 
-pub tagged_again : (tag : ℕ) (bytes contents : List ℕ) → IsTagged tag contents bytes → tag_contents tag bytes ≡ Ok contents
+pub tagged_again : (tag : ℕ) (bytes contents : List ℕ) → IsTagged tag contents bytes
+    → tag_contents tag bytes ≡ Ok contents
 unfolding tag_contents
 tagged_again tag bytes contents s = all_read Unreadable (tagged_at tag) (IsTagged tag) (tagged_agrees tag) contents bytes s
 
@@ -159,7 +164,8 @@ field_agrees =
     ))
 
 -- fields that are read are spelled
-pub fields_found : (limit : ℕ) (bytes : List ℕ) (fields : List Field) → fields_within limit bytes ≡ Ok fields → AreFields fields bytes
+pub fields_found : (limit : ℕ) (bytes : List ℕ) (fields : List Field) → fields_within limit bytes
+    ≡ Ok fields → AreFields fields bytes
 unfolding fields_within
 fields_found limit [] fields e = subst (λ (fs : List Field). AreFields fs []) (ok_is {F = AcseFault} [] fields e) refl
 fields_found zero (byte ∷ rest) fields e = absurd cc
@@ -172,7 +178,8 @@ fields_found (suc limit) (byte ∷ rest) fields e =
     subst (λ (fs : List Field). AreFields fs (byte ∷ rest)) (ok_is {F = AcseFault} made fields o.2) (record { first = t.text; others = b.0.1; parts = t.parts; is_first = t.spelled; are_others = others })
 
 -- fields that are spelled are read
-pub fields_again : (fields : List Field) (limit : ℕ) (bytes : List ℕ) → length bytes ≤ limit → AreFields fields bytes → fields_within limit bytes ≡ Ok fields
+pub fields_again : (fields : List Field) (limit : ℕ) (bytes : List ℕ) → length bytes ≤ limit
+    → AreFields fields bytes → fields_within limit bytes ≡ Ok fields
 unfolding fields_within
 fields_again [] limit bytes le none = rw none refl
 fields_again (field ∷ fields) limit bytes le j =
@@ -193,25 +200,32 @@ one_is (y ∷ []) x e = ap (λ (z : Option _). unwrap_or z y ∷ []) (ok_is {F =
 one_is (y ∷ z ∷ more) x e = absurd cc
 
 -- the field of a tag, with the fields known
-pub field_is : (tag : ℕ) (body : List ℕ) (fields : List Field) → fields_of body ≡ Ok fields → field_of tag body ≡ at_most_one (contents_of tag fields)
+pub field_is : (tag : ℕ) (body : List ℕ) (fields : List Field) → fields_of body ≡ Ok fields
+    → field_of tag body ≡ at_most_one (contents_of tag fields)
 unfolding field_of
 field_is tag body fields e = rw e refl
 
 -- a field that is absent, and one that is present
-pub none_found : (tag : ℕ) (body : List ℕ) (fields : List Field) → fields_of body ≡ Ok fields → field_of tag body ≡ Ok None → HasNone tag fields
+pub none_found : (tag : ℕ) (body : List ℕ) (fields : List Field) → fields_of body ≡ Ok fields
+    → field_of tag body ≡ Ok None → HasNone tag fields
 none_found tag body fields e f = none_is (contents_of tag fields) (sym (field_is tag body fields e) ∙ f)
 
-pub one_found : (tag : ℕ) (body : List ℕ) (fields : List Field) (contents : List ℕ) → fields_of body ≡ Ok fields → field_of tag body ≡ Ok (Some contents) → contents_of tag fields ≡ contents ∷ []
+pub one_found : (tag : ℕ) (body : List ℕ) (fields : List Field) (contents : List ℕ) → fields_of body
+    ≡ Ok fields → field_of tag body ≡ Ok (Some contents) → contents_of tag fields ≡ contents ∷ []
 one_found tag body fields contents e f = one_is (contents_of tag fields) contents (sym (field_is tag body fields e) ∙ f)
 
-pub none_again : (tag : ℕ) (body : List ℕ) (fields : List Field) → fields_of body ≡ Ok fields → HasNone tag fields → field_of tag body ≡ Ok None
+pub none_again : (tag : ℕ) (body : List ℕ) (fields : List Field) → fields_of body ≡ Ok fields
+    → HasNone tag fields → field_of tag body ≡ Ok None
 none_again tag body fields e none = field_is tag body fields e ∙ rw none refl
 
-pub one_again : (tag : ℕ) (body : List ℕ) (fields : List Field) (contents : List ℕ) → fields_of body ≡ Ok fields → contents_of tag fields ≡ contents ∷ [] → field_of tag body ≡ Ok (Some contents)
+pub one_again : (tag : ℕ) (body : List ℕ) (fields : List Field) (contents : List ℕ) → fields_of body
+    ≡ Ok fields → contents_of tag fields ≡ contents ∷ [] → field_of tag body ≡ Ok (Some contents)
 one_again tag body fields contents e one = field_is tag body fields e ∙ rw one refl
 
 -- the contents of the inner tag of a field
-inner_case : (tag inner : ℕ) (body : List ℕ) (fields : List Field) (given o : Option (List ℕ)) → fields_of body ≡ Ok fields → field_of tag body ≡ Ok given → optional (tag_contents inner) given ≡ Ok o → HasInner tag inner fields o
+inner_case : (tag inner : ℕ) (body : List ℕ) (fields : List Field) (given o : Option (List ℕ))
+    → fields_of body ≡ Ok fields → field_of tag body ≡ Ok given
+    → optional (tag_contents inner) given ≡ Ok o → HasInner tag inner fields o
 inner_case tag inner body fields None None e f g = none_found tag body fields e f
 inner_case tag inner body fields None (Some text) e f g = absurd cc
 inner_case tag inner body fields (Some contents) None e f g =
@@ -223,19 +237,22 @@ inner_case tag inner body fields (Some contents) (Some text) e f g =
     let same : b.0 ≡ text = ap (λ (z : Option (List ℕ)). unwrap_or z []) (ok_is {F = AcseFault} (Some b.0) (Some text) b.2) in
     record { contents = contents; one = one_found tag body fields contents e f; holds = subst (λ (t : List ℕ). IsTagged inner t contents) same (tagged_found inner contents b.0 b.1) }
 
-pub inner_found : (tag inner : ℕ) (body : List ℕ) (fields : List Field) (o : Option (List ℕ)) → fields_of body ≡ Ok fields → inner_of tag inner body ≡ Ok o → HasInner tag inner fields o
+pub inner_found : (tag inner : ℕ) (body : List ℕ) (fields : List Field) (o : Option (List ℕ))
+    → fields_of body ≡ Ok fields → inner_of tag inner body ≡ Ok o → HasInner tag inner fields o
 unfolding inner_of
 inner_found tag inner body fields o e f =
     let b = bind_ok (field_of tag body) (optional (tag_contents inner)) o f in
     inner_case tag inner body fields b.0 o e b.1 b.2
 
-pub inner_again : (tag inner : ℕ) (body : List ℕ) (fields : List Field) (o : Option (List ℕ)) → fields_of body ≡ Ok fields → HasInner tag inner fields o → inner_of tag inner body ≡ Ok o
+pub inner_again : (tag inner : ℕ) (body : List ℕ) (fields : List Field) (o : Option (List ℕ))
+    → fields_of body ≡ Ok fields → HasInner tag inner fields o → inner_of tag inner body ≡ Ok o
 unfolding inner_of
 inner_again tag inner body fields None e h = rw (none_again tag body fields e h) refl
 inner_again tag inner body fields (Some text) e h = rw (one_again tag body fields h.contents e h.one, tagged_again inner h.contents text h.holds) refl
 
 -- a needed value that was read is present
-pub needed_ok : {X : Type 0} (r : Result (Option X) AcseFault) (x : X) → (r >>= or_unreadable) ≡ Ok x → r ≡ Ok (Some x)
+pub needed_ok : {X : Type 0} (r : Result (Option X) AcseFault) (x : X) → (r >>= or_unreadable)
+    ≡ Ok x → r ≡ Ok (Some x)
 needed_ok (Ok None) x e = absurd cc
 needed_ok {X = X} (Ok (Some y)) x e = ap (λ (z : X). done AcseFault (Some z)) (ok_is {F = AcseFault} y x e)
 needed_ok (Err fault) x e = absurd cc

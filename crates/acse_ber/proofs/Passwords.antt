@@ -22,13 +22,15 @@ same_further given password i d below within so_far none =
     take_more_same given password i 0 below within (so_far before) (same_byte x y here)
 
 -- equal bytes have no difference
-pub none_further : (given password : List ℕ) (i d : ℕ) → (given ≡ password → d ≡ 0) → given ≡ password
+pub none_further : (given password : List ℕ) (i d : ℕ) → (given ≡ password → d ≡ 0)
+    → given ≡ password
     → bit_or d (bit_xor (slice_index_or given i 0) (slice_index_or password i 0)) ≡ 0
 none_further given password i d none same =
     rw (none same, same, xor_self (slice_index_or password i 0)) refl
 
 -- at the end, there is no difference exactly if the byte strings are equal
-pub is_compared : (given password : List ℕ) (i d : ℕ) → length given ≡ length password → length given ≤ i
+pub is_compared : (given password : List ℕ) (i d : ℕ) → length given ≡ length password
+    → length given ≤ i
     → (d ≡ 0 → take i given ≡ take i password) → (given ≡ password → d ≡ 0) → nat_eq d 0 ≡ bytes_eq given password
 is_compared given password i d long ended so_far none =
     let whole : d ≡ 0 → given ≡ password = λ zero. sym (take_all i given ended) ∙ so_far zero ∙ take_all i password (omega (arith, long, ended)) in

@@ -24,7 +24,8 @@ abbrev pub IsPlain : {X : Type 0} → Result X AcseFault → Type 0
 IsPlain (Ok x) = Unit {0}
 IsPlain (Err fault) = fault ≡ Unreadable
 
-bind_plain : {X Y : Type 0} (r : Result X AcseFault) (next : X → Result Y AcseFault) → IsPlain r → ((x : X) → IsPlain (next x)) → IsPlain (r >>= next)
+bind_plain : {X Y : Type 0} (r : Result X AcseFault) (next : X → Result Y AcseFault) → IsPlain r
+    → ((x : X) → IsPlain (next x)) → IsPlain (r >>= next)
 bind_plain (Ok x) next p q = q x
 bind_plain (Err fault) next p q = p
 
@@ -32,7 +33,8 @@ guard_plain : (b : Bool) → IsPlain (guard b Unreadable)
 guard_plain true = tt
 guard_plain false = refl
 
-choice_plain : {X : Type 0} (b : Bool) (r s : Result X AcseFault) → IsPlain r → IsPlain s → IsPlain (cond b r s)
+choice_plain : {X : Type 0} (b : Bool) (r s : Result X AcseFault) → IsPlain r → IsPlain s
+    → IsPlain (cond b r s)
 choice_plain true r s p q = p
 choice_plain false r s p q = q
 
@@ -117,7 +119,8 @@ contents_shrinks bytes x e =
     let two : length x.1 ≤ length b.0.1 = bytes_shrinks b.0.0 b.0.1 x b.2 in
     omega arith
 
-pub field_shorter : (bytes : List ℕ) (x : Field × List ℕ) → field_at bytes ≡ Ok x → length x.1 < length bytes
+pub field_shorter : (bytes : List ℕ) (x : Field × List ℕ) → field_at bytes ≡ Ok x
+    → length x.1 < length bytes
 unfolding field_at
 field_shorter bytes x e =
     let b = bind_ok (byte_at bytes) _ x e in
@@ -136,7 +139,9 @@ abbrev pub after : Field → Result (List Field) AcseFault → Result (List Fiel
 after field read = read >>= λ others. Ok (field ∷ others)
 
 -- a field is read while bytes remain
-pub unrolled : (limit : ℕ) (bytes : List ℕ) (field : Field) (rest : List ℕ) → field_at bytes ≡ Ok (field, rest) → length bytes ≤ limit → (n : ℕ) × (length rest ≤ n) × (fields_within limit bytes ≡ after field (fields_within n rest))
+pub unrolled : (limit : ℕ) (bytes : List ℕ) (field : Field) (rest : List ℕ) → field_at bytes
+    ≡ Ok (field, rest) → length bytes ≤ limit → (n : ℕ) × (length rest ≤ n)
+    × (fields_within limit bytes ≡ after field (fields_within n rest))
 unfolding fields_within
 unrolled limit [] field rest e le = let less : length rest < 0 = field_shorter [] (field, rest) e in absurd (omega arith)
 unrolled zero (byte ∷ bytes) field rest e le = absurd (omega arith)
@@ -145,21 +150,26 @@ unrolled (suc n) (byte ∷ bytes) field rest e le =
     (n, omega arith, rw e refl)
 
 -- a field that is refused refuses all
-pub refused : (limit : ℕ) (bytes : List ℕ) (fault : AcseFault) → (bytes ≡ [] → ⊥) → length bytes ≤ limit → field_at bytes ≡ Err fault → fields_within limit bytes ≡ Err fault
+pub refused : (limit : ℕ) (bytes : List ℕ) (fault : AcseFault) → (bytes ≡ [] → ⊥)
+    → length bytes ≤ limit → field_at bytes ≡ Err fault → fields_within limit bytes ≡ Err fault
 unfolding fields_within
 refused limit [] fault some le e = absurd (some refl)
 refused zero (byte ∷ bytes) fault some le e = absurd (omega arith)
 refused (suc n) (byte ∷ bytes) fault some le e = rw e refl
 
-skipped_in : (tag : ℕ) (found : Option (List ℕ)) (field : Field) (r : Result (List Field) AcseFault) → (field.tag == tag) ≡ false → still tag found (after field r) ≡ still tag found r
+skipped_in : (tag : ℕ) (found : Option (List ℕ)) (field : Field) (r : Result (List Field) AcseFault)
+    → (field.tag == tag) ≡ false → still tag found (after field r) ≡ still tag found r
 skipped_in tag found field (Ok others) e = rw e refl
 skipped_in tag found field (Err fault) e = refl
 
-found_in : (tag : ℕ) (field : Field) (r : Result (List Field) AcseFault) → (field.tag == tag) ≡ true → still tag None (after field r) ≡ still tag (Some field.contents) r
+found_in : (tag : ℕ) (field : Field) (r : Result (List Field) AcseFault) → (field.tag == tag) ≡ true
+    → still tag None (after field r) ≡ still tag (Some field.contents) r
 found_in tag field (Ok others) e = rw e refl
 found_in tag field (Err fault) e = refl
 
-twice_in : (tag : ℕ) (contents : List ℕ) (field : Field) (r : Result (List Field) AcseFault) → (field.tag == tag) ≡ true → IsPlain r → still tag (Some contents) (after field r) ≡ Err Unreadable
+twice_in : (tag : ℕ) (contents : List ℕ) (field : Field) (r : Result (List Field) AcseFault)
+    → (field.tag == tag) ≡ true → IsPlain r → still tag (Some contents) (after field r)
+    ≡ Err Unreadable
 twice_in tag contents field (Ok others) e p = rw e refl
 twice_in tag contents field (Err fault) e p = rw p refl
 
@@ -168,14 +178,16 @@ abbrev pub Remaining : ℕ → Option (List ℕ) → List ℕ → Result (Option
 Remaining tag found rest total = (limit : ℕ) × (length rest ≤ limit) × (still tag found (fields_within limit rest) ≡ total)
 
 -- the next field has another tag
-pub skips : (tag : ℕ) (found : Option (List ℕ)) (bytes : List ℕ) (field : Field) (rest : List ℕ) (total : Result (Option (List ℕ)) AcseFault)
+pub skips : (tag : ℕ) (found : Option (List ℕ)) (bytes : List ℕ) (field : Field) (rest : List ℕ)
+    (total : Result (Option (List ℕ)) AcseFault)
     → Remaining tag found bytes total → field_at bytes ≡ Ok (field, rest) → (field.tag == tag) ≡ false → Remaining tag found rest total
 skips tag found bytes field rest total left e other =
     let u = unrolled left.0 bytes field rest e left.1 in
     (u.0, u.1, sym (skipped_in tag found field (fields_within u.0 rest) other) ∙ sym (ap (still tag found) u.2) ∙ left.2)
 
 -- the next field is the first with the tag
-pub finds : {X : Type 0} (view : X → List ℕ) (tag : ℕ) (found : Option X) (bytes : List ℕ) (field : Field) (rest : List ℕ) (total : Result (Option (List ℕ)) AcseFault)
+pub finds : {X : Type 0} (view : X → List ℕ) (tag : ℕ) (found : Option X) (bytes : List ℕ)
+    (field : Field) (rest : List ℕ) (total : Result (Option (List ℕ)) AcseFault)
     → Remaining tag (option_map view found) bytes total → field_at bytes ≡ Ok (field, rest) → (field.tag == tag) ≡ true → false ≡ is_some found → Remaining tag (Some field.contents) rest total
 finds view tag None bytes field rest total left e same none =
     let u = unrolled left.0 bytes field rest e left.1 in
@@ -183,7 +195,8 @@ finds view tag None bytes field rest total left e same none =
 finds view tag (Some x) bytes field rest total left e same none = absurd cc
 
 -- the next field is a second one with the tag
-pub is_twice : {X : Type 0} (view : X → List ℕ) (tag : ℕ) (found : Option X) (bytes : List ℕ) (field : Field) (rest : List ℕ) (total : Result (Option (List ℕ)) AcseFault)
+pub is_twice : {X : Type 0} (view : X → List ℕ) (tag : ℕ) (found : Option X) (bytes : List ℕ)
+    (field : Field) (rest : List ℕ) (total : Result (Option (List ℕ)) AcseFault)
     → Remaining tag (option_map view found) bytes total → field_at bytes ≡ Ok (field, rest) → (field.tag == tag) ≡ true → true ≡ is_some found → total ≡ Err Unreadable
 is_twice view tag None bytes field rest total left e same some = absurd cc
 is_twice view tag (Some x) bytes field rest total left e same some =
@@ -191,12 +204,15 @@ is_twice view tag (Some x) bytes field rest total left e same some =
     sym left.2 ∙ ap (still tag (Some (view x))) u.2 ∙ twice_in tag (view x) field (fields_within u.0 rest) same (fields_plain u.0 rest)
 
 -- the next bytes are not a field
-pub is_refused : (tag : ℕ) (found : Option (List ℕ)) (bytes : List ℕ) (fault : AcseFault) (total : Result (Option (List ℕ)) AcseFault)
+pub is_refused : (tag : ℕ) (found : Option (List ℕ)) (bytes : List ℕ) (fault : AcseFault)
+    (total : Result (Option (List ℕ)) AcseFault)
     → Remaining tag found bytes total → (bytes ≡ [] → ⊥) → field_at bytes ≡ Err fault → total ≡ Err fault
 is_refused tag found bytes fault total left some e = sym left.2 ∙ ap (still tag found) (refused left.0 bytes fault some left.1 e)
 
 -- no bytes remain
-pub is_found : (tag : ℕ) (found : Option (List ℕ)) (bytes : List ℕ) (total : Result (Option (List ℕ)) AcseFault) → Remaining tag found bytes total → bytes ≡ [] → total ≡ Ok found
+pub is_found : (tag : ℕ) (found : Option (List ℕ)) (bytes : List ℕ)
+    (total : Result (Option (List ℕ)) AcseFault) → Remaining tag found bytes total → bytes ≡ []
+    → total ≡ Ok found
 unfolding fields_within
 is_found tag None bytes total left none = sym left.2 ∙ rw none refl
 is_found tag (Some contents) bytes total left none = sym left.2 ∙ rw none refl
@@ -210,14 +226,17 @@ after_ok : (field : Field) (r : Result (List Field) AcseFault) → is_ok (after 
 after_ok field (Ok others) = refl
 after_ok field (Err fault) = refl
 
-pub readable_on : (bytes : List ℕ) (field : Field) (rest : List ℕ) (total : Bool) → Readable bytes total → field_at bytes ≡ Ok (field, rest) → Readable rest total
+pub readable_on : (bytes : List ℕ) (field : Field) (rest : List ℕ) (total : Bool)
+    → Readable bytes total → field_at bytes ≡ Ok (field, rest) → Readable rest total
 readable_on bytes field rest total left e =
     let u = unrolled left.0 bytes field rest e left.1 in
     (u.0, u.1, sym (after_ok field (fields_within u.0 rest)) ∙ sym (ap (λ (r : Result (List Field) AcseFault). is_ok r) u.2) ∙ left.2)
 
-pub readable_not : (bytes : List ℕ) (fault : AcseFault) (total : Bool) → Readable bytes total → (bytes ≡ [] → ⊥) → field_at bytes ≡ Err fault → total ≡ false
+pub readable_not : (bytes : List ℕ) (fault : AcseFault) (total : Bool) → Readable bytes total
+    → (bytes ≡ [] → ⊥) → field_at bytes ≡ Err fault → total ≡ false
 readable_not bytes fault total left some e = sym left.2 ∙ ap (λ (r : Result (List Field) AcseFault). is_ok r) (refused left.0 bytes fault some left.1 e)
 
-pub readable_end : (bytes : List ℕ) (total : Bool) → Readable bytes total → bytes ≡ [] → total ≡ true
+pub readable_end : (bytes : List ℕ) (total : Bool) → Readable bytes total → bytes ≡ []
+    → total ≡ true
 unfolding fields_within
 readable_end bytes total left none = sym left.2 ∙ rw none refl

@@ -30,11 +30,13 @@ length_spells n below =
       ])
     ]
 
-pub tagged_spells : (tag : ℕ) (contents : List ℕ) → length contents < 2 ^ 16 → IsTagged tag contents (tagged_text tag contents)
+pub tagged_spells : (tag : ℕ) (contents : List ℕ) → length contents < 2 ^ 16
+    → IsTagged tag contents (tagged_text tag contents)
 tagged_spells tag contents below = record { length_text = length_text (length contents); parts = refl; is_length = length_spells (length contents) below }
 
 -- the length of the text of a tag, and of one within another
-pub tagged_long : (tag : ℕ) (contents : List ℕ) → length (tagged_text tag contents) ≡ 1 + length (length_text (length contents)) + length contents
+pub tagged_long : (tag : ℕ) (contents : List ℕ) → length (tagged_text tag contents) ≡ 1
+    + length (length_text (length contents)) + length contents
 tagged_long tag contents = omega (arith, length-append (length_text (length contents)) contents)
 
 -- ---- fields
@@ -42,11 +44,13 @@ tagged_long tag contents = omega (arith, length-append (length_text (length cont
 abbrev pub field : ℕ → List ℕ → Field
 field tag contents = record { tag = tag; contents = contents }
 
-field_spells : (tag : ℕ) (contents : List ℕ) → 0x80 ≤ tag → tag ≤ 0xBF → length contents < 2 ^ 16 → IsField (field tag contents) (tagged_text tag contents)
+field_spells : (tag : ℕ) (contents : List ℕ) → 0x80 ≤ tag → tag ≤ 0xBF → length contents < 2 ^ 16
+    → IsField (field tag contents) (tagged_text tag contents)
 field_spells tag contents low high below = record { low = low; high = high; is_tagged = tagged_spells tag contents below }
 
 -- a field followed by others
-before : (f : Field) (fs : List Field) (text others : List ℕ) → IsField f text → AreFields fs others → AreFields (f ∷ fs) (text ++ others)
+before : (f : Field) (fs : List Field) (text others : List ℕ) → IsField f text → AreFields fs others
+    → AreFields (f ∷ fs) (text ++ others)
 before f fs text others is are = record { first = text; others = others; parts = refl; is_first = is; are_others = are }
 
 -- a single field
@@ -54,11 +58,13 @@ alone : (f : Field) (text : List ℕ) → IsField f text → AreFields (f ∷ []
 alone f text is = record { first = text; others = []; parts = sym (append-nil text); is_first = is; are_others = refl }
 
 -- fields that fill an APDU
-apdu_spells : (tag : ℕ) (fields : List Field) (body : List ℕ) → length body < 2 ^ 16 → AreFields fields body → IsApdu tag fields (tagged_text tag body)
+apdu_spells : (tag : ℕ) (fields : List Field) (body : List ℕ) → length body < 2 ^ 16
+    → AreFields fields body → IsApdu tag fields (tagged_text tag body)
 apdu_spells tag fields body below are = record { body = body; is_tagged = tagged_spells tag body below; are_fields = are }
 
 -- the contents of an outer tag and of an inner one are shorter than the text
-outer_short : (tag : ℕ) (contents : List ℕ) (limit : ℕ) → length (tagged_text tag contents) < limit → length contents < limit
+outer_short : (tag : ℕ) (contents : List ℕ) (limit : ℕ) → length (tagged_text tag contents) < limit
+    → length contents < limit
 outer_short tag contents limit below = omega (arith, tagged_long tag contents)
 
 -- ---- AARQ
@@ -80,13 +86,17 @@ aarq_fields aarq = field 0xA1 (tagged_text 0x06 aarq.context) ∷ mechanism_fiel
 user_are : (user : List ℕ) → length (user_text user) < 2 ^ 16 → AreFields (user_fields user) (user_text user)
 user_are user below = alone (field 0xBE (tagged_text 0x04 user)) (user_text user) (field_spells 0xBE (tagged_text 0x04 user) (omega arith) (omega arith) (outer_short 0xBE (tagged_text 0x04 user) (2 ^ 16) below))
 
-password_are : (password : Option (List ℕ)) (fs : List Field) (others : List ℕ) → length (password_text password) < 2 ^ 16 → AreFields fs others → AreFields (password_fields password fs) (password_text password ++ others)
+password_are : (password : Option (List ℕ)) (fs : List Field) (others : List ℕ)
+    → length (password_text password) < 2 ^ 16 → AreFields fs others
+    → AreFields (password_fields password fs) (password_text password ++ others)
 password_are None fs others below are = are
 password_are (Some password) fs others below are =
     before (field 0xAC (tagged_text 0x80 password)) fs (tagged_text 0xAC (tagged_text 0x80 password)) others
     (field_spells 0xAC (tagged_text 0x80 password) (omega arith) (omega arith) (outer_short 0xAC (tagged_text 0x80 password) (2 ^ 16) below)) are
 
-mechanism_are : (mechanism : List ℕ) (fs : List Field) (others : List ℕ) → length (mechanism_text mechanism) < 2 ^ 16 → AreFields fs others → AreFields (mechanism_fields mechanism fs) (mechanism_text mechanism ++ others)
+mechanism_are : (mechanism : List ℕ) (fs : List Field) (others : List ℕ)
+    → length (mechanism_text mechanism) < 2 ^ 16 → AreFields fs others
+    → AreFields (mechanism_fields mechanism fs) (mechanism_text mechanism ++ others)
 mechanism_are [] fs others below are = are
 mechanism_are (byte ∷ bytes) fs others below are =
     let short : length (tagged_text 0x8B (byte ∷ bytes)) < 2 ^ 16 = omega arith in
@@ -95,25 +105,32 @@ mechanism_are (byte ∷ bytes) fs others below are =
     (before (field 0x8B (byte ∷ bytes)) fs (tagged_text 0x8B (byte ∷ bytes)) others (field_spells 0x8B (byte ∷ bytes) (omega arith) (omega arith) (outer_short 0x8B (byte ∷ bytes) (2 ^ 16) short)) are)
 
 -- the fields with each tag
-one_context : (context mechanism : List ℕ) (password : Option (List ℕ)) (user : List ℕ) → contents_of 0xA1 (aarq_fields (record { context = context; mechanism = mechanism; password = password; user = user })) ≡ tagged_text 0x06 context ∷ []
+one_context : (context mechanism : List ℕ) (password : Option (List ℕ)) (user : List ℕ)
+    → contents_of 0xA1 (aarq_fields (record { context = context; mechanism = mechanism;
+    password = password; user = user })) ≡ tagged_text 0x06 context ∷ []
 one_context context [] None user = refl
 one_context context [] (Some password) user = refl
 one_context context (byte ∷ bytes) None user = refl
 one_context context (byte ∷ bytes) (Some password) user = refl
 
-one_user : (context mechanism : List ℕ) (password : Option (List ℕ)) (user : List ℕ) → contents_of 0xBE (aarq_fields (record { context = context; mechanism = mechanism; password = password; user = user })) ≡ tagged_text 0x04 user ∷ []
+one_user : (context mechanism : List ℕ) (password : Option (List ℕ)) (user : List ℕ)
+    → contents_of 0xBE (aarq_fields (record { context = context; mechanism = mechanism;
+    password = password; user = user })) ≡ tagged_text 0x04 user ∷ []
 one_user context [] None user = refl
 one_user context [] (Some password) user = refl
 one_user context (byte ∷ bytes) None user = refl
 one_user context (byte ∷ bytes) (Some password) user = refl
 
-has_mechanism : (context mechanism : List ℕ) (password : Option (List ℕ)) (user : List ℕ) → HasMechanism (aarq_fields (record { context = context; mechanism = mechanism; password = password; user = user })) mechanism
+has_mechanism : (context mechanism : List ℕ) (password : Option (List ℕ)) (user : List ℕ)
+    → HasMechanism (aarq_fields (record { context = context; mechanism = mechanism;
+    password = password; user = user })) mechanism
 has_mechanism context [] None user = inl (refl, refl)
 has_mechanism context [] (Some password) user = inl (refl, refl)
 has_mechanism context (byte ∷ bytes) None user = inr (record { contents = byte ∷ bytes; one = refl; holds = refl })
 has_mechanism context (byte ∷ bytes) (Some password) user = inr (record { contents = byte ∷ bytes; one = refl; holds = refl })
 
-has_password : (context mechanism : List ℕ) (password : Option (List ℕ)) (user : List ℕ) → length (password_text password) < 2 ^ 16
+has_password : (context mechanism : List ℕ) (password : Option (List ℕ)) (user : List ℕ)
+    → length (password_text password) < 2 ^ 16
     → HasInner 0xAC 0x80 (aarq_fields (record { context = context; mechanism = mechanism; password = password; user = user })) password
 has_password context [] None user below = refl
 has_password context (byte ∷ bytes) None user below = refl
@@ -123,7 +140,8 @@ has_password context (byte ∷ bytes) (Some password) user below =
     record { contents = tagged_text 0x80 password; one = refl; holds = tagged_spells 0x80 password (outer_short 0x80 password (2 ^ 16) (outer_short 0xAC (tagged_text 0x80 password) (2 ^ 16) below)) }
 
 -- the parts are no longer than the whole
-parts_short : (a b c d : List ℕ) (limit : ℕ) → length (a ++ (b ++ (c ++ d))) < limit → (length a < limit) × (length b < limit) × (length c < limit) × (length d < limit)
+parts_short : (a b c d : List ℕ) (limit : ℕ) → length (a ++ (b ++ (c ++ d))) < limit
+    → (length a < limit) × (length b < limit) × (length c < limit) × (length d < limit)
 parts_short a b c d limit below =
     let e = length-append a (b ++ (c ++ d)) in
     let f = length-append b (c ++ d) in
@@ -167,10 +185,12 @@ low_24_bits bits =
 
 -- ---- AARE
 
-pub three_back : (bits : ℕ) → bits < 2 ^ 24 → bits ≡ from_be_bytes w32 (0x00 ∷ bytes_high_first 3 bits)
+pub three_back : (bits : ℕ) → bits < 2 ^ 24 → bits
+    ≡ from_be_bytes w32 (0x00 ∷ bytes_high_first 3 bits)
 three_back bits below = omega arith
 
-response_spells : (bits limit : ℕ) → bits < 2 ^ 24 → limit < 2 ^ 16 → IsResponse bits limit (response_text bits limit)
+response_spells : (bits limit : ℕ) → bits < 2 ^ 24 → limit < 2 ^ 16
+    → IsResponse bits limit (response_text bits limit)
 response_spells bits limit below small = record {
   quality = 0x00 ∷ [];
   version = 0x06;
@@ -192,7 +212,8 @@ first_fields outcome diagnostic others =
 abbrev first_text : ℕ → ℕ → List ℕ → List ℕ
 first_text outcome diagnostic others = context_text ln_context ++ (result_text outcome ++ (diagnostic_text diagnostic ++ others))
 
-first_are : (outcome diagnostic : ℕ) (fs : List Field) (others : List ℕ) → AreFields fs others → AreFields (first_fields outcome diagnostic fs) (first_text outcome diagnostic others)
+first_are : (outcome diagnostic : ℕ) (fs : List Field) (others : List ℕ) → AreFields fs others
+    → AreFields (first_fields outcome diagnostic fs) (first_text outcome diagnostic others)
 first_are outcome diagnostic fs others are =
     let result_field = field 0xA2 (0x02 ∷ 0x01 ∷ outcome ∷ []) in
     let diagnostic_field = field 0xA3 (0xA1 ∷ 0x03 ∷ 0x02 ∷ 0x01 ∷ diagnostic ∷ []) in
@@ -202,7 +223,10 @@ first_are outcome diagnostic fs others are =
     (field_spells 0xA1 (tagged_text 0x06 ln_context) (omega arith) (omega arith) (omega arith)) both
 
 -- an AARE from its numbers and its user information
-info_spells : (outcome diagnostic : ℕ) (info : Info) → IsFitInfo info → (outcome ≡ 0 → is_response info ≡ true) → SpellsAare (aare_text (record { result = outcome; diagnostic = diagnostic; info = info })) (record { result = outcome; diagnostic = diagnostic; info = info })
+info_spells : (outcome diagnostic : ℕ) (info : Info) → IsFitInfo info
+    → (outcome ≡ 0 → is_response info ≡ true)
+    → SpellsAare (aare_text (record { result = outcome; diagnostic = diagnostic; info = info }))
+    (record { result = outcome; diagnostic = diagnostic; info = info })
 unfolding aare_text
 info_spells outcome diagnostic Absent fit responds = record {
   fields = first_fields outcome diagnostic [];

@@ -29,11 +29,13 @@ abbrev Refuses : {X : Type 0} → Result X Verdict → Type 0
 Refuses (Ok x) = Unit {0}
 Refuses (Err verdict) = IsRefusal verdict
 
-then_refuses : {X Y : Type 0} (r : Result X Verdict) (next : X → Result Y Verdict) → Refuses r → ((x : X) → Refuses (next x)) → Refuses (r >>= next)
+then_refuses : {X Y : Type 0} (r : Result X Verdict) (next : X → Result Y Verdict) → Refuses r
+    → ((x : X) → Refuses (next x)) → Refuses (r >>= next)
 then_refuses (Ok x) next one others = others x
 then_refuses (Err verdict) next one others = one
 
-guard_refuses : {Y : Type 0} (b : Bool) (verdict : Verdict) (next : Result Y Verdict) → IsRefusal verdict → Refuses next → Refuses (guard b verdict >> next)
+guard_refuses : {Y : Type 0} (b : Bool) (verdict : Verdict) (next : Result Y Verdict)
+    → IsRefusal verdict → Refuses next → Refuses (guard b verdict >> next)
 guard_refuses true verdict next is others = others
 guard_refuses false verdict next is others = is
 
@@ -61,7 +63,8 @@ agreed_refuses level proposal =
     guard_refuses new (InitiateError 1) (guard some (InitiateError 2) >> (guard long (InitiateError 3) >> last)) tt
     (guard_refuses some (InitiateError 2) (guard long (InitiateError 3) >> last) tt (guard_refuses long (InitiateError 3) last tt tt))
 
-authenticated_refuses : (level : Level) (aarq : Aarq) (password : List ℕ) → Refuses (authentication_check level aarq password)
+authenticated_refuses : (level : Level) (aarq : Aarq) (password : List ℕ)
+    → Refuses (authentication_check level aarq password)
 unfolding authentication_check
 authenticated_refuses level aarq password =
     let known = is_no_mechanism aarq.mechanism || bytes_eq aarq.mechanism low_level in
@@ -69,7 +72,8 @@ authenticated_refuses level aarq password =
     let same = not (must_authenticate level) || is_password password aarq.password in
     guard_refuses known (Rejected 11) (guard some (Rejected 14) >> guard same (Rejected 13)) tt (guard_refuses some (Rejected 14) (guard same (Rejected 13)) tt (last_refuses same (Rejected 13) tt))
 
-judged_refuses : (aarq : Aarq) (sap : ℕ) (password : List ℕ) → Refuses (association_check aarq sap password)
+judged_refuses : (aarq : Aarq) (sap : ℕ) (password : List ℕ)
+    → Refuses (association_check aarq sap password)
 unfolding association_check
 judged_refuses aarq sap password =
     let proposal = proposal_or_refusal (proposal_of aarq.user) in
@@ -79,7 +83,8 @@ judged_refuses aarq sap password =
     then_refuses proposal (proposal_check level) (proposal_refuses (proposal_of aarq.user)) (agreed_refuses level))))
 
 -- an accepted client passed all the checks
-settled_ok : (r : Result Verdict Verdict) (level : Level) (bits limit : ℕ) → Refuses r → verdict_by r ≡ Accepted level bits limit → r ≡ Ok (Accepted level bits limit)
+settled_ok : (r : Result Verdict Verdict) (level : Level) (bits limit : ℕ) → Refuses r
+    → verdict_by r ≡ Accepted level bits limit → r ≡ Ok (Accepted level bits limit)
 settled_ok (Ok verdict) level bits limit is e = ap (done Verdict) e
 settled_ok (Err verdict) level bits limit is e = absurd (subst IsRefusal e is)
 
@@ -90,7 +95,8 @@ level_in (Accepted level bits limit) = level
 level_in (Rejected diagnostic) = Public
 level_in (InitiateError error) = Public
 
-agreed_level : (level : Level) (proposal : Proposal) (verdict : Verdict) → proposal_check level proposal ≡ Ok verdict → level ≡ level_in verdict
+agreed_level : (level : Level) (proposal : Proposal) (verdict : Verdict)
+    → proposal_check level proposal ≡ Ok verdict → level ≡ level_in verdict
 unfolding proposal_check
 agreed_level level proposal verdict e =
     let a = guard_ok (nat_le 6 proposal.version) (InitiateError 1) _ verdict e in
@@ -99,7 +105,9 @@ agreed_level level proposal verdict e =
     ap level_in (ok_is {F = Verdict} (Accepted level (bit_and offered_services proposal.conformance.0) proposal.size) verdict c.1)
 
 -- the checks that an accepted client passed
-passed : (aarq : Aarq) (sap : ℕ) (password : List ℕ) (level : Level) (bits limit : ℕ) → verdict_of aarq sap password ≡ Accepted level bits limit → (level_of sap ≡ Ok level) × (authentication_check level aarq password ≡ Ok tt)
+passed : (aarq : Aarq) (sap : ℕ) (password : List ℕ) (level : Level) (bits limit : ℕ)
+    → verdict_of aarq sap password ≡ Accepted level bits limit → (level_of sap ≡ Ok level)
+    × (authentication_check level aarq password ≡ Ok tt)
 unfolding verdict_of association_check
 passed aarq sap password level bits limit e =
     let verdict : Verdict = Accepted level bits limit in
@@ -125,7 +133,8 @@ public_port sap e =
       | inr h ↦ elim (chosen (sap == 16) _ _ (done Verdict Public) h.1) [ inl g ↦ eqb-true sap 16 g.0 | inr g ↦ let wrong : Err (Rejected 1) ≡ done Verdict Public = g.1 in absurd cc ]
     ]
 
-password_is : (password : List ℕ) (given : Option (List ℕ)) → is_password password given ≡ true → given ≡ Some password
+password_is : (password : List ℕ) (given : Option (List ℕ)) → is_password password given ≡ true
+    → given ≡ Some password
 password_is password None e = absurd cc
 password_is password (Some given) e = ap (λ (g : List ℕ). Some g) ((bytes_eq-Decides given password).0 e)
 
@@ -133,7 +142,8 @@ guard_true : (b : Bool) (verdict : Verdict) (u : Unit {0}) → guard b verdict �
 guard_true true verdict u e = refl
 guard_true false verdict u e = absurd cc
 
-authentic : (aarq : Aarq) (password : List ℕ) → authentication_check Management aarq password ≡ Ok tt → (aarq.mechanism ≡ low_level) × (aarq.password ≡ Some password)
+authentic : (aarq : Aarq) (password : List ℕ) → authentication_check Management aarq password
+    ≡ Ok tt → (aarq.mechanism ≡ low_level) × (aarq.password ≡ Some password)
 unfolding authentication_check
 authentic aarq password e =
     let known = guard_ok (is_no_mechanism aarq.mechanism || bytes_eq aarq.mechanism low_level) (Rejected 11) _ tt e in
@@ -143,13 +153,16 @@ authentic aarq password e =
     let is : bytes_eq aarq.mechanism low_level ≡ true = sym (ap (λ (b : Bool). b || bytes_eq aarq.mechanism low_level) none) ∙ known.0 in
     ((bytes_eq-Decides aarq.mechanism low_level).0 is, password_is password aarq.password same)
 
-pub only_with_password : (aarq : Aarq) (sap : ℕ) (password : List ℕ) (bits limit : ℕ) → verdict_of aarq sap password ≡ Accepted Management bits limit → (sap ≡ 1) × (aarq.mechanism ≡ low_level) × (aarq.password ≡ Some password)
+pub only_with_password : (aarq : Aarq) (sap : ℕ) (password : List ℕ) (bits limit : ℕ)
+    → verdict_of aarq sap password ≡ Accepted Management bits limit → (sap ≡ 1)
+    × (aarq.mechanism ≡ low_level) × (aarq.password ≡ Some password)
 only_with_password aarq sap password bits limit e =
     let p = passed aarq sap password Management bits limit e in
     let a = authentic aarq password p.1 in
     (management_port sap p.0, a.0, a.1)
 
-pub only_public : (aarq : Aarq) (sap : ℕ) (password : List ℕ) (bits limit : ℕ) → verdict_of aarq sap password ≡ Accepted Public bits limit → sap ≡ 16
+pub only_public : (aarq : Aarq) (sap : ℕ) (password : List ℕ) (bits limit : ℕ)
+    → verdict_of aarq sap password ≡ Accepted Public bits limit → sap ≡ 16
 only_public aarq sap password bits limit e = public_port sap (passed aarq sap password Public bits limit e).0
 
 -- ---- a client with the password
@@ -157,7 +170,8 @@ only_public aarq sap password bits limit e = public_port sap (passed aarq sap pa
 abbrev proposed : ℕ → ℕ → Result Proposal AcseFault
 proposed bits limit = Ok (record { version = 6; conformance = record { 0 = bits }; size = limit })
 
-proposal_is : (bits limit : ℕ) → bits < 2 ^ 24 → limit < 2 ^ 16 → proposal_of (request_text bits limit) ≡ proposed bits limit
+proposal_is : (bits limit : ℕ) → bits < 2 ^ 24 → limit < 2 ^ 16
+    → proposal_of (request_text bits limit) ≡ proposed bits limit
 unfolding proposal_of proposal_at proposed_at optional_byte_at conformance_at
 proposal_is bits limit below small =
     ap₂ (λ (b s : ℕ). proposed b s) (sym (three_back bits below)) (from_be_bytes-to_be_bytes_2 limit small)
@@ -166,11 +180,14 @@ long_enough : (limit : ℕ) → (limit ≡ 0) ⊎ (64 ≤ limit) → (limit == 0
 long_enough limit (inl h) = rw (eq-eqb limit 0 h) refl
 long_enough limit (inr h) = rw (le-leb 64 limit h) (elim (limit == 0) as (λ b. (b || true) ≡ true) [ true ↦ refl | false ↦ refl ])
 
-agreed_is : (bits limit : ℕ) → bit_and offered_services bits ≢ 0 → (limit ≡ 0) ⊎ (64 ≤ limit) → proposal_check Management (record { version = 6; conformance = record { 0 = bits }; size = limit }) ≡ Ok (Accepted Management (bit_and offered_services bits) limit)
+agreed_is : (bits limit : ℕ) → bit_and offered_services bits ≢ 0 → (limit ≡ 0) ⊎ (64 ≤ limit)
+    → proposal_check Management (record { version = 6; conformance = record { 0 = bits };
+    size = limit }) ≡ Ok (Accepted Management (bit_and offered_services bits) limit)
 unfolding proposal_check
 agreed_is bits limit some long = rw (ne_eqb (bit_and offered_services bits) 0 some, long_enough limit long) refl
 
-pub accepted_with_password : (password : List ℕ) (bits limit : ℕ) → bits < 2 ^ 24 → limit < 2 ^ 16 → bit_and offered_services bits ≢ 0 → (limit ≡ 0) ⊎ (64 ≤ limit)
+pub accepted_with_password : (password : List ℕ) (bits limit : ℕ) → bits < 2 ^ 24 → limit < 2 ^ 16
+    → bit_and offered_services bits ≢ 0 → (limit ≡ 0) ⊎ (64 ≤ limit)
     → verdict_of (low_level_aarq password bits limit) 1 password ≡ Accepted Management (bit_and offered_services bits) limit
 unfolding verdict_of association_check authentication_check low_level_aarq
 accepted_with_password password bits limit below small some long =

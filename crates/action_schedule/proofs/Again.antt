@@ -56,7 +56,8 @@ abbrev with_items : List Data → Result (List EntryPattern) WriteFault
 with_items items = judged_entries items >> Ok (values entry_of items)
 
 -- written entries read as themselves
-entries_again : (entries : List EntryPattern) → AreEntries entries → entries_of (entries_data entries) ≡ Ok entries
+entries_again : (entries : List EntryPattern) → AreEntries entries
+    → entries_of (entries_data entries) ≡ Ok entries
 unfolding entries_of entries_data judged_entries
 entries_again entries fits =
     let items = map entry_data entries in
@@ -70,21 +71,26 @@ entries_again entries fits =
     few = grind (arith, nat_tests, fits.few, length-map)
 
 -- a script whose writing did not run out of memory reads as itself
-pub selector_written : {E : Type 0} (result : Result Data E) (selector : ℕ) → IfOk result (λ value. value ≡ script_data (script_at selector)) → IfOk result (λ value. selector_of value ≡ Ok selector)
+pub selector_written : {E : Type 0} (result : Result Data E) (selector : ℕ)
+    → IfOk result (λ value. value ≡ script_data (script_at selector))
+    → IfOk result (λ value. selector_of value ≡ Ok selector)
 selector_written (Ok value) selector is = ap selector_of is ∙ selector_again selector
 selector_written (Err error) selector is = tt
 
-pub kind_written : (number : ℕ) (kind : ScheduleType) → number ≡ number_of kind → kind_of (Enum number) ≡ Ok kind
+pub kind_written : (number : ℕ) (kind : ScheduleType) → number ≡ number_of kind
+    → kind_of (Enum number) ≡ Ok kind
 unfolding kind_of
 kind_written number kind is = ap (λ n. ok_or (type_of_number n) Value) is ∙ ap (λ o. ok_or o Value) (type_again kind)
 
-pub entries_written : {E : Type 0} (result : Result Data E) (written entries : List EntryPattern) → AreEntries entries → written ≡ entries
+pub entries_written : {E : Type 0} (result : Result Data E) (written entries : List EntryPattern)
+    → AreEntries entries → written ≡ entries
     → IfOk result (λ value. value ≡ entries_data written) → IfOk result (λ value. entries_of value ≡ Ok entries)
 entries_written (Ok value) written entries fits same is = ap entries_of is ∙ ap (λ xs. entries_of (entries_data xs)) same ∙ entries_again entries fits
 entries_written (Err error) written entries fits same is = tt
 
 -- an attribute reads as itself, given the attribute asked for and the schedule that a caller sees
-pub reads_back : {E : Type 0} (result : Result Data E) (attribute asked : ScheduleAttribute) (inside schedule : Schedule) → asked ≡ attribute → inside ≡ schedule
+pub reads_back : {E : Type 0} (result : Result Data E) (attribute asked : ScheduleAttribute)
+    (inside schedule : Schedule) → asked ≡ attribute → inside ≡ schedule
     → IfOk result (λ value. ReadsBack attribute value inside) → IfOk result (λ value. ReadsBack asked value schedule)
 reads_back result attribute asked inside schedule is view back =
     subst (λ a. IfOk result (λ value. ReadsBack a value schedule)) (sym is) (subst (λ s. IfOk result (λ value. ReadsBack attribute value s)) view back)

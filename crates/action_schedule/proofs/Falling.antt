@@ -16,14 +16,16 @@ record Matched (entries : List EntryPattern) (after upto : ℕ) : Type 0 where
   matched : list_any (λ entry. matches entry second) entries ≡ true
 
 -- a second that the entry matches is found
-found_in : (entry : EntryPattern) (after upto s : ℕ) → after < s → s ≤ upto → matches entry s ≡ true → matches_in entry after upto ≡ true
+found_in : (entry : EntryPattern) (after upto s : ℕ) → after < s → s ≤ upto → matches entry s ≡ true
+    → matches_in entry after upto ≡ true
 unfolding matches_in
 found_in entry after upto s late early matched =
     let same : after + 1 + (s - (after + 1)) ≡ s = omega arith in
     some_below_found (λ k. matches entry (after + 1 + k)) (upto - after) (s - (after + 1)) (omega arith) (ap (λ n. matches entry n) same ∙ matched)
 
 -- what is found is a second that the entry matches
-which_in : (entry : EntryPattern) (after upto : ℕ) → matches_in entry after upto ≡ true → (s : ℕ) × ((after < s) × ((s ≤ upto) × (matches entry s ≡ true)))
+which_in : (entry : EntryPattern) (after upto : ℕ) → matches_in entry after upto ≡ true → (s : ℕ)
+    × ((after < s) × ((s ≤ upto) × (matches entry s ≡ true)))
 unfolding matches_in
 which_in entry after upto e =
     let which = some_below_which (λ k. matches entry (after + 1 + k)) (upto - after) e in
@@ -43,14 +45,16 @@ or_left : (a b : Bool) → a ≡ true → a || b ≡ true
 or_left a b e = ap (λ x. x || b) e
 
 -- a second of the window that one of the entries matches is found
-found_any : (entries : List EntryPattern) (after upto s : ℕ) → after < s → s ≤ upto → list_any (λ entry. matches entry s) entries ≡ true → has_match entries after upto ≡ true
+found_any : (entries : List EntryPattern) (after upto s : ℕ) → after < s → s ≤ upto
+    → list_any (λ entry. matches entry s) entries ≡ true → has_match entries after upto ≡ true
 found_any [] after upto s late early e = absurd cc
 found_any (entry ∷ entries) after upto s late early e =
     either (matches entry s) (list_any (λ other. matches other s) entries) e (has_match (entry ∷ entries) after upto ≡ true)
     (λ here. or_left (matches_in entry after upto) (has_match entries after upto) (found_in entry after upto s late early here))
     (λ there. or_right (matches_in entry after upto) (has_match entries after upto) (found_any entries after upto s late early there))
 
-which_any : (entries : List EntryPattern) (after upto : ℕ) → has_match entries after upto ≡ true → Matched entries after upto
+which_any : (entries : List EntryPattern) (after upto : ℕ) → has_match entries after upto ≡ true
+    → Matched entries after upto
 which_any [] after upto e = absurd cc
 which_any (entry ∷ entries) after upto e =
     either (matches_in entry after upto) (has_match entries after upto) e (Matched (entry ∷ entries) after upto)
@@ -64,7 +68,8 @@ both true b e = (refl, e)
 both false b e = absurd cc
 
 -- the test returns true exactly if the schedule is due
-pub due_means : (schedule : Schedule) (previous now : ℕ) (answer : Bool) → answer ≡ is_due schedule previous now → IsTrue answer ↔ IsDue schedule previous now
+pub due_means : (schedule : Schedule) (previous now : ℕ) (answer : Bool) → answer
+    ≡ is_due schedule previous now → IsTrue answer ↔ IsDue schedule previous now
 unfolding is_due
 due_means schedule previous now answer is = (there, back)
   where

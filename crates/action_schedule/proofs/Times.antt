@@ -32,7 +32,8 @@ one_test true s there back = sym (there refl)
 one_test false true there back = back refl
 one_test false false there back = refl
 
-pub same_time_is : (r : Bool) (t u : TimeFields) → IsTrue r ↔ (((t.hour ≡ u.hour) × (t.minute ≡ u.minute)) × (t.second ≡ u.second)) → r ≡ is_same_time t u
+pub same_time_is : (r : Bool) (t u : TimeFields) → IsTrue r
+    ↔ (((t.hour ≡ u.hour) × (t.minute ≡ u.minute)) × (t.second ≡ u.second)) → r ≡ is_same_time t u
 same_time_is r t u tells = one_test r (is_same_time t u) there back
   where
     there : r ≡ true → is_same_time t u ≡ true

@@ -27,14 +27,17 @@ pub record Agrees {F : Type 0} (X : Type 0) (read : List ℕ → Result (X × Li
 abbrev pub IsNone : {X : Type 0} → X → X → List ℕ → Type 0
 IsNone none x text = (none ≡ x) × (text ≡ [])
 
-pub none_agrees : {F X : Type 0} (none : X) → Agrees {F = F} X (λ bytes. Ok (none, bytes)) (IsNone none)
+pub none_agrees : {F X : Type 0} (none : X) → Agrees {F = F} X (λ bytes. Ok (none, bytes))
+    (IsNone none)
 none_agrees {F = F} {X = X} none = record {
   takes = λ bytes x e. subst (λ (z : X × List ℕ). Took X (IsNone none) bytes z) (ok_is {F = F} (none, bytes) x e) (record { text = []; parts = refl; spelled = (refl, refl) });
   again = λ x text rest s. rw s.1 (ap (λ (z : X). done F (z, rest)) s.0);
 }
 
 -- a step, and then others that depend on what it read: two parts of the bytes spell them
-pub then_agrees : {F X Z : Type 0} (first : List ℕ → Result (X × List ℕ) F) (next : X → List ℕ → Result (Z × List ℕ) F) (P : X → List ℕ → Type 0) (Q : X → Z → List ℕ → Type 0) (S : Z → List ℕ → Type 0)
+pub then_agrees : {F X Z : Type 0} (first : List ℕ → Result (X × List ℕ) F) (next : X → List ℕ
+    → Result (Z × List ℕ) F) (P : X → List ℕ → Type 0) (Q : X → Z → List ℕ → Type 0) (S : Z → List ℕ
+    → Type 0)
     → Agrees X first P → ((x : X) → Agrees Z (next x) (Q x))
     → ((x : X) (z : Z) (one other : List ℕ) → P x one → Q x z other → S z (one ++ other))
     → ((z : Z) (text : List ℕ) → S z text → (x : X) × (one : List ℕ) × (other : List ℕ) × (text ≡ one ++ other) × P x one × Q x z other)
@@ -60,7 +63,9 @@ then_agrees first next P Q S one others to from = record {
 abbrev pub IsMade : {X Y : Type 0} → (X → Y) → (X → List ℕ → Type 0) → Y → List ℕ → Type 0
 IsMade {X = X} make P y text = (x : X) × (make x ≡ y) × P x text
 
-pub made_agrees : {F X Y : Type 0} (make : X → Y) (field : List ℕ → Result (X × List ℕ) F) (P : X → List ℕ → Type 0) → Agrees X field P → Agrees Y (λ bytes. read_as make (field bytes)) (IsMade make P)
+pub made_agrees : {F X Y : Type 0} (make : X → Y) (field : List ℕ → Result (X × List ℕ) F) (P : X
+    → List ℕ → Type 0) → Agrees X field P → Agrees Y (λ bytes. read_as make (field bytes))
+    (IsMade make P)
 made_agrees {F = F} {Y = Y} make field P agrees = record {
   takes = λ bytes y e.
       let b = bind_ok (field bytes) (λ x. done F (make x.0, x.1)) y e in
@@ -71,26 +76,33 @@ made_agrees {F = F} {Y = Y} make field P agrees = record {
 }
 
 -- a reader agrees with a relation that is equivalent to its own
-pub seen_as : {F X : Type 0} (read : List ℕ → Result (X × List ℕ) F) (P S : X → List ℕ → Type 0) → Agrees X read P → ((x : X) (text : List ℕ) → P x text → S x text) → ((x : X) (text : List ℕ) → S x text → P x text) → Agrees X read S
+pub seen_as : {F X : Type 0} (read : List ℕ → Result (X × List ℕ) F) (P S : X → List ℕ → Type 0)
+    → Agrees X read P → ((x : X) (text : List ℕ) → P x text → S x text)
+    → ((x : X) (text : List ℕ) → S x text → P x text) → Agrees X read S
 seen_as read P S agrees to from = record {
   takes = λ bytes x e. let t = agrees.takes bytes x e in record { text = t.text; parts = t.parts; spelled = to x.0 t.text t.spelled };
   again = λ x text rest s. agrees.again x text rest (from x text s);
 }
 
 -- no bytes are left after a value that was read whole
-pub whole_ok : {F X : Type 0} (fault : F) (read : Result (X × List ℕ) F) (x : X) → whole_or fault read ≡ Ok x → read ≡ Ok (x, [])
+pub whole_ok : {F X : Type 0} (fault : F) (read : Result (X × List ℕ) F) (x : X)
+    → whole_or fault read ≡ Ok x → read ≡ Ok (x, [])
 whole_ok {F = F} {X = X} fault (Ok (y, [])) x e = ap (λ (z : X). done F (z, [])) (ok_is {F = F} y x e)
 whole_ok fault (Ok (y, byte ∷ rest)) x e = absurd cc
 whole_ok fault (Err first) x e = absurd cc
 
 -- bytes that spell a value are read whole
-pub all_read : {F X : Type 0} (fault : F) (read : List ℕ → Result (X × List ℕ) F) (P : X → List ℕ → Type 0) → Agrees X read P → (x : X) (text : List ℕ) → P x text → whole_or fault (read text) ≡ Ok x
+pub all_read : {F X : Type 0} (fault : F) (read : List ℕ → Result (X × List ℕ) F) (P : X → List ℕ
+    → Type 0) → Agrees X read P → (x : X) (text : List ℕ) → P x text
+    → whole_or fault (read text) ≡ Ok x
 all_read fault read P agrees x text s =
     let e : read text ≡ Ok (x, []) = ap read (sym (append-nil text)) ∙ agrees.again x text [] s in
     rw e refl
 
 -- a value that is read whole is spelled by all the bytes
-pub all_taken : {F X : Type 0} (fault : F) (read : List ℕ → Result (X × List ℕ) F) (P : X → List ℕ → Type 0) → Agrees X read P → (x : X) (bytes : List ℕ) → whole_or fault (read bytes) ≡ Ok x → P x bytes
+pub all_taken : {F X : Type 0} (fault : F) (read : List ℕ → Result (X × List ℕ) F) (P : X → List ℕ
+    → Type 0) → Agrees X read P → (x : X) (bytes : List ℕ) → whole_or fault (read bytes)
+    ≡ Ok x → P x bytes
 all_taken fault read P agrees x bytes e =
     let t = agrees.takes bytes (x, []) (whole_ok fault (read bytes) x e) in
     subst (λ (s : List ℕ). P x s) (sym (t.parts ∙ append-nil t.text)) t.spelled
@@ -101,7 +113,8 @@ all_taken fault read P agrees x bytes e =
 abbrev pub IsByte : ℕ → List ℕ → Type 0
 IsByte byte text = text ≡ byte ∷ []
 
-byte_takes : {F : Type 0} (fault : F) (bytes : List ℕ) (x : ℕ × List ℕ) → first_byte fault bytes ≡ Ok x → Took ℕ IsByte bytes x
+byte_takes : {F : Type 0} (fault : F) (bytes : List ℕ) (x : ℕ × List ℕ) → first_byte fault bytes
+    ≡ Ok x → Took ℕ IsByte bytes x
 byte_takes fault [] x e = absurd cc
 byte_takes {F = F} fault (byte ∷ rest) x e =
     let made : ℕ × List ℕ = (byte, rest) in
@@ -114,7 +127,8 @@ byte_agrees fault = record { takes = byte_takes fault; again = λ x text rest s.
 abbrev pub AreBytes : ℕ → List ℕ → List ℕ → Type 0
 AreBytes n bytes text = (length text ≡ n) × (bytes ≡ text)
 
-bytes_takes : {F : Type 0} (fault : F) (n : ℕ) (bytes : List ℕ) (x : List ℕ × List ℕ) → first_bytes fault n bytes ≡ Ok x → Took (List ℕ) (AreBytes n) bytes x
+bytes_takes : {F : Type 0} (fault : F) (n : ℕ) (bytes : List ℕ) (x : List ℕ × List ℕ)
+    → first_bytes fault n bytes ≡ Ok x → Took (List ℕ) (AreBytes n) bytes x
 bytes_takes {F = F} fault n bytes x e =
     let made : List ℕ × List ℕ = (take n bytes, drop n bytes) in
     let g = guard_ok (nat_le n (length bytes)) fault (done F made) x e in
@@ -122,12 +136,14 @@ bytes_takes {F = F} fault n bytes x e =
     let len : length (take n bytes) ≡ n = omega (arith, length-take n bytes) in
     subst (λ (z : List ℕ × List ℕ). Took (List ℕ) (AreBytes n) bytes z) (ok_is made x g.1) (record { text = take n bytes; parts = sym (take-append-drop n bytes); spelled = (len, refl) })
 
-bytes_again : {F : Type 0} (fault : F) (n : ℕ) (x text rest : List ℕ) → AreBytes n x text → first_bytes fault n (text ++ rest) ≡ Ok (x, rest)
+bytes_again : {F : Type 0} (fault : F) (n : ℕ) (x text rest : List ℕ) → AreBytes n x text
+    → first_bytes fault n (text ++ rest) ≡ Ok (x, rest)
 bytes_again {F = F} fault n x text rest s =
     let long : nat_le n (length (text ++ rest)) ≡ true = le-leb n (length (text ++ rest)) (omega (arith, s.0, length-append text rest)) in
     let front : take n (text ++ rest) ≡ text = take_at text rest n s.0 in
     let back : drop n (text ++ rest) ≡ rest = drop_at text rest n s.0 in
     rw (long, front, back) (ap (λ (bs : List ℕ). done F (bs, rest)) (sym s.1))
 
-pub bytes_agrees : {F : Type 0} (fault : F) (n : ℕ) → Agrees (List ℕ) (first_bytes fault n) (AreBytes n)
+pub bytes_agrees : {F : Type 0} (fault : F) (n : ℕ)
+    → Agrees (List ℕ) (first_bytes fault n) (AreBytes n)
 bytes_agrees fault n = record { takes = bytes_takes fault n; again = bytes_again fault n }

@@ -26,10 +26,12 @@ one_answer b is not_so = let never = sym is ∙ not_so in absurd cc
 
 -- ---- one more piece
 
-added_on : (line one two bytes piece : List ℕ) → one ≡ line ++ bytes → two ≡ one ++ piece → two ≡ line ++ (bytes ++ piece)
+added_on : (line one two bytes piece : List ℕ) → one ≡ line ++ bytes → two ≡ one ++ piece → two
+    ≡ line ++ (bytes ++ piece)
 added_on line one two bytes piece first then = then ∙ ap (λ (xs : List ℕ). xs ++ piece) first ∙ append_assoc line bytes piece
 
-pub part_more : (left one left' : Option (List ℕ)) (line mid line' : List ℕ) (is_done : Bool) → ReadsPart left line one mid
+pub part_more : (left one left' : Option (List ℕ)) (line mid line' : List ℕ) (is_done : Bool)
+    → ReadsPart left line one mid
     → AddsPiece one mid is_done left' line' → is_done ≡ false → ReadsPart left line left' line'
 part_more left one left' line mid line' is_done part piece not_done = record {
   bytes = part.bytes ++ piece.piece;
@@ -38,7 +40,8 @@ part_more left one left' line mid line' is_done part piece not_done = record {
   inside = All-append (λ byte. byte ≢ 10) part.bytes piece.piece part.inside (piece.inside not_done);
 }
 
-pub line_done : (left one left' : Option (List ℕ)) (line mid line' : List ℕ) (is_done : Bool) (count : ℕ) → ReadsPart left line one mid
+pub line_done : (left one left' : Option (List ℕ)) (line mid line' : List ℕ) (is_done : Bool)
+    (count : ℕ) → ReadsPart left line one mid
     → AddsPiece one mid is_done left' line' → is_done ≡ true → count ≡ length line' - length line → ReadsLine left line count left' line'
 line_done left one left' line mid line' is_done count part piece done counted =
     let through = Consumes_through 10 left one left' part.bytes piece.piece part.read part.inside piece.read piece.stops (piece.ends done) (piece.at_end done) in
@@ -53,12 +56,14 @@ line_done left one left' line mid line' is_done count part piece done counted =
 
 -- ---- a line that is too long
 
-one_at_least : (byte : ℕ) (bytes : List ℕ) (b : Bool) → 0 < length (cond b (byte ∷ []) (byte ∷ take_through 10 bytes))
+one_at_least : (byte : ℕ) (bytes : List ℕ) (b : Bool)
+    → 0 < length (cond b (byte ∷ []) (byte ∷ take_through 10 bytes))
 one_at_least byte bytes true = omega arith
 one_at_least byte bytes false = omega arith
 
 -- if only the last of these bytes can be 0A, they are no longer than the line that begins with them
-line_long : (bytes rest : List ℕ) → StopsAt bytes 10 → length bytes ≤ length (take_through 10 (bytes ++ rest))
+line_long : (bytes rest : List ℕ) → StopsAt bytes 10
+    → length bytes ≤ length (take_through 10 (bytes ++ rest))
 line_long [] rest stops = omega arith
 line_long (x ∷ xs) rest stops =
     let bytes = x ∷ xs in
@@ -70,14 +75,16 @@ line_long (x ∷ xs) rest stops =
     let one : 0 < length (take_through 10 (last ∷ rest)) = one_at_least last rest (last == 10) in
     omega (arith, ap (λ (l : List ℕ). length l) split, ap (λ (l : List ℕ). length l) taken, length-append front (last ∷ []), length-append front (take_through 10 (last ∷ rest)), one)
 
-long_by : (left left' : Option (List ℕ)) (bytes : List ℕ) (limit so_far : ℕ) → Consumes left left' bytes → StopsAt bytes 10 → limit < so_far + length bytes
+long_by : (left left' : Option (List ℕ)) (bytes : List ℕ) (limit so_far : ℕ)
+    → Consumes left left' bytes → StopsAt bytes 10 → limit < so_far + length bytes
     → IfSome left (λ all. limit < so_far + length (take_through 10 all))
 long_by None left' bytes limit so_far read stops over = tt
 long_by (Some all) None bytes limit so_far read stops over = absurd read
 long_by (Some all) (Some rest) bytes limit so_far read stops over =
     subst (λ (l : List ℕ). limit < so_far + length (take_through 10 l)) (sym read) (omega (arith, over, line_long bytes rest stops))
 
-pub too_long : (left one left' : Option (List ℕ)) (line mid line' : List ℕ) (is_done : Bool) (limit : ℕ) → ReadsPart left line one mid
+pub too_long : (left one left' : Option (List ℕ)) (line mid line' : List ℕ) (is_done : Bool)
+    (limit : ℕ) → ReadsPart left line one mid
     → AddsPiece one mid is_done left' line' → limit < length line' → IfSome left (λ all. limit < length line + length (take_through 10 all))
 too_long left one left' line mid line' is_done limit part piece over =
     let bytes = part.bytes ++ piece.piece in

@@ -11,10 +11,12 @@ short_length : (n : ℕ) → n < 0x80 → length_text n ≡ n ∷ []
 short_length n below = rw (lt-ltb n 0x80 below) refl
 
 -- a tag, a length below 80 hex, and the contents
-short_tagged : (tag n : ℕ) (contents : List ℕ) → length contents ≡ n → n < 0x80 → tagged_text tag contents ≡ tag ∷ n ∷ contents
+short_tagged : (tag n : ℕ) (contents : List ℕ) → length contents ≡ n → n < 0x80
+    → tagged_text tag contents ≡ tag ∷ n ∷ contents
 short_tagged tag n contents is below = rw (is, lt-ltb n 0x80 below) refl
 
-password_written : (password : List ℕ) → length password ≤ 32 → password_text (Some password) ≡ 0xAC ∷ (2 + length password) ∷ 0x80 ∷ length password ∷ password
+password_written : (password : List ℕ) → length password ≤ 32 → password_text (Some password) ≡ 0xAC
+    ∷ (2 + length password) ∷ 0x80 ∷ length password ∷ password
 password_written password short =
     ap (tagged_text 0xAC) (short_tagged 0x80 (length password) password refl (omega arith))
     ∙ short_tagged 0xAC (2 + length password) (0x80 ∷ length password ∷ password) (omega arith) (omega arith)
@@ -30,7 +32,8 @@ pub aarq_short : (password : List ℕ) → length password ≤ 32 → length (aa
 aarq_short password short = omega (arith, length-append password initiate_field)
 
 -- the text that is written is that AARQ
-pub aarq_written : (password : List ℕ) → length password ≤ 32 → aarq_text (low_level_aarq password 0x1C19 1024) ≡ aarq_payload password
+pub aarq_written : (password : List ℕ) → length password ≤ 32
+    → aarq_text (low_level_aarq password 0x1C19 1024) ≡ aarq_payload password
 unfolding aarq_text
 aarq_written password short =
     ap (tagged_text 0x60) (body_written password short)

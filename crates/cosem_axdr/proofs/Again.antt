@@ -26,7 +26,8 @@ abbrev place_of : List ℕ → ℕ → Place
 place_of bytes room = record { bytes = bytes; room = room }
 
 -- the first part of a text is taken
-Takes-first : (old : Place) (x y : List ℕ) (new : Place) → Takes old (x ++ y) new → Takes old x (between y new)
+Takes-first : (old : Place) (x y : List ℕ) (new : Place) → Takes old (x ++ y) new
+    → Takes old x (between y new)
 Takes-first old x y new t = record { bytes = t.bytes ∙ append_assoc x y new.bytes; room = omega (arith, t.room, length-append x y) }
 
 -- then the second part is taken
@@ -43,7 +44,8 @@ read x place = done DataFault (x, place)
 
 -- ---- bytes, lengths, strings, numbers
 
-bytes_again : (n : ℕ) (text : List ℕ) (old new : Place) → Takes old text new → length text ≡ n → bytes_at n old ≡ Ok (text, new)
+bytes_again : (n : ℕ) (text : List ℕ) (old new : Place) → Takes old text new → length text ≡ n
+    → bytes_at n old ≡ Ok (text, new)
 bytes_again n text old new t len =
     let total : length old.bytes ≡ length text + length new.bytes = ap (λ (bs : List ℕ). length bs) t.bytes ∙ length-append text new.bytes in
     let room : nat_le n old.room ≡ true = le-leb n old.room (omega (arith, t.room)) in
@@ -56,7 +58,8 @@ bytes_again n text old new t len =
 byte_again : (byte : ℕ) (old new : Place) → Takes old (byte ∷ []) new → byte_at old ≡ Ok (byte, new)
 byte_again byte old new t = rw (bytes_again 1 (byte ∷ []) old new t refl) refl
 
-length_again : (text : List ℕ) (n : ℕ) (old new : Place) → Takes old text new → IsLength text n → length_at old ≡ Ok (n, new)
+length_again : (text : List ℕ) (n : ℕ) (old new : Place) → Takes old text new → IsLength text n
+    → length_at old ≡ Ok (n, new)
 unfolding length_at
 length_again [] n old new t none = absurd none
 length_again (first ∷ bytes) n old new t (inl h) =
@@ -70,16 +73,19 @@ length_again (first ∷ bytes) n old new t (inr h) =
     let those : bytes_at (first - 0x80) (between bytes new) ≡ Ok (bytes, new) = bytes_again (first - 0x80) bytes (between bytes new) new (Takes-second bytes new) (omega (arith, h.2)) in
     rw (tag, not_short, form, those) (ap (λ (m : ℕ). read m new) (sym h.3))
 
-string_again : (text bytes : List ℕ) (old new : Place) → Takes old text new → IsString text bytes → string_at old ≡ Ok (bytes, new)
+string_again : (text bytes : List ℕ) (old new : Place) → Takes old text new → IsString text bytes
+    → string_at old ≡ Ok (bytes, new)
 unfolding string_at
 string_again text bytes old new t s =
     let both : Takes old (s.length_text ++ bytes) new = subst (λ (x : List ℕ). Takes old x new) s.parts t in
     rw (length_again s.length_text (length bytes) old (between bytes new) (Takes-first old s.length_text bytes new both) s.is_length, bytes_again (length bytes) bytes (between bytes new) new (Takes-second bytes new) refl) refl
 
-unsigned_again : (w : Width) (text : List ℕ) (n : ℕ) (old new : Place) → Takes old text new → IsUnsigned w text n → unsigned_at w old ≡ Ok (n, new)
+unsigned_again : (w : Width) (text : List ℕ) (n : ℕ) (old new : Place) → Takes old text new
+    → IsUnsigned w text n → unsigned_at w old ≡ Ok (n, new)
 unsigned_again w text n old new t f = rw (bytes_again (byte_len w) text old new t f.0) (ap (λ (m : ℕ). read m new) (sym f.1))
 
-bits_again : (text : List ℕ) (bits : ℕ) (bytes : List ℕ) (old new : Place) → Takes old text new → IsBits text bits bytes → bits_at old ≡ Ok (BitString bits bytes, new)
+bits_again : (text : List ℕ) (bits : ℕ) (bytes : List ℕ) (old new : Place) → Takes old text new
+    → IsBits text bits bytes → bits_at old ≡ Ok (BitString bits bytes, new)
 unfolding bits_at
 bits_again text bits bytes old new t f =
     let both : Takes old (f.length_text ++ f.raw) new = subst (λ (x : List ℕ). Takes old x new) f.parts t in
@@ -89,11 +95,15 @@ bits_again text bits bytes old new t f =
 -- ---- values
 
 -- a leaf that is a signed number
-signed_again : (w : Width) (make : ℤ → Data) (text : List ℕ) (z : ℤ) (old new : Place) → Takes old text new → IsSigned w text z → read_as (λ n. make (cast_signed w n)) (unsigned_at w old) ≡ Ok (make z, new)
+signed_again : (w : Width) (make : ℤ → Data) (text : List ℕ) (z : ℤ) (old new : Place)
+    → Takes old text new → IsSigned w text z → read_as (λ n. make (cast_signed w n))
+    (unsigned_at w old) ≡ Ok (make z, new)
 signed_again w make text z old new t f = rw (unsigned_again w text (from_be_bytes w text) old new t (f.0, refl)) (ap (λ (y : ℤ). read (make y) new) (sym f.1))
 
 -- a leaf that is a fixed number of bytes
-fixed_again : (n : ℕ) (make : List ℕ → Data) (text bytes : List ℕ) (old new : Place) → Takes old text new → IsFixed n text bytes → read_as make (bytes_at n old) ≡ Ok (make bytes, new)
+fixed_again : (n : ℕ) (make : List ℕ → Data) (text bytes : List ℕ) (old new : Place)
+    → Takes old text new → IsFixed n text bytes → read_as make (bytes_at n old)
+    ≡ Ok (make bytes, new)
 fixed_again n make text bytes old new t f = rw (bytes_again n text old new t f.0) (ap (λ (bs : List ℕ). read (make bs) new) (sym f.1))
 
 -- a reader reads counted items of less depth
@@ -104,7 +114,9 @@ IsCountedAgain levels counted = (ts : Trees) (text : List ℕ) (old new : Place)
 abbrev body_at : (Place → Read Trees) → ℕ → Place → Read Data
 body_at counted tag place = cond (eqb tag 0x01) (read_as Array (counted place)) (cond (eqb tag 0x02) (read_as Structure (counted place)) (leaf_at tag place))
 
-body_again : (levels : ℕ) (counted : Place → Read Trees) → IsCountedAgain levels counted → (t : Tree) (text : List ℕ) (old new : Place) → Takes old text new → AreContents text t → nesting t ≤ levels → body_at counted (tag_of t) old ≡ Ok (data_of t, new)
+body_again : (levels : ℕ) (counted : Place → Read Trees) → IsCountedAgain levels counted
+    → (t : Tree) (text : List ℕ) (old new : Place) → Takes old text new → AreContents text t
+    → nesting t ≤ levels → body_at counted (tag_of t) old ≡ Ok (data_of t, new)
 unfolding leaf_at fixed_at
 body_again levels counted again null text old new t f flat =
     let none : Takes old [] new = subst (λ (x : List ℕ). Takes old x new) f t in
@@ -135,13 +147,16 @@ body_again levels counted again (time bytes) text old new t f flat = fixed_again
 abbrev IsValueAgain : ℕ → (Place → Read Data) → Type 0
 IsValueAgain levels item_at = (t : Tree) (text : List ℕ) (old new : Place) → Takes old text new → Spells text t → nesting t ≤ levels → item_at old ≡ Ok (data_of t, new)
 
-pub value_again : (levels : ℕ) (counted : Place → Read Trees) → IsCountedAgain levels counted → IsValueAgain levels (value_at counted)
+pub value_again : (levels : ℕ) (counted : Place → Read Trees) → IsCountedAgain levels counted
+    → IsValueAgain levels (value_at counted)
 unfolding value_at
 value_again levels counted again t text old new taken f flat =
     let both : Takes old (tag_of t ∷ f.contents) new = subst (λ (x : List ℕ). Takes old x new) f.parts taken in
     rw (byte_again (tag_of t) old (between f.contents new) (Takes-first old (tag_of t ∷ []) f.contents new both)) (body_again levels counted again t f.contents (between f.contents new) new (Takes-second f.contents new) f.are_contents flat)
 
-items_again : (levels : ℕ) (item_at : Place → Read Data) → IsValueAgain levels item_at → (ts : Trees) (text : List ℕ) (old new : Place) → Takes old text new → AreSpelled text ts → nests ts ≤ levels
+items_again : (levels : ℕ) (item_at : Place → Read Data) → IsValueAgain levels item_at
+    → (ts : Trees) (text : List ℕ) (old new : Place) → Takes old text new → AreSpelled text ts
+    → nests ts ≤ levels
     → items_at item_at (count_of ts) old ≡ Ok (list_of ts, new)
 unfolding items_at
 items_again levels item_at again no_trees text old new t f flat =
@@ -152,7 +167,8 @@ items_again levels item_at again (tree v ts) text old new t f flat =
     let rest = items_again levels item_at again ts f.others (between f.others new) new (Takes-second f.others new) f.are_others (omega arith) in
     rw (add-one, one, rest) refl
 
-counted_again : (levels : ℕ) (item_at : Place → Read Data) → IsValueAgain levels item_at → IsCountedAgain (suc levels) (counted_at item_at)
+counted_again : (levels : ℕ) (item_at : Place → Read Data) → IsValueAgain levels item_at
+    → IsCountedAgain (suc levels) (counted_at item_at)
 unfolding counted_at
 counted_again levels item_at again ts text old new t f flat =
     let both : Takes old (f.length_text ++ f.items) new = subst (λ (x : List ℕ). Takes old x new) f.parts t in

@@ -12,12 +12,16 @@ abbrev pub with_front : List Data → Read (List Data) → Read (List Data)
 with_front front read = read_as (λ others. front ++ others) read
 
 -- an item moves from those still to be read to those read
-regroup : (front : List Data) (d : Data) (read : Read (List Data)) → with_front front (read >>= λ others. Ok (d ∷ others.0, others.1)) ≡ with_front (front ++ d ∷ []) read
+regroup : (front : List Data) (d : Data) (read : Read (List Data))
+    → with_front front (read >>= λ others. Ok (d ∷ others.0, others.1))
+    ≡ with_front (front ++ d ∷ []) read
 regroup front d (Ok x) = ap (λ (ds : List Data). done DataFault (ds, x.1)) (sym (append_assoc front (d ∷ []) x.0))
 regroup front d (Err fault) = refl
 
 -- the loop continues after an item
-pub goes_on : (item_at : Place → Read Data) (front : List Data) (count i : ℕ) (place : Place) (d : Data) (after : Place) (total : Read (List Data)) → i < count → item_at place ≡ Ok (d, after)
+pub goes_on : (item_at : Place → Read Data) (front : List Data) (count i : ℕ) (place : Place)
+    (d : Data) (after : Place) (total : Read (List Data)) → i < count → item_at place
+    ≡ Ok (d, after)
     → with_front front (items_at item_at (count - i) place) ≡ total → with_front (front ++ d ∷ []) (items_at item_at (count - (i + 1)) after) ≡ total
 unfolding items_at
 goes_on item_at front count i place d after total lt h so_far =
@@ -26,7 +30,8 @@ goes_on item_at front count i place d after total lt h so_far =
     sym one ∙ so_far
 
 -- the loop ends with the fault of an item
-pub ends : (item_at : Place → Read Data) (fault : DataFault) (front : List Data) (count i : ℕ) (place : Place) (total : Read (List Data)) → i < count → Fails Memory fault (item_at place)
+pub ends : (item_at : Place → Read Data) (fault : DataFault) (front : List Data) (count i : ℕ)
+    (place : Place) (total : Read (List Data)) → i < count → Fails Memory fault (item_at place)
     → with_front front (items_at item_at (count - i) place) ≡ total → Fails Memory fault total
 unfolding items_at
 ends item_at fault front count i place total lt (inl memory) so_far = inl memory
@@ -36,7 +41,9 @@ ends item_at fault front count i place total lt (inr h) so_far =
     inr (sym so_far ∙ one)
 
 -- the loop ends when no item is left
-pub is_done : (item_at : Place → Read Data) (front : List Data) (count i : ℕ) (place : Place) (total : Read (List Data)) → count ≤ i → with_front front (items_at item_at (count - i) place) ≡ total → total ≡ Ok (front, place)
+pub is_done : (item_at : Place → Read Data) (front : List Data) (count i : ℕ) (place : Place)
+    (total : Read (List Data)) → count ≤ i → with_front front (items_at item_at (count - i) place)
+    ≡ total → total ≡ Ok (front, place)
 unfolding items_at
 is_done item_at front count i place total le so_far =
     let k : count - i ≡ 0 = omega arith in

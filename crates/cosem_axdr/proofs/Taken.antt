@@ -28,7 +28,8 @@ least : (n : ℕ) → 0 ≤ n
 least n = omega arith
 
 -- the rest is no longer than the bytes before
-pub length-Takes : (old : Place) (text : List ℕ) (new : Place) → Takes old text new → length new.bytes ≤ length old.bytes
+pub length-Takes : (old : Place) (text : List ℕ) (new : Place) → Takes old text new
+    → length new.bytes ≤ length old.bytes
 length-Takes old text new t = omega (arith, ap (λ (bytes : List ℕ). length bytes) t.bytes, length-append text new.bytes)
 
 -- a step that takes no bytes
@@ -36,7 +37,8 @@ pub Takes-none : (place : Place) → Takes place [] place
 Takes-none place = record { bytes = refl; room = omega arith }
 
 -- two consecutive steps
-pub Takes-then : (a : Place) (x : List ℕ) (b : Place) (y : List ℕ) (c : Place) → Takes a x b → Takes b y c → Takes a (x ++ y) c
+pub Takes-then : (a : Place) (x : List ℕ) (b : Place) (y : List ℕ) (c : Place) → Takes a x b
+    → Takes b y c → Takes a (x ++ y) c
 Takes-then a x b y c p q = record {
   bytes = p.bytes ∙ ap (λ (t : List ℕ). x ++ t) q.bytes ∙ sym (append_assoc x y c.bytes);
   room = omega (arith, p.room, q.room, length-append x y);
@@ -49,7 +51,9 @@ pub record Took (X : Type 0) (IsSpelled : List ℕ → X → Type 0) (old : Plac
   pub spelled : IsSpelled text read.0
 
 -- a step whose value is converted
-pub read_as_takes : {X Y : Type 0} (IsX : List ℕ → X → Type 0) (IsY : List ℕ → Y → Type 0) (make : X → Y) → ((text : List ℕ) (x : X) → IsX text x → IsY text (make x)) → (old : Place) (read : Read X) (y : Y × Place)
+pub read_as_takes : {X Y : Type 0} (IsX : List ℕ → X → Type 0) (IsY : List ℕ → Y → Type 0) (make : X
+    → Y) → ((text : List ℕ) (x : X) → IsX text x → IsY text (make x))
+    → (old : Place) (read : Read X) (y : Y × Place)
     → ((x : X × Place) → read ≡ Ok x → Took X IsX old x) → read_as make read ≡ Ok y → Took Y IsY old y
 read_as_takes {Y = Y} IsX IsY make seen old read y takes e =
     let b = bind_ok read (λ x. done DataFault (make x.0, x.1)) y e in
@@ -58,7 +62,8 @@ read_as_takes {Y = Y} IsX IsY make seen old read y takes e =
     subst (λ (z : Y × Place). Took Y IsY old z) (ok_is made y b.2) (record { text = t.text; takes = t.takes; spelled = seen t.text b.0.0 t.spelled })
 
 -- the next bytes are those that are taken
-pub bytes_takes : (n : ℕ) (place : Place) (x : List ℕ × Place) → bytes_at n place ≡ Ok x → Took (List ℕ) (IsFixed n) place x
+pub bytes_takes : (n : ℕ) (place : Place) (x : List ℕ × Place) → bytes_at n place ≡ Ok x
+    → Took (List ℕ) (IsFixed n) place x
 bytes_takes n place x e =
     let rest : Place = record { bytes = drop n place.bytes; room = place.room - n } in
     let made : List ℕ × Place = (take n place.bytes, rest) in
@@ -90,7 +95,8 @@ byte_takes place x e =
 abbrev IsLong : ℕ → List ℕ → ℕ → Type 0
 IsLong k text n = (length text ≡ k) × (n ≡ big_endian text)
 
-pub length_takes : (place : Place) (x : ℕ × Place) → length_at place ≡ Ok x → Took ℕ IsLength place x
+pub length_takes : (place : Place) (x : ℕ × Place) → length_at place ≡ Ok x
+    → Took ℕ IsLength place x
 unfolding length_at
 length_takes place x e =
     let b = bind_ok (byte_at place) (λ first. cond (nat_lt first.0 0x80) (Ok first) (guard (nat_lt 0x80 first.0 && nat_le first.0 0x84) TooLong >> read_as big_endian (bytes_at (first.0 - 0x80) first.1))) x e in
@@ -112,7 +118,8 @@ length_takes place x e =
           record { text = t.text ++ u.text; takes = Takes-then place t.text b.0.1 u.text x.1 t.takes u.takes; spelled = subst (λ (s : List ℕ). IsLength (s ++ u.text) x.0) (sym t.spelled) spelled }
     ]
 
-pub string_takes : (place : Place) (x : List ℕ × Place) → string_at place ≡ Ok x → Took (List ℕ) IsString place x
+pub string_takes : (place : Place) (x : List ℕ × Place) → string_at place ≡ Ok x
+    → Took (List ℕ) IsString place x
 unfolding string_at
 string_takes place x e =
     let b = bind_ok (length_at place) (λ n. bytes_at n.0 n.1) x e in
@@ -125,7 +132,8 @@ string_takes place x e =
       spelled = record { length_text = t.text; parts = ap (λ (s : List ℕ). t.text ++ s) (sym u.spelled.1); is_length = subst (λ (n : ℕ). IsLength t.text n) len t.spelled };
     }
 
-pub unsigned_takes : (w : Width) (place : Place) (x : ℕ × Place) → unsigned_at w place ≡ Ok x → Took ℕ (IsUnsigned w) place x
+pub unsigned_takes : (w : Width) (place : Place) (x : ℕ × Place) → unsigned_at w place ≡ Ok x
+    → Took ℕ (IsUnsigned w) place x
 unsigned_takes w place x e =
     read_as_takes (IsFixed (byte_len w)) (IsUnsigned w) (from_be_bytes w) (λ text bytes f. (f.0, ap (from_be_bytes w) f.1)) place (bytes_at (byte_len w) place) x (bytes_takes (byte_len w) place) e
 
@@ -135,7 +143,8 @@ unsigned_takes w place x e =
 abbrev pub IsBody : ℕ → ℕ → List ℕ → Data → Type 0
 IsBody levels tag contents d = (tag ≡ tag_of (tree_of d)) × AreContents contents (tree_of d) × (nesting (tree_of d) ≤ levels)
 
-pub bits_takes : (levels : ℕ) (place : Place) (x : Data × Place) → bits_at place ≡ Ok x → Took Data (IsBody levels 0x04) place x
+pub bits_takes : (levels : ℕ) (place : Place) (x : Data × Place) → bits_at place ≡ Ok x
+    → Took Data (IsBody levels 0x04) place x
 unfolding bits_at
 bits_takes levels place x e =
     let b = bind_ok (length_at place) (λ bits. bytes_at (bytes_for bits.0) bits.1 >>= λ bytes. done DataFault (BitString bits.0 (without_unused_bits bits.0 bytes.0), bytes.1)) x e in
@@ -148,19 +157,29 @@ bits_takes levels place x e =
     (record { text = t.text ++ u.text; takes = Takes-then place t.text b.0.1 u.text c.0.1 t.takes u.takes; spelled = (refl, bits, least levels) })
 
 -- a leaf that is an unsigned number, or a signed one
-unsigned_leaf : (levels tag : ℕ) (w : Width) (make : ℕ → Data) → ((text : List ℕ) (n : ℕ) → IsUnsigned w text n → IsBody levels tag text (make n)) → (place : Place) (x : Data × Place) → read_as make (unsigned_at w place) ≡ Ok x → Took Data (IsBody levels tag) place x
+unsigned_leaf : (levels tag : ℕ) (w : Width) (make : ℕ → Data)
+    → ((text : List ℕ) (n : ℕ) → IsUnsigned w text n → IsBody levels tag text (make n))
+    → (place : Place) (x : Data × Place) → read_as make (unsigned_at w place) ≡ Ok x
+    → Took Data (IsBody levels tag) place x
 unsigned_leaf levels tag w make body place x e = read_as_takes (IsUnsigned w) (IsBody levels tag) make body place (unsigned_at w place) x (unsigned_takes w place) e
 
-string_leaf : (levels tag : ℕ) (make : List ℕ → Data) → ((text bytes : List ℕ) → IsString text bytes → IsBody levels tag text (make bytes)) → (place : Place) (x : Data × Place) → read_as make (string_at place) ≡ Ok x → Took Data (IsBody levels tag) place x
+string_leaf : (levels tag : ℕ) (make : List ℕ → Data)
+    → ((text bytes : List ℕ) → IsString text bytes → IsBody levels tag text (make bytes))
+    → (place : Place) (x : Data × Place) → read_as make (string_at place) ≡ Ok x
+    → Took Data (IsBody levels tag) place x
 string_leaf levels tag make body place x e = read_as_takes IsString (IsBody levels tag) make body place (string_at place) x (string_takes place) e
 
-fixed_leaf : (levels tag n : ℕ) (make : List ℕ → Data) → ((text bytes : List ℕ) → IsFixed n text bytes → IsBody levels tag text (make bytes)) → (place : Place) (x : Data × Place) → read_as make (bytes_at n place) ≡ Ok x → Took Data (IsBody levels tag) place x
+fixed_leaf : (levels tag n : ℕ) (make : List ℕ → Data)
+    → ((text bytes : List ℕ) → IsFixed n text bytes → IsBody levels tag text (make bytes))
+    → (place : Place) (x : Data × Place) → read_as make (bytes_at n place) ≡ Ok x
+    → Took Data (IsBody levels tag) place x
 fixed_leaf levels tag n make body place x e = read_as_takes (IsFixed n) (IsBody levels tag) make body place (bytes_at n place) x (bytes_takes n place) e
 
 unknown_tag : {X : Type 0} (x : X) → failed X UnknownTag ≡ done DataFault x → ⊥
 unknown_tag x e = absurd cc
 
-fixed_takes : (levels tag : ℕ) (place : Place) (x : Data × Place) → fixed_at tag place ≡ Ok x → Took Data (IsBody levels tag) place x
+fixed_takes : (levels tag : ℕ) (place : Place) (x : Data × Place) → fixed_at tag place ≡ Ok x
+    → Took Data (IsBody levels tag) place x
 unfolding fixed_at
 fixed_takes levels tag place x e =
     elim (chosen (eqb tag 0x00) _ _ _ e) [
@@ -220,7 +239,8 @@ fixed_takes levels tag place x e =
           ]
     ]
 
-pub leaf_takes : (levels tag : ℕ) (place : Place) (x : Data × Place) → leaf_at tag place ≡ Ok x → Took Data (IsBody levels tag) place x
+pub leaf_takes : (levels tag : ℕ) (place : Place) (x : Data × Place) → leaf_at tag place ≡ Ok x
+    → Took Data (IsBody levels tag) place x
 unfolding leaf_at
 leaf_takes levels tag place x e =
     elim (chosen (eqb tag 0x04) _ _ _ e) [
@@ -255,7 +275,8 @@ AreCountedBelow levels text ts = IsCounted (λ items. AreSpelled items ts) text 
 abbrev pub IsTaking : (X : Type 0) → (List ℕ → X → Type 0) → (Place → Read X) → Type 0
 IsTaking X IsX read_at = (place : Place) (x : X × Place) → read_at place ≡ Ok x → Took X IsX place x
 
-pub items_take : (levels : ℕ) (item_at : Place → Read Data) → IsTaking Data (IsValue levels) item_at → (n : ℕ) → IsTaking (List Data) (AreValues levels n) (items_at item_at n)
+pub items_take : (levels : ℕ) (item_at : Place → Read Data) → IsTaking Data (IsValue levels) item_at
+    → (n : ℕ) → IsTaking (List Data) (AreValues levels n) (items_at item_at n)
 unfolding items_at
 items_take levels item_at takes zero place x e =
     subst (λ (z : List Data × Place). Took (List Data) (AreValues levels 0) place z) (ok_is ([], place) x e) (record { text = []; takes = Takes-none place; spelled = (refl, least levels, refl) })
@@ -271,7 +292,9 @@ items_take levels item_at takes (suc n) place x e =
       spelled = (record { first = t.text; others = u.text; parts = refl {a = t.text ++ u.text}; is_first = t.spelled.0; are_others = u.spelled.0 }, omega (arith, t.spelled.1, u.spelled.1), omega (arith, u.spelled.2));
     })
 
-pub counted_takes : (levels : ℕ) (item_at : Place → Read Data) → IsTaking Data (IsValue levels) item_at → IsTaking Trees (AreCountedBelow (suc levels)) (counted_at item_at)
+pub counted_takes : (levels : ℕ) (item_at : Place → Read Data)
+    → IsTaking Data (IsValue levels) item_at → IsTaking Trees (AreCountedBelow (suc levels))
+    (counted_at item_at)
 unfolding counted_at
 counted_takes levels item_at takes place x e =
     let b = bind_ok (length_at place) (λ count. guard (nat_le count.0 max_items) TooLong >> read_as (λ items. trees_of (all_trees items)) (items_at item_at count.0 count.1)) x e in
@@ -292,7 +315,8 @@ counted_takes levels item_at takes place x e =
     record { text = t.text ++ u.text; takes = Takes-then place t.text b.0.1 u.text x.1 t.takes u.takes; spelled = (counted, omega (arith, u.spelled.1)) }
 
 -- the bytes after any tag
-body_takes : (levels tag : ℕ) (counted : Place → Read Trees) → IsTaking Trees (AreCountedBelow levels) counted → (place : Place) (x : Data × Place)
+body_takes : (levels tag : ℕ) (counted : Place → Read Trees)
+    → IsTaking Trees (AreCountedBelow levels) counted → (place : Place) (x : Data × Place)
     → cond (eqb tag 0x01) (read_as Array (counted place)) (cond (eqb tag 0x02) (read_as Structure (counted place)) (leaf_at tag place)) ≡ Ok x → Took Data (IsBody levels tag) place x
 body_takes levels tag counted takes place x e =
     elim (chosen (eqb tag 0x01) _ _ _ e) [
@@ -304,7 +328,9 @@ body_takes levels tag counted takes place x e =
           ]
     ]
 
-pub value_takes : (levels : ℕ) (counted : Place → Read Trees) → IsTaking Trees (AreCountedBelow levels) counted → IsTaking Data (IsValue levels) (value_at counted)
+pub value_takes : (levels : ℕ) (counted : Place → Read Trees)
+    → IsTaking Trees (AreCountedBelow levels) counted
+    → IsTaking Data (IsValue levels) (value_at counted)
 unfolding value_at
 value_takes levels counted takes place x e =
     let b = bind_ok (byte_at place) (λ tag. cond (eqb tag.0 0x01) (read_as Array (counted tag.1)) (cond (eqb tag.0 0x02) (read_as Structure (counted tag.1)) (leaf_at tag.0 tag.1))) x e in
@@ -327,7 +353,8 @@ nested_takes zero place x e = absurd (too_deep x e)
 nested_takes (suc levels) place x e = counted_takes levels (value_at (nested_at levels)) (value_takes levels (nested_at levels) (nested_takes levels)) place x e
 
 -- the bytes after a value are no longer than those before it
-pub rest_is_shorter : (levels : ℕ) (place : Place) (d : Data) (new : Place) → value_at (nested_at levels) place ≡ Ok (d, new) → length new.bytes ≤ length place.bytes
+pub rest_is_shorter : (levels : ℕ) (place : Place) (d : Data) (new : Place)
+    → value_at (nested_at levels) place ≡ Ok (d, new) → length new.bytes ≤ length place.bytes
 rest_is_shorter levels place d new e =
     let t = value_takes levels (nested_at levels) (nested_takes levels) place (d, new) e in
     length-Takes place t.text new t.takes

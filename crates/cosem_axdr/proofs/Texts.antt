@@ -43,7 +43,8 @@ length_spells n below =
     ]
 
 -- a string that is not too long
-string_spells : (bytes : List ℕ) → length (string_text bytes) ≤ max_text → IsString (string_text bytes) bytes
+string_spells : (bytes : List ℕ) → length (string_text bytes) ≤ max_text
+    → IsString (string_text bytes) bytes
 string_spells bytes short =
     record { length_text = length_text (length bytes); parts = refl; is_length = length_spells (length bytes) (omega (arith, length-append (length_text (length bytes)) bytes)) }
 
@@ -67,10 +68,12 @@ wide32 = record { long = λ n. refl; back = λ n lt. sym (from_be_bytes-to_be_by
 wide64 : IsWide w64 (2 ^ 64)
 wide64 = record { long = λ n. refl; back = λ n lt. sym (from_be_bytes-to_be_bytes_8 n lt); below = λ z fits. Fits-lt-pow (Fits-of_z fits) }
 
-unsigned_spells : (w : Width) (limit : ℕ) → IsWide w limit → (n : ℕ) → n < limit → IsUnsigned w (to_be_bytes w n) n
+unsigned_spells : (w : Width) (limit : ℕ) → IsWide w limit → (n : ℕ) → n < limit
+    → IsUnsigned w (to_be_bytes w n) n
 unsigned_spells w limit wide n below = (wide.long n, wide.back n below)
 
-signed_spells : (w : Width) (limit : ℕ) → IsWide w limit → (z : ℤ) → FitsSigned w z → IsSigned w (to_be_bytes w (cast_unsigned w z)) z
+signed_spells : (w : Width) (limit : ℕ) → IsWide w limit → (z : ℤ) → FitsSigned w z
+    → IsSigned w (to_be_bytes w (cast_unsigned w z)) z
 signed_spells w limit wide z fits = (wide.long (cast_unsigned w z), sym (to_z-of_z fits) ∙ ap (cast_signed w) (wide.back (cast_unsigned w z) (wide.below z fits)))
 
 -- a boolean as one byte
@@ -82,7 +85,8 @@ boolean_spells false = (0, refl, refl)
 
 -- the contents of a value, and consecutive items
 mutual
-  contents_spell : (t : Tree) → IsWithin t → IsFine t → length (contents_text t) ≤ max_text → AreContents (contents_text t) t
+  contents_spell : (t : Tree) → IsWithin t → IsFine t → length (contents_text t) ≤ max_text
+      → AreContents (contents_text t) t
   contents_spell null within fine short = refl
   contents_spell (array ts) within fine short =
       record { length_text = length_text (count_of ts); items = texts ts; parts = refl; is_length = length_spells (count_of ts) (omega (arith, fine.0)); few = fine.0; are_items = items_spell ts within fine.1 (omega (arith, length-append (length_text (count_of ts)) (texts ts))) }
@@ -107,7 +111,8 @@ mutual
   contents_spell (date bytes) within fine short = (within.0, refl)
   contents_spell (time bytes) within fine short = (within.0, refl)
 
-  items_spell : (ts : Trees) → AreWithin ts → AreFine ts → length (texts ts) ≤ max_text → AreSpelled (texts ts) ts
+  items_spell : (ts : Trees) → AreWithin ts → AreFine ts → length (texts ts) ≤ max_text
+      → AreSpelled (texts ts) ts
   items_spell no_trees within fine short = refl
   items_spell (tree t ts) within fine short =
       let len : length (text t ++ texts ts) ≡ length (text t) + length (texts ts) = length-append (text t) (texts ts) in

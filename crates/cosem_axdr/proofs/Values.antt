@@ -25,7 +25,8 @@ use Rattle.cosem_axdr.proofs.Texts.{text_spells}
 abbrev pub IsFound : List ℕ → Data × ℕ → Type 0
 IsFound bytes found = (found.1 ≤ length bytes) × IsSpelling (take found.1 bytes) (tree_of found.0)
 
-pub data_found : (bytes : List ℕ) (found : Data × ℕ) → first_data bytes ≡ Ok found → IsFound bytes found
+pub data_found : (bytes : List ℕ) (found : Data × ℕ) → first_data bytes ≡ Ok found
+    → IsFound bytes found
 unfolding first_data
 data_found bytes found e =
     let b = bind_ok (value_at (nested_at max_nesting) (start bytes)) (λ value. done DataFault (value.0, length bytes - length value.1.bytes)) found e in
@@ -36,7 +37,8 @@ data_found bytes found e =
     let spelling : IsSpelling t.text (tree_of b.0.0) = record { spells = t.spelled.0; flat = t.spelled.1; short = omega (arith, t.takes.room) } in
     subst (λ (z : Data × ℕ). IsFound bytes z) (ok_is (b.0.0, n) found b.2) (omega arith, subst (λ (s : List ℕ). IsSpelling s (tree_of b.0.0)) (sym front) spelling)
 
-pub data_again : (bytes rest : List ℕ) (d : Data) → IsSpelling bytes (tree_of d) → first_data (bytes ++ rest) ≡ Ok (d, length bytes)
+pub data_again : (bytes rest : List ℕ) (d : Data) → IsSpelling bytes (tree_of d)
+    → first_data (bytes ++ rest) ≡ Ok (d, length bytes)
 unfolding first_data
 data_again bytes rest d spelling =
     let new : Place = record { bytes = rest; room = max_text - length bytes } in
@@ -46,18 +48,22 @@ data_again bytes rest d spelling =
     rw (value, count) (ap (λ (e : Data). done DataFault (e, length bytes)) (data_of-tree_of d))
 
 -- bytes of which the first n spell a Data
-pub data_only : (bytes : List ℕ) (d : Data) (n : ℕ) → n ≤ length bytes → IsSpelling (take n bytes) (tree_of d) → first_data bytes ≡ Ok (d, n)
+pub data_only : (bytes : List ℕ) (d : Data) (n : ℕ) → n ≤ length bytes
+    → IsSpelling (take n bytes) (tree_of d) → first_data bytes ≡ Ok (d, n)
 data_only bytes d n within spelling =
     let whole : take n bytes ++ drop n bytes ≡ bytes = take-append-drop n bytes in
     let len : length (take n bytes) ≡ n = omega (arith, length-take n bytes) in
     ap first_data (sym whole) ∙ data_again (take n bytes) (drop n bytes) d spelling ∙ ap (λ (m : ℕ). done DataFault (d, m)) len
 
 -- the text of a value that fits is read back, whatever bytes follow
-pub text_again : (d : Data) (rest : List ℕ) → IsFit (tree_of d) → first_data (text (tree_of d) ++ rest) ≡ Ok (d, length (text (tree_of d)))
+pub text_again : (d : Data) (rest : List ℕ) → IsFit (tree_of d)
+    → first_data (text (tree_of d) ++ rest) ≡ Ok (d, length (text (tree_of d)))
 text_again d rest fit = data_again (text (tree_of d)) rest d (text_spells (tree_of d) fit)
 
 -- code with the outcome of the definition reads a Data that is spelled
-pub read_only : (bytes : List ℕ) (read : Result (Data × ℕ) DataFault) → Gives Memory (λ x. x) read (first_data bytes) → (d : Data) (n : ℕ) → n ≤ length bytes → IsSpelling (take n bytes) (tree_of d)
+pub read_only : (bytes : List ℕ) (read : Result (Data × ℕ) DataFault)
+    → Gives Memory (λ x. x) read (first_data bytes) → (d : Data) (n : ℕ) → n ≤ length bytes
+    → IsSpelling (take n bytes) (tree_of d)
     → MatchResult read (λ x. (x.0 ≡ d) × (x.1 ≡ n)) (λ fault. fault ≡ Memory)
 read_only bytes (Ok x) gives d n within spelling =
     let same : x ≡ (d, n) = ok_is {F = DataFault} x (d, n) (sym gives ∙ data_only bytes d n within spelling) in
@@ -69,7 +75,8 @@ read_only bytes (Err fault) (inr gives) d n within spelling = absurd (no_value (
     no_value y f e = cc
 
 -- no spelling is a proper prefix of another, and no bytes spell two values
-pub begins_no_other : (bytes rest : List ℕ) (s t : Tree) → IsSpelling bytes s → IsSpelling (bytes ++ rest) t → (rest ≡ []) × (s ≡ t)
+pub begins_no_other : (bytes rest : List ℕ) (s t : Tree) → IsSpelling bytes s
+    → IsSpelling (bytes ++ rest) t → (rest ≡ []) × (s ≡ t)
 begins_no_other bytes rest s t first second =
     let d = data_of s in
     let e = data_of t in

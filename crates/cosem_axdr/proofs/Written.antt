@@ -11,7 +11,9 @@ abbrev all_texts : List Data → List ℕ
 all_texts ds = texts (trees_of (all_trees ds))
 
 -- with no item left, the count and all items are written
-pub counted_is_written : (old behind_count new : List ℕ) (ds : List Data) (i : ℕ) → length ds ≤ i → behind_count ≡ old ++ length_text (length ds) → new ++ all_texts (drop i ds) ≡ behind_count ++ all_texts ds
+pub counted_is_written : (old behind_count new : List ℕ) (ds : List Data) (i : ℕ) → length ds ≤ i
+    → behind_count ≡ old ++ length_text (length ds) → new ++ all_texts (drop i ds) ≡ behind_count
+    ++ all_texts ds
     → new ≡ old ++ (length_text (count_of (trees_of (all_trees ds))) ++ all_texts ds)
 counted_is_written old behind_count new ds i past count so_far =
     let none : new ++ all_texts (drop i ds) ≡ new = ap (λ (es : List Data). new ++ all_texts es) (drop_of_length-le ds past) ∙ append-nil new in
@@ -19,7 +21,9 @@ counted_is_written old behind_count new ds i past count so_far =
     sym none ∙ so_far ∙ joined ∙ ap (λ (n : ℕ). old ++ (length_text n ++ all_texts ds)) (sym (count_of-trees_of ds))
 
 -- with no item left, all are counted
-pub all_are_counted : (len most : ℕ) (ds : List Data) (i : ℕ) → length ds ≤ i → len ≤ most → min (len + length (all_texts (drop i ds))) most ≡ min (length (all_texts ds)) most → len ≡ min (length (all_texts ds)) most
+pub all_are_counted : (len most : ℕ) (ds : List Data) (i : ℕ) → length ds ≤ i → len ≤ most
+    → min (len + length (all_texts (drop i ds))) most ≡ min (length (all_texts ds)) most → len
+    ≡ min (length (all_texts ds)) most
 all_are_counted len most ds i past below so_far =
     let none : length (all_texts (drop i ds)) ≡ 0 = ap (λ (es : List Data). length (all_texts es)) (drop_of_length-le ds past) in
     omega arith

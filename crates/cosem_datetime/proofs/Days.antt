@@ -26,7 +26,8 @@ pub year_bounds : (y : ℕ) → 365 ≤ year_length y
 year_bounds y = grind arith
 
 -- the days of n months are those of n - 1 months and of the month n
-pub months_more : (y m : ℕ) → 1 ≤ m → days_of_months y m ≡ days_of_months y (m - 1) + month_length y m
+pub months_more : (y m : ℕ) → 1 ≤ m → days_of_months y m ≡ days_of_months y (m - 1)
+    + month_length y m
 unfolding days_of_months
 months_more y zero h = absurd (omega arith)
 months_more y (suc m) h = let back : suc m - 1 ≡ m = omega arith in rw back
@@ -48,7 +49,8 @@ pub years_more : (y : ℕ) → days_of_years (suc y) ≡ days_of_years y + year_
 unfolding days_of_years
 years_more y = refl
 
-pub count_parts : (c : CivilDate) → day_count c ≡ days_of_years c.year + days_of_months c.year (c.month - 1) + (c.day - 1)
+pub count_parts : (c : CivilDate) → day_count c ≡ days_of_years c.year
+    + days_of_months c.year (c.month - 1) + (c.day - 1)
 unfolding day_count
 count_parts c = refl
 
@@ -58,7 +60,8 @@ next_is_date c h =
     grind (arith, nat_tests, h.month, h.day, month_bounds c.year c.month, month_bounds c.year (c.month + 1), month_bounds (c.year + 1) 1)
 
 -- what holds of both values of a choice
-pub at_if : {A : Type 0} (P : A → Type 0) (b : Bool) (x y : A) → (b ≡ true → P x) → (b ≡ false → P y) → P (cond b x y)
+pub at_if : {A : Type 0} (P : A → Type 0) (b : Bool) (x y : A) → (b ≡ true → P x)
+    → (b ≡ false → P y) → P (cond b x y)
 at_if P true x y f g = f refl
 at_if P false x y f g = g refl
 
@@ -68,17 +71,22 @@ below a b h = grind (arith, nat_tests)
 above : (a b : ℕ) → nat_lt a b ≡ false → b ≤ a
 above a b h = grind (arith, nat_tests)
 
-next_day_count : (y m d : ℕ) → 1 ≤ d → day_count (record { year = y; month = m; day = d + 1 }) ≡ suc (day_count (record { year = y; month = m; day = d }))
+next_day_count : (y m d : ℕ) → 1 ≤ d → day_count (record { year = y; month = m; day = d + 1 })
+    ≡ suc (day_count (record { year = y; month = m; day = d }))
 unfolding day_count
 next_day_count y m d h = omega arith
 
-next_month_count : (y m d : ℕ) → 1 ≤ m → 1 ≤ d → d ≡ month_length y m → day_count (record { year = y; month = m + 1; day = 1 }) ≡ suc (day_count (record { year = y; month = m; day = d }))
+next_month_count : (y m d : ℕ) → 1 ≤ m → 1 ≤ d → d ≡ month_length y m
+    → day_count (record { year = y; month = m + 1; day = 1 })
+    ≡ suc (day_count (record { year = y; month = m; day = d }))
 unfolding day_count
 next_month_count y m d h k e =
     let back : m + 1 - 1 ≡ m = omega arith in
     rw back (omega (arith, months_more y m h))
 
-next_year_count : (y d : ℕ) → 1 ≤ d → d ≡ month_length y 12 → day_count (record { year = y + 1; month = 1; day = 1 }) ≡ suc (day_count (record { year = y; month = 12; day = d }))
+next_year_count : (y d : ℕ) → 1 ≤ d → d ≡ month_length y 12
+    → day_count (record { year = y + 1; month = 1; day = 1 })
+    ≡ suc (day_count (record { year = y; month = 12; day = d }))
 unfolding day_count
 next_year_count y d k e =
     let next : y + 1 ≡ suc y = omega arith in
@@ -117,7 +125,8 @@ months_add y m (suc k) =
     omega (arith, months_add y m k, rw back at (months_more y (suc k + m) (omega arith)))
 
 -- a date is before the end of its month
-month_end : (c : CivilDate) → IsDate c → day_count c < days_of_years c.year + days_of_months c.year c.month
+month_end : (c : CivilDate) → IsDate c → day_count c < days_of_years c.year
+    + days_of_months c.year c.month
 month_end c h = omega (arith, count_parts c, months_more c.year c.month h.month.0, h.day.0, h.day.1)
 
 months_to : (y m later : ℕ) → m ≤ later → days_of_months y m ≤ days_of_months y later
@@ -142,13 +151,16 @@ year_before a b h k lt =
     omega (arith, year_end a h, years_to (suc a.year) b.year (omega arith), count_parts b)
 
 -- a date of a later month of the same year is later
-month_before : (a b : CivilDate) → IsDate a → IsDate b → a.year ≡ b.year → a.month < b.month → day_count a < day_count b
+month_before : (a b : CivilDate) → IsDate a → IsDate b → a.year ≡ b.year → a.month < b.month
+    → day_count a < day_count b
 month_before a b h k e lt =
     let later = months_to b.year a.month (b.month - 1) (omega arith) in
     let end : day_count a < days_of_years b.year + days_of_months b.year a.month = rw (← e) (month_end a h) in
     omega (arith, count_parts b)
 
-same_parts : (y m d y₂ m₂ d₂ : ℕ) → y ≡ y₂ → m ≡ m₂ → d ≡ d₂ → ◌≡◌ {A = CivilDate} (record { year = y; month = m; day = d }) (record { year = y₂; month = m₂; day = d₂ })
+same_parts : (y m d y₂ m₂ d₂ : ℕ) → y ≡ y₂ → m ≡ m₂ → d ≡ d₂
+    → ◌≡◌ {A = CivilDate} (record { year = y; month = m; day = d })
+    (record { year = y₂; month = m₂; day = d₂ })
 same_parts y m d y₂ m₂ d₂ e f g = rw (e, f, g)
 
 -- dates with the same count are the same
@@ -168,7 +180,8 @@ same_date a b h k e =
     ]
 
 -- a date is day n exactly if it is the date of day n
-pub is_day : (n : ℕ) (c : CivilDate) → (IsDay n c → c ≡ date_of_day n) × (c ≡ date_of_day n → IsDay n c)
+pub is_day : (n : ℕ) (c : CivilDate) → (IsDay n c → c ≡ date_of_day n)
+    × (c ≡ date_of_day n → IsDay n c)
 is_day n c =
     let here = date_of_day_is n in (
       λ h. same_date c (date_of_day n) (date_parts c h.date) here.0 (h.count ∙ sym here.1),

@@ -9,7 +9,8 @@ use Rattle.cosem_datetime.proofs.Jiff.{first_day_is}
 use Rattle.cosem_datetime.proofs.SomeFacts.{none_below_zero, some_below_found, none_below_each}
 
 -- a second of the meter's time, by its day and its second of the day
-pub matches_at : (entry : EntryPattern) (day s n : ℕ) → n ≡ 86400 * day + s → s < 86400 → matches entry n ≡ date_matches entry.date (730_485 + day) && time_matches entry.time s
+pub matches_at : (entry : EntryPattern) (day s n : ℕ) → n ≡ 86400 * day + s → s < 86400
+    → matches entry n ≡ date_matches entry.date (730_485 + day) && time_matches entry.time s
 unfolding matches
 matches_at entry day s n e h =
     let whole : n / 86400 ≡ day = omega arith in
@@ -23,7 +24,9 @@ and_same : (a b c : Bool) → a ≡ true → b ≡ c → a && b ≡ c
 and_same a b c e f = rw (e, f) refl
 
 -- on a day that the date does not match, no second matches
-pub day_fails : (entry : EntryPattern) (day from to : ℕ) → to < 86400 → date_matches entry.date (730_485 + day) ≡ false → TellsPassing (matches entry) (86400 * day + from) (86400 * day + to) false
+pub day_fails : (entry : EntryPattern) (day from to : ℕ) → to < 86400
+    → date_matches entry.date (730_485 + day) ≡ false
+    → TellsPassing (matches entry) (86400 * day + from) (86400 * day + to) false
 day_fails entry day from to h e = record {
   found = λ f. absurd cc;
   none = λ f n low high.
@@ -31,7 +34,10 @@ day_fails entry day from to h e = record {
 }
 
 -- on a day that the date matches, the time decides
-pub day_tells : (entry : EntryPattern) (day from to : ℕ) (answer : Bool) → to < 86400 → date_matches entry.date (730_485 + day) ≡ true → TellsPassing (time_matches entry.time) from to answer → TellsPassing (matches entry) (86400 * day + from) (86400 * day + to) answer
+pub day_tells : (entry : EntryPattern) (day from to : ℕ) (answer : Bool) → to < 86400
+    → date_matches entry.date (730_485 + day) ≡ true
+    → TellsPassing (time_matches entry.time) from to answer
+    → TellsPassing (matches entry) (86400 * day + from) (86400 * day + to) answer
 day_tells entry day from to answer h e told = record {
   found = λ f.
       let s = told.found f in
@@ -41,7 +47,8 @@ day_tells entry day from to answer h e told = record {
 }
 
 -- the answer over an interval is the definition's
-pub tells_in : (entry : EntryPattern) (after upto : ℕ) (answer : Bool) → TellsPassing (matches entry) (after + 1) upto answer → answer ≡ matches_in entry after upto
+pub tells_in : (entry : EntryPattern) (after upto : ℕ) (answer : Bool)
+    → TellsPassing (matches entry) (after + 1) upto answer → answer ≡ matches_in entry after upto
 unfolding matches_in
 tells_in entry after upto true told =
     let s = told.found refl in
@@ -52,7 +59,8 @@ tells_in entry after upto false told =
     sym (none_below_each _ (upto - after) (λ k lt. told.none refl (after + 1 + k) (omega arith) (omega arith)))
 
 -- no second is in an empty interval
-pub none_in : (entry : EntryPattern) (after upto : ℕ) → upto ≤ after → nat_lt after upto ≡ matches_in entry after upto
+pub none_in : (entry : EntryPattern) (after upto : ℕ) → upto ≤ after → nat_lt after upto
+    ≡ matches_in entry after upto
 unfolding matches_in
 none_in entry after upto h =
     let empty : upto - after ≡ 0 = omega arith in

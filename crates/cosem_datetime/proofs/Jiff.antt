@@ -23,7 +23,8 @@ jiff_year zero = omega (arith, no_years, day_count-early (pos 0) 9999 1 1 refl (
 jiff_year (suc y) =
     omega (arith, jiff_year y, years_more y, day_count-next_year (pos y) (pos (suc y)) (omega (arith, signed_arith)) (omega (arith, signed_arith)))
 
-pub jiff_count_is : (y m d : ℕ) → 1 ≤ d → jiff_count (pos y) m d ≡ day_count (record { year = y; month = m; day = d }) + 3_652_425
+pub jiff_count_is : (y m d : ℕ) → 1 ≤ d → jiff_count (pos y) m d
+    ≡ day_count (record { year = y; month = m; day = d }) + 3_652_425
 jiff_count_is y m d h =
     omega (arith, jiff_year y, day_count-day_of_year (pos y) m d h, months_same y (m - 1), count_parts (record { year = y; month = m; day = d }))
 
@@ -32,7 +33,8 @@ unfolding first_day
 first_day_is = omega (arith, jiff_count_is 2000 1 1 (omega arith), day_count-early (pos 2000) 11999 1 1 refl (omega arith) (omega arith) (omega arith))
 
 -- a date of jiff as a day of the definitions
-pub from_jiff : (y : ℤ) (m d n : ℕ) → IsCivilDate y m d → jiff_count y m d ≡ n + 3_652_425 → (k : ℕ) × ((y ≡ pos k) × ((k ≤ 9999) × (record { year = k; month = m; day = d } ≡ date_of_day n)))
+pub from_jiff : (y : ℤ) (m d n : ℕ) → IsCivilDate y m d → jiff_count y m d ≡ n + 3_652_425 → (k : ℕ)
+    × ((y ≡ pos k) × ((k ≤ 9999) × (record { year = k; month = m; day = d } ≡ date_of_day n)))
 from_jiff (pos k) m d n h e =
     let c : CivilDate = record { year = k; month = m; day = d } in
     let date : IsDate c = record { month = h.1; day = h.2 } in
@@ -42,7 +44,9 @@ from_jiff (negsuc k) m d n h e =
     absurd (omega (arith, signed_arith, day_count-lt_year (negsuc k) m d (pos 0) 1 1 h (omega arith) (search arith), jiff_year 0, no_years))
 
 -- the date n days after 1 January of the year 0
-pub date_from_jiff : (date made : Date) (n : ℕ) → date ≡ made → epoch_day made +ℤ pos 4_371_587 ≡ pos (n + 3_652_059) → (k : ℕ) × ((to_z w16 (of_z w16 date.year) ≡ pos k) × ((k ≤ 9999) × (record { year = k; month = date.month; day = date.day } ≡ date_of_day n)))
+pub date_from_jiff : (date made : Date) (n : ℕ) → date ≡ made → epoch_day made +ℤ pos 4_371_587
+    ≡ pos (n + 3_652_059) → (k : ℕ) × ((to_z w16 (of_z w16 date.year) ≡ pos k)
+    × ((k ≤ 9999) × (record { year = k; month = date.month; day = date.day } ≡ date_of_day n)))
 date_from_jiff date made n same e =
     let day : epoch_day date +ℤ pos 4_371_587 ≡ pos (n + 3_652_059) = rw same e in
     let count : jiff_count date.year date.month date.day ≡ n + 3_652_425 = omega (arith, signed_arith, days_from_civil-day_count date.year date.month date.day) in
@@ -51,13 +55,15 @@ date_from_jiff date made n same e =
     (found.0, (back_small w16 date.year fits ∙ found.1.0, found.1.1))
 
 -- jiff's weekday of that date, which counts from 0 for Monday
-pub weekday_from_jiff : (date made : Date) (n : ℕ) → date ≡ made → epoch_day made +ℤ pos 4_371_587 ≡ pos (n + 3_652_059) → weekday_of date + 1 ≡ weekday n
+pub weekday_from_jiff : (date made : Date) (n : ℕ) → date ≡ made → epoch_day made +ℤ pos 4_371_587
+    ≡ pos (n + 3_652_059) → weekday_of date + 1 ≡ weekday n
 weekday_from_jiff date made n same e =
     let day : epoch_day date +ℤ pos 4_371_587 ≡ pos (n + 3_652_059) = rw same e in
     omega (arith, signed_arith, day, weekday_number-parts (epoch_day date))
 
 -- a number of 1 to 7 is the same as an unsigned one
-pub small_weekday : (z : ℤ) (n : ℕ) → z ≡ pos (n + 1) → n < 7 → unsigned_abs (to_z w8 (of_z w8 z)) ≡ n + 1
+pub small_weekday : (z : ℤ) (n : ℕ) → z ≡ pos (n + 1) → n < 7 → unsigned_abs (to_z w8 (of_z w8 z))
+    ≡ n + 1
 small_weekday z n e h =
     let fits : unsigned_abs z < 2 ^ hbits w8 = rw e (omega arith) in
     rw (back_small w8 z fits, e) refl
@@ -68,11 +74,15 @@ small_year n h = grind (arith, nat_tests)
 small_part : (n : ℕ) → n ≤ 31 → to_z w8 n ≡ pos n
 small_part n h = grind (arith, nat_tests)
 
-civil_at : (y y₂ : ℤ) (m m₂ d d₂ : ℕ) → y ≡ y₂ → m ≡ m₂ → d ≡ d₂ → IsCivilDate y m d → IsCivilDate y₂ m₂ d₂
+civil_at : (y y₂ : ℤ) (m m₂ d d₂ : ℕ) → y ≡ y₂ → m ≡ m₂ → d ≡ d₂ → IsCivilDate y m d
+    → IsCivilDate y₂ m₂ d₂
 civil_at y y₂ m m₂ d d₂ e f g h = rw (← e, ← f, ← g) h
 
 -- a date that jiff made is in the calendar, and its day is jiff's
-pub to_jiff : (date made : Date) (c : CivilDate) (days : ℕ) → c.year ≤ 9999 → c.month ≤ 12 → c.day ≤ 31 → IsYmd (to_z w16 c.year) (to_z w8 c.month) (to_z w8 c.day) date → made ≡ date → epoch_day made +ℤ pos 4_371_587 ≡ pos days → (is_date c ≡ true) × (days ≡ day_count c + 3_652_059)
+pub to_jiff : (date made : Date) (c : CivilDate) (days : ℕ) → c.year ≤ 9999 → c.month ≤ 12
+    → c.day ≤ 31 → IsYmd (to_z w16 c.year) (to_z w8 c.month) (to_z w8 c.day) date → made ≡ date
+    → epoch_day made +ℤ pos 4_371_587 ≡ pos days → (is_date c ≡ true)
+    × (days ≡ day_count c + 3_652_059)
 to_jiff date made c days h k l ymd same e =
     let year : date.year ≡ pos c.year = ymd.0 ∙ small_year c.year h in
     let month' : pos date.month ≡ pos c.month = ymd.1 ∙ small_part c.month (omega arith) in

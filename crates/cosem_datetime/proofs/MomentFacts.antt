@@ -15,11 +15,14 @@ pub no_date : (f : DateTimeFields) → plain_date f.date ≡ None → moment_of 
 unfolding moment_of
 no_date f e = rw e refl
 
-pub no_time : (f : DateTimeFields) (c : CivilDate) → plain_date f.date ≡ Some c → second_of_day f.time ≡ None → moment_of f ≡ None
+pub no_time : (f : DateTimeFields) (c : CivilDate) → plain_date f.date ≡ Some c
+    → second_of_day f.time ≡ None → moment_of f ≡ None
 unfolding moment_of
 no_time f c e h = rw (e, h) refl
 
-pub all_given : (f : DateTimeFields) (c : CivilDate) (s : ℕ) → plain_date f.date ≡ Some c → second_of_day f.time ≡ Some s → moment_of f ≡ cond (is_right_date f.date c) (in_u32 (seconds_since c s f.deviation)) None
+pub all_given : (f : DateTimeFields) (c : CivilDate) (s : ℕ) → plain_date f.date ≡ Some c
+    → second_of_day f.time ≡ Some s → moment_of f
+    ≡ cond (is_right_date f.date c) (in_u32 (seconds_since c s f.deviation)) None
 unfolding moment_of
 all_given f c s e h = rw (e, h) refl
 
@@ -40,12 +43,16 @@ false_right true b e = e
 false_right false b e = refl
 
 -- the calendar does not have the date
-pub no_such_date : (f : DateTimeFields) (c : CivilDate) (s : ℕ) → plain_date f.date ≡ Some c → second_of_day f.time ≡ Some s → cond (is_date c) (Some (day_count c)) None ≡ None → moment_of f ≡ None
+pub no_such_date : (f : DateTimeFields) (c : CivilDate) (s : ℕ) → plain_date f.date ≡ Some c
+    → second_of_day f.time ≡ Some s → cond (is_date c) (Some (day_count c)) None ≡ None
+    → moment_of f ≡ None
 no_such_date f c s e h k =
     all_given f c s e h ∙ ap (λ b. cond b (in_u32 (seconds_since c s f.deviation)) None) (false_left _ _ (none_means_false (is_date c) (day_count c) k))
 
 -- the weekday is not that of the date
-pub other_weekday : (f : DateTimeFields) (c : CivilDate) (s n : ℕ) → plain_date f.date ≡ Some c → second_of_day f.time ≡ Some s → cond (is_date c) (Some (day_count c)) None ≡ Some n → holds f.date.weekday (weekday n) ≡ false → moment_of f ≡ None
+pub other_weekday : (f : DateTimeFields) (c : CivilDate) (s n : ℕ) → plain_date f.date ≡ Some c
+    → second_of_day f.time ≡ Some s → cond (is_date c) (Some (day_count c)) None ≡ Some n
+    → holds f.date.weekday (weekday n) ≡ false → moment_of f ≡ None
 other_weekday f c s n e h k w =
     let day = some_means_true (is_date c) (day_count c) n k in
     all_given f c s e h ∙ ap (λ b. cond b (in_u32 (seconds_since c s f.deviation)) None) (false_right _ _ (ap (λ d. holds f.date.weekday (weekday d)) day.1 ∙ w))
@@ -54,7 +61,11 @@ both_true : (a b : Bool) → a ≡ true → b ≡ true → a && b ≡ true
 both_true a b e h = rw (e, h) refl
 
 -- the date is right
-pub right_date : (f : DateTimeFields) (c : CivilDate) (s n : ℕ) → plain_date f.date ≡ Some c → second_of_day f.time ≡ Some s → cond (is_date c) (Some (day_count c)) None ≡ Some n → holds f.date.weekday (weekday n) ≡ true → moment_of f ≡ in_u32 ((pos (86400 * n + s) -ℤ pos (86400 * first_day)) +ℤ (pos 60 *ℤ unwrap_or f.deviation (pos 0)))
+pub right_date : (f : DateTimeFields) (c : CivilDate) (s n : ℕ) → plain_date f.date ≡ Some c
+    → second_of_day f.time ≡ Some s → cond (is_date c) (Some (day_count c)) None ≡ Some n
+    → holds f.date.weekday (weekday n) ≡ true → moment_of f
+    ≡ in_u32 ((pos (86400 * n + s) -ℤ pos (86400 * first_day)) +ℤ
+    (pos 60 *ℤ unwrap_or f.deviation (pos 0)))
 right_date f c s n e h k w =
     let day = some_means_true (is_date c) (day_count c) n k in
     let right = both_true (is_date c) (holds f.date.weekday (weekday (day_count c))) day.0 (ap (λ d. holds f.date.weekday (weekday d)) day.1 ∙ w) in
@@ -68,18 +79,25 @@ least_deviation : (d : Option ℤ) → IsDeviationWithin d → negsuc 719 ≤ℤ
 least_deviation None h = omega (arith, signed_arith)
 least_deviation (Some d) h = h.0
 
-late_seconds : (days s first : ℕ) (d : ℤ) → 3_652_425 ≤ days → first ≡ 730_485 → negsuc 719 ≤ℤ d → pos (2 ^ 32) ≤ℤ ((pos (86400 * days + s) -ℤ pos (86400 * first)) +ℤ (pos 60 *ℤ d))
+late_seconds : (days s first : ℕ) (d : ℤ) → 3_652_425 ≤ days → first ≡ 730_485 → negsuc 719 ≤ℤ d
+    → pos (2 ^ 32) ≤ℤ ((pos (86400 * days + s) -ℤ pos (86400 * first)) +ℤ (pos 60 *ℤ d))
 late_seconds days s first d h k l = omega (arith, signed_arith)
 
 -- a date after the year 9999 has no moment
-pub too_late : (f : DateTimeFields) (c : CivilDate) (s : ℕ) → IsDeviationWithin f.deviation → plain_date f.date ≡ Some c → second_of_day f.time ≡ Some s → 9999 < c.year → moment_of f ≡ None
+pub too_late : (f : DateTimeFields) (c : CivilDate) (s : ℕ) → IsDeviationWithin f.deviation
+    → plain_date f.date ≡ Some c → second_of_day f.time ≡ Some s → 9999 < c.year
+    → moment_of f ≡ None
 too_late f c s d e h lt =
     let late : 3_652_425 ≤ day_count c = omega (arith, count_parts c, years_to 10000 c.year (omega arith), days_to_10000) in
     let none = past_u32 (seconds_since c s f.deviation) (late_seconds (day_count c) s first_day (unwrap_or f.deviation (pos 0)) late first_day_is (least_deviation f.deviation d)) in
     all_given f c s e h ∙ at_if (λ o. o ≡ None) (is_right_date f.date c) _ _ (λ _. none) (λ _. refl)
 
 -- the last steps, without the casts
-pub cast_back : (result : Option ℕ) (moved written deviation w d : ℤ) → FitsSigned w64 moved → FitsSigned w64 written → FitsSigned w16 deviation → result ≡ in_u32 (to_z w64 (of_z w64 moved)) → moved ≡ to_z w64 (of_z w64 written) +ℤ (pos 60 *ℤ to_z w16 (of_z w16 deviation)) → written ≡ w → deviation ≡ d → result ≡ in_u32 (w +ℤ (pos 60 *ℤ d))
+pub cast_back : (result : Option ℕ) (moved written deviation w d : ℤ) → FitsSigned w64 moved
+    → FitsSigned w64 written → FitsSigned w16 deviation → result
+    ≡ in_u32 (to_z w64 (of_z w64 moved)) → moved
+    ≡ to_z w64 (of_z w64 written) +ℤ (pos 60 *ℤ to_z w16 (of_z w16 deviation)) → written ≡ w
+    → deviation ≡ d → result ≡ in_u32 (w +ℤ (pos 60 *ℤ d))
 cast_back result moved written deviation w d f g h last step e k =
     let parts : to_z w64 (of_z w64 written) +ℤ (pos 60 *ℤ to_z w16 (of_z w16 deviation)) ≡ w +ℤ (pos 60 *ℤ d) = rw (to_z-of_z g, to_z-of_z h, e, k) refl in
     last ∙ ap in_u32 (to_z-of_z f ∙ (step ∙ parts))
@@ -91,7 +109,9 @@ fits_seconds : (n : ℕ) → n < 2 ^ 62 → FitsSigned w64 (pos n -ℤ pos 63_11
 fits_seconds n h = omega (arith, signed_arith)
 
 -- the seconds as they are written, past the casts
-pub written_is : (n day second first : ℕ) → n ≡ 86400 * day + second → day ≤ 3_652_424 → second < 86400 → first ≡ 730_485 → to_z w64 (of_z w64 (to_z w64 n -ℤ pos 63_113_904_000)) ≡ pos (86400 * day + second) -ℤ pos (86400 * first)
+pub written_is : (n day second first : ℕ) → n ≡ 86400 * day + second → day ≤ 3_652_424
+    → second < 86400 → first ≡ 730_485 → to_z w64 (of_z w64 (to_z w64 n -ℤ pos 63_113_904_000))
+    ≡ pos (86400 * day + second) -ℤ pos (86400 * first)
 written_is n day second first e h k l =
     let epoch : 86400 * first ≡ 63_113_904_000 = omega arith in
     let ends : pos n -ℤ pos 63_113_904_000 ≡ pos (86400 * day + second) -ℤ pos (86400 * first) = rw (e, epoch) refl in

@@ -30,11 +30,13 @@ pub none_below_zero : (test : ℕ → Bool) → some_below test 0 ≡ false
 unfolding some_below
 none_below_zero test = refl
 
-pub none_below_more : (test : ℕ → Bool) (n : ℕ) → some_below test n ≡ false → test n ≡ false → some_below test (n + 1) ≡ false
+pub none_below_more : (test : ℕ → Bool) (n : ℕ) → some_below test n ≡ false → test n ≡ false
+    → some_below test (n + 1) ≡ false
 unfolding some_below
 none_below_more test n h e = rw add-one (or_false _ _ h e)
 
-pub some_below_found : (test : ℕ → Bool) (n k : ℕ) → k < n → test k ≡ true → some_below test n ≡ true
+pub some_below_found : (test : ℕ → Bool) (n k : ℕ) → k < n → test k ≡ true
+    → some_below test n ≡ true
 unfolding some_below
 some_below_found test zero k lt e = absurd (omega arith)
 some_below_found test (suc n) k lt e =
@@ -44,7 +46,8 @@ some_below_found test (suc n) k lt e =
       | inr (inr more) ↦ absurd (omega arith)
     ]
 
-pub some_below_which : (test : ℕ → Bool) (n : ℕ) → some_below test n ≡ true → (k : ℕ) × ((k < n) × (test k ≡ true))
+pub some_below_which : (test : ℕ → Bool) (n : ℕ) → some_below test n ≡ true → (k : ℕ)
+    × ((k < n) × (test k ≡ true))
 unfolding some_below
 some_below_which test zero e = absurd cc
 some_below_which test (suc n) e =
@@ -53,7 +56,8 @@ some_below_which test (suc n) e =
       | inr h ↦ (n, (omega arith, h))
     ]
 
-pub none_below_each : (test : ℕ → Bool) (n : ℕ) → ((k : ℕ) → k < n → test k ≡ false) → some_below test n ≡ false
+pub none_below_each : (test : ℕ → Bool) (n : ℕ) → ((k : ℕ) → k < n → test k ≡ false)
+    → some_below test n ≡ false
 unfolding some_below
 none_below_each test zero h = refl
 none_below_each test (suc n) h =

@@ -16,12 +16,15 @@ use Rattle.head_end.specs.Rows.{IsRow, IsLine, AreLines}
 
 -- the first lines have the rows of their slots, and all keep their names
 pub record Gathers (turns workers : ℕ) (old : List ReportLine) (slots : List Row) (done : ℕ) (new : List ReportLine) : Type 0 where
-  pub rows : (i : ℕ) (line : ReportLine) (row : Row) → i < done → (slice_index_or new i line).row ≡ slice_index_or slots (slot_at turns workers i) row
-  pub ids : (i : ℕ) (line : ReportLine) → i < length old → (slice_index_or new i line).id ≡ (slice_index_or old i line).id
+  pub rows : (i : ℕ) (line : ReportLine) (row : Row) → i < done → (slice_index_or new i line).row
+      ≡ slice_index_or slots (slot_at turns workers i) row
+  pub ids : (i : ℕ) (line : ReportLine) → i < length old → (slice_index_or new i line).id
+      ≡ (slice_index_or old i line).id
   pub len : length new ≡ length old
 
 -- lines that are correct at each index
-pub are_lines : (tells : List ℕ → Option Forecast) (jobs : List Job) (lines : List ReportLine) → length lines ≡ length jobs
+pub are_lines : (tells : List ℕ → Option Forecast) (jobs : List Job) (lines : List ReportLine)
+    → length lines ≡ length jobs
     → ((i : ℕ) (job : Job) (line : ReportLine) → i < length jobs → IsLine tells (slice_index_or jobs i job) (slice_index_or lines i line)) → AreLines tells jobs lines
 are_lines tells [] [] same each = tt
 are_lines tells [] (line ∷ lines) same each = absurd (omega arith)
@@ -30,15 +33,18 @@ are_lines tells (job ∷ jobs) (line ∷ lines) same each =
     (each 0 job line (omega arith), are_lines tells jobs lines (omega arith) (λ i j l below. each (suc i) j l (omega arith)))
 
 -- one name more
-pub ids_more : (jobs : List Job) (i : ℕ) (job : Job) (lines new : List ReportLine) (line : ReportLine) → i < length jobs → job ≡ slice_index_or jobs i job → line.id ≡ job.id
+pub ids_more : (jobs : List Job) (i : ℕ) (job : Job) (lines new : List ReportLine)
+    (line : ReportLine) → i < length jobs → job ≡ slice_index_or jobs i job → line.id ≡ job.id
     → map (λ (l : ReportLine). l.id) lines ≡ map (λ (j : Job). j.id) (take i jobs) → new ≡ lines ++ line ∷ [] → map (λ (l : ReportLine). l.id) new ≡ map (λ (j : Job). j.id) (take (i + 1) jobs)
 ids_more jobs i job lines new line below is id_is before same = grind (arith, common_steps)
 
 -- lines that have the same names as the jobs
-pub same_length : (jobs : List Job) (lines : List ReportLine) → map (λ (l : ReportLine). l.id) lines ≡ map (λ (j : Job). j.id) jobs → length lines ≡ length jobs
+pub same_length : (jobs : List Job) (lines : List ReportLine) → map (λ (l : ReportLine). l.id) lines
+    ≡ map (λ (j : Job). j.id) jobs → length lines ≡ length jobs
 same_length jobs lines same = sym (length-map lines (λ (l : ReportLine). l.id)) ∙ ap length same ∙ length-map jobs (λ (j : Job). j.id)
 
-same_ids : (jobs : List Job) (lines : List ReportLine) → map (λ (l : ReportLine). l.id) lines ≡ map (λ (j : Job). j.id) jobs
+same_ids : (jobs : List Job) (lines : List ReportLine) → map (λ (l : ReportLine). l.id) lines
+    ≡ map (λ (j : Job). j.id) jobs
     → (i : ℕ) (job : Job) (line : ReportLine) → i < length jobs → (slice_index_or lines i line).id ≡ (slice_index_or jobs i job).id
 same_ids [] lines same i job line below = absurd (omega arith)
 same_ids (j ∷ jobs) [] same i job line below = absurd cc
@@ -46,7 +52,8 @@ same_ids (j ∷ jobs) (l ∷ lines) same zero job line below = cc
 same_ids (j ∷ jobs) (l ∷ lines) same (suc i) job line below = same_ids jobs lines (let tails : map (λ (l : ReportLine). l.id) lines ≡ map (λ (j : Job). j.id) jobs = cc in tails) i job line (omega arith)
 
 -- the lines of a campaign are correct
-pub campaign_lines : (tells : List ℕ → Option Forecast) (turns workers : ℕ) (jobs : List Job) (blank lines : List ReportLine) (slots : List Row)
+pub campaign_lines : (tells : List ℕ → Option Forecast) (turns workers : ℕ) (jobs : List Job)
+    (blank lines : List ReportLine) (slots : List Row)
     → 0 < workers → length jobs < turns * workers → map (λ (l : ReportLine). l.id) blank ≡ map (λ (j : Job). j.id) jobs
     → ((slot : ℕ) (job : Job) (row : Row) → slot < turns * workers → place_at turns workers slot < length jobs
     → IsRow tells (slice_index_or jobs (place_at turns workers slot) job) (slice_index_or slots slot row))

@@ -26,7 +26,8 @@ lines_join tells (job ∷ jobs) rest [] others first second = absurd first
 lines_join tells (job ∷ jobs) rest (line ∷ lines) others first second = (first.0, lines_join tells jobs rest lines others first.1 second)
 
 -- a line whose connection's reads are predicted
-row_told : (job : Job) (told : Option Forecast) (tells : List ℕ → Option Forecast) (row : Row) → tells job.address ≡ told → IsSome told → IsRow tells job row → row ≢ Memory
+row_told : (job : Job) (told : Option Forecast) (tells : List ℕ → Option Forecast) (row : Row)
+    → tells job.address ≡ told → IsSome told → IsRow tells job row → row ≢ Memory
     → row ≡ (line_by job told).row
 row_told job (Some told) tells (Came outcome) is some row_is memory = ap Came (rw is at row_is)
 row_told job told tells Memory is some row_is memory = absurd (memory refl)
@@ -36,10 +37,12 @@ id_told : (job : Job) (told : Option Forecast) → (line_by job told).id ≡ job
 id_told job (Some told) = refl
 id_told job None = refl
 
-same_line : (id other : List ℕ) (row came : Row) → id ≡ other → row ≡ came → ◌≡◌ {A = ReportLine} (record { id = id; row = row }) (record { id = other; row = came })
+same_line : (id other : List ℕ) (row came : Row) → id ≡ other → row ≡ came
+    → ◌≡◌ {A = ReportLine} (record { id = id; row = row }) (record { id = other; row = came })
 same_line id other row came ids rows = cc
 
-lines_told : (tells : List ℕ → Option Forecast) (jobs : List Job) (lines : List ReportLine) → AreLines tells jobs lines → AreTold tells jobs → HaveMemory lines
+lines_told : (tells : List ℕ → Option Forecast) (jobs : List Job) (lines : List ReportLine)
+    → AreLines tells jobs lines → AreTold tells jobs → HaveMemory lines
     → lines ≡ map (line_for tells) jobs
 lines_told tells [] [] are told memory = refl
 lines_told tells [] (line ∷ lines) are told memory = absurd are
@@ -57,7 +60,8 @@ is_the_report tells jobs lines are told memory = ap report_text (lines_told tell
 -- ---- the jobs of a text
 
 -- if all lines are jobs, the numbers of the lines do not matter
-by_job : (number other : ℕ) (line : List ℕ) (job : Option Job) (jobs : List Job) → jobs_at number line job ≡ Ok jobs → jobs_at other line job ≡ Ok jobs
+by_job : (number other : ℕ) (line : List ℕ) (job : Option Job) (jobs : List Job)
+    → jobs_at number line job ≡ Ok jobs → jobs_at other line job ≡ Ok jobs
 by_job number other [] job jobs is = is
 by_job number other (byte ∷ bytes) (Some job) jobs is = is
 by_job number other (byte ∷ bytes) None jobs is = absurd cc
@@ -70,12 +74,14 @@ pub record IsBoth (first second : Result (List Job) ℕ) (jobs : List Job) : Typ
   pub second_is : second ≡ Ok right
   pub jobs_are : jobs ≡ left ++ right
 
-both_of : (first second : Result (List Job) ℕ) (jobs : List Job) → joined_jobs first second ≡ Ok jobs → IsBoth first second jobs
+both_of : (first second : Result (List Job) ℕ) (jobs : List Job) → joined_jobs first second
+    ≡ Ok jobs → IsBoth first second jobs
 both_of (Err n) second jobs is = absurd cc
 both_of (Ok left) (Err n) jobs is = absurd cc
 both_of (Ok left) (Ok right) jobs is = record { left = left; right = right; first_is = refl; second_is = refl; jobs_are = cc }
 
-jobs_renumbered : (number other : ℕ) (lines : List (List ℕ)) (jobs : List Job) → jobs_in number lines ≡ Ok jobs → jobs_in other lines ≡ Ok jobs
+jobs_renumbered : (number other : ℕ) (lines : List (List ℕ)) (jobs : List Job)
+    → jobs_in number lines ≡ Ok jobs → jobs_in other lines ≡ Ok jobs
 jobs_renumbered number other [] jobs is = jobs_in-nil other ∙ sym (jobs_in-nil number) ∙ is
 jobs_renumbered number other (line ∷ lines) jobs is =
     let both = both_of (jobs_at number line (job_of line)) (jobs_in (suc number) lines) jobs (sym (jobs_in-cons number line lines) ∙ is) in
@@ -88,7 +94,8 @@ jobs_renumbered number other (line ∷ lines) jobs is =
 no_jobs : (jobs : List Job) → ◌≡◌ {A = Result (List Job) ℕ} (Ok []) (Ok jobs) → jobs ≡ []
 no_jobs jobs is = cc
 
-jobs_appended : (number : ℕ) (lines others : List (List ℕ)) (jobs more : List Job) → jobs_in number lines ≡ Ok jobs → jobs_in number others ≡ Ok more
+jobs_appended : (number : ℕ) (lines others : List (List ℕ)) (jobs more : List Job)
+    → jobs_in number lines ≡ Ok jobs → jobs_in number others ≡ Ok more
     → jobs_in number (lines ++ others) ≡ Ok (jobs ++ more)
 jobs_appended number [] others jobs more is later =
     let none : jobs ≡ [] = no_jobs jobs (sym (jobs_in-nil number) ∙ is) in
@@ -102,7 +109,8 @@ jobs_appended number (line ∷ lines) others jobs more is later =
     (sym (append_assoc both.left both.right more) ∙ ap (λ (js : List Job). js ++ more) (sym both.jobs_are))
 
 -- an empty line after the others has no jobs
-jobs_ended : (number : ℕ) (lines : List (List ℕ)) (jobs : List Job) → jobs_in number (lines ++ [] ∷ []) ≡ Ok jobs → jobs_in number lines ≡ Ok jobs
+jobs_ended : (number : ℕ) (lines : List (List ℕ)) (jobs : List Job)
+    → jobs_in number (lines ++ [] ∷ []) ≡ Ok jobs → jobs_in number lines ≡ Ok jobs
 jobs_ended number [] jobs is = jobs_in-nil number ∙ sym (jobs_in-cons number [] [] ∙ ap (joined_jobs (Ok [])) (jobs_in-nil (suc number))) ∙ is
 jobs_ended number (line ∷ lines) jobs is =
     let both = both_of (jobs_at number line (job_of line)) (jobs_in (suc number) (lines ++ [] ∷ [])) jobs (sym (jobs_in-cons number line (lines ++ [] ∷ [])) ∙ is) in

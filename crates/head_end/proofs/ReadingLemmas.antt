@@ -12,13 +12,16 @@ use Rattle.head_end.specs.declared.fault.JobsFault.TheVariants as fault
 use Rattle.head_end.specs.Jobs.{job_lines, job_of, joined_jobs, jobs_at, jobs_in, ReadsLines, AddsJob}
 
 -- joining is associative
-pub joined_assoc : (a b c : Result (List Job) ℕ) → joined_jobs (joined_jobs a b) c ≡ joined_jobs a (joined_jobs b c)
+pub joined_assoc : (a b c : Result (List Job) ℕ) → joined_jobs (joined_jobs a b) c
+    ≡ joined_jobs a (joined_jobs b c)
 joined_assoc (Err n) b c = refl
 joined_assoc (Ok xs) (Err n) c = refl
 joined_assoc (Ok xs) (Ok ys) (Err n) = refl
 joined_assoc (Ok xs) (Ok ys) (Ok zs) = ap (λ (jobs : List Job). let r : Result (List Job) ℕ = Ok jobs in r) (append_assoc xs ys zs)
 
-pub jobs_in-cons : (number : ℕ) (line : List ℕ) (lines : List (List ℕ)) → jobs_in number (line ∷ lines) ≡ joined_jobs (jobs_at number line (job_of line)) (jobs_in (suc number) lines)
+pub jobs_in-cons : (number : ℕ) (line : List ℕ) (lines : List (List ℕ))
+    → jobs_in number (line ∷ lines) ≡ joined_jobs (jobs_at number line (job_of line))
+    (jobs_in (suc number) lines)
 unfolding jobs_in
 jobs_in-cons number line lines = refl
 
@@ -40,19 +43,23 @@ pub left_all : (text : List ℕ) → Left text [] 1 text
 left_all text = record { all = joined_none (jobs_in 1 (job_lines text)); count = refl }
 
 -- a line is removed from the text, and its jobs follow the others
-lines_taken : (rest line behind : List ℕ) → lines_of rest ≡ line ∷ lines_of behind → unended_of rest ≡ unended_of behind → job_lines rest ≡ line ∷ job_lines behind
+lines_taken : (rest line behind : List ℕ) → lines_of rest ≡ line ∷ lines_of behind → unended_of rest
+    ≡ unended_of behind → job_lines rest ≡ line ∷ job_lines behind
 lines_taken rest line behind lines unended = rw (lines, unended) refl
 
-lines_last : (rest : List ℕ) → lines_of rest ≡ [] → unended_of rest ≡ rest → job_lines rest ≡ rest ∷ []
+lines_last : (rest : List ℕ) → lines_of rest ≡ [] → unended_of rest ≡ rest → job_lines rest ≡ rest
+    ∷ []
 lines_last rest lines unended = rw (lines, unended) refl
 
-taken_all : (text : List ℕ) (old : List Job) (number : ℕ) (rest line : List ℕ) (lines : List (List ℕ)) → Left text old number rest → job_lines rest ≡ line ∷ lines
+taken_all : (text : List ℕ) (old : List Job) (number : ℕ) (rest line : List ℕ)
+    (lines : List (List ℕ)) → Left text old number rest → job_lines rest ≡ line ∷ lines
     → jobs_in 1 (job_lines text) ≡ joined_jobs (joined_jobs (Ok old) (jobs_at number line (job_of line))) (jobs_in (suc number) lines)
 taken_all text old number rest line lines left taken =
     left.all ∙ ap (λ (ls : List (List ℕ)). joined_jobs (Ok old) (jobs_in number ls)) taken ∙ ap (joined_jobs (Ok old)) (jobs_in-cons number line lines)
     ∙ sym (joined_assoc (Ok old) (jobs_at number line (job_of line)) (jobs_in (suc number) lines))
 
-pub left_more : (text : List ℕ) (old new : List Job) (number : ℕ) (rest line behind : List ℕ) → Left text old number rest → lines_of rest ≡ line ∷ lines_of behind
+pub left_more : (text : List ℕ) (old new : List Job) (number : ℕ) (rest line behind : List ℕ)
+    → Left text old number rest → lines_of rest ≡ line ∷ lines_of behind
     → unended_of rest ≡ unended_of behind → AddsJob {X = Unit {0}} number line old (Ok tt) new → Left text new (number + 1) behind
 left_more text old new number rest line behind left lines unended adds =
     let here = taken_all text old number rest line (job_lines behind) left (lines_taken rest line behind lines unended) in
@@ -64,7 +71,8 @@ left_more text old new number rest line behind left lines unended adds =
     }
 
 -- the first wrong line
-wrong_by : (text : List ℕ) (old new : List Job) (number : ℕ) (rest line : List ℕ) (lines : List (List ℕ)) (f : JobsFault) → Left text old number rest
+wrong_by : (text : List ℕ) (old new : List Job) (number : ℕ) (rest line : List ℕ)
+    (lines : List (List ℕ)) (f : JobsFault) → Left text old number rest
     → job_lines rest ≡ line ∷ lines → AddsJob {X = Unit {0}} number line old (Err f) new → ReadsLines 1 (job_lines text) (Err f)
 wrong_by text old new number rest line lines (fault.Line wrong) left taken adds =
     taken_all text old number rest line lines left taken
@@ -72,17 +80,20 @@ wrong_by text old new number rest line lines (fault.Line wrong) left taken adds 
 wrong_by text old new number rest line lines fault.Memory left taken adds = tt
 wrong_by text old new number rest line lines fault.TooMany left taken adds = adds
 
-pub wrong_line : (text : List ℕ) (old new : List Job) (number : ℕ) (rest line behind : List ℕ) (f : JobsFault) → Left text old number rest
+pub wrong_line : (text : List ℕ) (old new : List Job) (number : ℕ) (rest line behind : List ℕ)
+    (f : JobsFault) → Left text old number rest
     → lines_of rest ≡ line ∷ lines_of behind → unended_of rest ≡ unended_of behind → AddsJob {X = Unit {0}} number line old (Err f) new → ReadsLines 1 (job_lines text) (Err f)
 wrong_line text old new number rest line behind f left lines unended adds =
     wrong_by text old new number rest line (job_lines behind) f left (lines_taken rest line behind lines unended) adds
 
-pub wrong_last : (text : List ℕ) (old new : List Job) (number : ℕ) (rest : List ℕ) (f : JobsFault) → Left text old number rest → lines_of rest ≡ []
+pub wrong_last : (text : List ℕ) (old new : List Job) (number : ℕ) (rest : List ℕ) (f : JobsFault)
+    → Left text old number rest → lines_of rest ≡ []
     → unended_of rest ≡ rest → AddsJob {X = Unit {0}} number rest old (Err f) new → ReadsLines 1 (job_lines text) (Err f)
 wrong_last text old new number rest f left lines unended adds = wrong_by text old new number rest rest [] f left (lines_last rest lines unended) adds
 
 -- all lines are read
-pub read_last : (text : List ℕ) (old new : List Job) (number : ℕ) (rest : List ℕ) → Left text old number rest → lines_of rest ≡ [] → unended_of rest ≡ rest
+pub read_last : (text : List ℕ) (old new : List Job) (number : ℕ) (rest : List ℕ)
+    → Left text old number rest → lines_of rest ≡ [] → unended_of rest ≡ rest
     → AddsJob {X = Unit {0}} number rest old (Ok tt) new → jobs_in 1 (job_lines text) ≡ Ok new
 read_last text old new number rest left lines unended adds =
     taken_all text old number rest rest [] left (lines_last rest lines unended)

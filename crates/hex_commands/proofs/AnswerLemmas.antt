@@ -8,11 +8,13 @@ use Rattle.session_serving.specs.Hexadecimal.{hex_line}
 use Rattle.hex_commands.specs.Apdu.{AddsAnswer, AnswersOn, answer_lines, new_answers}
 use Rattle.hex_commands.specs.Requests.{pieces_of, total}
 
-pub none_answered : (requests : List (List ℕ)) (core : RelayCore) (lines : List ℕ) → AnswersOn requests requests core core lines lines
+pub none_answered : (requests : List (List ℕ)) (core : RelayCore) (lines : List ℕ)
+    → AnswersOn requests requests core core lines lines
 none_answered requests core lines = record { on = λ w stands. (w, stands, refl) }
 
 -- one request more
-pub one_answered : (requests later : List (List ℕ)) (request : List ℕ) (first core core' : RelayCore) (before lines lines' : List ℕ)
+pub one_answered : (requests later : List (List ℕ)) (request : List ℕ)
+    (first core core' : RelayCore) (before lines lines' : List ℕ)
     → AnswersOn requests (request ∷ later) first core before lines → AddsAnswer request core core' lines lines'
     → AnswersOn requests later first core' before lines'
 unfolding answer_lines
@@ -29,7 +31,8 @@ one_answered requests later request first core core' before lines lines' on adds
 }
 
 -- the answers of a new meter
-pub new_answered : (device : List ℕ) (requests : List (List ℕ)) (core core' : RelayCore) (lines : List ℕ) → device ≡ codes "RELAY1"
+pub new_answered : (device : List ℕ) (requests : List (List ℕ)) (core core' : RelayCore)
+    (lines : List ℕ) → device ≡ codes "RELAY1"
     → StandsFor core (new_world device) → AnswersOn requests [] core core' [] lines → lines ≡ new_answers requests
 unfolding answer_lines
 new_answered device requests core core' lines named stands on =
@@ -37,7 +40,8 @@ new_answered device requests core core' lines named stands on =
     sym (ap (λ (name : List ℕ). answer_lines (new_world name) requests) (sym named) ∙ all.2 ∙ append-nil lines)
 
 -- the next request of those whose bytes are left
-pub next_answered : (requests : List (List ℕ)) (lengths left request after : List ℕ) (i count : ℕ) (first core core' : RelayCore) (before lines lines' : List ℕ)
+pub next_answered : (requests : List (List ℕ)) (lengths left request after : List ℕ) (i count : ℕ)
+    (first core core' : RelayCore) (before lines lines' : List ℕ)
     → i < length lengths → get_or lengths i 0 ≡ count → request ≡ take count left → after ≡ drop count left
     → AnswersOn requests (pieces_of (drop i lengths) left) first core before lines → AddsAnswer request core core' lines lines'
     → AnswersOn requests (pieces_of (drop (i + 1) lengths) after) first core' before lines'
@@ -47,7 +51,8 @@ next_answered requests lengths left request after i count first core core' befor
     rw (taken, rest) (rw cons at on) in
     one_answered requests (pieces_of (drop (i + 1) lengths) after) request first core core' before lines lines' on' adds
 
-pub next_sized : (lengths left after : List ℕ) (i count : ℕ) → i < length lengths → get_or lengths i 0 ≡ count → after ≡ drop count left
+pub next_sized : (lengths left after : List ℕ) (i count : ℕ) → i < length lengths
+    → get_or lengths i 0 ≡ count → after ≡ drop count left
     → total (drop i lengths) ≡ length left → total (drop (i + 1) lengths) ≡ length after
 next_sized lengths left after i count lt here rest sized =
     let cons : drop i lengths ≡ count ∷ drop (i + 1) lengths = rw (← here, add-one) (drop-cons lengths i 0 lt) in
@@ -55,7 +60,8 @@ next_sized lengths left after i count lt here rest sized =
     rw rest (omega (arith, whole, length-drop count left))
 
 -- it has so many bytes
-pub next_within : (lengths left : List ℕ) (i count : ℕ) → i < length lengths → get_or lengths i 0 ≡ count
+pub next_within : (lengths left : List ℕ) (i count : ℕ) → i < length lengths
+    → get_or lengths i 0 ≡ count
     → total (drop i lengths) ≡ length left → count ≤ length left
 next_within lengths left i count lt here sized =
     let cons : drop i lengths ≡ count ∷ drop (i + 1) lengths = rw (← here, add-one) (drop-cons lengths i 0 lt) in

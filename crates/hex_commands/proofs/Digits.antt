@@ -24,12 +24,14 @@ capital_below (suc n) k h lt =
           rw e parts.0
     ]
 
-capital_digit : (value : ℕ) → value < 16 → to_ascii_uppercase (slice_index lower_digits value) ≡ slice_index upper_digits value
+capital_digit : (value : ℕ) → value < 16 → to_ascii_uppercase (slice_index lower_digits value)
+    ≡ slice_index upper_digits value
 capital_digit value lt =
     eqb-true (to_ascii_uppercase (slice_index lower_digits value)) (slice_index upper_digits value) (capital_below 16 value refl lt)
 
 -- the digits of bytes, each in its capital
-pub capitals : (bytes : List ℕ) → All (λ b. b < 256) bytes → map to_ascii_uppercase (encode_lower bytes) ≡ encode_upper bytes
+pub capitals : (bytes : List ℕ) → All (λ b. b < 256) bytes
+    → map to_ascii_uppercase (encode_lower bytes) ≡ encode_upper bytes
 unfolding encode_with
 capitals [] small = refl
 capitals (byte ∷ bytes) small =

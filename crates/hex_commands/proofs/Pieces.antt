@@ -22,7 +22,8 @@ total_more [] count = omega arith
 total_more (first ∷ counts) count = omega (arith, total_more counts count)
 
 -- so a piece is appended
-pub pieces_pushed : (counts counts' bytes bytes' piece : List ℕ) (view : List (List ℕ)) → view ≡ pieces_of counts bytes → total counts ≡ length bytes
+pub pieces_pushed : (counts counts' bytes bytes' piece : List ℕ) (view : List (List ℕ)) → view
+    ≡ pieces_of counts bytes → total counts ≡ length bytes
     → counts' ≡ counts ++ length piece ∷ [] → bytes' ≡ bytes ++ piece → pieces_of counts' bytes' ≡ view ++ piece ∷ []
 pieces_pushed counts counts' bytes bytes' piece view shown whole more added = rw (more, added, shown) (pieces_more counts bytes piece whole)
 

@@ -21,7 +21,8 @@ line_requests number (byte ∷ bytes) = before_others (line_request number (byte
 
 -- requests that were read, and what is left to read
 pub record Left (text : List ℕ) (requests : List (List ℕ)) (number : ℕ) (rest : List ℕ) : Type 0 where
-  pub all : requests_from 1 (parts_at 10 text) ≡ joined requests (requests_from number (parts_at 10 rest))
+  pub all : requests_from 1 (parts_at 10 text)
+      ≡ joined requests (requests_from number (parts_at 10 rest))
   pub count : number + length (parts_at 10 rest) ≡ 1 + length (parts_at 10 text)
 
 joined_none : (others : Result (List (List ℕ)) CommandFault) → others ≡ joined [] others
@@ -31,13 +32,15 @@ joined_none (Err wrong) = refl
 pub left_all : (text : List ℕ) → Left text [] 1 text
 left_all text = record { all = joined_none (requests_from 1 (parts_at 10 text)); count = refl }
 
-joined_more : (requests : List (List ℕ)) (request : List ℕ) (others : Result (List (List ℕ)) CommandFault)
+joined_more : (requests : List (List ℕ)) (request : List ℕ)
+    (others : Result (List (List ℕ)) CommandFault)
     → joined requests (before_others (Ok request) others) ≡ joined (requests ++ request ∷ []) others
 joined_more requests request (Ok others) = ap (λ (all : List (List ℕ)). let r : Result (List (List ℕ)) CommandFault = Ok all in r) (sym (append_assoc requests (request ∷ []) others))
 joined_more requests request (Err wrong) = refl
 
 -- a line was taken whose requests were appended
-line_added : (number : ℕ) (line : List ℕ) (lines : List (List ℕ)) (old new : List (List ℕ)) → AddsLine {X = Unit {0}} number line old (Ok tt) new
+line_added : (number : ℕ) (line : List ℕ) (lines : List (List ℕ)) (old new : List (List ℕ))
+    → AddsLine {X = Unit {0}} number line old (Ok tt) new
     → joined old (requests_from number (line ∷ lines)) ≡ joined new (requests_from (suc number) lines)
 unfolding requests_from
 line_added number [] lines old new adds = ap (λ (requests : List (List ℕ)). joined requests (requests_from (suc number) lines)) (sym adds)
@@ -46,7 +49,8 @@ line_added number (byte ∷ bytes) lines old new (request, read, added) =
     ∙ joined_more old request (requests_from (suc number) lines)
     ∙ ap (λ (requests : List (List ℕ)). joined requests (requests_from (suc number) lines)) (sym added)
 
-pub left_more : (text : List ℕ) (old new : List (List ℕ)) (number : ℕ) (rest line after : List ℕ) → Left text old number rest
+pub left_more : (text : List ℕ) (old new : List (List ℕ)) (number : ℕ) (rest line after : List ℕ)
+    → Left text old number rest
     → parts_at 10 rest ≡ line ∷ parts_at 10 after → AddsLine {X = Unit {0}} number line old (Ok tt) new → Left text new (number + 1) after
 left_more text old new number rest line after left taken adds = record {
   all = rw add-one (left.all ∙ ap (λ (lines : List (List ℕ)). joined old (requests_from number lines)) taken ∙ line_added number line (parts_at 10 after) old new adds);
@@ -54,7 +58,8 @@ left_more text old new number rest line after left taken adds = record {
 }
 
 -- the last line was taken
-pub left_none : (text : List ℕ) (old new : List (List ℕ)) (number : ℕ) (rest : List ℕ) → Left text old number rest
+pub left_none : (text : List ℕ) (old new : List (List ℕ)) (number : ℕ) (rest : List ℕ)
+    → Left text old number rest
     → parts_at 10 rest ≡ rest ∷ [] → AddsLine {X = Unit {0}} number rest old (Ok tt) new → requests_from 1 (parts_at 10 text) ≡ Ok new
 unfolding requests_from
 left_none text old new number rest left last adds =
@@ -62,7 +67,8 @@ left_none text old new number rest left last adds =
     ∙ ap (λ (all : List (List ℕ)). let r : Result (List (List ℕ)) CommandFault = Ok all in r) (append-nil new)
 
 -- a line is wrong
-line_wrong : (number : ℕ) (line : List ℕ) (lines : List (List ℕ)) (old new : List (List ℕ)) (wrong : CommandFault) → AddsLine {X = Unit {0}} number line old (Err wrong) new
+line_wrong : (number : ℕ) (line : List ℕ) (lines : List (List ℕ)) (old new : List (List ℕ))
+    (wrong : CommandFault) → AddsLine {X = Unit {0}} number line old (Err wrong) new
     → ReadsLines number (line ∷ lines) (Err wrong)
 unfolding requests_from
 line_wrong number [] lines old new wrong adds = absurd adds
@@ -78,7 +84,8 @@ line_wrong number (byte ∷ bytes) lines old new fault.Read adds = adds
 line_wrong number (byte ∷ bytes) lines old new fault.Write adds = adds
 
 -- so the text is
-reads_wrong : (text : List ℕ) (old : List (List ℕ)) (number : ℕ) (rest : List ℕ) (wrong : CommandFault) → Left text old number rest
+reads_wrong : (text : List ℕ) (old : List (List ℕ)) (number : ℕ) (rest : List ℕ)
+    (wrong : CommandFault) → Left text old number rest
     → ReadsLines number (parts_at 10 rest) (Err wrong) → ReadsLines 1 (parts_at 10 text) (Err wrong)
 reads_wrong text old number rest fault.Memory left wrong = tt
 reads_wrong text old number rest (fault.Odd at) left wrong = left.all ∙ ap (joined old) wrong
@@ -91,7 +98,8 @@ reads_wrong text old number rest fault.Device left wrong = wrong
 reads_wrong text old number rest fault.Read left wrong = wrong
 reads_wrong text old number rest fault.Write left wrong = wrong
 
-pub wrong_line : (text : List ℕ) (old new : List (List ℕ)) (number : ℕ) (rest line : List ℕ) (lines : List (List ℕ)) (wrong : CommandFault) → Left text old number rest
+pub wrong_line : (text : List ℕ) (old new : List (List ℕ)) (number : ℕ) (rest line : List ℕ)
+    (lines : List (List ℕ)) (wrong : CommandFault) → Left text old number rest
     → parts_at 10 rest ≡ line ∷ lines → AddsLine {X = Unit {0}} number line old (Err wrong) new → ReadsLines 1 (parts_at 10 text) (Err wrong)
 wrong_line text old new number rest line lines wrong left taken adds =
     reads_wrong text old number rest wrong left

@@ -12,11 +12,13 @@ use Rattle.turn_lock.specs.declared.turned.Entry.{Entry}
 use Rattle.turn_lock.specs.History.{entry}
 use Rattle.kept_meter.specs.Calls.{Calls, events_and_replies, Stands, HasCalls}
 
-told_more : (calls : Calls) (call : Entry Event Reply) → events_and_replies (calls ++ call ∷ []) ≡ events_and_replies calls ++ (call.event, call.reply) ∷ []
+told_more : (calls : Calls) (call : Entry Event Reply) → events_and_replies (calls ++ call ∷ [])
+    ≡ events_and_replies calls ++ (call.event, call.reply) ∷ []
 told_more calls call = map-append (λ (c : Entry Event Reply). (c.event, c.reply)) calls (call ∷ [])
 
 -- a recorder that took an event and replied has one more call, whichever port made it
-pub stands_on : (result : Result Reply AllocError) (old new : Recording) (origin : Opening) (event : Event) → IfOk result (Continues old new event)
+pub stands_on : (result : Result Reply AllocError) (old new : Recording) (origin : Opening)
+    (event : Event) → IfOk result (Continues old new event)
     → IfOk result (λ (reply : Reply). (by : List ℕ) (calls : Calls) → Stands (record { recorder = old; origin = origin }) calls
     → Stands (record { recorder = new; origin = origin }) (calls ++ entry by event reply ∷ []))
 stands_on (Ok reply) old new origin event continues = λ by calls stands.
@@ -25,11 +27,14 @@ stands_on (Ok reply) old new origin event continues = λ by calls stands.
 stands_on (Err error) old new origin event continues = tt
 
 -- a recorder that has taken no event has no calls
-pub has_none : (recorder : Recording) (origin : Opening) → StandsForHistory recorder [] (world_of_opening origin) → HasCalls (record { recorder = recorder; origin = origin })
+pub has_none : (recorder : Recording) (origin : Opening)
+    → StandsForHistory recorder [] (world_of_opening origin)
+    → HasCalls (record { recorder = recorder; origin = origin })
 has_none recorder origin stands = record { calls = []; stands = stands }
 
 -- a recorder still has its calls after an event that it took or refused
-pub has_still : (result : Result Reply AllocError) (old new : Recording) (origin : Opening) (event : Event) → IfOk result (Continues old new event) → OnErr result (new ≡ old)
+pub has_still : (result : Result Reply AllocError) (old new : Recording) (origin : Opening)
+    (event : Event) → IfOk result (Continues old new event) → OnErr result (new ≡ old)
     → HasCalls (record { recorder = old; origin = origin }) → HasCalls (record { recorder = new; origin = origin })
 has_still (Ok reply) old new origin event continues same has = record {
   calls = has.calls ++ entry [] event reply ∷ [];

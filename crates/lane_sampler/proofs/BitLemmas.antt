@@ -7,7 +7,8 @@ use Rattle.lane_sampler.specs.declared.lanes.Masks.{Masks}
 use Rattle.lane_sampler.specs.Masks.{IsMask, AreMasks, masks_of, words_of, word_at, is_over, is_under}
 
 -- the word at one of the four places
-words_at : (test : ℕ → Bool) (values : List ℕ) (k : ℕ) → k < 4 → get_or (words_of test values) k 0 ≡ word_at test values k
+words_at : (test : ℕ → Bool) (values : List ℕ) (k : ℕ) → k < 4 → get_or (words_of test values) k 0
+    ≡ word_at test values k
 unfolding words_of
 words_at test values zero lt = refl
 words_at test values (suc zero) lt = refl
@@ -49,7 +50,8 @@ words_of-bits test values = record {
 }
 
 -- the masks of values are right bit by bit
-pub masks_of-bits : (values : List ℕ) (threshold : ℕ) → AreMasks values threshold (masks_of values threshold)
+pub masks_of-bits : (values : List ℕ) (threshold : ℕ)
+    → AreMasks values threshold (masks_of values threshold)
 masks_of-bits values threshold = record {
   over = words_of-bits (is_over threshold) values;
   under = words_of-bits (is_under threshold) values;

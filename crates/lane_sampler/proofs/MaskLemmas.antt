@@ -23,7 +23,8 @@ mask_l-append [] ns = omega arith
 mask_l-append (m ∷ ms) ns = rw (mask_l-append ms ns, pow-succ' 2 (length ms)) (omega arith)
 
 -- a word is below the power of two of its number of values
-pub word_of-lt : (test : ℕ → Bool) (values : List ℕ) (n : ℕ) → length values ≡ n → word_of test values < 2 ^ n
+pub word_of-lt : (test : ℕ → Bool) (values : List ℕ) (n : ℕ) → length values ≡ n
+    → word_of test values < 2 ^ n
 word_of-lt test values n long =
     let P : ℕ → Type 0 = λ m. word_of test values < 2 ^ m in
     subst P (length-map values test ∙ long) (mask_l-lt (map test values))
@@ -70,7 +71,8 @@ part_is values start from upto from_is upto_is =
     ap (λ n. take n rest) size ∙ take_min 64 rest ∙ ap (take 64) same
 
 -- `to_bitmask` of the comparison of a splat, on the left, with a vector
-pub bitmask_splat_left : (w : Width) (t : ℕ → ℕ → Bool) (xs : List ℕ) (n y : ℕ) → length xs ≡ n → n ≤ 64 →
+pub bitmask_splat_left : (w : Width) (t : ℕ → ℕ → Bool) (xs : List ℕ) (n y : ℕ) → length xs
+    ≡ n → n ≤ 64 →
     mask_l (map (top (hbits w)) (zip2 (λ a b. cond (t a b) (2 ^ bits w - 1) 0) (replicate n y) xs)) % 2 ^ 64
     ≡ mask_l (map (λ x. t y x) xs)
 bitmask_splat_left w t xs n y long few =

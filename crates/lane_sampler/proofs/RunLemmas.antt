@@ -25,7 +25,8 @@ bit_at-shr : (x s k : ℕ) → bit_at (x / 2 ^ s) k ≡ bit_at x (s + k)
 bit_at-shr x s k = ap (λ y. y % 2) (shr-shr x s k)
 
 -- a shifted word that has a zero
-run_to_zero : (x s : ℕ) → x < 2 ^ 64 → s < 64 → x / 2 ^ s + 1 < 2 ^ 64 → RunInWord x s (trailing_ones w64 (x / 2 ^ s))
+run_to_zero : (x s : ℕ) → x < 2 ^ 64 → s < 64 → x / 2 ^ s + 1 < 2 ^ 64
+    → RunInWord x s (trailing_ones w64 (x / 2 ^ s))
 run_to_zero x s fits lt low =
     let y = x / 2 ^ s in
     let n = trailing_ones w64 y in
@@ -45,7 +46,8 @@ run_to_zero x s fits lt low =
     }
 
 -- a word of ones
-run_of_all : (x s : ℕ) → x < 2 ^ 64 → s < 64 → 2 ^ 64 ≤ x / 2 ^ s + 1 → RunInWord x s (trailing_ones w64 (x / 2 ^ s))
+run_of_all : (x s : ℕ) → x < 2 ^ 64 → s < 64 → 2 ^ 64 ≤ x / 2 ^ s + 1
+    → RunInWord x s (trailing_ones w64 (x / 2 ^ s))
 run_of_all x zero fits lt high =
     let all : x / 2 ^ 0 ≡ 2 ^ 64 - 1 = omega (arith, shr_le x 0) in
     let count : trailing_ones w64 (x / 2 ^ 0) ≡ 64 = ap (trailing_ones w64) all ∙ trailing_of_zero 64 in
@@ -73,7 +75,8 @@ same_word words at k lt =
     ap (λ w. bit_at (get_or words w 0) ((at + k) % 64)) word ∙ ap (λ j. bit_at (get_or words (at / 64) 0) j) place
 
 -- ones after ones
-pub ones_more : (words : List ℕ) (at end n : ℕ) → at ≤ end → AreOnes words at (end - at) → AreOnes words end n →
+pub ones_more : (words : List ℕ) (at end n : ℕ) → at ≤ end → AreOnes words at (end - at)
+    → AreOnes words end n →
     AreOnes words at (end + n - at)
 ones_more words at end n from before after k lt = elim (cases_lt k (end - at)) [
   | inr past ↦
@@ -83,7 +86,8 @@ ones_more words at end n from before after k lt = elim (cases_lt k (end - at)) [
 ]
 
 -- the run that ends there, limited to len
-pub run_of_end : (words : List ℕ) (len at end : ℕ) → EndsAt words len at end → IsRun words len at (min end len - at)
+pub run_of_end : (words : List ℕ) (len at end : ℕ) → EndsAt words len at end
+    → IsRun words len at (min end len - at)
 run_of_end words len at end e = record {
   within = omega arith;
   ones = λ k lt. e.ones k (omega arith);
@@ -93,7 +97,8 @@ run_of_end words len at end e = record {
 }
 
 -- a bit of a mask, and the answer that it stores
-answer_is : (i n : ℕ) (b : Bool) (bit : ℕ) → bit ≡ cond (nat_lt i n && b) 1 0 → bit ≡ 1 → (i < n) × (b ≡ true)
+answer_is : (i n : ℕ) (b : Bool) (bit : ℕ) → bit ≡ cond (nat_lt i n && b) 1 0 → bit ≡ 1 → (i < n)
+    × (b ≡ true)
 answer_is i n b bit is one = (grind (arith, nat_tests), grind (arith, nat_tests))
 
 -- a bit is one only if its value passes the test
@@ -101,7 +106,8 @@ pub passes : (test : ℕ → Bool) (values words : List ℕ) → IsMask test val
     (i : ℕ) → i < 256 → mask_bit words i ≡ 1 → (i < length values) × (test (get_or values i 0) ≡ true)
 passes test values words mask i lt one = answer_is i (length values) (test (get_or values i 0)) _ (mask.bits i lt) one
 
-no_answer : (i n : ℕ) (b : Bool) (bit : ℕ) → bit ≡ cond (nat_lt i n && b) 1 0 → bit ≡ 0 → i < n → b ≡ false
+no_answer : (i n : ℕ) (b : Bool) (bit : ℕ) → bit ≡ cond (nat_lt i n && b) 1 0 → bit ≡ 0 → i < n → b
+    ≡ false
 no_answer i n b bit is none lt = grind (arith, nat_tests)
 
 -- a bit is zero only if its value does not pass the test

@@ -24,7 +24,8 @@ use Rattle.limiter_attributes.specs.Writing.{profile_data, groups_data, actions_
 use Rattle.limiter_attributes.proofs.Profiles.{profile_parts_again}
 
 -- a number of 32 bits that is written
-pub number_again : (number : ℕ) → number < 2 ^ 32 → number_of (DoubleLongUnsigned number) ≡ Ok number
+pub number_again : (number : ℕ) → number < 2 ^ 32
+    → number_of (DoubleLongUnsigned number) ≡ Ok number
 unfolding number_of
 number_again number small = ap (λ b. guard b Unmatched >> done WriteFault number) below where
   below : nat_lt number (2 ^ 32) ≡ true
@@ -44,7 +45,8 @@ abbrev with_parts : ℕ × List ℕ × ℕ → Result Profile WriteFault
 with_parts parts = ok_or (result_ok (date_time_of parts.1)) Value >>= λ start. done WriteFault (record { id = parts.0; start = start; duration = parts.2 })
 
 -- a profile that was written reads as itself
-pub profile_again : (profile : Profile) → IsDateTimeFields profile.start → profile_of (profile_data profile) ≡ Ok profile
+pub profile_again : (profile : Profile) → IsDateTimeFields profile.start
+    → profile_of (profile_data profile) ≡ Ok profile
 unfolding profile_of
 profile_again profile fits =
     ap (λ o. ok_or o Unmatched >>= with_parts) (profile_parts_again profile.id profile.duration (date_time_bytes profile.start) (twelve_bytes profile.start))

@@ -5,7 +5,8 @@ use Rattle.cosem_names.specs.Forms.{◌>>=◌, date_time_bytes_of, structure_wit
 use Rattle.limiter_attributes.specs.Forms.{profile_parts_of}
 
 -- a string of twelve bytes is that of a start
-start_again : (bytes : List ℕ) → length bytes ≡ 12 → date_time_bytes_of (OctetString bytes) ≡ Some bytes
+start_again : (bytes : List ℕ) → length bytes ≡ 12 → date_time_bytes_of (OctetString bytes)
+    ≡ Some bytes
 start_again bytes twelve = ap (λ (n : ℕ). cond (n == 12) (Some bytes) None) twelve
 
 pub profile_parts_again : (id duration : ℕ) (bytes : List ℕ) → length bytes ≡ 12

@@ -5,11 +5,13 @@ use Rattle.limiter_core.specs.Counting.{cap}
 use Rattle.limiter_core.specs.declared.count.Count.{Count}
 use Rattle.limiter_core.specs.State.{IsFit, IsFitCount, is_fit_count, are_fit}
 
-count_fits : (run : ℕ) (fired : Bool) → is_fit_count (record { run = run; fired = fired }) ≡ true → IsFitCount (record { run = run; fired = fired })
+count_fits : (run : ℕ) (fired : Bool) → is_fit_count (record { run = run; fired = fired }) ≡ true
+    → IsFitCount (record { run = run; fired = fired })
 count_fits run true e = record { within = grind (arith, nat_tests); none = λ z. grind (arith, nat_tests); full = λ f. refl }
 count_fits run false e = record { within = grind (arith, nat_tests); none = λ z. refl; full = λ f. grind (arith, nat_tests) }
 
-fit_counts : (run : ℕ) (fired : Bool) → IsFitCount (record { run = run; fired = fired }) → is_fit_count (record { run = run; fired = fired }) ≡ true
+fit_counts : (run : ℕ) (fired : Bool) → IsFitCount (record { run = run; fired = fired })
+    → is_fit_count (record { run = run; fired = fired }) ≡ true
 fit_counts run true fits = let within : run ≤ cap = fits.within in grind (arith, nat_tests)
 fit_counts run false fits = let within : run ≤ cap = fits.within in grind (arith, nat_tests)
 
@@ -41,7 +43,8 @@ above_some last over under e some = grind (arith, nat_tests)
 below_most : (last under : ℕ) → below_fits last under ≡ true → 0 < under → last < 4294967295
 below_most last under e some = grind (arith, nat_tests)
 
-above_again : (last over under : ℕ) → (0 < over → under ≡ 0) → (0 < over → 0 < last) → above_fits last over under ≡ true
+above_again : (last over under : ℕ) → (0 < over → under ≡ 0) → (0 < over → 0 < last)
+    → above_fits last over under ≡ true
 above_again last zero under one above = refl
 above_again last (suc over) under one above = let none : under ≡ 0 = one (omega arith) in let some : 0 < last = above (omega arith) in grind (arith, nat_tests)
 
@@ -49,7 +52,8 @@ below_again : (last under : ℕ) → (0 < under → last < 4294967295) → below
 below_again last zero below = refl
 below_again last (suc under) below = let less : last < 4294967295 = below (omega arith) in grind (arith, nat_tests)
 
-pub test_means : (last : ℕ) (over under : Count) → are_fit last over under ≡ true → IsFit last over under
+pub test_means : (last : ℕ) (over under : Count) → are_fit last over under ≡ true
+    → IsFit last over under
 unfolding are_fit
 test_means last over under e =
     let a = is_fit_count over in
@@ -67,7 +71,8 @@ test_means last over under e =
       below = λ some. below_most last under.run (second_holds ((a && b) && f) g e) some;
     }
 
-pub means_test : (last : ℕ) (over under : Count) → IsFit last over under → are_fit last over under ≡ true
+pub means_test : (last : ℕ) (over under : Count) → IsFit last over under → are_fit last over under
+    ≡ true
 unfolding are_fit
 means_test last over under fits =
     let a = is_fit_count over in

@@ -30,22 +30,27 @@ some_below p zero k less e = absurd (omega arith)
 some_below p (suc n) zero less e = first_of_two (p 0) (any_below (λ k. p (suc k)) n) e
 some_below p (suc n) (suc k) less e = second_of_two (p 0) (any_below (λ j. p (suc j)) n) (some_below (λ j. p (suc j)) n k (omega arith) e)
 
-pub fired_at_some : (side : Side) (rows : List Row) → has_fired side rows ≡ true → (k : ℕ) × (k < run side rows) × (reaches side (drop k rows) ≡ true)
+pub fired_at_some : (side : Side) (rows : List Row) → has_fired side rows ≡ true → (k : ℕ)
+    × (k < run side rows) × (reaches side (drop k rows) ≡ true)
 unfolding has_fired
 fired_at_some side rows e = below_some (λ k. reaches side (drop k rows)) (run side rows) e
 
-pub some_fired : (side : Side) (rows : List Row) (k : ℕ) → k < run side rows → reaches side (drop k rows) ≡ true → has_fired side rows ≡ true
+pub some_fired : (side : Side) (rows : List Row) (k : ℕ) → k < run side rows
+    → reaches side (drop k rows) ≡ true → has_fired side rows ≡ true
 unfolding has_fired
 some_fired side rows k less e = some_below (λ j. reaches side (drop j rows)) (run side rows) k less e
 
-fires_past_if : (b : Bool) (side : Side) (row : Row) (rows : List Row) → is_past side row ≡ b → fires side (row ∷ rows) ≡ true → is_past side row ≡ true
+fires_past_if : (b : Bool) (side : Side) (row : Row) (rows : List Row) → is_past side row ≡ b
+    → fires side (row ∷ rows) ≡ true → is_past side row ≡ true
 fires_past_if true side row rows e fires = e
 fires_past_if false side row rows e fires = let none = fires_other side row rows e in cc
 
-fires_past : (side : Side) (row : Row) (rows : List Row) → fires side (row ∷ rows) ≡ true → is_past side row ≡ true
+fires_past : (side : Side) (row : Row) (rows : List Row) → fires side (row ∷ rows) ≡ true
+    → is_past side row ≡ true
 fires_past side row rows e = fires_past_if (is_past side row) side row rows refl e
 
-pub not_both_sides : (rows : List Row) → fires OverThreshold rows ≡ true → fires UnderThreshold rows ≡ true → ⊥
+pub not_both_sides : (rows : List Row) → fires OverThreshold rows ≡ true → fires UnderThreshold rows
+    ≡ true → ⊥
 unfolding fires reaches
 not_both_sides [] over under = cc
 not_both_sides (Entry ∷ rows) over under = let past = fires_past OverThreshold Entry rows over in cc

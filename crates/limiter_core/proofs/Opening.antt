@@ -9,7 +9,8 @@ use Rattle.limiter_core.specs.State.{State, Keeps, IsFit, IsFitCount}
 use Rattle.limiter_core.specs.Opening.{opened_need, one_over, one_under, opened_rows}
 use Rattle.limiter_core.proofs.Firing.{same_count, counted_by, count_of_none, has_fired_past, reaches_past}
 
-run_repeated : (side : Side) (row : Row) (n : ℕ) → is_past side row ≡ true → run side (replicate n row) ≡ n
+run_repeated : (side : Side) (row : Row) (n : ℕ) → is_past side row ≡ true
+    → run side (replicate n row) ≡ n
 unfolding run
 run_repeated side row n e = prefix_len-replicate (is_past side) n row e
 
@@ -23,7 +24,8 @@ none_fired side = refl
 reached_before : (need n : ℕ) → (nat_le need (suc n) || nat_le need n) ≡ nat_le need (suc n)
 reached_before need n = grind (arith, nat_tests)
 
-fired_repeated : (side : Side) (row : Row) (n : ℕ) → is_past side row ≡ true → 0 < need side row → has_fired side (replicate n row) ≡ nat_le (need side row) n
+fired_repeated : (side : Side) (row : Row) (n : ℕ) → is_past side row ≡ true → 0 < need side row
+    → has_fired side (replicate n row) ≡ nat_le (need side row) n
 fired_repeated side row zero e some = none_fired side ∙ none_reached (need side row) some
 fired_repeated side row (suc n) e some =
     has_fired_past side row (replicate n row) e
@@ -56,12 +58,14 @@ below_above v = grind (arith, nat_tests)
 above_not_below : (v : ℕ) → nat_lt (v + 1) v ≡ false
 above_not_below v = grind (arith, nat_tests)
 
-fired_is : (b : Bool) (count : Count) → count.fired ≡ b → IsFitCount count → nat_le (if b then 1 else cap) count.run ≡ b
+fired_is : (b : Bool) (count : Count) → count.fired ≡ b → IsFitCount count
+    → nat_le (if b then 1 else cap) count.run ≡ b
 fired_is true count e fit = let none = fit.none in let some : 0 < count.run = above_zero count.run (λ zero. cc (none zero)) in grind (arith, nat_tests)
 fired_is false count e fit = let full = fit.full in let within = fit.within in let less : count.run < cap = below_cap count.run within (λ all. cc (full all)) in grind (arith, nat_tests)
 
 -- a fit count is that of a sample past the threshold, repeated as often as the run is long
-repeated : (side : Side) (row : Row) (count : Count) → is_past side row ≡ true → need side row ≡ opened_need count → IsFitCount count → count ≡ count_of side (replicate count.run row)
+repeated : (side : Side) (row : Row) (count : Count) → is_past side row ≡ true → need side row
+    ≡ opened_need count → IsFitCount count → count ≡ count_of side (replicate count.run row)
 unfolding count_of
 repeated side row count e n fit =
     let within = fit.within in
@@ -72,14 +76,16 @@ repeated side row count e n fit =
     ∙ (ap (λ m. nat_le m count.run) n ∙ fired_is count.fired count refl fit)))
 
 -- samples on the other side end a run
-ended_by : (side : Side) (row : Row) (n : ℕ) → is_past side row ≡ false → count_of side (replicate n row) ≡ no_run
+ended_by : (side : Side) (row : Row) (n : ℕ) → is_past side row ≡ false
+    → count_of side (replicate n row) ≡ no_run
 ended_by side row zero e = count_of_none side
 ended_by side row (suc n) e = counted_by false side row (replicate n row) e (λ past. absurd (let apart : true ≡ false = sym past ∙ e in cc))
 
 no_count : (count : Count) → count.run ≡ 0 → IsFitCount count → count ≡ no_run
 no_count count e fit = same_count count no_run e (fit.none e)
 
-opened_if : (b : Bool) (state : State) → (state.over.run == 0) ≡ b → IsFit state.last state.over state.under →
+opened_if : (b : Bool) (state : State) → (state.over.run == 0) ≡ b
+    → IsFit state.last state.over state.under →
     Keeps state (if b then replicate state.under.run (one_under state.last state.under) else replicate state.over.run (one_over state.last state.over))
 opened_if true state e fit =
     let zero : state.over.run ≡ 0 = grind (arith, nat_tests) in
@@ -96,6 +102,7 @@ opened_if false state e fit =
     }
 
 -- a limiter with fit counts represents the rows that restore it
-pub opened : (state : State) → IsFit state.last state.over state.under → Keeps state (opened_rows state.last state.over state.under)
+pub opened : (state : State) → IsFit state.last state.over state.under
+    → Keeps state (opened_rows state.last state.over state.under)
 unfolding opened_rows
 opened state fit = opened_if (state.over.run == 0) state refl fit

@@ -29,7 +29,9 @@ needed UnderThreshold limits = limits.need_under
 abbrev pub AreCounted : Kind → Limits → Type 0
 AreCounted kind limits = (side : Side) → past kind side ≡ true → needed side limits ≤ cap
 
-kind_bits : (kind : Kind) (a b : Bool) → (a ≡ true → b ≡ false) → (if a then Over else if b then Under else Equal) ≡ kind → (a ≡ past kind OverThreshold) × (b ≡ past kind UnderThreshold)
+kind_bits : (kind : Kind) (a b : Bool) → (a ≡ true → b ≡ false)
+    → (if a then Over else if b then Under else Equal) ≡ kind → (a ≡ past kind OverThreshold)
+    × (b ≡ past kind UnderThreshold)
 kind_bits Over true b apart e = (refl, apart refl)
 kind_bits Over false true apart e = cc
 kind_bits Over false false apart e = cc
@@ -43,7 +45,8 @@ kind_bits Equal false false apart e = (refl, refl)
 pub not_both : (t v : ℕ) → nat_lt t v ≡ true → nat_lt v t ≡ false
 not_both t v h = grind (arith, nat_tests)
 
-pub past_is : (kind : Kind) (side : Side) (limits : Limits) (value : ℕ) → kind_of limits.threshold value ≡ kind → is_past side (row_of limits value) ≡ past kind side
+pub past_is : (kind : Kind) (side : Side) (limits : Limits) (value : ℕ)
+    → kind_of limits.threshold value ≡ kind → is_past side (row_of limits value) ≡ past kind side
 past_is kind OverThreshold limits value e =
     (kind_bits kind (nat_lt limits.threshold value) (nat_lt value limits.threshold) (not_both limits.threshold value) e).0
 past_is kind UnderThreshold limits value e =
@@ -62,7 +65,8 @@ or_none a b e f = ap (λ v. v || b) e ∙ (f ∙ sym e)
 late : (n need run : ℕ) → suc n ≤ need - 1 - run → nat_le need (min (run + 1) cap) ≡ false
 late n need run h = grind (arith, nat_tests)
 
-taken_quiet : (n need : ℕ) (count : Count) → Room (suc n) need count → count_after true need count ≡ count_after_run 1 count
+taken_quiet : (n need : ℕ) (count : Count) → Room (suc n) need count → count_after true need count
+    ≡ count_after_run 1 count
 taken_quiet n need count (inl e) =
     same_count (count_after true need count) (count_after_run 1 count) refl (or_left count.fired (nat_le need (min (count.run + 1) cap)) e)
 taken_quiet n need count (inr h) =
@@ -82,7 +86,8 @@ still n need count (inr h) = and_none (nat_le need (min (count.run + 1) cap)) (n
 less_room : (n need run : ℕ) → suc n ≤ need - 1 - run → n ≤ need - 1 - min (run + 1) cap
 less_room n need run h = omega arith
 
-room_after : (n need : ℕ) (count : Count) → Room (suc n) need count → Room n need (count_after_run 1 count)
+room_after : (n need : ℕ) (count : Count) → Room (suc n) need count
+    → Room n need (count_after_run 1 count)
 room_after n need count (inl e) = inl e
 room_after n need count (inr h) = inr (h.0, less_room n need count.run h.1)
 
@@ -94,11 +99,14 @@ abbrev pub HasRoom : Kind → Limits → ℕ → List Row → Type 0
 HasRoom kind limits n rows = (side : Side) → past kind side ≡ true → Room n (needed side limits) (count_of side rows)
 
 module _ (kind : Kind) (limits : Limits) (counted_needs : AreCounted kind limits) where
-  need_counted : (side : Side) (value : ℕ) → kind_of limits.threshold value ≡ kind → is_past side (row_of limits value) ≡ true → need side (row_of limits value) ≤ cap
+  need_counted : (side : Side) (value : ℕ) → kind_of limits.threshold value ≡ kind
+      → is_past side (row_of limits value) ≡ true → need side (row_of limits value) ≤ cap
   need_counted OverThreshold value k e = counted_needs OverThreshold (sym (past_is kind OverThreshold limits value k) ∙ e)
   need_counted UnderThreshold value k e = counted_needs UnderThreshold (sym (past_is kind UnderThreshold limits value k) ∙ e)
 
-  pub one_counted : (side : Side) (value : ℕ) (rows : List Row) → kind_of limits.threshold value ≡ kind → count_of side (row_of limits value ∷ rows) ≡ count_after (past kind side) (needed side limits) (count_of side rows)
+  pub one_counted : (side : Side) (value : ℕ) (rows : List Row) → kind_of limits.threshold value
+      ≡ kind → count_of side (row_of limits value ∷ rows)
+      ≡ count_after (past kind side) (needed side limits) (count_of side rows)
   one_counted OverThreshold value rows k =
       counted OverThreshold (row_of limits value) rows (need_counted OverThreshold value k)
       ∙ ap (λ b. count_after b (needed OverThreshold limits) (count_of OverThreshold rows)) (past_is kind OverThreshold limits value k)
@@ -117,57 +125,73 @@ module _ (kind : Kind) (limits : Limits) (counted_needs : AreCounted kind limits
       ∙ ap (λ b. if fires_at (past kind OverThreshold) (needed OverThreshold limits) (count_of OverThreshold rows) then fire_past OverThreshold
       else if fires_at b (needed UnderThreshold limits) (count_of UnderThreshold rows) then fire_past UnderThreshold else Quiet) (past_is kind UnderThreshold limits value k)
 
-  still_at : (b : Bool) (n : ℕ) (side : Side) (rows : List Row) → past kind side ≡ b → HasRoom kind limits (suc n) rows → fires_at b (needed side limits) (count_of side rows) ≡ false
+  still_at : (b : Bool) (n : ℕ) (side : Side) (rows : List Row) → past kind side ≡ b
+      → HasRoom kind limits (suc n) rows → fires_at b (needed side limits)
+      (count_of side rows) ≡ false
   still_at true n side rows e room = still n (needed side limits) (count_of side rows) (room side e)
   still_at false n side rows e room = refl
 
-  neither : (a b : Bool) → a ≡ false → b ≡ false → (if a then fire_past OverThreshold else if b then fire_past UnderThreshold else Quiet) ≡ Quiet
+  neither : (a b : Bool) → a ≡ false → b ≡ false
+      → (if a then fire_past OverThreshold else if b then fire_past UnderThreshold
+      else Quiet) ≡ Quiet
   neither a b e f = ap (λ v. if v then fire_past OverThreshold else if b then fire_past UnderThreshold else Quiet) e ∙ ap (λ v. if v then fire_past UnderThreshold else Quiet) f
 
-  one_quiet : (n value : ℕ) (rows : List Row) → kind_of limits.threshold value ≡ kind → HasRoom kind limits (suc n) rows → fire_of (row_of limits value ∷ rows) ≡ Quiet
+  one_quiet : (n value : ℕ) (rows : List Row) → kind_of limits.threshold value ≡ kind
+      → HasRoom kind limits (suc n) rows → fire_of (row_of limits value ∷ rows) ≡ Quiet
   one_quiet n value rows k room =
       one_fire value rows k
       ∙ neither (fires_at (past kind OverThreshold) (needed OverThreshold limits) (count_of OverThreshold rows)) (fires_at (past kind UnderThreshold) (needed UnderThreshold limits) (count_of UnderThreshold rows))
       (still_at (past kind OverThreshold) n OverThreshold rows refl room) (still_at (past kind UnderThreshold) n UnderThreshold rows refl room)
 
-  one_skipped : (n : ℕ) (side : Side) (value : ℕ) (rows : List Row) → kind_of limits.threshold value ≡ kind → past kind side ≡ true → HasRoom kind limits (suc n) rows → count_of side (row_of limits value ∷ rows) ≡ count_after_run 1 (count_of side rows)
+  one_skipped : (n : ℕ) (side : Side) (value : ℕ) (rows : List Row) → kind_of limits.threshold value
+      ≡ kind → past kind side ≡ true → HasRoom kind limits (suc n) rows
+      → count_of side (row_of limits value ∷ rows) ≡ count_after_run 1 (count_of side rows)
   one_skipped n side value rows k e room =
       one_counted side value rows k
       ∙ (ap (λ b. count_after b (needed side limits) (count_of side rows)) e ∙ taken_quiet n (needed side limits) (count_of side rows) (room side e))
 
-  room_next : (n value : ℕ) (rows : List Row) → kind_of limits.threshold value ≡ kind → HasRoom kind limits (suc n) rows → HasRoom kind limits n (row_of limits value ∷ rows)
+  room_next : (n value : ℕ) (rows : List Row) → kind_of limits.threshold value ≡ kind
+      → HasRoom kind limits (suc n) rows → HasRoom kind limits n (row_of limits value ∷ rows)
   room_next n value rows k room side e =
       let P : Count → Type 0 = λ c. Room n (needed side limits) c in
       subst P (sym (one_skipped n side value rows k e room)) (room_after n (needed side limits) (count_of side rows) (room side e))
 
   -- samples that `HasRoom` allows do not fire
-  pub are_quiet : (values : List ℕ) (rows : List Row) → AreOfKind kind limits.threshold values → HasRoom kind limits (length values) rows → IsQuiet limits values rows
+  pub are_quiet : (values : List ℕ) (rows : List Row) → AreOfKind kind limits.threshold values
+      → HasRoom kind limits (length values) rows → IsQuiet limits values rows
   are_quiet [] rows k room = tt
   are_quiet (value ∷ values) rows k room =
       (one_quiet (length values) value rows k.0 room, are_quiet values (row_of limits value ∷ rows) k.1 (room_next (length values) value rows k.0 room))
 
-  none_skipped : (side : Side) (rows : List Row) → count_of side rows ≡ count_after_run 0 (count_of side rows)
+  none_skipped : (side : Side) (rows : List Row) → count_of side rows
+      ≡ count_after_run 0 (count_of side rows)
   unfolding count_of
   none_skipped side rows = same_count (count_of side rows) (count_after_run 0 (count_of side rows)) (omega arith) refl
 
-  more_skipped : (n : ℕ) (count : Count) → count_after_run n (count_after_run 1 count) ≡ count_after_run (suc n) count
+  more_skipped : (n : ℕ) (count : Count) → count_after_run n (count_after_run 1 count)
+      ≡ count_after_run (suc n) count
   more_skipped n count = same_count (count_after_run n (count_after_run 1 count)) (count_after_run (suc n) count) (skipped_more n count.run) refl
 
   -- a run continues
-  pub run_after : (values : List ℕ) (rows : List Row) (side : Side) → past kind side ≡ true → AreOfKind kind limits.threshold values → HasRoom kind limits (length values) rows →
+  pub run_after : (values : List ℕ) (rows : List Row) (side : Side) → past kind side ≡ true
+      → AreOfKind kind limits.threshold values → HasRoom kind limits (length values) rows →
       count_of side (rows_after limits values rows) ≡ count_after_run (length values) (count_of side rows)
   run_after [] rows side e k room = none_skipped side rows
   run_after (value ∷ values) rows side e k room =
       run_after values (row_of limits value ∷ rows) side e k.1 (room_next (length values) value rows k.0 room)
       ∙ (ap (count_after_run (length values)) (one_skipped (length values) side value rows k.0 e room) ∙ more_skipped (length values) (count_of side rows))
 
-  ended : (values : List ℕ) (rows : List Row) (side : Side) → past kind side ≡ false → AreOfKind kind limits.threshold values → count_of side rows ≡ no_run → count_of side (rows_after limits values rows) ≡ no_run
+  ended : (values : List ℕ) (rows : List Row) (side : Side) → past kind side ≡ false
+      → AreOfKind kind limits.threshold values → count_of side rows ≡ no_run
+      → count_of side (rows_after limits values rows) ≡ no_run
   ended [] rows side e k none = none
   ended (value ∷ values) rows side e k none =
       ended values (row_of limits value ∷ rows) side e k.1 (one_counted side value rows k.0 ∙ ap (λ b. count_after b (needed side limits) (count_of side rows)) e)
 
   -- a run of the other side ends at the first sample
-  pub none_after : (values : List ℕ) (rows : List Row) (side : Side) → past kind side ≡ false → AreOfKind kind limits.threshold values → 0 < length values → count_of side (rows_after limits values rows) ≡ no_run
+  pub none_after : (values : List ℕ) (rows : List Row) (side : Side) → past kind side ≡ false
+      → AreOfKind kind limits.threshold values → 0 < length values
+      → count_of side (rows_after limits values rows) ≡ no_run
   none_after [] rows side e k some = absurd (omega arith)
   none_after (value ∷ values) rows side e k some =
       ended values (row_of limits value ∷ rows) side e k.1 (one_counted side value rows k.0 ∙ ap (λ b. count_after b (needed side limits) (count_of side rows)) e)
@@ -176,16 +200,19 @@ are_counted : (kind : Kind) (state : State) → IsLimiter state → AreCounted k
 are_counted kind state fit OverThreshold e = let small = fit.over_duration in omega (arith, small)
 are_counted kind state fit UnderThreshold e = let small = fit.under_duration in omega (arith, small)
 
-room_if : (b : Bool) (n need : ℕ) (count : Count) → count.fired ≡ b → n ≤ (if b then 2 ^ 64 - 1 else need - 1 - count.run) → Room n need count
+room_if : (b : Bool) (n need : ℕ) (count : Count) → count.fired ≡ b
+    → n ≤ (if b then 2 ^ 64 - 1 else need - 1 - count.run) → Room n need count
 room_if true n need count e few = inl e
 room_if false n need count e few = inr (e, few)
 
-room_before : (n need : ℕ) (count other : Count) → count ≡ other → n ≤ before need count → Room n need other
+room_before : (n need : ℕ) (count other : Count) → count ≡ other → n ≤ before need count
+    → Room n need other
 room_before n need count other same few =
     let P : Count → Type 0 = λ c. Room n need c in
     subst P same (room_if count.fired n need count refl few)
 
-room_of : (kind : Kind) (state : State) (rows : List Row) (n : ℕ) → Keeps state rows → n ≤ quiet_count kind state → HasRoom kind (limits_of state) n rows
+room_of : (kind : Kind) (state : State) (rows : List Row) (n : ℕ) → Keeps state rows
+    → n ≤ quiet_count kind state → HasRoom kind (limits_of state) n rows
 room_of Over state rows n keeps few OverThreshold e = room_before n (need_of state.settings.min_over_threshold_duration) state.over (count_of OverThreshold rows) keeps.over few
 room_of Over state rows n keeps few UnderThreshold e = cc
 room_of Under state rows n keeps few OverThreshold e = cc
@@ -193,21 +220,25 @@ room_of Under state rows n keeps few UnderThreshold e = room_before n (need_of s
 room_of Equal state rows n keeps few side e = cc
 
 -- as many samples as `quiet_count` says do not fire
-pub quiet_up_to : (kind : Kind) (state : State) (rows : List Row) (values : List ℕ) → IsLimiter state → Keeps state rows → AreOfKind kind (limits_of state).threshold values →
+pub quiet_up_to : (kind : Kind) (state : State) (rows : List Row) (values : List ℕ)
+    → IsLimiter state → Keeps state rows → AreOfKind kind (limits_of state).threshold values →
     length values ≤ quiet_count kind state → IsQuiet (limits_of state) values rows
 quiet_up_to kind state rows values fit keeps k few =
     are_quiet kind (limits_of state) (are_counted kind state fit) values rows k (room_of kind state rows (length values) keeps few)
 
-fired_if : (b : Bool) (need : ℕ) (count : Count) → count.fired ≡ b → need ≤ cap → (if b then 2 ^ 64 - 1 else need - 1 - count.run) ≡ 2 ^ 64 - 1 → count.fired ≡ true
+fired_if : (b : Bool) (need : ℕ) (count : Count) → count.fired ≡ b → need ≤ cap
+    → (if b then 2 ^ 64 - 1 else need - 1 - count.run) ≡ 2 ^ 64 - 1 → count.fired ≡ true
 fired_if true need count e small all = e
 fired_if false need count e small all = absurd (omega (arith, all))
 
-room_always : (n need : ℕ) (count other : Count) → count ≡ other → need ≤ cap → before need count ≡ 2 ^ 64 - 1 → Room n need other
+room_always : (n need : ℕ) (count other : Count) → count ≡ other → need ≤ cap → before need count
+    ≡ 2 ^ 64 - 1 → Room n need other
 room_always n need count other same small all =
     let P : Count → Type 0 = λ c. Room n need c in
     subst P same (inl (fired_if count.fired need count refl small all))
 
-room_for_all : (kind : Kind) (state : State) (rows : List Row) (n : ℕ) → IsLimiter state → Keeps state rows → quiet_count kind state ≡ 2 ^ 64 - 1 → HasRoom kind (limits_of state) n rows
+room_for_all : (kind : Kind) (state : State) (rows : List Row) (n : ℕ) → IsLimiter state
+    → Keeps state rows → quiet_count kind state ≡ 2 ^ 64 - 1 → HasRoom kind (limits_of state) n rows
 room_for_all Over state rows n fit keeps all OverThreshold e =
     room_always n (need_of state.settings.min_over_threshold_duration) state.over (count_of OverThreshold rows) keeps.over (are_counted Over state fit OverThreshold e) all
 room_for_all Over state rows n fit keeps all UnderThreshold e = cc
@@ -217,30 +248,36 @@ room_for_all Under state rows n fit keeps all UnderThreshold e =
 room_for_all Equal state rows n fit keeps all side e = cc
 
 -- if no sample would ever fire, any number of them does not
-pub quiet_for_ever : (kind : Kind) (state : State) (rows : List Row) (values : List ℕ) → IsLimiter state → Keeps state rows → AreOfKind kind (limits_of state).threshold values →
+pub quiet_for_ever : (kind : Kind) (state : State) (rows : List Row) (values : List ℕ)
+    → IsLimiter state → Keeps state rows → AreOfKind kind (limits_of state).threshold values →
     quiet_count kind state ≡ 2 ^ 64 - 1 → IsQuiet (limits_of state) values rows
 quiet_for_ever kind state rows values fit keeps k all =
     are_quiet kind (limits_of state) (are_counted kind state fit) values rows k (room_for_all kind state rows (length values) fit keeps all)
 
-unfired_if : (b : Bool) (n need : ℕ) (count : Count) → count.fired ≡ b → n ≡ (if b then 2 ^ 64 - 1 else need - 1 - count.run) → n < 2 ^ 64 - 1 → (count.fired ≡ false) × (n ≡ need - 1 - count.run)
+unfired_if : (b : Bool) (n need : ℕ) (count : Count) → count.fired ≡ b → n
+    ≡ (if b then 2 ^ 64 - 1 else need - 1 - count.run) → n < 2 ^ 64 - 1 → (count.fired ≡ false)
+    × (n ≡ need - 1 - count.run)
 unfired_if true n need count e is few = absurd (omega (arith, is))
 unfired_if false n need count e is few = (e, is)
 
-at_last : (n need run : ℕ) → need ≤ cap → n ≡ need - 1 - run → nat_le need (min (min (run + n) cap + 1) cap) ≡ true
+at_last : (n need run : ℕ) → need ≤ cap → n ≡ need - 1 - run
+    → nat_le need (min (min (run + n) cap + 1) cap) ≡ true
 at_last n need run small is = grind (arith, nat_tests)
 
 and_both : (a b : Bool) → a ≡ true → b ≡ false → (a && not b) ≡ true
 and_both a b e f = ap (λ v. v && not b) e ∙ ap not f
 
 -- the first sample after those that do not fire
-fires_then : (n need : ℕ) (count other : Count) → count ≡ other → need ≤ cap → n ≡ before need count → n < 2 ^ 64 - 1 → fires_at true need (count_after_run n other) ≡ true
+fires_then : (n need : ℕ) (count other : Count) → count ≡ other → need ≤ cap → n ≡ before need count
+    → n < 2 ^ 64 - 1 → fires_at true need (count_after_run n other) ≡ true
 fires_then n need count other same small is few =
     let P : Count → Type 0 = λ c. fires_at true need (count_after_run n c) ≡ true in
     let found : (count.fired ≡ false) × (n ≡ need - 1 - count.run) = unfired_if count.fired n need count refl is few in
     subst P same (and_both (nat_le need (min (min (count.run + n) cap + 1) cap)) count.fired (at_last n need count.run small found.1) found.0)
 
 -- one sample more than those that do not fire
-pub fires_next : (kind : Kind) (state : State) (rows : List Row) (values : List ℕ) (value : ℕ) → IsLimiter state → Keeps state rows → AreOfKind kind (limits_of state).threshold values →
+pub fires_next : (kind : Kind) (state : State) (rows : List Row) (values : List ℕ) (value : ℕ)
+    → IsLimiter state → Keeps state rows → AreOfKind kind (limits_of state).threshold values →
     kind_of (limits_of state).threshold value ≡ kind → length values ≡ quiet_count kind state → length values < 2 ^ 64 - 1 →
     fire_of (row_of (limits_of state) value ∷ rows_after (limits_of state) values rows) ≡ fire_on kind
 fires_next Over state rows values value fit keeps k last all few =
@@ -263,16 +300,20 @@ fires_next Under state rows values value fit keeps k last all few =
     one_fire Under limits small value (rows_after limits values rows) last ∙ ap (λ b. if b then fire_past UnderThreshold else Quiet) fires
 fires_next Equal state rows values value fit keeps k last all few = absurd (omega (arith, all))
 
-over_after : (kind : Kind) (state : State) (rows : List Row) (values : List ℕ) (side : Side) → past kind side ≡ true → IsLimiter state → Keeps state rows → AreOfKind kind (limits_of state).threshold values →
+over_after : (kind : Kind) (state : State) (rows : List Row) (values : List ℕ) (side : Side)
+    → past kind side ≡ true → IsLimiter state → Keeps state rows
+    → AreOfKind kind (limits_of state).threshold values →
     length values ≤ quiet_count kind state → count_of side (rows_after (limits_of state) values rows) ≡ count_after_run (length values) (count_of side rows)
 over_after kind state rows values side e fit keeps k few =
     run_after kind (limits_of state) (are_counted kind state fit) values rows side e k (room_of kind state rows (length values) keeps few)
 
-other_after : (kind : Kind) (state : State) (rows : List Row) (values : List ℕ) (side : Side) → past kind side ≡ false → IsLimiter state → AreOfKind kind (limits_of state).threshold values →
+other_after : (kind : Kind) (state : State) (rows : List Row) (values : List ℕ) (side : Side)
+    → past kind side ≡ false → IsLimiter state → AreOfKind kind (limits_of state).threshold values →
     0 < length values → no_run ≡ count_of side (rows_after (limits_of state) values rows)
 other_after kind state rows values side e fit k some = sym (none_after kind (limits_of state) (are_counted kind state fit) values rows side e k some)
 
-jumped_keeps : (kind : Kind) (state : State) (rows : List Row) (values : List ℕ) (last : ℕ) → IsLimiter state → Keeps state rows → AreOfKind kind (limits_of state).threshold values →
+jumped_keeps : (kind : Kind) (state : State) (rows : List Row) (values : List ℕ) (last : ℕ)
+    → IsLimiter state → Keeps state rows → AreOfKind kind (limits_of state).threshold values →
     0 < length values → length values ≤ quiet_count kind state → Keeps (state_after_run kind (length values) last state) (rows_after (limits_of state) values rows)
 jumped_keeps Over state rows values last fit keeps k some few = record {
   over = ap (count_after_run (length values)) keeps.over ∙ sym (over_after Over state rows values OverThreshold refl fit keeps k few);
@@ -288,13 +329,16 @@ jumped_keeps Equal state rows values last fit keeps k some few = record {
 }
 
 -- the counts after a run that does not fire are those of its samples
-pub keeps_after : (kind : Kind) (state new : State) (rows : List Row) (values : List ℕ) (n last : ℕ) → IsLimiter state → Keeps state rows → AreOfKind kind (limits_of state).threshold values →
+pub keeps_after : (kind : Kind) (state new : State) (rows : List Row) (values : List ℕ) (n last : ℕ)
+    → IsLimiter state → Keeps state rows → AreOfKind kind (limits_of state).threshold values →
     length values ≡ n → 0 < n → n ≤ quiet_count kind state → new ≡ state_after_run kind n last state → Keeps new (rows_after (limits_of state) values rows)
 keeps_after kind state new rows values n last fit keeps k e some few is =
     let P : State → Type 0 = λ v. Keeps v (rows_after (limits_of state) values rows) in
     subst P (ap (λ m. state_after_run kind m last state) e ∙ sym is) (jumped_keeps kind state rows values last fit keeps k (omega arith) (omega arith))
 
-fits_if : (b : Bool) (n need : ℕ) (count : Count) → count.fired ≡ b → 0 < n → need ≤ cap → n ≤ (if b then 2 ^ 64 - 1 else need - 1 - count.run) → IsFitCount count → IsFitCount (count_after_run n count)
+fits_if : (b : Bool) (n need : ℕ) (count : Count) → count.fired ≡ b → 0 < n → need ≤ cap
+    → n ≤ (if b then 2 ^ 64 - 1 else need - 1 - count.run) → IsFitCount count
+    → IsFitCount (count_after_run n count)
 fits_if true n need count e some small few fit = record {
   within = omega arith;
   none = λ zero. absurd (omega (arith, zero));
@@ -307,14 +351,16 @@ fits_if false n need count e some small few fit = record {
 }
 
 -- a fit count stays fit after samples that do not fire
-pub skip_fits : (n need : ℕ) (count : Count) → 0 < n → need ≤ cap → n ≤ before need count → IsFitCount count → IsFitCount (count_after_run n count)
+pub skip_fits : (n need : ℕ) (count : Count) → 0 < n → need ≤ cap → n ≤ before need count
+    → IsFitCount count → IsFitCount (count_after_run n count)
 skip_fits n need count some small few fit = fits_if count.fired n need count refl some small few fit
 
 one_small : (b : Bool) (x y : ℕ) → x < 2 ^ 32 → y < 2 ^ 32 → (if b then x else y) < 2 ^ 32
 one_small true x y a b = a
 one_small false x y a b = b
 
-threshold_small : (s : Settings) (moment : Option ℕ) → s.threshold_normal < 2 ^ 32 → s.threshold_emergency < 2 ^ 32 → active_threshold s moment < 2 ^ 32
+threshold_small : (s : Settings) (moment : Option ℕ) → s.threshold_normal < 2 ^ 32
+    → s.threshold_emergency < 2 ^ 32 → active_threshold s moment < 2 ^ 32
 unfolding active_threshold
 threshold_small s moment normal emergency = one_small (is_active s moment) s.threshold_emergency s.threshold_normal emergency normal
 
@@ -322,7 +368,9 @@ below_threshold : (t v : ℕ) → t < 2 ^ 32 → nat_lt v t ≡ true → v < 429
 below_threshold t v small e = grind (arith, nat_tests)
 
 -- a limiter stays a limiter after samples under the threshold that do not fire
-pub jumped_under : (state : State) (n last : ℕ) → 0 < n → n ≤ quiet_count Under state → kind_of (limits_of state).threshold last ≡ Under → IsLimiter state → IsLimiter (state_after_run Under n last state)
+pub jumped_under : (state : State) (n last : ℕ) → 0 < n → n ≤ quiet_count Under state
+    → kind_of (limits_of state).threshold last ≡ Under → IsLimiter state
+    → IsLimiter (state_after_run Under n last state)
 jumped_under state n last some few k fit =
     let limits : Limits = limits_of state in
     let small : limits.threshold < 2 ^ 32 = threshold_small state.settings state.moment fit.threshold_normal fit.threshold_emergency in
@@ -342,7 +390,8 @@ jumped_under state n last some few k fit =
     }
 
 -- a limiter stays one, given its fields and its new counts separately
-pub jump_under : (inside state : State) (over under : Count) (n last : ℕ) → inside ≡ state → over ≡ no_run → under ≡ count_after_run n inside.under → 0 < n → n ≤ quiet_count Under state →
+pub jump_under : (inside state : State) (over under : Count) (n last : ℕ) → inside ≡ state → over
+    ≡ no_run → under ≡ count_after_run n inside.under → 0 < n → n ≤ quiet_count Under state →
     kind_of (limits_of state).threshold last ≡ Under → IsLimiter inside → IsLimiter (record { settings = inside.settings; moment = inside.moment; last = last; over = over; under = under })
 jump_under inside state over under n last is none skip some few k fit =
     let Few : State → Type 0 = λ v. n ≤ quiet_count Under v in

@@ -9,27 +9,32 @@ use Rattle.meter_console.specs.declared.running.ConsoleEnd.{ConsoleEnd}
 use Rattle.meter_console.proofs.Shorts.{first_read, first_skipped}
 
 -- the event of a line was taken
-pub one_taken : (line : List ℕ) (event : Event) (listed taken : Option (List Event)) → Brings line event → Gains listed event taken → TakesFrom line 0 listed taken
+pub one_taken : (line : List ℕ) (event : Event) (listed taken : Option (List Event))
+    → Brings line event → Gains listed event taken → TakesFrom line 0 listed taken
 one_taken line event listed taken brings gains before e =
     (event ∷ [], inl (event, [], brings, refl, (refl, refl)), subst (λ (o : Option (List Event)). Gains o event taken) e gains)
 
 -- a line without an event leaves the sink unchanged
-pub none_taken : (line : List ℕ) (taken : Option (List Event)) → ((event : Event) → ¬ (Brings line event)) → TakesFrom line 0 taken taken
+pub none_taken : (line : List ℕ) (taken : Option (List Event))
+    → ((event : Event) → ¬ (Brings line event)) → TakesFrom line 0 taken taken
 none_taken line taken none before e = ([], inr (inl (none, (refl, refl))), e ∙ ap Some (sym (append-nil before)))
 
 -- a line that is lost leaves the sink unchanged
-pub lost_taken : (line : List ℕ) (taken : Option (List Event)) → IsOwnLine line → TakesFrom line 1 taken taken
+pub lost_taken : (line : List ℕ) (taken : Option (List Event)) → IsOwnLine line
+    → TakesFrom line 1 taken taken
 lost_taken line taken own before e = ([], inr (inr (0, own, refl, (refl, refl))), e ∙ ap Some (sym (append-nil before)))
 
 -- a line was read and its event taken
-pub line_passed : (input line : List ℕ) (lost : ℕ) (left : Option (List ℕ)) (before : List Event) (listed taken : Option (List Event))
+pub line_passed : (input line : List ℕ) (lost : ℕ) (left : Option (List ℕ)) (before : List Event)
+    (listed taken : Option (List Event))
     → TakesLine input line left → TakesFrom line lost listed taken → listed ≡ Some before → HandsOn input before lost left taken
 line_passed input line lost left before listed taken t from e =
     let (events, brought, taken_is) = from before e in
     record { read = line ∷ []; rest = t.rest; events = events; left_is = t.left_is; lines = first_read input line t.rest t.lines t.short; brought = brought; taken_is = taken_is }
 
 -- a line was skipped
-pub line_skipped : (input : List ℕ) (left : Option (List ℕ)) (before : List Event) (taken : Option (List Event))
+pub line_skipped : (input : List ℕ) (left : Option (List ℕ)) (before : List Event)
+    (taken : Option (List Event))
     → SkipsLine input left → taken ≡ Some before → HandsOn input before 0 left taken
 line_skipped input left before taken s e = record {
   read = [];
@@ -42,7 +47,8 @@ line_skipped input left before taken s e = record {
 }
 
 -- the events of lines followed by those of others
-brought_append : (xs ys : List (List ℕ)) (es fs : List Event) (m n : ℕ) → Brought xs es m → Brought ys fs n → Brought (xs ++ ys) (es ++ fs) (m + n)
+brought_append : (xs ys : List (List ℕ)) (es fs : List Event) (m n : ℕ) → Brought xs es m
+    → Brought ys fs n → Brought (xs ++ ys) (es ++ fs) (m + n)
 brought_append [] ys es fs m n (none, zero) later =
     let all : n ≡ m + n = omega arith in
     subst (λ (l : List Event). Brought ys (l ++ fs) (m + n)) (sym none) (subst (Brought ys fs) all later)
@@ -53,7 +59,8 @@ brought_append (line ∷ lines) ys es fs m n (inr (inr (others, own, e, more))) 
     inr (inr (others + n, own, omega (arith, e), brought_append lines ys es fs others n more later))
 
 -- nothing was read
-pub hands_none : (known : Option (List ℕ)) (listed : Option (List Event)) → Hands known listed 0 known listed
+pub hands_none : (known : Option (List ℕ)) (listed : Option (List Event))
+    → Hands known listed 0 known listed
 hands_none known listed input before e f = record {
   read = [];
   rest = input;
@@ -65,7 +72,8 @@ hands_none known listed input before e f = record {
 }
 
 -- some lines followed by others
-pub hands_on : {known left left' : Option (List ℕ)} {listed taken taken' : Option (List Event)} {m n k : ℕ}
+pub hands_on : {known left left' : Option (List ℕ)} {listed taken taken' : Option
+    (List Event)} {m n k : ℕ}
     → Hands known listed m left taken → Hands left taken n left' taken' → m + n ≡ k → Hands known listed k left' taken'
 hands_on {left' = left'} {taken' = taken'} {m = m} {n = n} a b sum input before e f =
     let h = a input before e f in
@@ -81,7 +89,8 @@ hands_on {left' = left'} {taken' = taken'} {m = m} {n = n} a b sum input before 
     }
 
 -- the console ended because there was no further line
-pub ends_all : {known left : Option (List ℕ)} {listed taken taken' : Option (List Event)} {lost : ℕ} (end : ConsoleEnd)
+pub ends_all : {known left : Option (List ℕ)} {listed taken taken' : Option (List Event)} {lost : ℕ}
+    (end : ConsoleEnd)
     → Hands known listed lost left taken → ((bytes : List ℕ) → left ≡ Some bytes → lines_in bytes ≡ []) → taken' ≡ taken → lost_lines end ≡ lost
     → Ends known listed end taken'
 ends_all end h none same lost_is input before e f =
@@ -97,7 +106,8 @@ ends_all end h none same lost_is input before e f =
     }
 
 -- the console ended at a failed read
-pub ends_some : {known left : Option (List ℕ)} {listed taken taken' : Option (List Event)} {lost : ℕ} (end : ConsoleEnd)
+pub ends_some : {known left : Option (List ℕ)} {listed taken taken' : Option (List Event)}
+    {lost : ℕ} (end : ConsoleEnd)
     → Hands known listed lost left taken → taken' ≡ taken → lost_lines end ≡ lost → has_failed end ≡ true
     → Ends known listed end taken'
 ends_some end h same lost_is failed input before e f =

@@ -52,7 +52,8 @@ more known left left' line false byte p c ne room = record {
   long = λ is. absurd (cc is);
 }
 
-pub keeps : {known left left' : Option (List ℕ)} {line line' : List ℕ} {is_long is_long' : Bool} {byte : ℕ}
+pub keeps : {known left left' : Option (List ℕ)} {line line' : List ℕ}
+    {is_long is_long' : Bool} {byte : ℕ}
     → Partial known left line is_long → Consumes left left' (byte ∷ []) → byte ≢ 10 → length line + 1 < 8192
     → line' ≡ line ++ byte ∷ [] → is_long' ≡ is_long → Partial known left' line' is_long'
 keeps {known = known} {left = left} {left' = left'} {line = line} {line' = line'} {is_long = is_long} {byte = byte} p c ne room e same =
@@ -76,7 +77,8 @@ skip known left left' line is_long byte p c ne none = record {
     many true e = omega (arith, p.long e)
     many false e = omega (arith, ap length (p.kept e))
 
-pub skips : {known left left' : Option (List ℕ)} {line line' : List ℕ} {is_long is_long' : Bool} {byte : ℕ}
+pub skips : {known left left' : Option (List ℕ)} {line line' : List ℕ}
+    {is_long is_long' : Bool} {byte : ℕ}
     → Partial known left line is_long → Consumes left left' (byte ∷ []) → byte ≢ 10 → 8192 ≤ length line + 1
     → line' ≡ line → is_long' ≡ true → Partial known left' line' is_long'
 skips {known = known} {left = left} {left' = left'} {line = line} {line' = line'} {is_long = is_long} {byte = byte} p c ne none e same =
@@ -88,7 +90,8 @@ record Begins (input bytes : List ℕ) (left : Option (List ℕ)) : Type 0 where
   left_is : left ≡ Some rest
   input_is : input ≡ bytes ++ rest
 
-begins : (known left : Option (List ℕ)) (input bytes : List ℕ) → known ≡ Some input → Consumes known left bytes → Begins input bytes left
+begins : (known left : Option (List ℕ)) (input bytes : List ℕ) → known ≡ Some input
+    → Consumes known left bytes → Begins input bytes left
 begins None left input bytes e c = absurd (cc e)
 begins (Some xs) None input bytes e c = absurd c
 begins (Some xs) (Some ys) input bytes e c =
@@ -96,7 +99,8 @@ begins (Some xs) (Some ys) input bytes e c =
     record { rest = ys; left_is = refl; input_is = sym same ∙ c }
 
 -- the byte 0A was read after bytes without one
-ends : (known left left' : Option (List ℕ)) (line : List ℕ) (is_long : Bool) (p : Partial known left line is_long) → Consumes left left' (10 ∷ [])
+ends : (known left left' : Option (List ℕ)) (line : List ℕ) (is_long : Bool)
+    (p : Partial known left line is_long) → Consumes left left' (10 ∷ [])
     → (input : List ℕ) → known ≡ Some input → (rest : List ℕ) × (left' ≡ Some rest) × (lines_of input ≡ p.bytes ∷ lines_of rest)
 ends known left left' line is_long p c input e =
     let b = begins known left' input (p.bytes ++ 10 ∷ []) e (Consumes-trans known left left' p.bytes (10 ∷ []) p.read c) in
@@ -124,7 +128,8 @@ unfolding lines_of
 no_lines bytes none = ap all_but_last (slice_split_none (is_byte 10) bytes none)
 
 -- the input has ended without a line
-pub ended : {known left : Option (List ℕ)} {line : List ℕ} {is_long : Bool} → Partial known left line is_long → IsAtEnd left
+pub ended : {known left : Option (List ℕ)} {line : List ℕ} {is_long : Bool}
+    → Partial known left line is_long → IsAtEnd left
     → (input : List ℕ) → known ≡ Some input → lines_of input ≡ []
 ended {known = known} {left = left} p at_end input e =
     let b = begins known left input p.bytes e p.read in

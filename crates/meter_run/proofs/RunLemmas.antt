@@ -21,7 +21,8 @@ use Rattle.turn_lock.specs.History.{IsAmong}
 use Rattle.turn_lock.specs.Rule.{opened}
 use Rattle.turn_lock.specs.declared.turned.Entry.{Entry}
 
-ended_map : (served : Result Served ServeFault) (A B : Type 0) → (A → B) → OnEnded served A → OnEnded served B
+ended_map : (served : Result Served ServeFault) (A B : Type 0) → (A → B) → OnEnded served A
+    → OnEnded served B
 ended_map (Ok all) A B f a = f a
 ended_map (Err fault.Listen) A B f a = f a
 ended_map (Err fault.Memory) A B f a = tt
@@ -30,11 +31,14 @@ ended_map (Err fault.Read) A B f a = tt
 ended_map (Err fault.Write) A B f a = tt
 
 -- the calls of a port that was joined are the same in the whole history
-same_events : (q : MeterPort) (kept : KeptRecorder) (y : Yields (λ (x : KeptRecorder). x.origin) Stands IsLegal q.known kept) (number : List ℕ)
+same_events : (q : MeterPort) (kept : KeptRecorder)
+    (y : Yields (λ (x : KeptRecorder). x.origin) Stands IsLegal q.known kept) (number : List ℕ)
     → IsAmong number q.known.joined → events_in number y.whole ≡ events_by number q
 same_events q kept y number joined = ap (map (λ (call : Entry Event Reply). call.event)) (y.own number (inr joined))
 
-acted_whole : (q : MeterPort) (kept : KeptRecorder) (y : Yields (λ (x : KeptRecorder). x.origin) Stands IsLegal q.known kept) (number : List ℕ) (Whole : List Event → Type 0)
+acted_whole : (q : MeterPort) (kept : KeptRecorder)
+    (y : Yields (λ (x : KeptRecorder). x.origin) Stands IsLegal q.known kept) (number : List ℕ)
+    (Whole : List Event → Type 0)
     → Acted q number Whole → Whole (events_in number y.whole)
 acted_whole q kept y number Whole acted = subst Whole (sym (same_events q kept y number acted.joined)) acted.whole
 
@@ -45,7 +49,8 @@ first_port lock bound o = record { lock = lock; bound = bound; known = opened o 
 some_same : (a b : Opening) → Some a ≡ Some b → a ≡ b
 some_same a b e = cc
 
-calls_of_run : (given : Given) (served : Result Served ServeFault) (lock : TableId) (bound : ℕ) (o : Opening) (q : MeterPort) (kept : KeptRecorder)
+calls_of_run : (given : Given) (served : Result Served ServeFault) (lock : TableId) (bound : ℕ)
+    (o : Opening) (q : MeterPort) (kept : KeptRecorder)
     → (y : Yields (λ (x : KeptRecorder). x.origin) Stands IsLegal q.known kept)
     → ServesAll given (first_port lock bound o) q served → AreOfRun kept.origin given served y.whole
 calls_of_run given served lock bound o q kept y s = record {
@@ -66,7 +71,8 @@ calls_of_run given served lock bound o q kept y s = record {
   own = y.own [] (inl (sym s.goes.number)) ∙ s.goes.own [] (inl refl);
 }
 
-run_at : (recorder : Recording) (given : Given) (served : Result Served ServeFault) (text : List ℕ) (lock : TableId) (bound : ℕ) (q : MeterPort) (o : Opening)
+run_at : (recorder : Recording) (given : Given) (served : Result Served ServeFault) (text : List ℕ)
+    (lock : TableId) (bound : ℕ) (q : MeterPort) (o : Opening)
     → o ≡ opening_of recorder.core → ServesAll given (first_port lock bound o) q served → Traces q.known text → IsRun recorder given served text
 run_at recorder given served text lock bound q o is serves traces =
     let y = traces.yields in
@@ -79,14 +85,16 @@ run_at recorder given served text lock bound q o is serves traces =
       traced = traces.traced;
     }
 
-pub run_of : (recorder : Recording) (given : Given) (served : Result Served ServeFault) (text : List ℕ) (p q : MeterPort) (o : Opening)
+pub run_of : (recorder : Recording) (given : Given) (served : Result Served ServeFault)
+    (text : List ℕ) (p q : MeterPort) (o : Opening)
     → p.known ≡ opened o → o ≡ opening_of recorder.core → ServesAll given p q served → Traces q.known text → IsRun recorder given served text
 run_of recorder given served text p q o first is serves traces =
     let whole : p ≡ first_port p.lock p.bound o = ap (λ (k : Known Event Reply Opening). let port : MeterPort = record { lock = p.lock; bound = p.bound; known = k } in port) first in
     run_at recorder given served text p.lock p.bound q o is (subst (λ (port : MeterPort). ServesAll given port q served) whole serves) traces
 
 -- the text of a trace is that of a run
-pub run_if : {E : Type 0} (recorder : Recording) (given : Given) (served : Result Served ServeFault) (result : Result (List ℕ) E) (p q : MeterPort)
+pub run_if : {E : Type 0} (recorder : Recording) (given : Given) (served : Result Served ServeFault)
+    (result : Result (List ℕ) E) (p q : MeterPort)
     → p.known ≡ opened (opening_of recorder.core) → ServesAll given p q served → IfOk result (Traces q.known)
     → IfOk result (IsRun recorder given served)
 run_if recorder given served (Ok text) p q first serves traces = run_of recorder given served text p q (opening_of recorder.core) first refl serves traces

@@ -25,20 +25,23 @@ use Rattle.turn_lock.specs.declared.known.Known.{Known}
 use Rattle.turn_lock.specs.declared.turned.Entry.{Entry}
 
 -- the last reply of a run has the kind of its event
-last_fits : (w : World) (calls : List (Entry Event Reply)) (by : List ℕ) (event : Event) (reply : Reply)
+last_fits : (w : World) (calls : List (Entry Event Reply)) (by : List ℕ) (event : Event)
+    (reply : Reply)
     → replies_of (events_and_replies (calls ++ entry by event reply ∷ [])) ≡ replies_from w (events_of (events_and_replies (calls ++ entry by event reply ∷ []))) → Fits event reply
 last_fits w [] by event reply legal = let same : reply ≡ (at_event event w).reply = cc in subst (Fits event) (sym same) (reply_fits event w)
 last_fits w (call ∷ calls) by event reply legal = let after : World = (at_event call.event w).world in
     let rest : replies_of (events_and_replies (calls ++ entry by event reply ∷ [])) ≡ replies_from after (events_of (events_and_replies (calls ++ entry by event reply ∷ []))) = cc in
     last_fits after calls by event reply rest
 
-called_fits : (k : Known Event Reply Opening) (event : Event) (reply : Reply) (l : Known Event Reply Opening) → Called IsLegal k event reply l → Fits event reply
+called_fits : (k : Known Event Reply Opening) (event : Event) (reply : Reply)
+    (l : Known Event Reply Opening) → Called IsLegal k event reply l → Fits event reply
 called_fits k event reply l called =
     let legal : IsLegal called.lawful.0 ((k.seen ++ called.seen.0) ++ entry k.number event reply ∷ []) = subst (IsLegal called.lawful.0) called.seen.1 called.lawful.2 in
     last_fits (world_of_opening called.lawful.0) (k.seen ++ called.seen.0) k.number event reply legal
 
 -- a reply that a port returned has the kind of its event
-pub port_fits : (k : Known Event Reply Opening) (event : Event) (result : Result Reply CallFault) (l : Known Event Reply Opening)
+pub port_fits : (k : Known Event Reply Opening) (event : Event) (result : Result Reply CallFault)
+    (l : Known Event Reply Opening)
     → IfOk result (λ (reply : Reply). Called IsLegal k event reply l) → IfOk result (Fits event)
 port_fits k event (Ok reply) l called = called_fits k event reply l called
 port_fits k event (Err fault) l called = tt
@@ -47,18 +50,21 @@ port_fits k event (Err fault) l called = tt
 -- the last meter of a session
 module _ {M : Type 0} (steps : M → Event → Result Reply CallFault → M → Type 0) (P : M → M → Type 0)
     (here : (m : M) → P m m) (on : (a b c : M) → P a b → P b c → P a c) (by : (m : M) (event : Event) (result : Result Reply CallFault) (n : M) → steps m event result n → P m n) where
-  pub replied_on : (m : M) (events : List Event) (replies : List Reply) (n : M) → Replied steps m events replies n → P m n
+  pub replied_on : (m : M) (events : List Event) (replies : List Reply) (n : M)
+      → Replied steps m events replies n → P m n
   replied_on m [] [] n same = subst (P m) (sym same) (here m)
   replied_on m [] (reply ∷ replies) n never = absurd never
   replied_on m (event ∷ events) [] n never = absurd never
   replied_on m (event ∷ events) (reply ∷ replies) n (next, step, rest) = on m next n (by m event (Ok reply) next step) (replied_on next events replies n rest)
 
-  refused_on : (m : M) (events : List Event) (replies : List Reply) (fault : CallFault) (n : M) → Refused steps m events replies fault n → P m n
+  refused_on : (m : M) (events : List Event) (replies : List Reply) (fault : CallFault) (n : M)
+      → Refused steps m events replies fault n → P m n
   refused_on m events replies fault n refused =
       on m refused.before n (replied_on m refused.taken replies refused.before refused.replied) (by refused.before refused.event (Err fault) n refused.refused)
 
   module _ {R W : Type 0} (remaining : R → Option (List ℕ)) (reads read_failures : R → ℕ) (contents : W → Option (List ℕ)) (write_failures : W → ℕ) (password seen : List ℕ) where
-    did_on : (r : R) (w : W) (m : M) (result : Result SessionEnd ServeFault) (r' : R) (w' : W) (m' : M)
+    did_on : (r : R) (w : W) (m : M) (result : Result SessionEnd ServeFault) (r' : R)
+        (w' : W) (m' : M)
         → Did remaining reads read_failures contents write_failures steps password seen r w m result r' w' m' → P m m'
     did_on r w m (Ok end) r' w' m' did = replied_on m _ did.0.replies m' did.0.replied
     did_on r w m (Err fault.Read) r' w' m' did = replied_on m _ did.0.replies m' did.0.replied
@@ -80,25 +86,29 @@ same_on p q s a b = record {
   joined = b.joined ∙ a.joined;
 }
 
-pub step_same : (p : MeterPort) (event : Event) (result : Result Reply CallFault) (q : MeterPort) → PortSteps p event result q → IsSame p q
+pub step_same : (p : MeterPort) (event : Event) (result : Result Reply CallFault) (q : MeterPort)
+    → PortSteps p event result q → IsSame p q
 step_same p event (Ok reply) q step =
     record { lock = step.lock; bound = step.bound; origin = step.calls.origin; number = step.calls.number; splits = step.calls.splits; joined = step.calls.joined }
 step_same p event (Err fault) q step =
     record { lock = step.lock; bound = step.bound; origin = step.calls.0.sees.origin; number = step.calls.0.sees.number; splits = step.calls.0.sees.splits; joined = step.calls.0.joined }
 
 -- a port that served a session is the same port
-pub served_same : {R W : Type 0} (remaining : R → Option (List ℕ)) (reads read_failures : R → ℕ) (contents : W → Option (List ℕ)) (write_failures : W → ℕ) (password : List ℕ)
+pub served_same : {R W : Type 0} (remaining : R → Option (List ℕ)) (reads read_failures : R
+    → ℕ) (contents : W → Option (List ℕ)) (write_failures : W → ℕ) (password : List ℕ)
     (r : R) (w : W) (p : MeterPort) (result : Result SessionEnd ServeFault) (r' : R) (w' : W) (q : MeterPort)
     → Served remaining reads read_failures contents write_failures PortSteps password r w p result r' w' q → IsSame p q
 served_same remaining reads read_failures contents write_failures password r w p result r' w' q served =
     did_on PortSteps IsSame is_same same_on step_same remaining reads read_failures contents write_failures password served.seen r w p result r' w' q served.did
 
 -- ports are related if their equals are
-pub between : (P : MeterPort → MeterPort → Type 0) (p m n q : MeterPort) → m ≡ p → q ≡ n → P m n → P p q
+pub between : (P : MeterPort → MeterPort → Type 0) (p m n q : MeterPort) → m ≡ p → q ≡ n
+    → P m n → P p q
 between P p m n q first last holds = subst (λ x. P x q) first (subst (P m) (sym last) holds)
 
 -- the calls of a port are extended by the events that it passed on
-pub entered : (p : MeterPort) (events : List Event) (replies : List Reply) (q : MeterPort) → Replied PortSteps p events replies q → Enters p events replies q
+pub entered : (p : MeterPort) (events : List Event) (replies : List Reply) (q : MeterPort)
+    → Replied PortSteps p events replies q → Enters p events replies q
 entered p [] [] q same = subst (λ (q : MeterPort). Enters p [] [] q) (sym same) (sym (append-nil (calls_by p.known.number p.known.seen)))
 entered p [] (reply ∷ replies) q never = absurd never
 entered p (event ∷ events) [] q never = absurd never

@@ -23,7 +23,8 @@ abbrev event_of : Entry Event Reply → Event
 event_of call = call.event
 
 -- the events of the port's new calls are those that were replied to
-entries_events : (by : List ℕ) (p : MeterPort) (events : List Event) (replies : List Reply) (q : MeterPort)
+entries_events : (by : List ℕ) (p : MeterPort) (events : List Event) (replies : List Reply)
+    (q : MeterPort)
     → Replied PortSteps p events replies q → map event_of (entries by events replies) ≡ events
 entries_events by p [] [] q same = refl
 entries_events by p [] (reply ∷ replies) q never = absurd never
@@ -39,7 +40,8 @@ replied_events p events replies q replied =
     ∙ map-append event_of (calls_by by p.known.seen) (entries by events replies)
     ∙ ap (λ (es : List Event). events_by by p ++ es) (entries_events by p events replies q replied)
 
-by_replied : (password seen : List ℕ) (p : MeterPort) (events later : List Event) (replies : List Reply) (q : MeterPort)
+by_replied : (password seen : List ℕ) (p : MeterPort) (events later : List Event)
+    (replies : List Reply) (q : MeterPort)
     → Asks password seen ≡ events ++ later → Replied PortSteps p events replies q → AsksThrough password p q
 by_replied password seen p events later replies q all replied = record {
   asked = events;
@@ -47,7 +49,8 @@ by_replied password seen p events later replies q all replied = record {
   entered = replied_events p events replies q replied;
 }
 
-by_refused : (password seen : List ℕ) (p : MeterPort) (events later : List Event) (replies : List Reply) (refusal : CallFault) (q : MeterPort)
+by_refused : (password seen : List ℕ) (p : MeterPort) (events later : List Event)
+    (replies : List Reply) (refusal : CallFault) (q : MeterPort)
     → Asks password seen ≡ events ++ later → Refused PortSteps p events replies refusal q → AsksThrough password p q
 by_refused password seen p events later replies refusal q all r =
     let same = replied_on PortSteps IsSame is_same same_on step_same p r.taken replies r.before r.replied in
@@ -64,7 +67,8 @@ by_refused password seen p events later replies refusal q all r =
     }
 
 module _ {R W : Type 0} (remaining : R → Option (List ℕ)) (reads read_failures : R → ℕ) (contents : W → Option (List ℕ)) (write_failures : W → ℕ) (password seen : List ℕ) where
-  did_ask : (r : R) (w : W) (p : MeterPort) (result : Result SessionEnd ServeFault) (r' : R) (w' : W) (q : MeterPort)
+  did_ask : (r : R) (w : W) (p : MeterPort) (result : Result SessionEnd ServeFault) (r' : R)
+      (w' : W) (q : MeterPort)
       → Did remaining reads read_failures contents write_failures PortSteps password seen r w p result r' w' q → AsksThrough password p q
   did_ask r w p (Ok end) r' w' q did = by_replied password seen p _ [] did.0.replies q (sym (append-nil (Asks password seen))) did.0.replied
   did_ask r w p (Err fault.Read) r' w' q did = by_replied password seen p _ [] did.0.replies q (sym (append-nil (Asks password seen))) did.0.replied
@@ -75,7 +79,8 @@ module _ {R W : Type 0} (remaining : R → Option (List ℕ)) (reads read_failur
   did_ask r w p (Err fault.Listen) r' w' q did = absurd did
 
 -- a port that served a session made the calls of the session
-pub served_asks : {R W : Type 0} (remaining : R → Option (List ℕ)) (reads read_failures : R → ℕ) (contents : W → Option (List ℕ)) (write_failures : W → ℕ) (password : List ℕ)
+pub served_asks : {R W : Type 0} (remaining : R → Option (List ℕ)) (reads read_failures : R
+    → ℕ) (contents : W → Option (List ℕ)) (write_failures : W → ℕ) (password : List ℕ)
     (r : R) (w : W) (p : MeterPort) (result : Result SessionEnd ServeFault) (r' : R) (w' : W) (q : MeterPort)
     → Served remaining reads read_failures contents write_failures PortSteps password r w p result r' w' q → AsksThrough password p q
 served_asks remaining reads read_failures contents write_failures password r w p result r' w' q served =
@@ -85,7 +90,8 @@ abbrev Session : List ℕ → MeterPort → MeterPort → Type 0
 Session password p q = IsSame p q × AsksThrough password p q
 
 -- the calls of a new port that served a session, or was returned unused
-calls_asked : (password number : List ℕ) (calls : List (Entry Event Reply)) → AreCallsOf (Session password) number calls → AreAsked password (map event_of calls)
+calls_asked : (password number : List ℕ) (calls : List (Entry Event Reply))
+    → AreCallsOf (Session password) number calls → AreAsked password (map event_of calls)
 calls_asked password number calls c =
     let A : List Event → Type 0 = λ es. AreAsked password es in
     let none : map event_of (calls_by number c.lent.known.seen) ≡ [] = ap (map event_of) c.fresh in
@@ -100,15 +106,18 @@ calls_asked password number calls c =
           subst A (sym those) session.1.are
     ]
 
-pub are_sessions : (password : List ℕ) (from : ℕ) (port : MeterPort) → AreServed (Session password) from port → AreSessions password from port
+pub are_sessions : (password : List ℕ) (from : ℕ) (port : MeterPort)
+    → AreServed (Session password) from port → AreSessions password from port
 are_sessions password from port served i low high = calls_asked password (child port.known.number i) _ (served i low high)
 
 -- no port was split off
-pub no_sessions : (password : List ℕ) (from : ℕ) (port : MeterPort) → port.known.splits ≤ from → AreSessions password from port
+pub no_sessions : (password : List ℕ) (from : ℕ) (port : MeterPort) → port.known.splits ≤ from
+    → AreSessions password from port
 no_sessions password from port few i low high = absurd (omega (arith, few, low, high))
 
 -- facts about joined ports are preserved
-pub sessions_on : (password : List ℕ) (first from before : ℕ) (p q : MeterPort) → from ≡ before → first ≤ from → GoesOn p q → q.known.splits ≡ p.known.splits
+pub sessions_on : (password : List ℕ) (first from before : ℕ) (p q : MeterPort) → from ≡ before
+    → first ≤ from → GoesOn p q → q.known.splits ≡ p.known.splits
     → AreJoined first p → AreSessions password from p → AreSessions password before q
 sessions_on password first from before p q same early goes splits joined sessions i low high =
     let within : i < p.known.splits = omega (arith, high, splits) in

@@ -19,7 +19,8 @@ use Rattle.relay_recorder.specs.declared.trace.Trace.{Trace}
 use Rattle.meter_serving.specs.Resuming.{GoesOn, IsTraceOf, world_of}
 
 -- worlds that agree give the same replies
-replies_alike : (events : List Event) (v w : World) → IsWorld v → Agree v w → replies_from v events ≡ replies_from w events
+replies_alike : (events : List Event) (v w : World) → IsWorld v → Agree v w → replies_from v events
+    ≡ replies_from w events
 replies_alike [] v w range agree = refl
 replies_alike (event ∷ events) v w range agree =
     let go = event_alike event v w range agree in
@@ -34,21 +35,25 @@ record AgreeInRange (v w : World) : Type 0 where
   agree : Agree v w
 
 -- worlds that agree also agree after the same events
-worlds_after : (events : List Event) (v w : World) → AgreeInRange v w → AgreeInRange (world_after events v) (world_after events w)
+worlds_after : (events : List Event) (v w : World) → AgreeInRange v w
+    → AgreeInRange (world_after events v) (world_after events w)
 worlds_after [] v w alike = alike
 worlds_after (event ∷ events) v w alike =
     let go = event_alike event v w alike.range alike.agree in
     worlds_after events (at_event event v).world (at_event event w).world (record { range = go.range; agree = go.world })
 
 -- the events before the last n, followed by these, are all events
-split_world : (n : ℕ) (events : List Event) (w : World) → world_after (keep_last n events) (world_after (all_but_last n events) w) ≡ world_after events w
+split_world : (n : ℕ) (events : List Event) (w : World)
+    → world_after (keep_last n events) (world_after (all_but_last n events) w)
+    ≡ world_after events w
 split_world n events w =
     sym (world_after-append (all_but_last n events) (keep_last n events) w)
     ∙ ap (λ (es : List Event). world_after es w) (take-append-drop (length events - n) events)
 
 -- the world after a trace's run agrees with the one after every history that its recorder
 -- represents
-trace_agrees : (r : Recording) (trace : Trace) (history : List Exchange) (origin : World) → IsFitOpening trace.opening → IsWorld (world_of_opening trace.opening)
+trace_agrees : (r : Recording) (trace : Trace) (history : List Exchange) (origin : World)
+    → IsFitOpening trace.opening → IsWorld (world_of_opening trace.opening)
     → IsTraceOf r trace → StandsForHistory r history origin
     → AgreeInRange (world_of trace) (world_after (events_of history) origin)
 trace_agrees r trace history origin fit range traced stands =
@@ -63,7 +68,8 @@ trace_agrees r trace history origin fit range traced stands =
     ap (λ (es : List Event). world_after es before) (traced.events ∙ stands.kept) ∙ split_world n (events_of history) origin in
     subst (λ (w : World). AgreeInRange (world_of trace) w) same after
 
-pub goes_on : (trace : Trace) → IsFitOpening trace.opening → IsWorld (world_of_opening trace.opening) → GoesOn trace (world_of trace)
+pub goes_on : (trace : Trace) → IsFitOpening trace.opening
+    → IsWorld (world_of_opening trace.opening) → GoesOn trace (world_of trace)
 goes_on trace fit range = λ r traced history origin stands further.
     let alike = trace_agrees r trace history origin fit range traced stands in
     replies_alike further (world_of trace) (world_after (events_of history) origin) alike.range alike.agree

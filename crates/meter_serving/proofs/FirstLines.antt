@@ -33,9 +33,12 @@ record CutBy (x : ℕ) (xs : List ℕ) (b : Bool) (part : List ℕ) (others : Li
   front : (if b then x ∷ [] else x ∷ take_through 10 xs) ≡ part ++ 10 ∷ []
   others_are : parts_at 10 (if b then xs else drop_through 10 xs) ≡ others
   alone : parts_at 10 (if b then x ∷ [] else x ∷ take_through 10 xs) ≡ part ∷ [] ∷ []
-  whole : x ∷ xs ≡ (if b then x ∷ [] else x ∷ take_through 10 xs) ++ (if b then xs else drop_through 10 xs)
-  taken : (rest : List ℕ) → (if b then x ∷ [] else x ∷ take_through 10 (xs ++ rest)) ≡ (if b then x ∷ [] else x ∷ take_through 10 xs)
-  dropped : (rest : List ℕ) → (if b then xs ++ rest else drop_through 10 (xs ++ rest)) ≡ (if b then xs else drop_through 10 xs) ++ rest
+  whole : x ∷ xs ≡ (if b then x ∷ [] else x ∷ take_through 10 xs)
+      ++ (if b then xs else drop_through 10 xs)
+  taken : (rest : List ℕ) → (if b then x ∷ [] else x ∷ take_through 10 (xs ++ rest))
+      ≡ (if b then x ∷ [] else x ∷ take_through 10 xs)
+  dropped : (rest : List ℕ) → (if b then xs ++ rest else drop_through 10 (xs ++ rest))
+      ≡ (if b then xs else drop_through 10 xs) ++ rest
 
 -- the part to which a byte was prepended
 record Onto (x : ℕ) (all : List (List ℕ)) (part next : List ℕ) (parts : List (List ℕ)) : Type 0 where
@@ -43,7 +46,8 @@ record Onto (x : ℕ) (all : List (List ℕ)) (part next : List ℕ) (parts : Li
   all_is : all ≡ short ∷ next ∷ parts
   part_is : x ∷ short ≡ part
 
-onto : (x : ℕ) (all : List (List ℕ)) (part next : List ℕ) (parts : List (List ℕ)) → onto_first x all ≡ part ∷ next ∷ parts → Onto x all part next parts
+onto : (x : ℕ) (all : List (List ℕ)) (part next : List ℕ) (parts : List (List ℕ)) → onto_first x all
+    ≡ part ∷ next ∷ parts → Onto x all part next parts
 onto x [] part next parts e = absurd cc
 onto x (short ∷ others) part next parts e = record {
   short = short;
@@ -52,10 +56,12 @@ onto x (short ∷ others) part next parts e = record {
 }
 
 -- the parts of a text to which this byte is prepended
-parts_by : (x : ℕ) (xs : List ℕ) (b : Bool) → (x == 10) ≡ b → parts_at 10 (x ∷ xs) ≡ cond b ([] ∷ parts_at 10 xs) (onto_first x (parts_at 10 xs))
+parts_by : (x : ℕ) (xs : List ℕ) (b : Bool) → (x == 10) ≡ b → parts_at 10 (x ∷ xs)
+    ≡ cond b ([] ∷ parts_at 10 xs) (onto_first x (parts_at 10 xs))
 parts_by x xs b is = ap (λ (c : Bool). cond c ([] ∷ parts_at 10 xs) (onto_first x (parts_at 10 xs))) is
 
-cut_by : (x : ℕ) (xs : List ℕ) (b : Bool) (part next : List ℕ) (parts : List (List ℕ)) → (x == 10) ≡ b
+cut_by : (x : ℕ) (xs : List ℕ) (b : Bool) (part next : List ℕ) (parts : List (List ℕ)) → (x == 10)
+    ≡ b
     → cond b ([] ∷ parts_at 10 xs) (onto_first x (parts_at 10 xs)) ≡ part ∷ next ∷ parts
     → ((short : List ℕ) → parts_at 10 xs ≡ short ∷ next ∷ parts → Cut xs short (next ∷ parts)) → CutBy x xs b part (next ∷ parts)
 cut_by x xs true part next parts is e before =
@@ -78,7 +84,8 @@ cut_by x xs false part next parts is e before =
       dropped = λ rest. cut.dropped rest;
     }
 
-cut : (text part next : List ℕ) (parts : List (List ℕ)) → parts_at 10 text ≡ part ∷ next ∷ parts → Cut text part (next ∷ parts)
+cut : (text part next : List ℕ) (parts : List (List ℕ)) → parts_at 10 text ≡ part ∷ next ∷ parts
+    → Cut text part (next ∷ parts)
 cut [] part next parts e = absurd cc
 cut (x ∷ xs) part next parts e =
     let by = cut_by x xs (x == 10) part next parts refl e (λ short is. cut xs short next parts is) in
@@ -93,7 +100,8 @@ record TwoParts (all : List (List ℕ)) (row : Row) (rows : List Row) : Type 0 w
   words : words_of part ≡ row
   rows_are : map words_of (all_but_last (next ∷ parts)) ≡ rows
 
-two_parts : (all : List (List ℕ)) (row : Row) (rows : List Row) → map words_of (all_but_last all) ≡ row ∷ rows → TwoParts all row rows
+two_parts : (all : List (List ℕ)) (row : Row) (rows : List Row) → map words_of (all_but_last all)
+    ≡ row ∷ rows → TwoParts all row rows
 two_parts [] row rows e = absurd cc
 two_parts (part ∷ []) row rows e = absurd cc
 two_parts (part ∷ next ∷ parts) row rows e = record {
@@ -114,7 +122,8 @@ record FirstLine (text : List ℕ) (row : Row) (rows : List Row) : Type 0 where
   taken : (rest : List ℕ) → take_through 10 (text ++ rest) ≡ take_through 10 text
   dropped : (rest : List ℕ) → drop_through 10 (text ++ rest) ≡ drop_through 10 text ++ rest
 
-first_line : (text : List ℕ) (row : Row) (rows : List Row) → rows_of text ≡ row ∷ rows → FirstLine text row rows
+first_line : (text : List ℕ) (row : Row) (rows : List Row) → rows_of text ≡ row ∷ rows
+    → FirstLine text row rows
 unfolding rows_of lines_of unended_of
 first_line text row rows e =
     let two = two_parts (parts_at 10 text) row rows e in
@@ -133,7 +142,8 @@ added [] more = refl
 added (x ∷ xs) more = added xs more
 
 -- a read of one line passes it
-pub line_read : (text rest : List ℕ) (row : Row) (rows : List Row) (old new : List ℕ) (left left' : Option (List ℕ)) → Ahead text rest (row ∷ rows) old left
+pub line_read : (text rest : List ℕ) (row : Row) (rows : List Row) (old new : List ℕ)
+    (left left' : Option (List ℕ)) → Ahead text rest (row ∷ rows) old left
     → IfSome left (λ bytes. new ≡ old ++ take_through 10 bytes) → DropsThrough left left' 10
     → Ahead text rest rows new left' × IsLine (drop (length old) new) row
 line_read text rest row rows old new left left' ahead took dropped =
@@ -154,17 +164,21 @@ line_read text rest row rows old new left left' ahead took dropped =
     )
 
 -- a line that was read in pieces
-took : (old new bytes : List ℕ) (left : Option (List ℕ)) → new ≡ old ++ bytes → IfSome left (λ all. bytes ≡ take_through 10 all) → IfSome left (λ all. new ≡ old ++ take_through 10 all)
+took : (old new bytes : List ℕ) (left : Option (List ℕ)) → new ≡ old ++ bytes
+    → IfSome left (λ all. bytes ≡ take_through 10 all)
+    → IfSome left (λ all. new ≡ old ++ take_through 10 all)
 took old new bytes None added through = tt
 took old new bytes (Some all) added through = added ∙ ap (λ (more : List ℕ). old ++ more) through
 
-pub line_on : (text rest : List ℕ) (row : Row) (rows : List Row) (old new : List ℕ) (count : ℕ) (left left' : Option (List ℕ)) → Ahead text rest (row ∷ rows) old left
+pub line_on : (text rest : List ℕ) (row : Row) (rows : List Row) (old new : List ℕ) (count : ℕ)
+    (left left' : Option (List ℕ)) → Ahead text rest (row ∷ rows) old left
     → ReadsLine left old count left' new → Ahead text rest rows new left' × IsLine (drop (length old) new) row
 line_on text rest row rows old new count left left' ahead line =
     line_read text rest row rows old new left left' ahead (took old new line.bytes left line.added line.through) line.rest
 
 -- if a line is still to be read, one of no bytes is not the next
-pub line_left : (text rest : List ℕ) (row : Row) (rows : List Row) (old new : List ℕ) (count : ℕ) (left left' : Option (List ℕ)) → Ahead text rest (row ∷ rows) old left
+pub line_left : (text rest : List ℕ) (row : Row) (rows : List Row) (old new : List ℕ) (count : ℕ)
+    (left left' : Option (List ℕ)) → Ahead text rest (row ∷ rows) old left
     → ReadsLine left old count left' new → count ≡ 0 → ⊥
 line_left text rest row rows old new count left left' ahead line none =
     let first = first_line ahead.still row rows ahead.rows_are in
@@ -173,7 +187,8 @@ line_left text rest row rows old new count left left' ahead line none =
     absurd (omega (arith, long, line.counted, none, length-append first.own.line (10 ∷ [])))
 
 -- a line of a text within a limit is not past it
-pub line_fits : (text rest : List ℕ) (row : Row) (rows : List Row) (old : List ℕ) (left : Option (List ℕ)) (limit : ℕ) → Ahead text rest (row ∷ rows) old left
+pub line_fits : (text rest : List ℕ) (row : Row) (rows : List Row) (old : List ℕ)
+    (left : Option (List ℕ)) (limit : ℕ) → Ahead text rest (row ∷ rows) old left
     → IfSome left (λ all. limit < length old + length (take_through 10 all)) → length text ≤ limit → ⊥
 line_fits text rest row rows old left limit ahead over within =
     let first = first_line ahead.still row rows ahead.rows_are in
@@ -188,12 +203,14 @@ line_fits text rest row rows old left limit ahead over within =
 -- ---- several lines
 
 -- the line after the first i lines
-next_row : (i : ℕ) (front rows : List Row) → i < length front → (row : Row) × (drop i front ++ rows ≡ row ∷ (drop (i + 1) front ++ rows))
+next_row : (i : ℕ) (front rows : List Row) → i < length front → (row : Row)
+    × (drop i front ++ rows ≡ row ∷ (drop (i + 1) front ++ rows))
 next_row i [] rows lt = absurd (omega arith)
 next_row i (row ∷ front) rows lt = (get_or (row ∷ front) i row, ap (λ (all : List Row). all ++ rows) (drop_more (row ∷ front) i row lt))
 
 -- one more of several lines
-pub lines_on : (text rest : List ℕ) (front rows : List Row) (i : ℕ) (old new : List ℕ) (left left' : Option (List ℕ)) → i < length front
+pub lines_on : (text rest : List ℕ) (front rows : List Row) (i : ℕ) (old new : List ℕ)
+    (left left' : Option (List ℕ)) → i < length front
     → Ahead text rest (drop i front ++ rows) old left
     → ((row : Row) (others : List Row) → Ahead text rest (row ∷ others) old left → Ahead text rest others new left' × IsLine (drop (length old) new) row)
     → Ahead text rest (drop (i + 1) front ++ rows) new left'
@@ -202,14 +219,16 @@ lines_on text rest front rows i old new left left' lt ahead on =
     (on next.0 (drop (i + 1) front ++ rows) (subst (λ (all : List Row). Ahead text rest all old left) next.1 ahead)).0
 
 -- if one of several lines is still to be read, and no next line can be, nothing is
-pub lines_left : (text rest : List ℕ) (front rows : List Row) (i : ℕ) (old : List ℕ) (left : Option (List ℕ)) → i < length front
+pub lines_left : (text rest : List ℕ) (front rows : List Row) (i : ℕ) (old : List ℕ)
+    (left : Option (List ℕ)) → i < length front
     → Ahead text rest (drop i front ++ rows) old left → ((row : Row) (others : List Row) → Ahead text rest (row ∷ others) old left → ⊥) → ⊥
 lines_left text rest front rows i old left lt ahead never =
     let next = next_row i front rows lt in
     never next.0 (drop (i + 1) front ++ rows) (subst (λ (all : List Row). Ahead text rest all old left) next.1 ahead)
 
 -- after all of the lines
-pub lines_over : (text rest : List ℕ) (front rows : List Row) (i : ℕ) (now : List ℕ) (left : Option (List ℕ)) → length front ≤ i
+pub lines_over : (text rest : List ℕ) (front rows : List Row) (i : ℕ) (now : List ℕ)
+    (left : Option (List ℕ)) → length front ≤ i
     → Ahead text rest (drop i front ++ rows) now left → Ahead text rest rows now left
 lines_over text rest front rows i now left le ahead =
     subst (λ (all : List Row). Ahead text rest (all ++ rows) now left) (drop_all i front le) ahead

@@ -7,7 +7,8 @@ use Rattle.byte_streams.specs.Lines.{ReadsLine}
 use Rattle.meter_serving.specs.Heads.{Grows}
 
 -- one read followed by another
-pub grows_on : (a b c : List ℕ) (l m n : Option (List ℕ)) → Grows a l b m → Grows b m c n → Grows a l c n
+pub grows_on : (a b c : List ℕ) (l m n : Option (List ℕ)) → Grows a l b m → Grows b m c n
+    → Grows a l c n
 grows_on a b c l m n first then = record {
   bytes = first.bytes ++ then.bytes;
   read = Consumes-trans l m n first.bytes then.bytes first.read then.read;
@@ -19,5 +20,6 @@ pub grows_none : (a : List ℕ) (l : Option (List ℕ)) → Consumes l l [] → 
 grows_none a l none = record { bytes = []; read = none; added = sym (append-nil a) }
 
 -- a text grew by a line
-pub grows_by : (a b : List ℕ) (count : ℕ) (l m : Option (List ℕ)) → ReadsLine l a count m b → Grows a l b m
+pub grows_by : (a b : List ℕ) (count : ℕ) (l m : Option (List ℕ)) → ReadsLine l a count m b
+    → Grows a l b m
 grows_by a b count l m line = record { bytes = line.bytes; read = line.read; added = line.added }

@@ -48,7 +48,8 @@ same_word (x ∷ xs) (y ∷ ys) e =
 
 -- ---- what the line of the version determines
 
-behind_found : (label : Word) (row : Row) (x : Unit {0} × Row) → behind label row ≡ Ok x → row ≡ label ∷ x.1
+behind_found : (label : Word) (row : Row) (x : Unit {0} × Row) → behind label row ≡ Ok x → row
+    ≡ label ∷ x.1
 unfolding behind
 behind_found label [] x e = absurd cc
 behind_found label (word ∷ words) x e =
@@ -56,13 +57,15 @@ behind_found label (word ∷ words) x e =
     ap (λ (w : Word). w ∷ words) (same_word word label both.0) ∙ ap (λ (pair : Unit {0} × Row). label ∷ pair.1) (ok_is (tt, words) x both.1)
 
 -- the last word
-last_found : (words : Row) (version : Version) → last_as version_in words ≡ Ok version → (word : Word) × (words ≡ word ∷ []) × (version_in word ≡ Ok version)
+last_found : (words : Row) (version : Version) → last_as version_in words ≡ Ok version
+    → (word : Word) × (words ≡ word ∷ []) × (version_in word ≡ Ok version)
 last_found [] version e = absurd cc
 last_found (word ∷ []) version e = (word, refl, e)
 last_found (word ∷ other ∷ words) version e = absurd cc
 
 -- a line of the version has two words
-two_words : (label : Word) (row : Row) (version : Version) → labelled_value label version_in row ≡ Ok version → (word : Word) × (row ≡ label ∷ word ∷ []) × (version_in word ≡ Ok version)
+two_words : (label : Word) (row : Row) (version : Version) → labelled_value label version_in row
+    ≡ Ok version → (word : Word) × (row ≡ label ∷ word ∷ []) × (version_in word ≡ Ok version)
 two_words label row version e =
     let first = bind_ok (behind label row) _ version e in
     let last = last_found first.0.1 version first.2 in
@@ -88,7 +91,8 @@ below : (m limit : ℕ) → nat_le m limit ≡ true → limit < 2 ^ 64 → m < 2
 below m limit le small = grind (arith, nat_tests)
 
 -- a number is written by one word only
-number_word : (limit n : ℕ) (word : Word) → limit < 2 ^ 64 → number_of limit word ≡ Some n → word ≡ decimal n
+number_word : (limit n : ℕ) (word : Word) → limit < 2 ^ 64 → number_of limit word ≡ Some n
+    → word ≡ decimal n
 unfolding number_of
 number_word limit n word small e =
     let found = chosen_some (is_decimal word && nat_le (digits_value 10 word) limit) (digits_value 10 word) n e in
@@ -100,7 +104,8 @@ wanted_found : (o : Option ℕ) (n : ℕ) → or_wrong o ≡ Ok n → o ≡ Some
 wanted_found (Some m) n e = ap (λ (k : ℕ). Some k) (ok_is m n e)
 wanted_found None n e = absurd cc
 
-version_by : (n : ℕ) (version : Version) → (if n == 1 then Ok One else if n == 2 then Ok Two else Err Wrong) ≡ Ok version
+version_by : (n : ℕ) (version : Version) → (if n == 1 then Ok One else if n == 2 then Ok Two
+    else Err Wrong) ≡ Ok version
     → line_of (codes "RELAYTRACE" ∷ decimal n ∷ []) ++ 10 ∷ [] ≡ first_line version
 unfolding line_of
 version_by n version e = ⊎_elim
@@ -116,7 +121,8 @@ version_by n version e = ⊎_elim
     (chosen (n == 1) (Ok One) (if n == 2 then Ok Two else Err Wrong) (Ok version) e)
 
 -- the first line of a trace is one of two
-pub version_line : (bytes : List ℕ) (row : Row) (version : Version) → IsLine bytes row → version_from row ≡ Ok version → bytes ≡ first_line version
+pub version_line : (bytes : List ℕ) (row : Row) (version : Version) → IsLine bytes row
+    → version_from row ≡ Ok version → bytes ≡ first_line version
 version_line bytes row version line told =
     let two = two_words (codes "RELAYTRACE") row version told in
     let number = bind_ok (number_in 2 two.0) _ version two.2 in
@@ -135,17 +141,20 @@ abbrev pub behind_first : {text : List ℕ} → IsLaidOut text → List Row
 behind_first laid = laid.opening ++ from_count laid
 
 -- before the first read all lines are still to be read
-pub ahead_new : (text rest now : List ℕ) (left : Option (List ℕ)) (laid : IsLaidOut text) → now ≡ [] → left ≡ Some (text ++ rest)
+pub ahead_new : (text rest now : List ℕ) (left : Option (List ℕ)) (laid : IsLaidOut text) → now ≡ []
+    → left ≡ Some (text ++ rest)
     → Ahead text rest (laid.first ∷ behind_first laid) now left
 ahead_new text rest now left laid none is =
     record { still = text; whole = ap (λ (bytes : List ℕ). bytes ++ text) (sym none); left_is = is; rows_are = laid.rows; ended = laid.ended }
 
 -- the first line read is the whole text so far
-pub whole_line : (old new : List ℕ) (row : Row) → old ≡ [] → IsLine (drop (length old) new) row → IsLine new row
+pub whole_line : (old new : List ℕ) (row : Row) → old ≡ [] → IsLine (drop (length old) new) row
+    → IsLine new row
 whole_line old new row none line = subst (λ (o : List ℕ). IsLine (drop (length o) new) row) none line
 
 -- a line that is cut out of a text
-pub line_cut : (bytes old new : List ℕ) (start : ℕ) (row : Row) → bytes ≡ new → start ≡ length old → IsLine (drop (length old) new) row
+pub line_cut : (bytes old new : List ℕ) (start : ℕ) (row : Row) → bytes ≡ new → start ≡ length old
+    → IsLine (drop (length old) new) row
     → IsLine (take (length bytes - start) (drop start bytes)) row
 line_cut bytes old new start row same long line =
     let whole : take (length bytes - start) (drop start bytes) ≡ drop start bytes = take_all (length bytes - start) (drop start bytes) (omega (arith, length-drop start bytes)) in
@@ -153,17 +162,21 @@ line_cut bytes old new start row same long line =
     subst (λ (bs : List ℕ). IsLine bs row) (sym (whole ∙ cut)) line
 
 -- the fault of a call that is returned
-pub same_fault : {X : Type 0} (result : Result X Fault) (fault given : Fault) → IsErrAnd result (λ f. f ≡ fault) → result ≡ Err given → fault ≡ given
+pub same_fault : {X : Type 0} (result : Result X Fault) (fault given : Fault)
+    → IsErrAnd result (λ f. f ≡ fault) → result ≡ Err given → fault ≡ given
 same_fault (Ok x) fault given is e = absurd is
 same_fault (Err f) fault given is e = let same : f ≡ given = cc in sym is ∙ same
 
 -- why no trace is read if the fault of a call is returned
-pub fault_on : {X : Type 0} (result : Result X Fault) (fault : Fault) (failed : Bool) → IsErrAnd result (λ f. f ≡ fault) → IsHeadFault failed fault → IfErr result (IsHeadFault failed)
+pub fault_on : {X : Type 0} (result : Result X Fault) (fault : Fault) (failed : Bool)
+    → IsErrAnd result (λ f. f ≡ fault) → IsHeadFault failed fault
+    → IfErr result (IsHeadFault failed)
 fault_on (Ok x) fault failed is cause = absurd is
 fault_on (Err f) fault failed is cause = subst (IsHeadFault failed) (sym is) cause
 
 -- after the last line the whole text has been read
-pub ahead_end : (text rest so_far : List ℕ) (left : Option (List ℕ)) → Ahead text rest [] so_far left → so_far ≡ text
+pub ahead_end : (text rest so_far : List ℕ) (left : Option (List ℕ))
+    → Ahead text rest [] so_far left → so_far ≡ text
 ahead_end text rest so_far left ahead =
     let none : [] ++ [] ≡ ahead.still =
     ap (λ (bytes : List ℕ). bytes ++ []) (sym rows_text-nil) ∙ ap (λ (rows : List Row). rows_text rows ++ []) (sym ahead.rows_are)
@@ -179,13 +192,15 @@ small_text text trace e = ⊎_elim
     (chosen (nat_lt most_bytes (length text)) (Err TooLong) (trace_from (place_of text)) (Ok trace) e)
 
 -- an input that does not begin with the lines of a trace has no trace at its head
-pub no_head : (left : Option (List ℕ)) → ((text rest : List ℕ) → left ≡ Some (text ++ rest) → length text ≤ most_bytes → IsLaidOut text → ⊥) → IfSome left (λ bytes. ¬ (HasHead bytes))
+pub no_head : (left : Option (List ℕ)) → ((text rest : List ℕ) → left ≡ Some (text ++ rest)
+    → length text ≤ most_bytes → IsLaidOut text → ⊥) → IfSome left (λ bytes. ¬ (HasHead bytes))
 no_head None never = tt
 no_head (Some bytes) never = λ head.
     never head.text head.rest (ap (λ (b : List ℕ). Some b) head.cut) (small_text head.text head.trace head.told) (laid_out head.text head.trace head.told)
 
 -- nor has an input whose first lines are not a trace
-pub wrong_head : (left : Option (List ℕ)) (read : List ℕ) (fault : TraceFault) → ((text rest : List ℕ) → left ≡ Some (text ++ rest) → IsLaidOut text → read ≡ text)
+pub wrong_head : (left : Option (List ℕ)) (read : List ℕ) (fault : TraceFault)
+    → ((text rest : List ℕ) → left ≡ Some (text ++ rest) → IsLaidOut text → read ≡ text)
     → Fails Memory fault (trace_of read) → (fault ≡ Memory → ⊥) → IfSome left (λ bytes. ¬ (HasHead bytes))
 wrong_head None read fault is fails other = tt
 wrong_head (Some bytes) read fault is (inl memory) other = absurd (other memory)
@@ -195,7 +210,8 @@ wrong_head (Some bytes) read fault is (inr e) other = λ head.
     absurd cc
 
 -- the fault `Input` does not mean out of memory
-pub not_memory : {X : Type 0} (fault : TraceFault) (told : Fault) → told ≡ head_fault fault → failed X told ≡ failed X Input → fault ≡ Memory → ⊥
+pub not_memory : {X : Type 0} (fault : TraceFault) (told : Fault) → told ≡ head_fault fault
+    → failed X told ≡ failed X Input → fault ≡ Memory → ⊥
 not_memory fault told is e memory =
     let input : told ≡ Input = cc in
     let other : head_fault fault ≡ program.Memory = ap head_fault memory in

@@ -31,7 +31,8 @@ record Opened (p : Place) (version : Version) (q : Place) : Type 0 where
   rows : p.rows ≡ first ∷ (opening ++ q.rows)
   unended : q.unended ≡ p.unended
 
-opening_laid : (p : Place) (version : Version) (opening : Opening) (q : Place) → opening_from p ≡ Ok ((version, opening), q) → Opened p version q
+opening_laid : (p : Place) (version : Version) (opening : Opening) (q : Place) → opening_from p
+    ≡ Ok ((version, opening), q) → Opened p version q
 unfolding opening_from
 opening_laid p version opening q e =
     let b = bind_ok (line_as version_from p) _ ((version, opening), q) e in
@@ -49,7 +50,8 @@ opening_laid p version opening q e =
       unended = sym (ap (λ (place : Place). place.unended) place_is) ∙ behind.took.unended ∙ line.took.unended;
     }
 
-events_takes : (version : Version) (count : ℕ) (place : Place) → Takes count place (events_at version count place)
+events_takes : (version : Version) (count : ℕ) (place : Place)
+    → Takes count place (events_at version count place)
 unfolding events_at
 events_takes version zero place = takes_none _ _
 events_takes version (suc count) place = counted (takes_then 1 count _ _ _ (takes_line _ place) (λ event.
@@ -58,20 +60,24 @@ events_takes version (suc count) place = counted (takes_then 1 count _ _ _ (take
     counted : {X : Type 0} {r : ReadLines X} → Takes (1 + count) place r → Takes (suc count) place r
     counted takes x q e = let t = takes x q e in record { rows = t.rows; long = omega (arith, t.long); took = t.took }
 
-    counted_none : {X : Type 0} {r : ReadLines X} {p : Place} → Takes (count + 0) p r → Takes count p r
+    counted_none : {X : Type 0} {r : ReadLines X} {p : Place} → Takes (count + 0) p r
+        → Takes count p r
     counted_none takes x q e = let t = takes x q e in record { rows = t.rows; long = omega (arith, t.long); took = t.took }
 
 -- nothing is left after the last line
-nothing_is_left : {X : Type 0} (number : ℕ) (rows : List Row) (unended : List ℕ) (x y : X) → value_at_end number rows unended x ≡ Ok y → (rows ≡ []) × (unended ≡ [])
+nothing_is_left : {X : Type 0} (number : ℕ) (rows : List Row) (unended : List ℕ) (x y : X)
+    → value_at_end number rows unended x ≡ Ok y → (rows ≡ []) × (unended ≡ [])
 nothing_is_left number [] [] x y e = (refl, refl)
 nothing_is_left number [] (byte ∷ bytes) x y e = absurd cc
 nothing_is_left number (row ∷ rows) unended x y e = absurd cc
 
-end_found : {X : Type 0} (p : Place) (x y : X) → ended_at p x ≡ Ok y → (p.rows ≡ []) × (p.unended ≡ [])
+end_found : {X : Type 0} (p : Place) (x y : X) → ended_at p x ≡ Ok y → (p.rows ≡ [])
+    × (p.unended ≡ [])
 unfolding ended_at
 end_found p x y e = nothing_is_left p.number p.rows p.unended x y e
 
-trace_laid : (text : List ℕ) (trace : Trace) → trace_from (place_of text) ≡ Ok trace → IsLaidOut text
+trace_laid : (text : List ℕ) (trace : Trace) → trace_from (place_of text) ≡ Ok trace
+    → IsLaidOut text
 unfolding trace_from
 trace_laid text trace e =
     let a = bind_ok (opening_from (place_of text)) _ trace e in

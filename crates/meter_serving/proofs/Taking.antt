@@ -14,7 +14,8 @@ abbrev pub Took : RelayCore → RelayCore → List Event → Type 0
 Took old new events = (w : World) → StandsFor old w → StandsFor new (world_after events w)
 
 -- the core applied one more event
-pub took_more : (old now next : RelayCore) (events : List Event) (i : ℕ) (event : Event) → i < length events → event ≡ get_or events i event
+pub took_more : (old now next : RelayCore) (events : List Event) (i : ℕ) (event : Event)
+    → i < length events → event ≡ get_or events i event
     → Took old now (take i events) → ((w : World) → StandsFor now w → StandsFor next (at_event event w).world) → Took old next (take (i + 1) events)
 took_more old now next events i event below is took goes = λ w stands.
     let all : take (i + 1) events ≡ take i events ++ event ∷ [] = take_more events i event below ∙ ap (λ e. take i events ++ e ∷ []) (sym is) in

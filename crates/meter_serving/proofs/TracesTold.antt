@@ -19,14 +19,16 @@ pub record IsExport (r : Recording) (trace : Trace) : Type 0 where
   pub few : length trace.events ≤ 1024
   pub replays : Replays r (world_of_opening trace.opening)
 
-fits_text : (r : Recording) (trace : Trace) → IsExport r trace → All FitsLine r.events → FitsText trace
+fits_text : (r : Recording) (trace : Trace) → IsExport r trace → All FitsLine r.events
+    → FitsText trace
 fits_text r trace is fit = record {
   fit = is.fit;
   events = subst (λ (events : List Event). All FitsLine events) (sym is.events) fit;
   few = omega (arith, is.few);
 }
 
-tells : (r : Recording) (trace : Trace) (text : List ℕ) → IsExport r trace → PrintsTheEnd r trace → text ≡ trace_text trace
+tells : (r : Recording) (trace : Trace) (text : List ℕ) → IsExport r trace → PrintsTheEnd r trace
+    → text ≡ trace_text trace
     → (FitsText trace → length text ≤ most_bytes → trace_of text ≡ Ok trace) → (FitsText trace → length trace.events ≤ 1024 → length text ≤ most_bytes) → TellsRun r text
 tells r trace text is prints written again short = record {
   trace = trace;
@@ -37,7 +39,8 @@ tells r trace text is prints written again short = record {
   again = λ fit. let fits = fits_text r trace is fit in again fits (short fits is.few);
 }
 
-pub tells_run : {E : Type 0} (r exported : Recording) (trace : Trace) (result : Result (List ℕ) E) → exported ≡ r → IsExport exported trace
+pub tells_run : {E : Type 0} (r exported : Recording) (trace : Trace) (result : Result (List ℕ) E)
+    → exported ≡ r → IsExport exported trace
     → ((s : Recording) (t : Trace) → t.events ≡ s.events → Replays s (world_of_opening t.opening) → PrintsTheEnd s t)
     → IfOk result (λ text. text ≡ trace_text trace) → IfOk result (λ text. FitsText trace → length text ≤ most_bytes → trace_of text ≡ Ok trace)
     → IfOk result (λ text. FitsText trace → length trace.events ≤ 1024 → length text ≤ most_bytes) → IfOk result (TellsRun r)

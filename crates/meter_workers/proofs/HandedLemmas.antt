@@ -8,7 +8,8 @@ use Rattle.turn_lock.specs.History.{calls_by, entry}
 use Rattle.meter_workers.specs.Handed.{MeterPort, own_events}
 
 -- a call that returned a reply adds its event
-pub handed_more : (p q : MeterPort) (event : Event) (reply : Reply) → q.known.number ≡ p.known.number
+pub handed_more : (p q : MeterPort) (event : Event) (reply : Reply) → q.known.number
+    ≡ p.known.number
     → calls_by p.known.number q.known.seen ≡ calls_by p.known.number p.known.seen ++ entry p.known.number event reply ∷ []
     → own_events q ≡ own_events p ++ event ∷ []
 handed_more p q event reply number own =

@@ -42,7 +42,8 @@ pub of_rows : (P : World → Type 0) (v w : World) → Agree v w
 of_rows P v w agree all = subst P (sym agree.same) (all w.import.rows w.export.rows agree.import agree.export)
 
 -- a world agrees with itself with other rows that are counted alike
-pub rows_agree : (v : World) (rows others : List Row) → AreCountedAlike v.import.rows rows → AreCountedAlike v.export.rows others
+pub rows_agree : (v : World) (rows others : List Row) → AreCountedAlike v.import.rows rows
+    → AreCountedAlike v.export.rows others
     → Agree v (with_rows rows others v)
 rows_agree v rows others i e = record { same = refl; import = i; export = e }
 
@@ -53,7 +54,8 @@ entries_alike xs ys = record {
   under = count_of_entry UnderThreshold xs ∙ sym (count_of_entry UnderThreshold ys);
 }
 
-noted_alike : (before : Control) (v : World) (rows others : List Row) → AreCountedAlike v.import.rows rows
+noted_alike : (before : Control) (v : World) (rows others : List Row)
+    → AreCountedAlike v.import.rows rows
     → AreCountedAlike v.export.rows others → Agree (with_entries_since before v) (with_entries_since before (with_rows rows others v))
 unfolding with_entries_since
 noted_alike before v rows others i e =
@@ -76,7 +78,8 @@ noted_in_range before v range =
     ] in
     cases (enters before v.control)
 
-pub trigger_alike : (trigger : Trigger) (v w : World) → IsWorld v → Agree v w → Alike (at_trigger trigger v) (at_trigger trigger w)
+pub trigger_alike : (trigger : Trigger) (v w : World) → IsWorld v → Agree v w
+    → Alike (at_trigger trigger v) (at_trigger trigger w)
 unfolding at_trigger
 trigger_alike trigger v w range agree = of_rows (λ w. Alike (at_trigger trigger v) (at_trigger trigger w)) v w agree
     (λ rows others i e.
@@ -88,7 +91,8 @@ trigger_alike trigger v w range agree = of_rows (λ w. Alike (at_trigger trigger
       range = noted_in_range v.control pulled pulled_range;
     })
 
-pub mode_alike : (mode : ControlMode) (v w : World) → IsWorld v → Agree v w → Alike (at_mode mode v) (at_mode mode w)
+pub mode_alike : (mode : ControlMode) (v w : World) → IsWorld v → Agree v w
+    → Alike (at_mode mode v) (at_mode mode w)
 unfolding at_mode
 mode_alike mode v w range agree = of_rows (λ w. Alike (at_mode mode v) (at_mode mode w)) v w agree
     (λ rows others i e. record {
@@ -97,7 +101,8 @@ mode_alike mode v w range agree = of_rows (λ w. Alike (at_mode mode v) (at_mode
       range = record { import = range.import; export = range.export; scripts = range.scripts };
     })
 
-setting_in_range : (one : Setting) (settings : Settings) → IsSettingInRange one → AreInRange settings → AreInRange (with_setting one settings)
+setting_in_range : (one : Setting) (settings : Settings) → IsSettingInRange one
+    → AreInRange settings → AreInRange (with_setting one settings)
 setting_in_range (setting.ThresholdNormal watts) settings one range = record { over = range.over; under = range.under }
 setting_in_range (setting.ThresholdEmergency watts) settings one range = record { over = range.over; under = range.under }
 setting_in_range (setting.MinOverThresholdDuration seconds) settings one range = record { over = one; under = range.under }
@@ -105,7 +110,8 @@ setting_in_range (setting.MinUnderThresholdDuration seconds) settings one range 
 setting_in_range (setting.Profile profile) settings one range = record { over = range.over; under = range.under }
 setting_in_range (setting.Actions actions) settings one range = record { over = range.over; under = range.under }
 
-pub setting_alike : (which : Which) (one : Setting) (v w : World) → IsSettingInRange one → IsWorld v → Agree v w
+pub setting_alike : (which : Which) (one : Setting) (v w : World) → IsSettingInRange one → IsWorld v
+    → Agree v w
     → Alike (at_setting which one v) (at_setting which one w)
 unfolding at_setting
 setting_alike Import one v w small range agree = of_rows (λ w. Alike (at_setting Import one v) (at_setting Import one w)) v w agree
@@ -121,7 +127,8 @@ setting_alike Export one v w small range agree = of_rows (λ w. Alike (at_settin
       range = record { import = range.import; export = setting_in_range one v.export.settings small range.export; scripts = range.scripts };
     })
 
-pub step_alike : (origin : Origin) (one : Step) (v w : World) → IsStepInRange one → IsWorld v → Agree v w
+pub step_alike : (origin : Origin) (one : Step) (v w : World) → IsStepInRange one
+    → IsWorld v → Agree v w
     → Alike (at_step origin one v) (at_step origin one w)
 unfolding at_step
 step_alike origin (step.WriteMode mode) v w small range agree = mode_alike mode v w range agree
@@ -134,12 +141,14 @@ step_alike origin step.Disconnect v w small range agree = trigger_alike _ v w ra
 step_alike origin step.Reconnect v w small range agree = trigger_alike _ v w range agree
 
 -- if two tests are equal and the choices are alike, what the tests choose is alike
-pub either_alike : (p q : Bool) (a b c d : Outcome) → p ≡ q → Alike a b → Alike c d → Alike (if p then a else c) (if q then b else d)
+pub either_alike : (p q : Bool) (a b c d : Outcome) → p ≡ q → Alike a b → Alike c d
+    → Alike (if p then a else c) (if q then b else d)
 either_alike p q a b c d is first second =
     let cases : (p : Bool) → Alike (if p then a else c) (if p then b else d) = λ p. elim p as (λ p. Alike (if p then a else c) (if p then b else d)) [ true ↦ first | false ↦ second ] in
     subst (λ (q : Bool). Alike (if p then a else c) (if q then b else d)) is (cases p)
 
-pub script_alike : (origin : Origin) (steps : List Step) (v w : World) → AreStepsInRange steps → IsWorld v → Agree v w
+pub script_alike : (origin : Origin) (steps : List Step) (v w : World) → AreStepsInRange steps
+    → IsWorld v → Agree v w
     → Alike (at_script origin steps v) (at_script origin steps w)
 unfolding at_script
 script_alike origin [] v w small range agree = record { code = refl; world = agree; range = range }
@@ -160,7 +169,8 @@ found_in_range selector (script ∷ scripts) range =
     ] in
     cases (script.identifier == selector)
 
-pub steps_in_range : (selector : ℕ) (scripts : List Script) → AreScriptsInRange scripts → IfSome (steps_at selector scripts) AreStepsInRange
+pub steps_in_range : (selector : ℕ) (scripts : List Script) → AreScriptsInRange scripts
+    → IfSome (steps_at selector scripts) AreStepsInRange
 unfolding steps_at
 steps_in_range selector scripts range =
     let found : (o : Option Script) → IfSome o (λ script. AreStepsInRange script.steps) → IfSome (option_map (λ script. script.steps) o) AreStepsInRange =
@@ -176,7 +186,8 @@ steps_in_range selector scripts range =
     ] in
     cases (selector == 0)
 
-pub running_in_range : (selector : ℕ) (scripts : List Script) → AreScriptsInRange scripts → AreStepsInRange (running_steps selector scripts)
+pub running_in_range : (selector : ℕ) (scripts : List Script) → AreScriptsInRange scripts
+    → AreStepsInRange (running_steps selector scripts)
 running_in_range selector scripts range =
     let of_some : (o : Option (List Step)) → IfSome o AreStepsInRange → AreStepsInRange (unwrap_or o []) =
     λ o. elim o as (λ o. IfSome o AreStepsInRange → AreStepsInRange (unwrap_or o [])) [ None ↦ λ none. tt | Some steps ↦ λ some. some ] in
@@ -187,7 +198,8 @@ need_counted : (seconds : ℕ) → seconds < 4294967296 → need_of seconds ≤ 
 need_counted seconds small = grind (arith, small)
 
 -- one more sample keeps rows counted alike
-rows_alike : (settings : Settings) (now : Option ℕ) (value : ℕ) (xs ys : List Row) → AreInRange settings → AreCountedAlike xs ys
+rows_alike : (settings : Settings) (now : Option ℕ) (value : ℕ) (xs ys : List Row)
+    → AreInRange settings → AreCountedAlike xs ys
     → AreCountedAlike (row_of (limits_at settings now) value ∷ xs) (row_of (limits_at settings now) value ∷ ys)
 rows_alike settings now value xs ys range alike =
     let row = row_of (limits_at settings now) value in
@@ -200,7 +212,8 @@ rows_alike settings now value xs ys range alike =
           ∙ sym (row_counted UnderThreshold row ys (λ _. need_counted settings.min_under_threshold_duration range.under));
     }
 
-fires_alike : (settings : Settings) (now : Option ℕ) (value : ℕ) (xs ys : List Row) → AreInRange settings → AreCountedAlike xs ys
+fires_alike : (settings : Settings) (now : Option ℕ) (value : ℕ) (xs ys : List Row)
+    → AreInRange settings → AreCountedAlike xs ys
     → fire_of (row_of (limits_at settings now) value ∷ xs) ≡ fire_of (row_of (limits_at settings now) value ∷ ys)
 fires_alike settings now value xs ys range alike =
     let row = row_of (limits_at settings now) value in
@@ -228,7 +241,8 @@ selected_alike selector v w range agree =
     AreAlike (at_script Local (running_steps selector v.scripts) v).world (at_script Local (running_steps selector scripts) w).world in
     subst P (sym (same_scripts v w agree)) (record { world = after.world; range = after.range })
 
-fire_alike : (fire : Fire) (actions : Actions) (v w : World) → IsWorld v → Agree v w → AreAlike (after_fire fire actions v) (after_fire fire actions w)
+fire_alike : (fire : Fire) (actions : Actions) (v w : World) → IsWorld v → Agree v w
+    → AreAlike (after_fire fire actions v) (after_fire fire actions w)
 unfolding after_fire
 fire_alike Quiet actions v w range agree = record { world = agree; range = range }
 fire_alike Over actions v w range agree = selected_alike actions.over v w range agree
@@ -239,7 +253,8 @@ pub record AreMeasuredAlike (x : Measurement) (v w : World) : Type 0 where
   pub fire : fire_at x v ≡ fire_at x w
   pub after : AreAlike (after_sample x v) (after_sample x w)
 
-sample_of_alike : (which : Which) (value : ℕ) (v : World) (rows others : List Row) → IsWorld v → AreCountedAlike v.import.rows rows
+sample_of_alike : (which : Which) (value : ℕ) (v : World) (rows others : List Row) → IsWorld v
+    → AreCountedAlike v.import.rows rows
     → AreCountedAlike v.export.rows others → AreMeasuredAlike (record { which = which; value = value }) v (with_rows rows others v)
 unfolding fire_at after_sample
 sample_of_alike Import value v rows others range i e =
@@ -276,7 +291,8 @@ pub record AreMetersAlike (a b : Metering) : Type 0 where
   pub firings : a.firings ≡ b.firings
   pub worlds : AreAlike a.world b.world
 
-pub samples_alike : (xs : List Measurement) (a b : Metering) → AreMetersAlike a b → AreMetersAlike (after_samples xs a) (after_samples xs b)
+pub samples_alike : (xs : List Measurement) (a b : Metering) → AreMetersAlike a b
+    → AreMetersAlike (after_samples xs a) (after_samples xs b)
 unfolding after_samples metering_after
 samples_alike [] a b alike = alike
 samples_alike (x ∷ xs) a b alike =

@@ -62,11 +62,13 @@ use Rattle.script_steps.specs.Reading.{table_of}
 use Rattle.script_steps.specs.Table.{steps_at, running_steps}
 
 -- a call that changes nothing, in agreeing worlds
-refused_alike : (code : ResultCode) (v w : World) → IsWorld v → Agree v w → Alike (outcome_of_refusal code v) (outcome_of_refusal code w)
+refused_alike : (code : ResultCode) (v w : World) → IsWorld v → Agree v w
+    → Alike (outcome_of_refusal code v) (outcome_of_refusal code w)
 refused_alike code v w range agree = record { code = refl; world = agree; range = range }
 
 -- reads of agreeing worlds give equal results
-own_value_alike : (level : Level) (instance : Instance) (number : ℕ) (v : World) (rows others : List Row)
+own_value_alike : (level : Level) (instance : Instance) (number : ℕ) (v : World)
+    (rows others : List Row)
     → own_value_in level instance number v ≡ own_value_in level instance number (with_rows rows others v)
 own_value_alike level Association number v rows others = refl
 own_value_alike level DeviceName number v rows others = refl
@@ -78,7 +80,8 @@ own_value_alike level DisconnectControl number v rows others = refl
 own_value_alike level (Limiter Import) number v rows others = refl
 own_value_alike level (Limiter Export) number v rows others = refl
 
-read_alike : (level : Level) (target : Result Instance ResultCode) (attr : AttrRef) (v : World) (rows others : List Row)
+read_alike : (level : Level) (target : Result Instance ResultCode) (attr : AttrRef) (v : World)
+    (rows others : List Row)
     → read_at level target attr v ≡ read_at level target attr (with_rows rows others v)
 unfolding value_in
 read_alike level (Err refusal) attr v rows others = refl
@@ -92,7 +95,8 @@ unfolding get_result
 get_alike level attr selected v w agree = of_rows (λ w. get_result level attr selected v ≡ get_result level attr selected w) v w agree
     (λ rows others i e. read_alike level (target_of attr.name attr.class (rights_of level attr).read selected) attr v rows others)
 
-gets_alike : (level : Level) (items : List AttributeSelection) (v w : World) → Agree v w → get_results level items v ≡ get_results level items w
+gets_alike : (level : Level) (items : List AttributeSelection) (v w : World) → Agree v w
+    → get_results level items v ≡ get_results level items w
 gets_alike level [] v w agree = refl
 gets_alike level (item ∷ items) v w agree =
     ap (λ (one : GetResult). one ∷ get_results level items v) (get_alike level item.attr item.selected v w agree)
@@ -121,27 +125,32 @@ groups_alike Export ids v w range agree = of_rows (λ w. Alike (at_list (written
       range = record { import = range.import; export = record { over = range.export.over; under = range.export.under }; scripts = range.scripts };
     })
 
-group_ids_alike : (which : Which) (read : Result (List ℕ) WriteFault) (v w : World) → IsWorld v → Agree v w
+group_ids_alike : (which : Which) (read : Result (List ℕ) WriteFault) (v w : World)
+    → IsWorld v → Agree v w
     → Alike (at_list (written.Groups which) (groups_part read) v) (at_list (written.Groups which) (groups_part read) w)
 group_ids_alike which (Err fault) v w range agree = refused_alike _ v w range agree
 group_ids_alike which (Ok ids) v w range agree = groups_alike which ids v w range agree
 
-limiter_alike : (which : Which) (found : Option LimiterAttribute) (value : Data) (v w : World) → IsWorld v → Agree v w
+limiter_alike : (which : Which) (found : Option LimiterAttribute) (value : Data) (v w : World)
+    → IsWorld v → Agree v w
     → Alike (at_limiter which found value v) (at_limiter which found value w)
 limiter_alike which None value v w range agree = refused_alike _ v w range agree
 limiter_alike which (Some attribute) value v w range agree = setting_form_alike which _ v w ((value_in_range value).setting attribute) range agree
 
-mode_form_alike : (read : Result ControlMode WriteFault) (v w : World) → IsWorld v → Agree v w → Alike (at_mode_form read v) (at_mode_form read w)
+mode_form_alike : (read : Result ControlMode WriteFault) (v w : World) → IsWorld v → Agree v w
+    → Alike (at_mode_form read v) (at_mode_form read w)
 mode_form_alike (Err fault) v w range agree = refused_alike _ v w range agree
 mode_form_alike (Ok mode) v w range agree = mode_alike mode v w range agree
 
-control_alike : (found : Option ControlAttribute) (value : Data) (v w : World) → IsWorld v → Agree v w → Alike (at_control found value v) (at_control found value w)
+control_alike : (found : Option ControlAttribute) (value : Data) (v w : World) → IsWorld v
+    → Agree v w → Alike (at_control found value v) (at_control found value w)
 control_alike None value v w range agree = refused_alike _ v w range agree
 control_alike (Some control.OutputState) value v w range agree = refused_alike _ v w range agree
 control_alike (Some control.ControlState) value v w range agree = refused_alike _ v w range agree
 control_alike (Some control.ControlMode) value v w range agree = mode_form_alike (mode_form value) v w range agree
 
-plain_alike : (instance : Instance) (number : ℕ) (value : Data) (v w : World) → IsWorld v → Agree v w
+plain_alike : (instance : Instance) (number : ℕ) (value : Data) (v w : World)
+    → IsWorld v → Agree v w
     → Alike (at_plain instance number value v) (at_plain instance number value w)
 unfolding at_schedule
 plain_alike Association number value v w range agree = refused_alike _ v w range agree
@@ -159,7 +168,8 @@ plain_alike (Schedule which) number value v w range agree =
 plain_alike DisconnectControl number value v w range agree = control_alike (control_attribute number) value v w range agree
 plain_alike (Limiter which) number value v w range agree = limiter_alike which (attribute_numbered number) value v w range agree
 
-scripts_alike : (read : Result (List Script) WriteFault) (v w : World) → IfOk read AreScriptsInRange → IsWorld v → Agree v w
+scripts_alike : (read : Result (List Script) WriteFault) (v w : World) → IfOk read AreScriptsInRange
+    → IsWorld v → Agree v w
     → Alike (at_list written.Scripts (scripts_part read) v) (at_list written.Scripts (scripts_part read) w)
 scripts_alike (Err fault) v w small range agree = refused_alike _ v w range agree
 scripts_alike (Ok scripts) v w small range agree =
@@ -171,7 +181,8 @@ scripts_alike (Ok scripts) v w small range agree =
       range = record { import = range.import; export = range.export; scripts = small };
     })
 
-entries_alike : (which : ScheduleNumber) (read : Result (List EntryPattern) WriteFault) (v w : World) → IsWorld v → Agree v w
+entries_alike : (which : ScheduleNumber) (read : Result (List EntryPattern) WriteFault)
+    (v w : World) → IsWorld v → Agree v w
     → Alike (at_list (written.Entries which) (entries_part read) v) (at_list (written.Entries which) (entries_part read) w)
 entries_alike which (Err fault) v w range agree = refused_alike _ v w range agree
 entries_alike which (Ok entries) v w range agree =
@@ -189,38 +200,45 @@ list_alike written.Scripts value v w range agree = scripts_alike (table_of value
 list_alike (written.Entries which) value v w range agree = entries_alike which (entries_of value) v w range agree
 list_alike (written.Groups which) value v w range agree = group_ids_alike which (groups_of value) v w range agree
 
-attribute_alike : (list : Option WrittenList) (instance : Instance) (number : ℕ) (value : Data) (v w : World) → IsWorld v → Agree v w
+attribute_alike : (list : Option WrittenList) (instance : Instance) (number : ℕ) (value : Data)
+    (v w : World) → IsWorld v → Agree v w
     → Alike (at_attribute list instance number value v) (at_attribute list instance number value w)
 attribute_alike None instance number value v w range agree = plain_alike instance number value v w range agree
 attribute_alike (Some list) instance number value v w range agree = list_alike list value v w range agree
 
-write_alike : (instance : Instance) (number : ℕ) (value : Data) (v w : World) → IsWorld v → Agree v w
+write_alike : (instance : Instance) (number : ℕ) (value : Data) (v w : World)
+    → IsWorld v → Agree v w
     → Alike (at_write instance number value v) (at_write instance number value w)
 unfolding at_write
 write_alike instance number value v w range agree = attribute_alike (list_numbered instance number) instance number value v w range agree
 
-write_at_alike : (target : Result Instance ResultCode) (number : ℕ) (value : Data) (v w : World) → IsWorld v → Agree v w
+write_at_alike : (target : Result Instance ResultCode) (number : ℕ) (value : Data) (v w : World)
+    → IsWorld v → Agree v w
     → Alike (write_at target number value v) (write_at target number value w)
 write_at_alike (Err refusal) number value v w range agree = refused_alike _ v w range agree
 write_at_alike (Ok instance) number value v w range agree = write_alike instance number value v w range agree
 
 -- methods executed in agreeing worlds
-pulled_alike : (found : Option Trigger) (v w : World) → IsWorld v → Agree v w → Alike (at_optional_trigger found v) (at_optional_trigger found w)
+pulled_alike : (found : Option Trigger) (v w : World) → IsWorld v → Agree v w
+    → Alike (at_optional_trigger found v) (at_optional_trigger found w)
 pulled_alike None v w range agree = refused_alike _ v w range agree
 pulled_alike (Some trigger) v w range agree = trigger_alike trigger v w range agree
 
-found_alike : (found : Option (List Step)) (v w : World) → IfSome found AreStepsInRange → IsWorld v → Agree v w → Alike (at_optional_script found v) (at_optional_script found w)
+found_alike : (found : Option (List Step)) (v w : World) → IfSome found AreStepsInRange → IsWorld v
+    → Agree v w → Alike (at_optional_script found v) (at_optional_script found w)
 found_alike None v w small range agree = refused_alike _ v w range agree
 found_alike (Some steps) v w small range agree = script_alike Remote steps v w small range agree
 
-selected_alike : (selector : Option ℕ) (v w : World) → IsWorld v → Agree v w → Alike (at_optional_selector selector v) (at_optional_selector selector w)
+selected_alike : (selector : Option ℕ) (v w : World) → IsWorld v → Agree v w
+    → Alike (at_optional_selector selector v) (at_optional_selector selector w)
 selected_alike None v w range agree = refused_alike _ v w range agree
 selected_alike (Some selector) v w range agree =
     let P : List Script → Type 0 = λ scripts. Alike (at_optional_script (steps_at selector v.scripts) v) (at_optional_script (steps_at selector scripts) w) in
     let scripts : w.scripts ≡ v.scripts = ap (λ (u : World). u.scripts) agree.same in
     subst P (sym scripts) (found_alike (steps_at selector v.scripts) v w (steps_in_range selector v.scripts range.scripts) range agree)
 
-method_alike : (instance : Instance) (number : ℕ) (parameter : Option Data) (v w : World) → IsWorld v → Agree v w
+method_alike : (instance : Instance) (number : ℕ) (parameter : Option Data) (v w : World)
+    → IsWorld v → Agree v w
     → Alike (at_method instance number parameter v) (at_method instance number parameter w)
 unfolding at_method at_execution
 method_alike Association number parameter v w range agree = refused_alike _ v w range agree
@@ -232,7 +250,8 @@ method_alike (Schedule which) number parameter v w range agree = refused_alike _
 method_alike DisconnectControl number parameter v w range agree = pulled_alike (switch_trigger number) v w range agree
 method_alike (Limiter which) number parameter v w range agree = refused_alike _ v w range agree
 
-execute_at_alike : (target : Result Instance ResultCode) (number : ℕ) (parameter : Option Data) (v w : World) → IsWorld v → Agree v w
+execute_at_alike : (target : Result Instance ResultCode) (number : ℕ) (parameter : Option Data)
+    (v w : World) → IsWorld v → Agree v w
     → Alike (execute_at target number parameter v) (execute_at target number parameter w)
 execute_at_alike (Err refusal) number parameter v w range agree = refused_alike _ v w range agree
 execute_at_alike (Ok instance) number parameter v w range agree = method_alike instance number parameter v w range agree
@@ -266,26 +285,30 @@ schedule_alike last now schedule v w range agree =
     ] in
     cases (is_due schedule last now)
 
-schedules_alike : (last now : ℕ) (schedules : List ScheduleState) (v w : World) → IsWorld v → Agree v w
+schedules_alike : (last now : ℕ) (schedules : List ScheduleState) (v w : World)
+    → IsWorld v → Agree v w
     → AreAlike (after_schedules last now schedules v) (after_schedules last now schedules w)
 schedules_alike last now [] v w range agree = record { world = agree; range = range }
 schedules_alike last now (schedule ∷ schedules) v w range agree =
     let one = schedule_alike last now schedule v w range agree in
     schedules_alike last now schedules (after_schedule last now schedule v) (after_schedule last now schedule w) one.range one.world
 
-clock_alike : (now : ℕ) (v w : World) → IsWorld v → Agree v w → AreAlike (with_moment now v) (with_moment now w)
+clock_alike : (now : ℕ) (v w : World) → IsWorld v → Agree v w
+    → AreAlike (with_moment now v) (with_moment now w)
 clock_alike now v w range agree = record {
   world = record { same = ap (with_moment now) agree.same; import = agree.import; export = agree.export };
   range = record { import = range.import; export = range.export; scripts = range.scripts };
 }
 
-ran_alike : (last now : ℕ) (v w : World) → IsWorld v → Agree v w → GoAlike (clock_step last now v) (clock_step last now w)
+ran_alike : (last now : ℕ) (v w : World) → IsWorld v → Agree v w
+    → GoAlike (clock_step last now v) (clock_step last now w)
 ran_alike last now v w range agree = of_rows (λ w. GoAlike (clock_step last now v) (clock_step last now w)) v w agree
     (λ rows others i e.
     let after = schedules_alike last now (all_schedules v.schedules) v (with_rows rows others v) range (record { same = refl; import = i; export = e }) in
     record { reply = refl; world = after.world; range = after.range })
 
-moment_alike : (before : Option ℕ) (now : ℕ) (v w : World) → IsWorld v → Agree v w → GoAlike (moment_after before now v) (moment_after before now w)
+moment_alike : (before : Option ℕ) (now : ℕ) (v w : World) → IsWorld v → Agree v w
+    → GoAlike (moment_after before now v) (moment_after before now w)
 moment_alike None now v w range agree =
     let after = clock_alike now v w range agree in
     record { reply = refl; world = after.world; range = after.range }
@@ -309,7 +332,8 @@ outcome_alike : (a b : Outcome) → Alike a b → GoAlike (step_of a) (step_of b
 outcome_alike a b alike = record { reply = ap reply.Code alike.code; world = alike.world; range = alike.range }
 
 -- every event, in agreeing worlds
-pub event_alike : (one : Event) (v w : World) → IsWorld v → Agree v w → GoAlike (at_event one v) (at_event one w)
+pub event_alike : (one : Event) (v w : World) → IsWorld v → Agree v w
+    → GoAlike (at_event one v) (at_event one w)
 unfolding at_event at_set at_execute at_samples at_moment
 event_alike (event.Get level attr selected) v w range agree =
     record { reply = ap reply_of (get_alike level attr selected v w agree); world = agree; range = range }

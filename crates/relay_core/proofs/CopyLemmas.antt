@@ -22,7 +22,8 @@ module _ (core : RelayCore) where
   with_parts device named import export clock scripts schedules =
       record core { device = device; named = named; import = import; export = export; scripts = scripts; schedules = schedules; one_clock = clock }
 
-  pub copied : (device : List ℕ) (named : IsDeviceName device) (import export : State) (clock : OneClock import export) (scripts : List Script) (schedules : Schedules)
+  pub copied : (device : List ℕ) (named : IsDeviceName device) (import export : State)
+      (clock : OneClock import export) (scripts : List Script) (schedules : Schedules)
       → device ≡ core.device → import ≡ core.import → export ≡ core.export → scripts ≡ core.scripts → schedules ≡ core.schedules
       → with_parts device named import export clock scripts schedules ≡ core
   copied device named import export clock scripts schedules same_device same_import same_export same_scripts same_schedules =

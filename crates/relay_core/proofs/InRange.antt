@@ -16,17 +16,20 @@ use Rattle.script_steps.proofs.InRange.{table_in_range}
 use Rattle.script_steps.specs.Reading.{table_of}
 
 -- what holds for each value that decoding can return holds for the one it returned
-if_read : {A F : Type 0} (P : A → Type 0) (read : Result A F) → ((x : A) → read ≡ Ok x → P x) → IfOk read P
+if_read : {A F : Type 0} (P : A → Type 0) (read : Result A F) → ((x : A) → read ≡ Ok x → P x)
+    → IfOk read P
 if_read P (Ok x) each = each x refl
 if_read P (Err fault) each = tt
 
 -- the setting that a decoded value makes
-set_by : {A : Type 0} (read : Result A WriteFault) (make : A → Setting) → ((x : A) → read ≡ Ok x → IsSettingInRange (make x))
+set_by : {A : Type 0} (read : Result A WriteFault) (make : A → Setting)
+    → ((x : A) → read ≡ Ok x → IsSettingInRange (make x))
     → IfOk (read >>= λ x. done WriteFault (Some (make x))) (λ set. IfSome set IsSettingInRange)
 set_by (Ok x) make each = each x refl
 set_by (Err fault) make each = tt
 
-setting_in_range : (value : Data) (a : LimiterAttribute) → IfOk (setting_of a value) (λ set. IfSome set IsSettingInRange)
+setting_in_range : (value : Data) (a : LimiterAttribute)
+    → IfOk (setting_of a value) (λ set. IfSome set IsSettingInRange)
 unfolding setting_of
 setting_in_range value attribute.MonitoredValue = tt
 setting_in_range value attribute.ThresholdActive = tt

@@ -25,14 +25,16 @@ metered_back limiter now m stands =
     ap (λ (settings : Settings). with settings m.last) (sym stands.settings) ∙ ap (with limiter.settings) (sym stands.last)
 
 -- the rows of an opened limiter are counted like the rows of the limiter that was saved
-counted_back : (limiter : State) (now : Option ℕ) (m : Metered) → IsFit limiter.last limiter.over limiter.under → MeteredStands limiter now m
+counted_back : (limiter : State) (now : Option ℕ) (m : Metered)
+    → IsFit limiter.last limiter.over limiter.under → MeteredStands limiter now m
     → AreCountedAlike (opened_rows limiter.last limiter.over limiter.under) m.rows
 counted_back limiter now m fit stands =
     let keeps = rows_opened limiter fit in
     record { over = sym keeps.over ∙ stands.rows.over; under = sym keeps.under ∙ stands.rows.under }
 
 -- a limiter represents the one that its opening gives at the limiter's moment
-back_stands : (limiter : State) (now : Option ℕ) → IsFit limiter.last limiter.over limiter.under → limiter.moment ≡ now
+back_stands : (limiter : State) (now : Option ℕ) → IsFit limiter.last limiter.over limiter.under
+    → limiter.moment ≡ now
     → MeteredStands limiter now (opened_limiter (limiter_opening_of limiter))
 back_stands limiter now fit clock = record { settings = refl; moment = clock; last = refl; rows = rows_opened limiter fit }
 
@@ -49,7 +51,8 @@ opening_stands core import_fit export_fit = record {
 }
 
 -- the world that a core's opening gives agrees with every world that the core represents
-pub opening_agrees : (core : RelayCore) (w : World) → IsFit core.import.last core.import.over core.import.under
+pub opening_agrees : (core : RelayCore) (w : World)
+    → IsFit core.import.last core.import.over core.import.under
     → IsFit core.export.last core.export.over core.export.under → StandsFor core w → Agree (world_of_opening (opening_of core)) w
 opening_agrees core w import_fit export_fit stands =
     let make : List ℕ → Control → Option ℕ → Metered → Metered → List Script → Schedules → World = λ device control moment import export scripts schedules.

@@ -16,12 +16,14 @@ value_fits : (r : GetResult) → IsValueOrCode (reply_of r)
 value_fits (result.Value value) = tt
 value_fits (result.Code code) = tt
 
-sampled_fits : (others : Option (List ℕ)) (firings : FiringCounts) → IsOfSamples (reply_of_firings others firings)
+sampled_fits : (others : Option (List ℕ)) (firings : FiringCounts)
+    → IsOfSamples (reply_of_firings others firings)
 sampled_fits None firings = tt
 sampled_fits (Some others) firings = tt
 
 -- what holds for each of three replies holds for the one that two tests choose
-chosen_fits : (a b : Bool) (x y z : Stepped) → IsOfClock x.reply → IsOfClock y.reply → IsOfClock z.reply
+chosen_fits : (a b : Bool) (x y z : Stepped) → IsOfClock x.reply → IsOfClock y.reply
+    → IsOfClock z.reply
     → IsOfClock (if a then x else if b then y else z).reply
 chosen_fits true b x y z first second third = first
 chosen_fits false true x y z first second third = second

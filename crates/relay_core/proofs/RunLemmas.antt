@@ -14,17 +14,20 @@ use Rattle.relay_core.specs.Stands.{StandsFor}
 use Rattle.relay_core.specs.World.{World, Stepped}
 
 -- the world after two lists of events is the world after the second, from the world after the first
-pub world_after-append : (xs ys : List Event) (w : World) → world_after (xs ++ ys) w ≡ world_after ys (world_after xs w)
+pub world_after-append : (xs ys : List Event) (w : World) → world_after (xs ++ ys) w
+    ≡ world_after ys (world_after xs w)
 world_after-append [] ys w = refl
 world_after-append (x ∷ xs) ys w = world_after-append xs ys (at_event x w).world
 
 -- the lines of two lists of events, in sequence
-pub lines_of-append : (xs ys : List Event) (w : World) → lines_of (xs ++ ys) w ≡ lines_of xs w ++ lines_of ys (world_after xs w)
+pub lines_of-append : (xs ys : List Event) (w : World) → lines_of (xs ++ ys) w ≡ lines_of xs w
+    ++ lines_of ys (world_after xs w)
 lines_of-append [] ys w = refl
 lines_of-append (x ∷ xs) ys w = ap (λ lines. line_at x w ∷ lines) (lines_of-append xs ys (at_event x w).world)
 
 -- a run with one more event
-pub ran_more : (old now next : RelayCore) (events : List Event) (event : Event) (lines : List Line) (line : Line)
+pub ran_more : (old now next : RelayCore) (events : List Event) (event : Event) (lines : List Line)
+    (line : Line)
     → Runs old now events lines
     → ((w : World) → StandsFor now w → StandsFor next (at_event event w).world)
     → ((w : World) → StandsFor now w → line ≡ line_at event w)
@@ -39,7 +42,8 @@ ran_more old now next events event lines line ran goes answers = record {
 }
 
 -- a run over the first i events of a list, with the next event
-pub ran_further : (old now next : RelayCore) (events : List Event) (i : ℕ) (event : Event) (lines : List Line) (line : Line)
+pub ran_further : (old now next : RelayCore) (events : List Event) (i : ℕ) (event : Event)
+    (lines : List Line) (line : Line)
     → i < length events
     → event ≡ get_or events i event
     → Runs old now (take i events) lines
@@ -65,7 +69,8 @@ refuted true not_so = sym (not_so refl)
 refuted false not_so = refl
 
 -- a run stops at an event that its core did not take
-pub stops_at : (old now next : RelayCore) (events : List Event) (i : ℕ) (event : Event) (lines : List Line)
+pub stops_at : (old now next : RelayCore) (events : List Event) (i : ℕ) (event : Event)
+    (lines : List Line)
     → i < length events
     → event ≡ get_or events i event
     → Runs old now (take i events) lines

@@ -21,7 +21,8 @@ use Rattle.relay_core.specs.Taking.{Takes, AreAtMost, metering_in}
 use Rattle.relay_core.specs.World.{World, Metered, IsDeviceName}
 
 -- the next element of a list after the first i
-pub take_one : {A : Type 0} (xs : List A) (i : ℕ) (d : A) → i < length xs → take 1 (drop i xs) ≡ get_or xs i d ∷ []
+pub take_one : {A : Type 0} (xs : List A) (i : ℕ) (d : A) → i < length xs → take 1 (drop i xs)
+    ≡ get_or xs i d ∷ []
 take_one [] i d below = absurd (omega (arith, below))
 take_one (x ∷ xs) zero d below = refl
 take_one (x ∷ xs) (suc i) d below = take_one xs i d (omega (arith, below))
@@ -34,14 +35,16 @@ take_fewer (suc n) (suc m) [] fewer = refl
 take_fewer (suc n) (suc m) (x ∷ xs) fewer = ap (λ rest. x ∷ rest) (take_fewer n m xs (omega (arith, fewer)))
 
 -- values over the threshold are of the kind Over
-pub over_are_of_kind : (threshold : ℕ) (xs : List ℕ) → All (λ v. IsTrue (nat_lt threshold v)) xs → AreOfKind Over threshold xs
+pub over_are_of_kind : (threshold : ℕ) (xs : List ℕ) → All (λ v. IsTrue (nat_lt threshold v)) xs
+    → AreOfKind Over threshold xs
 over_are_of_kind threshold [] all = tt
 over_are_of_kind threshold (x ∷ xs) all =
     let P : ℕ → Type 0 = λ v. IsTrue (nat_lt threshold v) in
     let kind : Bool → Kind = λ b. if b then Over else if nat_lt x threshold then Under else Equal in
     (ap kind (All-head P x xs all), over_are_of_kind threshold xs (All-tail P x xs all))
 
-pub under_are_of_kind : (threshold : ℕ) (xs : List ℕ) → All (λ v. IsTrue (nat_lt v threshold)) xs → AreOfKind Under threshold xs
+pub under_are_of_kind : (threshold : ℕ) (xs : List ℕ) → All (λ v. IsTrue (nat_lt v threshold)) xs
+    → AreOfKind Under threshold xs
 under_are_of_kind threshold [] all = tt
 under_are_of_kind threshold (x ∷ xs) all =
     let P : ℕ → Type 0 = λ v. IsTrue (nat_lt v threshold) in
@@ -50,7 +53,8 @@ under_are_of_kind threshold (x ∷ xs) all =
     (here, under_are_of_kind threshold xs (All-tail P x xs all))
 
 -- values that equal the threshold are of the kind Equal
-equal_list : (threshold : ℕ) (xs : List ℕ) (n : ℕ) → n ≤ length xs → ((k : ℕ) → k < n → get_or xs k 0 ≡ threshold) → AreOfKind Equal threshold (take n xs)
+equal_list : (threshold : ℕ) (xs : List ℕ) (n : ℕ) → n ≤ length xs
+    → ((k : ℕ) → k < n → get_or xs k 0 ≡ threshold) → AreOfKind Equal threshold (take n xs)
 equal_list threshold xs zero within are = tt
 equal_list threshold [] (suc n) within are = absurd (omega (arith, within))
 equal_list threshold (x ∷ xs) (suc n) within are =
@@ -64,7 +68,8 @@ equal_are_of_kind threshold values at n within are =
     equal_list threshold (drop at values) n (omega (arith, within, length-drop at values)) (λ k below. get_or-drop at values k 0 ∙ are k below)
 
 -- if no element passes, the first does not
-none_passes : (test : ℕ → Bool) (x : ℕ) (xs : List ℕ) → prefix_len test (x ∷ xs) ≤ 0 → test x ≡ false
+none_passes : (test : ℕ → Bool) (x : ℕ) (xs : List ℕ) → prefix_len test (x ∷ xs) ≤ 0
+    → test x ≡ false
 none_passes test x xs none =
     let cases : (b : Bool) → (if b then 1 + prefix_len test xs else 0) ≤ 0 → b ≡ false =
     λ b. elim b as (λ b. (if b then 1 + prefix_len test xs else 0) ≤ 0 → b ≡ false) [ true ↦ λ some. absurd (omega (arith, some)) | false ↦ λ _. refl ] in
@@ -84,7 +89,8 @@ neither_is_equal values at threshold below over under =
     grind (arith, not_over, not_under)
 
 -- each element of a list of one kind is of that kind
-pub kind_at : (kind : Kind) (threshold : ℕ) (xs : List ℕ) (i d : ℕ) → i < length xs → AreOfKind kind threshold xs
+pub kind_at : (kind : Kind) (threshold : ℕ) (xs : List ℕ) (i d : ℕ) → i < length xs
+    → AreOfKind kind threshold xs
     → kind_of threshold (get_or xs i d) ≡ kind
 kind_at kind threshold [] i d below are = absurd (omega (arith, below))
 kind_at kind threshold (x ∷ xs) zero d below are = are.0
@@ -95,15 +101,18 @@ abbrev pub metered_after : Option ℕ → List ℕ → Metered → Metered
 metered_after now [] m = m
 metered_after now (value ∷ values) m = metered_after now values (with_sample now value m)
 
-metered_after-settings : (now : Option ℕ) (values : List ℕ) (m : Metered) → (metered_after now values m).settings ≡ m.settings
+metered_after-settings : (now : Option ℕ) (values : List ℕ) (m : Metered)
+    → (metered_after now values m).settings ≡ m.settings
 metered_after-settings now [] m = refl
 metered_after-settings now (value ∷ values) m = metered_after-settings now values (with_sample now value m)
 
-metered_after-rows : (now : Option ℕ) (values : List ℕ) (m : Metered) → (metered_after now values m).rows ≡ rows_after (limits_at m.settings now) values m.rows
+metered_after-rows : (now : Option ℕ) (values : List ℕ) (m : Metered)
+    → (metered_after now values m).rows ≡ rows_after (limits_at m.settings now) values m.rows
 metered_after-rows now [] m = refl
 metered_after-rows now (value ∷ values) m = metered_after-rows now values (with_sample now value m)
 
-metered_after-last : (now : Option ℕ) (values : List ℕ) (i d : ℕ) (m : Metered) → i + 1 ≡ length values → (metered_after now values m).last ≡ get_or values i d
+metered_after-last : (now : Option ℕ) (values : List ℕ) (i d : ℕ) (m : Metered) → i + 1
+    ≡ length values → (metered_after now values m).last ≡ get_or values i d
 metered_after-last now [] i d m is = absurd (omega (arith, is))
 metered_after-last now (x ∷ []) zero d m is = refl
 metered_after-last now (x ∷ []) (suc i) d m is = absurd (omega (arith, is))
@@ -111,15 +120,18 @@ metered_after-last now (x ∷ y ∷ values) zero d m is = absurd (omega (arith, 
 metered_after-last now (x ∷ y ∷ values) (suc i) d m is = metered_after-last now (y ∷ values) i d (with_sample now x m) (omega (arith, is))
 
 -- the last of one or more samples
-pub last_of_some : (n last before now : ℕ) → 0 < n → now ≡ (if nat_lt 0 n then last else before) → now ≡ last
+pub last_of_some : (n last before now : ℕ) → 0 < n → now ≡ (if nat_lt 0 n then last else before)
+    → now ≡ last
 last_of_some n last before now some is = grind (arith, some, is)
 
 -- a limiter has the limits of the one that it represents
-same_limits : (limiter : State) (now : Option ℕ) (m : Metered) → MeteredStands limiter now m → limits_of limiter ≡ limits_at m.settings now
+same_limits : (limiter : State) (now : Option ℕ) (m : Metered) → MeteredStands limiter now m
+    → limits_of limiter ≡ limits_at m.settings now
 same_limits limiter now m stands = cc (stands.settings, stands.moment)
 
 -- a limiter that took several samples at once represents one that took them one by one
-pub metered_stands : (old new : State) (now : Option ℕ) (m : Metered) (values : List ℕ) → MeteredStands old now m
+pub metered_stands : (old new : State) (now : Option ℕ) (m : Metered) (values : List ℕ)
+    → MeteredStands old now m
     → new.settings ≡ old.settings → new.moment ≡ old.moment → 0 < length values → new.last ≡ get_or values (length values - 1) 0
     → Keeps new (rows_after (limits_of old) values m.rows) → MeteredStands new now (metered_after now values m)
 metered_stands old new now m values stands settings moment some last keeps = record {
@@ -132,7 +144,8 @@ metered_stands old new now m values stands settings moment some last keeps = rec
 }
 
 -- the effect of two lists of samples, in sequence
-pub after_samples-append : (xs ys : List Measurement) (m : Metering) → after_samples (xs ++ ys) m ≡ after_samples ys (after_samples xs m)
+pub after_samples-append : (xs ys : List Measurement) (m : Metering) → after_samples (xs ++ ys) m
+    ≡ after_samples ys (after_samples xs m)
 unfolding after_samples
 after_samples-append [] ys m = refl
 after_samples-append (x ∷ xs) ys m = after_samples-append xs ys (metering_after x m)
@@ -141,7 +154,8 @@ pub imports-append : (vs ws : List ℕ) → imports (vs ++ ws) ≡ imports vs ++
 imports-append [] ws = refl
 imports-append (v ∷ vs) ws = ap (λ (xs : List Measurement). record { which = Import; value = v } ∷ xs) (imports-append vs ws)
 
-pub pairs-append : (vs ws xs ys : List ℕ) → length vs ≡ length xs → pairs (vs ++ ws) (xs ++ ys) ≡ pairs vs xs ++ pairs ws ys
+pub pairs-append : (vs ws xs ys : List ℕ) → length vs ≡ length xs → pairs (vs ++ ws) (xs ++ ys)
+    ≡ pairs vs xs ++ pairs ws ys
 pairs-append [] ws [] ys even = refl
 pairs-append [] ws (x ∷ xs) ys even = absurd (omega (arith, even))
 pairs-append (v ∷ vs) ws [] ys even = absurd (omega (arith, even))
@@ -155,7 +169,8 @@ unfolding after_samples
 takes_none core firings = record { world = λ w stands. stands; firings = λ w stands. refl }
 
 -- a core that took samples and then more
-pub takes_on : (old now next : RelayCore) (f g h : FiringCounts) (xs ys : List Measurement) → Takes old now f g xs → Takes now next g h ys
+pub takes_on : (old now next : RelayCore) (f g h : FiringCounts) (xs ys : List Measurement)
+    → Takes old now f g xs → Takes now next g h ys
     → Takes old next f h (xs ++ ys)
 takes_on old now next f g h xs ys first later =
     let both : (w : World) → StandsFor old w → after_samples (xs ++ ys) (metering_in w f) ≡ after_samples ys (metering_in (after_samples xs (metering_in w f)).world g) =
@@ -168,20 +183,23 @@ takes_on old now next f g h xs ys first later =
     }
 
 -- the samples of further values, and of further pairs
-pub takes_values_on : (old now next : RelayCore) (f g h : FiringCounts) (values : List ℕ) (at n : ℕ) → Takes old now f g (imports (take at values))
+pub takes_values_on : (old now next : RelayCore) (f g h : FiringCounts) (values : List ℕ) (at n : ℕ)
+    → Takes old now f g (imports (take at values))
     → Takes now next g h (imports (take n (drop at values))) → Takes old next f h (imports (take (at + n) values))
 takes_values_on old now next f g h values at n first later =
     subst (Takes old next f h) (sym (ap imports (take-add at n values) ∙ imports-append (take at values) (take n (drop at values))))
     (takes_on old now next f g h (imports (take at values)) (imports (take n (drop at values))) first later)
 
-pub even_take : (n : ℕ) (vs xs : List ℕ) → length vs ≡ length xs → length (take n vs) ≡ length (take n xs)
+pub even_take : (n : ℕ) (vs xs : List ℕ) → length vs ≡ length xs → length (take n vs)
+    ≡ length (take n xs)
 even_take zero vs xs even = refl
 even_take (suc n) [] [] even = refl
 even_take (suc n) [] (x ∷ xs) even = absurd (omega (arith, even))
 even_take (suc n) (v ∷ vs) [] even = absurd (omega (arith, even))
 even_take (suc n) (v ∷ vs) (x ∷ xs) even = ap suc (even_take n vs xs (omega (arith, even)))
 
-pub takes_pairs_on : (old now next : RelayCore) (f g h : FiringCounts) (values others : List ℕ) (at n : ℕ) → length others ≡ length values
+pub takes_pairs_on : (old now next : RelayCore) (f g h : FiringCounts) (values others : List ℕ)
+    (at n : ℕ) → length others ≡ length values
     → Takes old now f g (pairs (take at values) (take at others))
     → Takes now next g h (pairs (take n (drop at values)) (take n (drop at others)))
     → Takes old next f h (pairs (take (at + n) values) (take (at + n) others))
@@ -206,7 +224,8 @@ takes_one old next f g x fire goes fires is = record {
 }
 
 -- a bound on the firings also holds with a larger bound
-pub at_most_more : (n m : ℕ) (firings : FiringCounts) → n ≤ m → AreAtMost n firings → AreAtMost m firings
+pub at_most_more : (n m : ℕ) (firings : FiringCounts) → n ≤ m → AreAtMost n firings
+    → AreAtMost m firings
 at_most_more n m firings more most = record {
   import_over = omega (arith, more, most.import_over);
   import_under = omega (arith, more, most.import_under);
@@ -226,7 +245,8 @@ measured-quiet x w firings quiet =
     ap go quiet
 
 -- import values that fire nothing
-pub quiet_values : (values : List ℕ) (w : World) (firings : FiringCounts) → IsQuiet (limits_at w.import.settings w.moment) values w.import.rows
+pub quiet_values : (values : List ℕ) (w : World) (firings : FiringCounts)
+    → IsQuiet (limits_at w.import.settings w.moment) values w.import.rows
     → after_samples (imports values) (metering_in w firings) ≡ metering_in (record w { import = metered_after w.moment values w.import }) firings
 unfolding after_samples fire_at
 quiet_values [] w firings quiet = refl
@@ -235,7 +255,8 @@ quiet_values (value ∷ values) w firings quiet =
     ∙ quiet_values values (record w { import = with_sample w.moment value w.import }) firings quiet.1
 
 -- pairs that fire nothing
-pub quiet_pairs : (values others : List ℕ) (w : World) (firings : FiringCounts) → length values ≡ length others
+pub quiet_pairs : (values others : List ℕ) (w : World) (firings : FiringCounts) → length values
+    ≡ length others
     → IsQuiet (limits_at w.import.settings w.moment) values w.import.rows → IsQuiet (limits_at w.export.settings w.moment) others w.export.rows
     → after_samples (pairs values others) (metering_in w firings)
     ≡ metering_in (record w { import = metered_after w.moment values w.import; export = metered_after w.moment others w.export }) firings
@@ -251,7 +272,8 @@ quiet_pairs (value ∷ values) (other ∷ others) w firings even quiet other_qui
     ∙ quiet_pairs values others (record between { export = with_sample w.moment other w.export }) firings (omega (arith, even)) quiet.1 other_quiet.1
 
 -- a core that took import values that fire nothing
-pub skipped_values : (old : RelayCore) (limiter : State) (values : List ℕ) (named : IsDeviceName old.device)
+pub skipped_values : (old : RelayCore) (limiter : State) (values : List ℕ)
+    (named : IsDeviceName old.device)
     (clock : old.export.moment ≡ limiter.moment) → 0 < length values
     → limiter.settings ≡ old.import.settings → limiter.moment ≡ old.import.moment → limiter.last ≡ get_or values (length values - 1) 0
     → ((rows : List Row) → Keeps old.import rows → Keeps limiter (rows_after (limits_of old.import) values rows))
@@ -280,7 +302,8 @@ skipped_values old limiter values named clock some settings moment last keeps qu
     }
 
 -- a core that took pairs that fire nothing
-pub skipped_pairs : (old : RelayCore) (import export : State) (values others : List ℕ) (named : IsDeviceName old.device)
+pub skipped_pairs : (old : RelayCore) (import export : State) (values others : List ℕ)
+    (named : IsDeviceName old.device)
     (clock : export.moment ≡ import.moment) → 0 < length values → length others ≡ length values
     → import.settings ≡ old.import.settings → import.moment ≡ old.import.moment → import.last ≡ get_or values (length values - 1) 0
     → export.settings ≡ old.export.settings → export.moment ≡ old.export.moment → export.last ≡ get_or others (length others - 1) 0

@@ -27,7 +27,8 @@ not_success DataBlockNumberInvalid other = refl
 not_success OtherReason other = refl
 
 -- a script continues after a step that succeeds
-pub at_script-more : (origin : Origin) (step : Step) (steps : List Step) (v : World) → Success ≡ (at_step origin step v).code
+pub at_script-more : (origin : Origin) (step : Step) (steps : List Step) (v : World) → Success
+    ≡ (at_step origin step v).code
     → at_script origin (step ∷ steps) v ≡ at_script origin steps (at_step origin step v).world
 unfolding at_script
 at_script-more origin step steps v code =
@@ -35,7 +36,8 @@ at_script-more origin step steps v code =
     sym (ap go code)
 
 -- a script stops at a step that is refused
-pub at_script-stops : (origin : Origin) (step : Step) (steps : List Step) (v : World) (code : ResultCode) → is_success code ≡ false
+pub at_script-stops : (origin : Origin) (step : Step) (steps : List Step) (v : World)
+    (code : ResultCode) → is_success code ≡ false
     → code ≡ (at_step origin step v).code → at_script origin (step ∷ steps) v ≡ at_step origin step v
 unfolding at_script
 at_script-stops origin step steps v code refused is =
@@ -43,7 +45,8 @@ at_script-stops origin step steps v code refused is =
     ap go (ap is_success (sym is) ∙ refused)
 
 -- a script without steps succeeds
-pub at_script-none : (origin : Origin) (v : World) → at_script origin [] v ≡ record { world = v; code = Success }
+pub at_script-none : (origin : Origin) (v : World) → at_script origin [] v
+    ≡ record { world = v; code = Success }
 unfolding at_script
 at_script-none origin v = refl
 
@@ -62,11 +65,14 @@ pub record Underway (old now : RelayCore) (origin : Origin) (selector i : ℕ) :
 
 -- A core after a script, and the script's result.
 pub record Ended (old next : RelayCore) (origin : Origin) (selector : ℕ) (result : ResultCode) : Type 0 where
-  pub world : (w : World) → StandsFor old w → StandsFor next (at_script origin (running_steps selector w.scripts) w).world
-  pub code : (w : World) → StandsFor old w → result ≡ (at_script origin (running_steps selector w.scripts) w).code
+  pub world : (w : World) → StandsFor old w → StandsFor next
+      (at_script origin (running_steps selector w.scripts) w).world
+  pub code : (w : World) → StandsFor old w → result
+      ≡ (at_script origin (running_steps selector w.scripts) w).code
 
 -- before the first step
-pub begun : (core : RelayCore) (origin : Origin) (selector : ℕ) → Underway core core origin selector 0
+pub begun : (core : RelayCore) (origin : Origin) (selector : ℕ)
+    → Underway core core origin selector 0
 begun core origin selector = record {
   scripts = refl;
   schedules = refl;
@@ -119,7 +125,8 @@ told_of_worlds old next origin selector result world code = record {
 }
 
 -- after a step that is refused
-pub stopped : (old now next : RelayCore) (origin : Origin) (selector i : ℕ) (step : Step) (refused : ResultCode)
+pub stopped : (old now next : RelayCore) (origin : Origin) (selector i : ℕ) (step : Step)
+    (refused : ResultCode)
     → drop i (running_steps selector now.scripts) ≡ step ∷ drop (i + 1) (running_steps selector now.scripts)
     → ((w : World) → StandsFor now w → StandsFor next (at_step origin step w).world)
     → ((w : World) → StandsFor now w → refused ≡ (at_step origin step w).code)
@@ -162,7 +169,8 @@ finished old now origin selector i counted under =
     subst P is refl)
 
 -- a selector without a script has no steps
-pub no_script : (origin : Origin) (selector : ℕ) (scripts : List Script) (w : World) → None ≡ option_map length (steps_at selector scripts)
+pub no_script : (origin : Origin) (selector : ℕ) (scripts : List Script) (w : World) → None
+    ≡ option_map length (steps_at selector scripts)
     → at_script origin (running_steps selector scripts) w ≡ record { world = w; code = Success }
 no_script origin selector scripts w none =
     let P : Option (List Step) → Type 0 = λ found.

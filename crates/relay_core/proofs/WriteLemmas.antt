@@ -8,7 +8,8 @@ use Rattle.relay_core.specs.World.{World}
 use Rattle.relay_core.specs.Writing.{at_list}
 
 -- storing the decoded list has the effect of the write
-pub moved_list : (list : WrittenList) (read : Result Parts ResultCode) (w : World) → with_list list (or_plain read) w ≡ (at_list list read w).world
+pub moved_list : (list : WrittenList) (read : Result Parts ResultCode) (w : World)
+    → with_list list (or_plain read) w ≡ (at_list list read w).world
 moved_list list (Ok parts) w = refl
 moved_list written.Scripts (Err refusal) w = refl
 moved_list (written.Entries which) (Err refusal) w = refl

@@ -67,7 +67,8 @@ continues old new event reply core_goes answers kept opening_goes same = record 
 }
 
 -- `continues`, for the parts of a recorder
-pub applied : (core opening next next_opening : RelayCore) (kept ring : Buffer Event) (event newest : Event) (reply : Reply)
+pub applied : (core opening next next_opening : RelayCore) (kept ring : Buffer Event)
+    (event newest : Event) (reply : Reply)
     → ((w : World) → StandsFor core w → StandsFor next (at_event event w).world)
     → ((w : World) → StandsFor core w → reply ≡ (at_event event w).reply)
     → newest ≡ event
@@ -90,7 +91,8 @@ drop_of_none zero = refl
 drop_of_none (suc n) = refl
 
 -- a recorder that has taken no event has the empty history
-pub begins : (core opening : RelayCore) (ring : Buffer Event) (origin : World) → StandsFor core origin → opening ≡ core → ring.items ≡ []
+pub begins : (core opening : RelayCore) (ring : Buffer Event) (origin : World)
+    → StandsFor core origin → opening ≡ core → ring.items ≡ []
     → HasHistory (recording core opening ring)
 begins core opening ring origin stands same empty = record {
   history = [];
@@ -105,7 +107,8 @@ begins core opening ring origin stands same empty = record {
 }
 
 -- a recorder that had a history and took an event has a history
-pub goes_on : (old new : Recording) (event : Event) (reply : Reply) → Continues old new event reply → HasHistory old → HasHistory new
+pub goes_on : (old new : Recording) (event : Event) (reply : Reply) → Continues old new event reply
+    → HasHistory old → HasHistory new
 goes_on old new event reply continues has = record {
   history = has.history ++ (event, reply) ∷ [];
   origin = has.origin;

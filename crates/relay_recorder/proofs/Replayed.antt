@@ -26,7 +26,8 @@ line_alike a b go =
     let make : Reply → Control → Line = λ reply control. record { reply = reply; state = control.state; output = is_state control.state Connected } in
     ap (λ reply. make reply a.world.control) go.reply ∙ ap (λ (w : World). make b.reply w.control) (sym go.world.same)
 
-pub lines_alike : (events : List Event) (v w : World) → IsWorld v → Agree v w → lines_of events v ≡ lines_of events w
+pub lines_alike : (events : List Event) (v w : World) → IsWorld v → Agree v w → lines_of events v
+    ≡ lines_of events w
 lines_alike [] v w range agree = refl
 lines_alike (event ∷ events) v w range agree =
     let go = event_alike event v w range agree in
@@ -60,7 +61,8 @@ drop_map f (suc n) (x ∷ xs) = drop_map f n xs
 
 -- The exported opening agrees with the world before the kept events, so they run from it as they
 -- did in the history.
-pub runs_again : (r : Recording) (history : List Exchange) (origin world : World) → StandsForHistory r history origin → IsWorld world
+pub runs_again : (r : Recording) (history : List Exchange) (origin world : World)
+    → StandsForHistory r history origin → IsWorld world
     → ((w : World) → StandsFor r.opening w → Agree world w) → RunsAgain r history origin world
 runs_again r history origin world stands range agrees =
     let events = events_of history in

@@ -28,7 +28,8 @@ use Rattle.script_steps.specs.declared.step.Step.TheVariants as step
 use Rattle.cosem_names.specs.declared.objects.Which.TheVariants.{Import, Export}
 
 -- the parts of a written step
-parts_again : (s : Step) → step_parts_of (step_data s) ≡ Some (address_of (action_of s), parameter_of s)
+parts_again : (s : Step) → step_parts_of (step_data s)
+    ≡ Some (address_of (action_of s), parameter_of s)
 unfolding step_data
 parts_again (step.WriteMode mode) = refl
 parts_again (step.WriteNormal Import watts) = refl
@@ -67,7 +68,8 @@ step_again s fits =
     ap (λ o. ok_or o Unmatched >>= with_action) (parts_again s) ∙ ap (λ o. ok_or o Value >>= λ a. step_with a (parameter_of s)) (action_again (action_of s)) ∙ parameter_again s fits
 
 -- the parts of a written script
-script_parts_again : (s : Script) → script_parts_of (script_data s) ≡ Some (s.identifier, map step_data s.steps)
+script_parts_again : (s : Script) → script_parts_of (script_data s)
+    ≡ Some (s.identifier, map step_data s.steps)
 unfolding script_data
 script_parts_again s = ap (λ items. Some (s.identifier, items)) (list_of_trees (map step_data s.steps))
 
@@ -76,7 +78,8 @@ abbrev judged_with : ℕ × List Data → Result (ℕ × List Data) WriteFault
 judged_with parts = fault_of_items step_of parts.1 >> (guard (not (parts.0 == 0) && nat_le (length parts.1) max_steps) Value >> Ok parts)
 
 -- the limits of a script hold of its parts
-within : (s : Script) → IsScript s → not (s.identifier == 0) && nat_le (length (map step_data s.steps)) max_steps ≡ true
+within : (s : Script) → IsScript s → not (s.identifier == 0)
+    && nat_le (length (map step_data s.steps)) max_steps ≡ true
 within s fits = grind (arith, nat_tests, fits.named, fits.few, length-map)
 
 -- a script from its parts
@@ -95,7 +98,8 @@ script_again s fits =
     ∙ ap (λ steps. done WriteFault (record { identifier = s.identifier; steps = steps })) are.are
 
 -- the limits of a table hold of its Data
-table_within : (scripts : List Script) → IsTable scripts → AreRead script_of (map script_data scripts) scripts
+table_within : (scripts : List Script) → IsTable scripts
+    → AreRead script_of (map script_data scripts) scripts
     → nat_le (length (map script_data scripts)) max_scripts && are_distinct identifier_of (map script_data scripts) ≡ true
 table_within scripts fits are =
     ap₂ (λ a b. a && b) few (same_distinct (map script_data scripts) are.faultless ∙ ap (λ xs. are_distinct (λ script. script.identifier) xs) are.are ∙ fits.distinct)
@@ -108,7 +112,8 @@ abbrev with_items : List Data → Result (List Script) WriteFault
 with_items items = judged_scripts items >> Ok (values script_of items)
 
 -- a written table reads as itself
-pub table_again : (scripts : List Script) → IsTable scripts → table_of (data_of scripts) ≡ Ok scripts
+pub table_again : (scripts : List Script) → IsTable scripts → table_of (data_of scripts)
+    ≡ Ok scripts
 unfolding table_of data_of judged_scripts
 table_again scripts fits =
     let items = map script_data scripts in
@@ -119,7 +124,8 @@ table_again scripts fits =
     ∙ ap (λ xs. done WriteFault xs) are.are
 
 -- a table whose writing did not run out of memory reads as itself
-pub written_again : {E : Type 0} (result : Result Data E) (written scripts table : List Script) → IsTable scripts → written ≡ scripts → scripts ≡ table
+pub written_again : {E : Type 0} (result : Result Data E) (written scripts table : List Script)
+    → IsTable scripts → written ≡ scripts → scripts ≡ table
     → IfOk result (λ value. value ≡ data_of written) → IfOk result (λ value. table_of value ≡ Ok table)
 written_again (Ok value) written scripts table fits same view is =
     ap table_of is ∙ ap (λ xs. table_of (data_of xs)) same ∙ table_again scripts fits ∙ ap (λ xs. Ok xs) view

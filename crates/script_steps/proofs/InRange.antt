@@ -23,20 +23,23 @@ use Rattle.script_steps.specs.declared.step.Step.{Step}
 use Rattle.script_steps.specs.declared.step.Step.TheVariants as step
 
 -- a number that becomes a duration
-seconds_of : (parameter : Data) (make : ℕ → Step) (s : Step) → ((n : ℕ) → n < 4294967296 → IsStepInRange (make n))
+seconds_of : (parameter : Data) (make : ℕ → Step) (s : Step)
+    → ((n : ℕ) → n < 4294967296 → IsStepInRange (make n))
     → (number_of parameter >>= λ n. done WriteFault (make n)) ≡ Ok s → IsStepInRange s
 seconds_of parameter make s small e =
     let found = bind_ok (number_of parameter) (λ n. done WriteFault (make n)) s e in
     subst IsStepInRange (ok_is {F = WriteFault} (make found.0) s found.2) (small found.0 (number_small parameter found.0 found.1))
 
 -- a number or a profile that becomes no duration
-no_seconds : {A : Type 0} (read : Result A WriteFault) (make : A → Step) (s : Step) → ((x : A) → IsStepInRange (make x))
+no_seconds : {A : Type 0} (read : Result A WriteFault) (make : A → Step) (s : Step)
+    → ((x : A) → IsStepInRange (make x))
     → (read >>= λ x. done WriteFault (make x)) ≡ Ok s → IsStepInRange s
 no_seconds read make s none e =
     let found = bind_ok read (λ x. done WriteFault (make x)) s e in
     subst IsStepInRange (ok_is {F = WriteFault} (make found.0) s found.2) (none found.0)
 
-with_in_range : (a : Action) (parameter : Data) (s : Step) → step_with a parameter ≡ Ok s → IsStepInRange s
+with_in_range : (a : Action) (parameter : Data) (s : Step) → step_with a parameter ≡ Ok s
+    → IsStepInRange s
 unfolding step_with
 with_in_range action.Mode parameter s e = no_seconds (mode_form parameter) (λ mode. step.WriteMode mode) s (λ mode. tt) e
 with_in_range (action.Normal which) parameter s e = no_seconds (number_of parameter) (λ n. step.WriteNormal which n) s (λ n. tt) e
@@ -55,7 +58,9 @@ step_in_range value s e =
     with_in_range acts.0 parts.0.1 s acts.2
 
 -- the steps of several, those with a fault left out
-one_step : (r : Result Step WriteFault) (others : List Step) → ((s : Step) → r ≡ Ok s → IsStepInRange s) → AreStepsInRange others → AreStepsInRange (cons_option (result_ok r) others)
+one_step : (r : Result Step WriteFault) (others : List Step)
+    → ((s : Step) → r ≡ Ok s → IsStepInRange s) → AreStepsInRange others
+    → AreStepsInRange (cons_option (result_ok r) others)
 one_step (Ok s) others first rest = (first s refl, rest)
 one_step (Err fault) others first rest = rest
 
@@ -65,14 +70,16 @@ steps_in_range (item ∷ items) = one_step (step_of item) (values step_of items)
 
 -- ---- a script
 
-script_in_range : (value : Data) (script : Script) → script_of value ≡ Ok script → AreStepsInRange script.steps
+script_in_range : (value : Data) (script : Script) → script_of value ≡ Ok script
+    → AreStepsInRange script.steps
 unfolding script_of
 script_in_range value script e =
     let b = bind_ok (judged_script value) (λ parts. done WriteFault (record { identifier = parts.0; steps = values step_of parts.1 })) script e in
     let same = ok_is {F = WriteFault} (record { identifier = b.0.0; steps = values step_of b.0.1 }) script b.2 in
     subst (λ (s : Script). AreStepsInRange s.steps) same (steps_in_range b.0.1)
 
-one_script : (r : Result Script WriteFault) (others : List Script) → ((s : Script) → r ≡ Ok s → AreStepsInRange s.steps) → AreScriptsInRange others
+one_script : (r : Result Script WriteFault) (others : List Script)
+    → ((s : Script) → r ≡ Ok s → AreStepsInRange s.steps) → AreScriptsInRange others
     → AreScriptsInRange (cons_option (result_ok r) others)
 one_script (Ok s) others first rest = (first s refl, rest)
 one_script (Err fault) others first rest = rest
@@ -82,7 +89,8 @@ scripts_in_range [] = tt
 scripts_in_range (item ∷ items) = one_script (script_of item) (values script_of items) (λ s e. script_in_range item s e) (scripts_in_range items)
 
 -- the scripts of a table that is read
-pub table_in_range : (value : Data) (scripts : List Script) → table_of value ≡ Ok scripts → AreScriptsInRange scripts
+pub table_in_range : (value : Data) (scripts : List Script) → table_of value ≡ Ok scripts
+    → AreScriptsInRange scripts
 unfolding table_of
 table_in_range value scripts e =
     let items = bind_ok (ok_or (array_of value) Unmatched) (λ items. judged_scripts items >> done WriteFault (values script_of items)) scripts e in

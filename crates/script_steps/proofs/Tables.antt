@@ -15,17 +15,20 @@ use Rattle.cosem_names.specs.declared.write_fault.WriteFault.{WriteFault}
 use Rattle.cosem_names.specs.declared.write_fault.WriteFault.TheVariants.{Unmatched, Value}
 use Rattle.script_steps.specs.declared.step.Script.{Script}
 
-found_or_rest : {A : Type 0} (P : A → Type 0) (b : Bool) (x : A) (rest : Option A) → P x → IfSome rest P → IfSome (cond b (Some x) rest) P
+found_or_rest : {A : Type 0} (P : A → Type 0) (b : Bool) (x : A) (rest : Option A) → P x
+    → IfSome rest P → IfSome (cond b (Some x) rest) P
 found_or_rest P true x rest here there = here
 found_or_rest P false x rest here there = there
 
 -- what holds of all items holds of the one that is found
-pub found_fits : {A : Type 0} (P : A → Type 0) (p : A → Bool) (xs : List A) → All P xs → IfSome (find p xs) P
+pub found_fits : {A : Type 0} (P : A → Type 0) (p : A → Bool) (xs : List A) → All P xs
+    → IfSome (find p xs) P
 found_fits P p [] all = tt
 found_fits P p (x ∷ xs) all = found_or_rest P (p x) x (find p xs) (All-head P x xs all) (found_fits P p xs (All-tail P x xs all))
 
 -- the parts of the Data that a script was made from
-pub judged_parts : (value : Data) (parts : ℕ × List Data) → judged_script value ≡ Ok parts → script_parts_of value ≡ Some parts
+pub judged_parts : (value : Data) (parts : ℕ × List Data) → judged_script value ≡ Ok parts
+    → script_parts_of value ≡ Some parts
 unfolding judged_script
 judged_parts value parts e =
     let b = bind_ok (ok_or (script_parts_of value) Unmatched) (λ p. fault_of_items step_of p.1 >> (guard (not (p.0 == 0) && nat_le (length p.1) max_steps) Value >> Ok p)) parts e in
@@ -38,7 +41,8 @@ judged_parts value parts e =
     there (Some q) p e = cc
 
 -- a script has the identifier that its Data names
-pub named : (value : Data) (script : Script) → script_of value ≡ Ok script → script.identifier ≡ identifier_of value
+pub named : (value : Data) (script : Script) → script_of value ≡ Ok script → script.identifier
+    ≡ identifier_of value
 unfolding script_of
 named value script e =
     let b = bind_ok (judged_script value) (λ parts. done WriteFault (record { identifier = parts.0; steps = values step_of parts.1 })) script e in
@@ -56,7 +60,8 @@ is_read (Ok script) e = (script, refl)
 is_read (Err fault) e = absurd cc
 
 -- the scripts of several items, the first of which is a script
-first_script : (item : Data) (items : List Data) (script : Script) → script_of item ≡ Ok script → values script_of (item ∷ items) ≡ script ∷ values script_of items
+first_script : (item : Data) (items : List Data) (script : Script) → script_of item ≡ Ok script
+    → values script_of (item ∷ items) ≡ script ∷ values script_of items
 first_script item items script e = ap (λ r. cons_option (result_ok r) (values script_of items)) e
 
 -- an item has an identifier exactly if a script has it
@@ -85,7 +90,8 @@ few_values : (items : List Data) → length (values script_of items) ≤ length 
 few_values [] = omega arith
 few_values (item ∷ items) = here (result_ok (script_of item)) (few_values items)
   where
-    here : (o : Option Script) → length (values script_of items) ≤ length items → length (cons_option o (values script_of items)) ≤ length (item ∷ items)
+    here : (o : Option Script) → length (values script_of items) ≤ length items
+        → length (cons_option o (values script_of items)) ≤ length (item ∷ items)
     here None fewer = omega arith
     here (Some script) fewer = omega arith
 
@@ -95,7 +101,8 @@ both true b e = (refl, e)
 both false b e = absurd cc
 
 -- the scripts of judged items are a table
-pub table_fits : (items : List Data) (u : Unit {0}) (scripts : List Script) → judged_scripts items ≡ Ok u → scripts ≡ values script_of items → All IsScript scripts → IsTable scripts
+pub table_fits : (items : List Data) (u : Unit {0}) (scripts : List Script) → judged_scripts items
+    ≡ Ok u → scripts ≡ values script_of items → All IsScript scripts → IsTable scripts
 unfolding judged_scripts
 table_fits items u scripts e is fit =
     let t = bind_ok (fault_of_items script_of items) (λ _. guard (nat_le (length items) max_scripts && are_distinct identifier_of items) Value) u e in

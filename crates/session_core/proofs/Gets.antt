@@ -36,7 +36,8 @@ use Rattle.xdlms_blocks.specs.Transfer.{Sending}
 -- ---- its payload
 
 -- a payload of thirteen bytes that is a GET of one attribute
-single_of : (conformance id high low a b c d e f number : ℕ) → (bit_and conformance 0x10 == 0x10) ≡ true
+single_of : (conformance id high low a b c d e f number : ℕ)
+    → (bit_and conformance 0x10 == 0x10) ≡ true
     → IsSingleGet conformance (0xC0 ∷ 0x01 ∷ id ∷ high ∷ low ∷ a ∷ b ∷ c ∷ d ∷ e ∷ f ∷ number ∷ 0x00 ∷ []) (record { 0 = id })
     (record { class = record { 0 = from_be_bytes w16 (high ∷ low ∷ []) }; name = record { 0 = a ∷ b ∷ c ∷ d ∷ e ∷ f ∷ [] }; number = number })
 unfolding call_of is_negotiated request_form request_of request_at get_request_at target_at attribute_at selection_at
@@ -48,7 +49,8 @@ single_of conformance id high low a b c d e f number negotiated =
       call = ap (λ (has_get : Bool). if has_get then call_by (request_of payload) else Refused Unknown) negotiated;
     }
 
-pub reads_single : (conformance : ℕ) (s : List ℕ) (class : ℕ) → 13 ≤ length s → length s < 14 → get_or s 0 0 ≡ 0xC0 → get_or s 1 0 ≡ 0x01 → get_or s 12 0 ≡ 0x00
+pub reads_single : (conformance : ℕ) (s : List ℕ) (class : ℕ) → 13 ≤ length s → length s < 14
+    → get_or s 0 0 ≡ 0xC0 → get_or s 1 0 ≡ 0x01 → get_or s 12 0 ≡ 0x00
     → (bit_and conformance 0x10 == 0x10) ≡ true → class ≡ big_number 2 (get_or s 3 0 ∷ get_or s 4 0 ∷ [])
     → IsSingleGet conformance s (record { 0 = get_or s 2 0 })
     (record { class = record { 0 = class }; name = record { 0 = get_or s 5 0 ∷ get_or s 6 0 ∷ get_or s 7 0 ∷ get_or s 8 0 ∷ get_or s 9 0 ∷ get_or s 10 0 ∷ [] }; number = get_or s 11 0 })
@@ -64,7 +66,8 @@ reads_single conformance s class least most tag form selection negotiated is_cla
 -- ---- its frame
 
 -- the client of the association asks for an attribute
-pub hears_single : (s : State) (src : ℕ) (payload : List ℕ) (link : Link) (id : InvokeId) (attr : AttrRef) → s.link ≡ Some link → link.source ≡ src
+pub hears_single : (s : State) (src : ℕ) (payload : List ℕ) (link : Link) (id : InvokeId)
+    (attr : AttrRef) → s.link ≡ Some link → link.source ≡ src
     → IsSingleGet link.conformance.0 payload id attr
     → HearsGet s (heard_frame src payload) (record { link = link; form = form.Get id }) attr (record { link = s.link; incoming = None; outgoing = None })
 unfolding turn_of link_after incoming_after outgoing_after
@@ -77,7 +80,8 @@ hears_single s src payload link id attr linked same get =
     }
 
 -- the frame at the front asks for an attribute
-pub asks_single : (s t : Session) (pending payload : List ℕ) (kept : State) (src dst n : ℕ) (asked : Asked) (attr : AttrRef) → s.task ≡ Listen
+pub asks_single : (s t : Session) (pending payload : List ℕ) (kept : State) (src dst n : ℕ)
+    (asked : Asked) (attr : AttrRef) → s.task ≡ Listen
     → head_of s.deframer ≡ head.Whole n → src ≡ src_of s.deframer → dst ≡ dst_of s.deframer → dst ≡ management_device → payload ≡ take n (drop header_size s.deframer)
     → pending ≡ after_first n s.deframer → GoesOn s.deframer (Some (first_frame n s.deframer)) pending
     → HearsGet s.state (heard_frame src payload) asked attr kept
@@ -93,7 +97,8 @@ asks_single s t pending payload kept src dst n asked attr listening whole src_is
 -- ---- its answer
 
 -- the frame of the answer is returned at once
-pub answers_any : (s t : Session) (asked : Asked) (reply : Reply) (text : List ℕ) (outgoing : Option Sending) → s.task ≡ Await asked
+pub answers_any : (s t : Session) (asked : Asked) (reply : Reply) (text : List ℕ)
+    (outgoing : Option Sending) → s.task ≡ Await asked
     → text ≡ reply_text asked reply → outgoing ≡ outgoing_by asked reply
     → t ≡ record { password = s.password; deframer = s.deframer; is_finished = s.is_finished; state = record { link = s.state.link; incoming = s.state.incoming; outgoing = outgoing }; task = Listen }
     → AnswersBy s reply text t

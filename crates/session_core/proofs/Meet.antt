@@ -46,7 +46,8 @@ unreleased_by true false f link = refl
 unreleased_by false true f link = refl
 unreleased_by false false f link = refl
 
-unreleased_more : (f : Frame) (later : List Frame) (link : Option Link) → unreleased link (f ∷ later) ≡ link_in f (unreleased link later)
+unreleased_more : (f : Frame) (later : List Frame) (link : Option Link)
+    → unreleased link (f ∷ later) ≡ link_in f (unreleased link later)
 unreleased_more f later None = refl
 unreleased_more f later (Some link) =
     elim (list_any (is_closing link) later) as (λ b. (if is_closing link f || b then None else Some link) ≡ link_in f (if b then None else Some link)) [
@@ -61,7 +62,8 @@ link_step password f last later true = unreleased_none (opened_by password f)
 link_step password f last later false = unreleased_more f later (option_and_then (opened_by password) last)
 
 -- the association after one more frame
-pub link_more : (password : List ℕ) (f : Frame) (earlier : List Frame) → link_of password (f ∷ earlier) ≡ link_after password f (link_of password earlier)
+pub link_more : (password : List ℕ) (f : Frame) (earlier : List Frame)
+    → link_of password (f ∷ earlier) ≡ link_after password f (link_of password earlier)
 unfolding link_of link_after
 link_more password f earlier = link_step password f (find opens earlier) (since opens earlier) (opens f)
 
@@ -79,7 +81,8 @@ never : (b : Bool) (incoming : Option Incoming) → (if b && false then incoming
 never true incoming = refl
 never false incoming = refl
 
-last_by : (last : Bool) (incoming : Option Incoming) → (if last then None else incoming) ≡ (if not last && true then incoming else None)
+last_by : (last : Bool) (incoming : Option Incoming) → (if last then None else incoming)
+    ≡ (if not last && true then incoming else None)
 last_by true incoming = refl
 last_by false incoming = refl
 
@@ -104,7 +107,8 @@ added p block n bytes =
     ∙ ap (λ (size : ℕ). if goes_on (n + 1) (Some block) && not (nat_lt max_joined size) then going p (n + 1) (bytes ++ block.raw) else None) (sym (length-append bytes block.raw))
 
 -- the transfer after a first request
-first_block : (p : Purpose) (block : DataBlock) → incoming_by [] (record { purpose = p; block = block }) ≡ block_after p block no_blocks
+first_block : (p : Purpose) (block : DataBlock)
+    → incoming_by [] (record { purpose = p; block = block }) ≡ block_after p block no_blocks
 first_block p block =
     ap (λ (b : Bool). if b && not (too_long block.raw) then going p 1 block.raw else None) (and_true (goes_on 1 (Some block)))
     ∙ sym (added p block 0 [])
@@ -114,7 +118,8 @@ longer : (bytes raw : List ℕ) → too_long bytes ≡ true → too_long (bytes 
 longer bytes raw e = let h = leb-true (max_joined + 1) (length bytes) e in le-leb (max_joined + 1) (length (bytes ++ raw)) (omega (arith, length-append bytes raw))
 
 -- the transfer after one more block of its service, by whether the bytes before were too many
-later_long : (K : Option Incoming → Option Incoming) (p : Purpose) (n : ℕ) (bytes : List ℕ) (block : DataBlock) (long : Bool) → too_long bytes ≡ long
+later_long : (K : Option Incoming → Option Incoming) (p : Purpose) (n : ℕ) (bytes : List ℕ)
+    (block : DataBlock) (long : Bool) → too_long bytes ≡ long
     → K None ≡ None → K (going p n bytes) ≡ block_after p block (record { number = n; bytes = bytes; is_open = true })
     → (if goes_on (n + 1) (Some block) && not (too_long (bytes ++ block.raw)) then going p (n + 1) (bytes ++ block.raw) else None) ≡ K (if not long then going p n bytes else None)
 later_long K p n bytes block true e none some =
@@ -123,7 +128,8 @@ later_long K p n bytes block true e none some =
     ∙ sym none
 later_long K p n bytes block false e none some = sym (added p block n bytes) ∙ sym some
 
-later_block : (K : Option Incoming → Option Incoming) (p : Purpose) (first others : Bool) (n : ℕ) (bytes : List ℕ) (block : DataBlock)
+later_block : (K : Option Incoming → Option Incoming) (p : Purpose) (first others : Bool) (n : ℕ)
+    (bytes : List ℕ) (block : DataBlock)
     → K None ≡ None → K (going p n bytes) ≡ block_after p block (record { number = n; bytes = bytes; is_open = true })
     → (if first && (others && goes_on (n + 1) (Some block)) && not (too_long (bytes ++ block.raw)) then going p (n + 1) (bytes ++ block.raw) else None)
     ≡ K (if first && others && not (too_long bytes) then going p n bytes else None)
@@ -132,7 +138,8 @@ later_block K p true false n bytes block none some = sym none
 later_block K p true true n bytes block none some = later_long K p n bytes block (too_long bytes) refl none some
 
 -- the transfer after a block of the other service
-other_block : (K : Option Incoming → Option Incoming) (next : Option Incoming) (p : Purpose) (first others short next_short : Bool) (n : ℕ) (bytes : List ℕ)
+other_block : (K : Option Incoming → Option Incoming) (next : Option Incoming) (p : Purpose)
+    (first others short next_short : Bool) (n : ℕ) (bytes : List ℕ)
     → K None ≡ None → K (going p n bytes) ≡ None
     → (if first && (others && false) && next_short then next else None) ≡ K (if first && others && short then going p n bytes else None)
 other_block K next p false others short next_short n bytes none some = sym none
@@ -141,7 +148,8 @@ other_block K next p true true true next_short n bytes none some = sym some
 other_block K next p true true false next_short n bytes none some = sym none
 
 -- the transfer after one more later request
-follows_block : (s : LongService) (block : DataBlock) (later : List Role) (p : Purpose) (first : DataBlock)
+follows_block : (s : LongService) (block : DataBlock) (later : List Role) (p : Purpose)
+    (first : DataBlock)
     → incoming_by (follows s block ∷ later) (record { purpose = p; block = first }) ≡ later_after block (transfer_of s (incoming_by later (record { purpose = p; block = first })))
 follows_block service.Set block later (purpose.Set target) first =
     later_block (λ i. later_after block (transfer_of service.Set i)) (purpose.Set target) (goes_on 1 (Some first)) (in_order service.Set later) (blocks_so_far later)
@@ -163,7 +171,8 @@ follows_more service.Action block later None = refl
 follows_more s block later (Some first) = follows_block s block later first.purpose first.block
 
 -- the transfer after one more request
-role_more : (role : Role) (roles : List Role) → incoming_among (role ∷ roles) ≡ incoming_by_role role (incoming_among roles)
+role_more : (role : Role) (roles : List Role) → incoming_among (role ∷ roles)
+    ≡ incoming_by_role role (incoming_among roles)
 role_more (starts p block) roles = first_block p block
 role_more (follows s block) roles = follows_more s block (since is_no_later_form roles) (option_and_then first_of (find is_no_later_form roles))
 role_more (gets form) roles = refl
@@ -171,13 +180,15 @@ role_more (gets_next number) roles = refl
 role_more stops roles = refl
 
 -- the transfer after one more request, which may release the association
-call_more : (c : Call) (roles : List Role) → (if is_release c then None else incoming_among (role_of c ∷ roles)) ≡ incoming_by_role (role_of c) (incoming_among roles)
+call_more : (c : Call) (roles : List Role) → (if is_release c then None else incoming_among
+    (role_of c ∷ roles)) ≡ incoming_by_role (role_of c) (incoming_among roles)
 call_more call.Release roles = refl
 call_more (call.Service r) roles = role_more (role_of_request r) roles
 call_more (call.Refused exception) roles = refl
 
 -- a function of an association that a frame may release
-and_then_unless : {X : Type 0} (G : Link → Option X) (gone : Bool) (link : Link) → option_and_then G (if gone then None else Some link) ≡ (if gone then None else G link)
+and_then_unless : {X : Type 0} (G : Link → Option X) (gone : Bool) (link : Link)
+    → option_and_then G (if gone then None else Some link) ≡ (if gone then None else G link)
 and_then_unless G true link = refl
 and_then_unless G false link = refl
 
@@ -215,7 +226,9 @@ unfolding link_after incoming_after
 incoming_at_link password f earlier link = incoming_step password f (since opens earlier) link (opens f)
 
 -- the long SET or ACTION after one more frame
-pub incoming_more : (password : List ℕ) (f : Frame) (earlier : List Frame) → incoming_of password (f ∷ earlier) ≡ incoming_after (link_of password earlier) f (incoming_of password earlier)
+pub incoming_more : (password : List ℕ) (f : Frame) (earlier : List Frame)
+    → incoming_of password (f ∷ earlier) ≡ incoming_after (link_of password earlier) f
+    (incoming_of password earlier)
 unfolding incoming_of
 incoming_more password f earlier =
     ap (option_and_then (λ (l : Link). incoming_among (heard l (f ∷ earlier)))) (link_more password f earlier)
@@ -224,7 +237,8 @@ incoming_more password f earlier =
 -- ---- a long GET
 
 -- a text that is all sent stays all sent
-all_sent : (number : ℕ) (s : Sending) → nat_le (length s.text) (number * s.size) ≡ true → nat_le (length s.text) ((number + 1) * s.size) ≡ true
+all_sent : (number : ℕ) (s : Sending) → nat_le (length s.text) (number * s.size) ≡ true
+    → nat_le (length s.text) ((number + 1) * s.size) ≡ true
 all_sent number s e = let h = leb-true (length s.text) (number * s.size) e in le-leb (length s.text) ((number + 1) * s.size) (omega arith)
 
 none_by : (b : Bool) → (if b then None else None) ≡ (let none : Option Sending = None in none)
@@ -236,7 +250,8 @@ next_by : (right : Bool) (number : ℕ) (s : Sending)
 next_by true number s = refl
 next_by false number s = refl
 
-next_sent : (named number : ℕ) (s : Sending) (all : Bool) → nat_le (length s.text) (number * s.size) ≡ all
+next_sent : (named number : ℕ) (s : Sending) (all : Bool) → nat_le (length s.text) (number * s.size)
+    ≡ all
     → (if named == number then transfer_after (number + 1) s else None) ≡ transfer_after_next named (if all then None else Some (record { text = s.text; number = number; size = s.size; is_open = true }))
 unfolding transfer_after_next
 next_sent named number s true e =
@@ -313,7 +328,9 @@ unfolding link_after outgoing_after
 outgoing_at_link password p past link = outgoing_step password p (since (λ (q : Past). opens q.frame) past) link (opens p.frame)
 
 -- the long GET after one more frame and the reply to its event
-pub outgoing_more : (password : List ℕ) (p : Past) (past : List Past) → outgoing_of password (p ∷ past) ≡ outgoing_after (link_of password (frames_past past)) p.frame p.reply (outgoing_of password past)
+pub outgoing_more : (password : List ℕ) (p : Past) (past : List Past)
+    → outgoing_of password (p ∷ past) ≡ outgoing_after (link_of password (frames_past past)) p.frame
+    p.reply (outgoing_of password past)
 unfolding outgoing_of
 outgoing_more password p past =
     ap (option_and_then (λ (l : Link). outgoing_among l (heard_past l (p ∷ past)))) (link_more password p.frame (frames_past past))
@@ -321,7 +338,8 @@ outgoing_more password p past =
 
 -- ---- two walks whose states correspond
 
-same_asks : {S T : Type 0} (h : S → T) (event_s : S → Frame → Option Event) (next_s : S → Frame → S) (event_t : T → Frame → Option Event) (next_t : T → Frame → T)
+same_asks : {S T : Type 0} (h : S → T) (event_s : S → Frame → Option Event) (next_s : S → Frame
+    → S) (event_t : T → Frame → Option Event) (next_t : T → Frame → T)
     → ((s : S) (f : Frame) → event_s s f ≡ event_t (h s) f) → ((s : S) (f : Frame) → h (next_s s f) ≡ next_t (h s) f)
     → (s : S) (fs : List Frame) → asks_along event_s next_s s fs ≡ asks_along event_t next_t (h s) fs
 same_asks h event_s next_s event_t next_t e n s [] = refl
@@ -330,13 +348,16 @@ same_asks {T = T} h event_s next_s event_t next_t e n s (f ∷ fs) =
     ∙ ap (λ (events : List Event). option_to_list (event_t (h s) f) ++ events)
     (same_asks h event_s next_s event_t next_t e n (next_s s f) fs ∙ ap (λ (t : T). asks_along event_t next_t t fs) (n s f))
 
-pub same_from : (outcome : Outcome) (later_s later_t : Option Reply → List Reply → List (List ℕ)) → ((reply : Option Reply) (replies : List Reply) → later_s reply replies ≡ later_t reply replies)
+pub same_from : (outcome : Outcome) (later_s later_t : Option Reply → List Reply → List (List ℕ))
+    → ((reply : Option Reply) (replies : List Reply) → later_s reply replies
+    ≡ later_t reply replies)
     → (replies : List Reply) → answers_from outcome later_s replies ≡ answers_from outcome later_t replies
 same_from (says to answer) later_s later_t same replies = ap (λ (texts : List (List ℕ)). due_text to (answer_text answer) ∷ texts) (same None replies)
 same_from (asks event asked) later_s later_t same [] = refl
 same_from (asks event asked) later_s later_t same (reply ∷ replies) = ap (λ (texts : List (List ℕ)). reply_text asked reply ∷ texts) (same (Some reply) replies)
 
-same_answers : {S T : Type 0} (h : S → T) (outcome_s : S → Frame → Outcome) (next_s : S → Frame → Option Reply → S) (outcome_t : T → Frame → Outcome) (next_t : T → Frame → Option Reply → T)
+same_answers : {S T : Type 0} (h : S → T) (outcome_s : S → Frame → Outcome) (next_s : S → Frame
+    → Option Reply → S) (outcome_t : T → Frame → Outcome) (next_t : T → Frame → Option Reply → T)
     → ((s : S) (f : Frame) → outcome_s s f ≡ outcome_t (h s) f) → ((s : S) (f : Frame) (reply : Option Reply) → h (next_s s f reply) ≡ next_t (h s) f reply)
     → (s : S) (fs : List Frame) (replies : List Reply) → answers_along outcome_s next_s s fs replies ≡ answers_along outcome_t next_t (h s) fs replies
 same_answers h outcome_s next_s outcome_t next_t e n s [] replies = refl
@@ -355,10 +376,13 @@ known_of password earlier = record { link = link_of password earlier; incoming =
 abbrev state_of : List ℕ → List Past → State
 state_of password past = record { link = link_of password (frames_past past); incoming = incoming_of password (frames_past past); outgoing = outgoing_of password past }
 
-known_more : (password : List ℕ) (earlier : List Frame) (f : Frame) → known_of password (f ∷ earlier) ≡ known_after password (known_of password earlier) f
+known_more : (password : List ℕ) (earlier : List Frame) (f : Frame)
+    → known_of password (f ∷ earlier) ≡ known_after password (known_of password earlier) f
 known_more password earlier f = let a = link_more password f earlier in let b = incoming_more password f earlier in cc
 
-state_more : (password : List ℕ) (past : List Past) (f : Frame) (reply : Option Reply) → state_of password (record { frame = f; reply = reply } ∷ past) ≡ state_after password (state_of password past) f reply
+state_more : (password : List ℕ) (past : List Past) (f : Frame) (reply : Option Reply)
+    → state_of password (record { frame = f; reply = reply } ∷ past)
+    ≡ state_after password (state_of password past) f reply
 state_more password past f reply =
     let a = link_more password f (frames_past past) in
     let b = incoming_more password f (frames_past past) in
@@ -374,7 +398,8 @@ unfolding link_of incoming_of outgoing_of
 state_none password = refl
 
 -- the events are equal
-pub same_events : (password input : List ℕ) → Asks password input ≡ asks_on password (known_in new_state) (to_server (frames_of input))
+pub same_events : (password input : List ℕ) → Asks password input
+    ≡ asks_on password (known_in new_state) (to_server (frames_of input))
 unfolding Asks
 same_events password input =
     same_asks (known_of password) (λ earlier f. turn_event (turn_of password (link_of password earlier) (incoming_of password earlier) f)) (λ earlier f. f ∷ earlier) (event_at password) (known_after password) (λ earlier f. refl) (known_more password) []
@@ -382,7 +407,8 @@ same_events password input =
     ∙ ap (λ (k : Known). asks_on password k (to_server (frames_of input))) (known_none password)
 
 -- the answers are equal
-pub same_texts : (password input : List ℕ) (replies : List Reply) → Answers password input replies ≡ answers_on password new_state (to_server (frames_of input)) replies
+pub same_texts : (password input : List ℕ) (replies : List Reply) → Answers password input replies
+    ≡ answers_on password new_state (to_server (frames_of input)) replies
 unfolding Answers
 same_texts password input replies =
     same_answers (state_of password) (λ past f. outcome_of_turn (outgoing_of password past) (turn_of password (link_of password (frames_past past)) (incoming_of password (frames_past past)) f))

@@ -13,7 +13,8 @@ use Rattle.session_core.specs.declared.asked.ReplyForm.TheVariants as form
 use Rattle.xdlms_apdu.specs.Text.{response_text}
 
 -- the index of the result code is within the bytes
-pub within : (f : ReplyForm) (was : ResultCode) → code_place f < length (answer_text (Service (code_response f was)))
+pub within : (f : ReplyForm) (was : ResultCode)
+    → code_place f < length (answer_text (Service (code_response f was)))
 unfolding answer_text response_text
 within (form.Get id) was = lit≤ tt
 within (form.GetList id) was = lit≤ tt
@@ -22,7 +23,9 @@ within (form.SetLastBlock id number) was = lit≤ tt
 within (form.Action id) was = lit≤ tt
 
 -- the bytes with another result code
-pub placed : (f : ReplyForm) (was code : ResultCode) → set (answer_text (Service (code_response f was))) (code_place f) (code_of code) ≡ answer_text (Service (code_response f code))
+pub placed : (f : ReplyForm) (was code : ResultCode)
+    → set (answer_text (Service (code_response f was))) (code_place f) (code_of code)
+    ≡ answer_text (Service (code_response f code))
 unfolding answer_text response_text
 placed (form.Get id) was code = refl
 placed (form.GetList id) was code = refl
@@ -50,6 +53,7 @@ not_long (form.Set id) reply e = refl
 not_long (form.SetLastBlock id number) reply e = refl
 not_long (form.Action id) reply e = refl
 
-pub valueless : (asked : Asked) (reply : Reply) → is_valueless reply ≡ true → reply_response asked reply ≡ code_response asked.form (reply_code reply)
+pub valueless : (asked : Asked) (reply : Reply) → is_valueless reply ≡ true
+    → reply_response asked reply ≡ code_response asked.form (reply_code reply)
 unfolding reply_response
 valueless asked reply e = ap (response_by asked reply) (not_long asked.form reply e)

@@ -17,7 +17,8 @@ use Rattle.xdlms_apdu.specs.declared.response.Response.{Response}
 use Rattle.xdlms_apdu.specs.declared.response.Response.TheVariants as response
 
 -- the list that three tests choose is short, if the last test is true
-few_if : (a b c : Bool) (w x y z : List ℕ) → c ≡ true → length w ≤ 3 → length x ≤ 3 → length y ≤ 3 → length (cond a w (cond b x (cond c y z))) ≤ 3
+few_if : (a b c : Bool) (w x y z : List ℕ) → c ≡ true → length w ≤ 3 → length x ≤ 3 → length y ≤ 3
+    → length (cond a w (cond b x (cond c y z))) ≤ 3
 few_if true b c w x y z e p q r = p
 few_if false true c w x y z e p q r = q
 few_if false false true w x y z e p q r = r
@@ -29,7 +30,9 @@ length_few n h =
     few_if (nat_lt n 0x80) (nat_lt n (2 ^ 8)) (nat_lt n (2 ^ 16)) (n ∷ []) (0x81 ∷ bytes_high_first 1 n) (0x82 ∷ bytes_high_first 2 n) _
     (le-leb (suc n) (2 ^ 16) (omega arith)) (lit≤ tt) (lit≤ tt) (lit≤ tt)
 
-short_aare : (result diagnostic : ℕ) (i : Info) → length (aare_text (record { result = result; diagnostic = diagnostic; info = i })) ≤ greatest_pdu
+short_aare : (result diagnostic : ℕ) (i : Info)
+    → length (aare_text (record { result = result; diagnostic = diagnostic; info = i })) ≤
+    greatest_pdu
 unfolding aare_text
 short_aare result diagnostic info.Absent = lit≤ tt
 short_aare result diagnostic (info.Response bits limit) = lit≤ tt

@@ -70,7 +70,8 @@ sending_with (asks event asked) None outgoing = outgoing
 sending_with (asks event asked) (Some reply) outgoing = outgoing_by asked reply
 
 -- a value that arrived in blocks begins no long GET
-read_by : (link : Link) (p : Purpose) (id : InvokeId) (number : ℕ) (reply : Option Reply) (event : Event)
+read_by : (link : Link) (p : Purpose) (id : InvokeId) (number : ℕ) (reply : Option Reply)
+    (event : Event)
     → None ≡ sending_with (asks event (record { link = link; form = form_by p id number })) reply None
 unfolding begun_by
 read_by link (purpose.Set target) id number None event = refl
@@ -78,7 +79,8 @@ read_by link (purpose.Set target) id number (Some reply) event = refl
 read_by link (purpose.Action method) id number None event = refl
 read_by link (purpose.Action method) id number (Some reply) event = refl
 
-read_whole : (joined : Joined) (reply : Option Reply) → None ≡ sending_with (whole_outcome joined) reply None
+read_whole : (joined : Joined) (reply : Option Reply) → None
+    ≡ sending_with (whole_outcome joined) reply None
 unfolding whole_outcome
 read_whole joined reply =
     elim (whole_data joined.bytes) as (λ d. None ≡ sending_with (whole_by_data joined d) reply None) [
@@ -86,7 +88,8 @@ read_whole joined reply =
       | None ↦ refl
     ]
 
-block_by : (link : Link) (id : InvokeId) (p : Purpose) (block : DataBlock) (j : Joining) (reply : Option Reply) → None ≡ sending_with (block_outcome_of link id p block j) reply None
+block_by : (link : Link) (id : InvokeId) (p : Purpose) (block : DataBlock) (j : Joining)
+    (reply : Option Reply) → None ≡ sending_with (block_outcome_of link id p block j) reply None
 unfolding block_outcome_of
 block_by link id p block j reply =
     elim (fault_of block j) as (λ f. None ≡ sending_with (outcome_by_fault link id p block j f) reply None) [
@@ -94,15 +97,20 @@ block_by link id p block j reply =
       | None ↦ last_by block.last
     ]
   where
-    last_by : (last : Bool) → None ≡ sending_with (outcome_by_fault link id p (record { last = last; number = block.number; raw = block.raw }) j None) reply None
+    last_by : (last : Bool) → None ≡ sending_with
+        (outcome_by_fault link id p (record { last = last; number = block.number; raw = block.raw })
+        j None) reply None
     last_by true = read_whole _ reply
     last_by false = refl
 
-later_by : (link : Link) (s : LongService) (id : InvokeId) (block : DataBlock) (transfer : Option Incoming) (reply : Option Reply) → None ≡ sending_with (later_outcome link s id block transfer) reply None
+later_by : (link : Link) (s : LongService) (id : InvokeId) (block : DataBlock)
+    (transfer : Option Incoming) (reply : Option Reply) → None
+    ≡ sending_with (later_outcome link s id block transfer) reply None
 later_by link s id block None reply = refl
 later_by link s id block (Some incoming) reply = block_by link id incoming.purpose block incoming.blocks reply
 
-request_by : (link : Link) (incoming : Option Incoming) (outgoing : Option Sending) (reply : Option Reply) (r : Request)
+request_by : (link : Link) (incoming : Option Incoming) (outgoing : Option Sending)
+    (reply : Option Reply) (r : Request)
     → outgoing_by_role link (role_of_request r) reply outgoing ≡ sending_with (outcome_of_turn outgoing (request_turn link incoming r)) reply (outgoing_by_role link (role_of_request r) None outgoing)
 unfolding begun_by
 request_by link incoming outgoing None (request.Get id target) = refl
@@ -119,21 +127,24 @@ request_by link incoming outgoing (Some reply) (request.Action id method paramet
 request_by link incoming outgoing reply (request.ActionFirst id method block) = block_by link id (purpose.Action method) block no_blocks reply
 request_by link incoming outgoing reply (request.ActionNext id block) = later_by link service.Action id block (transfer_of service.Action incoming) reply
 
-call_by : (link : Link) (incoming : Option Incoming) (outgoing : Option Sending) (reply : Option Reply) (c : Call)
+call_by : (link : Link) (incoming : Option Incoming) (outgoing : Option Sending)
+    (reply : Option Reply) (c : Call)
     → outgoing_by_role link (role_of c) reply outgoing ≡ sending_with (outcome_of_turn outgoing (call_turn link incoming c)) reply (outgoing_by_role link (role_of c) None outgoing)
 call_by link incoming outgoing reply call.Release = refl
 call_by link incoming outgoing reply (call.Service r) = request_by link incoming outgoing reply r
 call_by link incoming outgoing reply (call.Refused exception) = refl
 
 -- the long GET after a service, by whether the frame is from the client of the association
-client_by : (link : Link) (incoming : Option Incoming) (outgoing : Option Sending) (reply : Option Reply) (f : Frame) (here : Bool)
+client_by : (link : Link) (incoming : Option Incoming) (outgoing : Option Sending)
+    (reply : Option Reply) (f : Frame) (here : Bool)
     → (if true && here then outgoing_by_role link (role_in link f) reply outgoing else outgoing)
     ≡ sending_with (outcome_of_turn outgoing (if here then call_turn link incoming (call_in link f) else settled (says f.src (exception_answer NotAllowed)))) reply (if true && here then outgoing_by_role link (role_in link f) None outgoing else outgoing)
 client_by link incoming outgoing reply f true = call_by link incoming outgoing reply (call_in link f)
 client_by link incoming outgoing reply f false = refl
 
 -- the long GET after a frame, by whether it is a request
-called_by : (link : Option Link) (incoming : Option Incoming) (outgoing : Option Sending) (reply : Option Reply) (f : Frame) (calls : Bool) → is_call f.payload ≡ calls
+called_by : (link : Option Link) (incoming : Option Incoming) (outgoing : Option Sending)
+    (reply : Option Reply) (f : Frame) (calls : Bool) → is_call f.payload ≡ calls
     → outgoing_in link f reply outgoing
     ≡ sending_with (outcome_of_turn outgoing (if calls then turn_in link incoming f else settled (says f.src (exception_answer Unknown)))) reply (outgoing_in link f None outgoing)
 called_by None incoming outgoing reply f true e = refl
@@ -178,19 +189,22 @@ frame_texts : (password : List ℕ) (s : State) (f : Frame) (fs : List Frame) (r
 frame_texts password s f fs replies =
     same_from (outcome_at password s f) _ _ (λ reply rest. ap (λ (t : State). answers_on password t fs rest) (replied_after password s f reply)) replies
 
-awaited_texts : (password : List ℕ) (s : State) (event : Event) (asked : Asked) (fs : List Frame) (replies : List Reply)
+awaited_texts : (password : List ℕ) (s : State) (event : Event) (asked : Asked) (fs : List Frame)
+    (replies : List Reply)
     → texts_from password s (asks event asked) fs replies ≡ texts_after password s asked fs replies
 awaited_texts password s event asked fs [] = refl
 awaited_texts password s event asked fs (reply ∷ replies) = refl
 
-step_texts : (password : List ℕ) (s : State) (st : TurnStep) (fs : List Frame) (replies : List Reply)
+step_texts : (password : List ℕ) (s : State) (st : TurnStep) (fs : List Frame)
+    (replies : List Reply)
     → texts_from password s (step_outcome st) fs replies ≡ texts_of password s (task_by st) fs replies
 step_texts password s (step.Ask event asked) fs replies = awaited_texts password s event asked fs replies
 step_texts password s (step.Say due) fs replies = refl
 step_texts password s (step.Join joined) fs replies = refl
 
 -- the event of a frame is the event of its outcome
-turn_asks : (outgoing : Option Sending) (t : Turn) → turn_event t ≡ event_of (outcome_of_turn outgoing t)
+turn_asks : (outgoing : Option Sending) (t : Turn) → turn_event t
+    ≡ event_of (outcome_of_turn outgoing t)
 turn_asks outgoing (settled outcome) = refl
 turn_asks outgoing (continues to id number) = refl
 
@@ -227,11 +241,14 @@ task_ends (step.Join joined) end = refl
 
 -- A task leads to a step that has the task's events and texts.
 record ComesTo (password : List ℕ) (s : State) (task : SessionTask) (t : State) (st : TurnStep) : Type 0 where
-  asks : (fs : List Frame) → asks_of password s task fs ≡ option_to_list (event_of (step_outcome st)) ++ asks_on password (known_in t) fs
-  texts : (fs : List Frame) (replies : List Reply) → texts_of password s task fs replies ≡ texts_from password t (step_outcome st) fs replies
+  asks : (fs : List Frame) → asks_of password s task fs
+      ≡ option_to_list (event_of (step_outcome st)) ++ asks_on password (known_in t) fs
+  texts : (fs : List Frame) (replies : List Reply) → texts_of password s task fs replies
+      ≡ texts_from password t (step_outcome st) fs replies
   ends : (end : SessionEnd) → ends_of task end ≡ end
 
-steps_to : (password pending : List ℕ) (finished : Bool) (s t : State) (task : SessionTask) (st : TurnStep) → ComesTo password s task t st
+steps_to : (password pending : List ℕ) (finished : Bool) (s t : State) (task : SessionTask)
+    (st : TurnStep) → ComesTo password s task t st
     → Steps (session password pending finished s task) (asked_in (next_by st)) [] (session password pending finished t (task_by st))
 unfolding still_asks still_sends still_ends is_finished
 steps_to password pending finished s t task st c = record {
@@ -241,7 +258,9 @@ steps_to password pending finished s t task st c = record {
   finished = refl;
 }
 
-works_to : (E : Type 0) (password pending : List ℕ) (finished : Bool) (s t : State) (task : SessionTask) (st : TurnStep) → ComesTo password s task t st → task_load (task_by st) < task_load task
+works_to : (E : Type 0) (password pending : List ℕ) (finished : Bool) (s t : State)
+    (task : SessionTask) (st : TurnStep) → ComesTo password s task t st
+    → task_load (task_by st) < task_load task
     → WorksBy {E = E} (session password pending finished s task) (Ok (next_by st)) (session password pending finished t (task_by st))
 unfolding load is_asking still_sends
 works_to E password pending finished s t task (step.Ask event asked) c less =
@@ -255,7 +274,8 @@ read_load (step.Say due) done = omega arith
 read_load (step.Join joined) done = absurd cc
 
 -- joined bytes are decoded
-pub reads : (E : Type 0) (password pending : List ℕ) (finished : Bool) (s : State) (joined : Joined) (st : TurnStep)
+pub reads : (E : Type 0) (password pending : List ℕ) (finished : Bool) (s : State) (joined : Joined)
+    (st : TurnStep)
     → step_outcome st ≡ whole_outcome joined → IsTrue (is_settled st)
     → WorksBy {E = E} (session password pending finished s (Read joined)) (Ok (next_by st)) (session password pending finished s (task_by st))
 reads E password pending finished s joined st outcome done =
@@ -267,7 +287,8 @@ reads E password pending finished s joined st outcome done =
     })
     (read_load st done)
 
-says_steps : (password pending : List ℕ) (finished : Bool) (s : State) (due : Due) (text : List ℕ) → text ≡ due_text due.to (answer_text due.answer)
+says_steps : (password pending : List ℕ) (finished : Bool) (s : State) (due : Due) (text : List ℕ)
+    → text ≡ due_text due.to (answer_text due.answer)
     → Steps (session password pending finished s (Say due)) [] (text ∷ []) (session password pending finished s Listen)
 unfolding still_asks still_sends still_ends is_finished
 says_steps password pending finished s due text e = record {
@@ -278,7 +299,8 @@ says_steps password pending finished s due text e = record {
 }
 
 -- an answer is written
-pub says_text : (E : Type 0) (password pending : List ℕ) (finished : Bool) (s : State) (due : Due) (text : List ℕ) → text ≡ due_text due.to (answer_text due.answer)
+pub says_text : (E : Type 0) (password pending : List ℕ) (finished : Bool) (s : State) (due : Due)
+    (text : List ℕ) → text ≡ due_text due.to (answer_text due.answer)
     → WorksBy {E = E} (session password pending finished s (Say due)) (Ok (Some (next.Send text))) (session password pending finished s Listen)
 unfolding still_asks still_sends still_ends is_finished is_asking load
 says_text E password pending finished s due text e = (says_steps password pending finished s due text e, (refl, omega arith))
@@ -289,7 +311,8 @@ unfolding still_asks still_sends still_ends is_finished
 gives_steps password pending finished s text = record { asks = λ more. refl; sends = λ more replies. refl; ends = λ more. refl; finished = refl }
 
 -- a frame is returned
-pub gives_text : (E : Type 0) (password pending : List ℕ) (finished : Bool) (s : State) (text : List ℕ)
+pub gives_text : (E : Type 0) (password pending : List ℕ) (finished : Bool) (s : State)
+    (text : List ℕ)
     → WorksBy {E = E} (session password pending finished s (Send text)) (Ok (Some (next.Send text))) (session password pending finished s Listen)
 unfolding still_asks still_sends still_ends is_finished is_asking load
 gives_text E password pending finished s text = (gives_steps password pending finished s text, (refl, omega arith))
@@ -299,7 +322,8 @@ pub stays : (s : Session) → Steps s [] [] s
 stays s = record { asks = λ more. refl; sends = λ more replies. refl; ends = λ more. refl; finished = refl }
 
 -- a reply is awaited
-pub awaits_reply : (E : Type 0) (password pending : List ℕ) (finished : Bool) (s : State) (asked : Asked)
+pub awaits_reply : (E : Type 0) (password pending : List ℕ) (finished : Bool) (s : State)
+    (asked : Asked)
     → WorksBy {E = E} (session password pending finished s (Await asked)) (Ok (Some next.Wait)) (session password pending finished s (Await asked))
 unfolding is_asking still_sends
 awaits_reply E password pending finished s asked = (stays (session password pending finished s (Await asked)), inl (refl, record { asking = refl; sends = λ more. refl }))
@@ -307,7 +331,8 @@ awaits_reply E password pending finished s asked = (stays (session password pend
 -- ---- frames are taken
 
 -- a whole frame has a header
-long_by : (b : Bool) (bytes : List ℕ) (n : ℕ) (h : Head) → nat_lt (length bytes) header_size ≡ b → (if b then head.Part else h) ≡ head.Whole n → header_size ≤ length bytes
+long_by : (b : Bool) (bytes : List ℕ) (n : ℕ) (h : Head) → nat_lt (length bytes) header_size ≡ b
+    → (if b then head.Part else h) ≡ head.Whole n → header_size ≤ length bytes
 long_by true bytes n h short e = absurd cc
 long_by false bytes n h short e = ltb-false (length bytes) header_size short
 
@@ -315,14 +340,16 @@ long : (bytes : List ℕ) (n : ℕ) → head_of bytes ≡ head.Whole n → heade
 unfolding head_of
 long bytes n e = long_by (nat_lt (length bytes) header_size) bytes n _ refl e
 
-shorter : (old : List ℕ) (n : ℕ) (new : List ℕ) → head_of old ≡ head.Whole n → new ≡ after_first n old → length new + header_size ≤ length old
+shorter : (old : List ℕ) (n : ℕ) (new : List ℕ) → head_of old ≡ head.Whole n → new
+    ≡ after_first n old → length new + header_size ≤ length old
 shorter old n new whole after =
     let enough = long old n whole in
     let size = length-drop (header_size + n) old in
     let same : length new ≡ length (after_first n old) = ap length after in
     omega (arith, enough, size, same)
 
-to_server_by : (b : Bool) (frame : Frame) (fs : List Frame) → (frame.dst == management_device) ≡ b → to_server (frame ∷ fs) ≡ cond b (frame ∷ to_server fs) (to_server fs)
+to_server_by : (b : Bool) (frame : Frame) (fs : List Frame) → (frame.dst == management_device) ≡ b
+    → to_server (frame ∷ fs) ≡ cond b (frame ∷ to_server fs) (to_server fs)
 to_server_by b frame fs e = ap (λ (c : Bool). cond c (frame ∷ to_server fs) (to_server fs)) e
 
 -- the end of a stream depends only on the bytes after its frames
@@ -331,7 +358,8 @@ unfolding end_of
 ends_alike bytes others e = ap (λ (rest : List ℕ). end_by (head_of rest) rest) e
 
 -- a frame for the server is handled
-hears_steps : (password old new : List ℕ) (finished : Bool) (s t : State) (f : Frame) (st : TurnStep) → GoesOn old (Some f) new → (f.dst == management_device) ≡ true
+hears_steps : (password old new : List ℕ) (finished : Bool) (s t : State) (f : Frame)
+    (st : TurnStep) → GoesOn old (Some f) new → (f.dst == management_device) ≡ true
     → ((fs : List Frame) → asks_on password (known_in s) (f ∷ fs) ≡ option_to_list (event_of (step_outcome st)) ++ asks_on password (known_in t) fs)
     → ((fs : List Frame) (replies : List Reply) → answers_on password s (f ∷ fs) replies ≡ texts_from password t (step_outcome st) fs replies)
     → Steps (session password old finished s Listen) (asked_in (next_by st)) [] (session password new finished t (task_by st))
@@ -349,7 +377,8 @@ hears_steps password old new finished s t f st goes_on here events texts = recor
   finished = refl;
 }
 
-heard_load : (old new : ℕ) (st : TurnStep) → new + header_size ≤ old → new + task_load (task_by st) < old + task_load Listen
+heard_load : (old new : ℕ) (st : TurnStep) → new + header_size ≤ old → new
+    + task_load (task_by st) < old + task_load Listen
 heard_load old new (step.Ask event asked) less = omega arith
 heard_load old new (step.Say due) less = omega arith
 heard_load old new (step.Join joined) less = omega arith
@@ -363,7 +392,8 @@ heard_by E password old new finished s t (step.Ask event asked) steps less = (st
 heard_by E password old new finished s t (step.Say due) steps less = (steps, (refl, less))
 heard_by E password old new finished s t (step.Join joined) steps less = (steps, (refl, less))
 
-pub hears : (E : Type 0) (password old new : List ℕ) (finished : Bool) (s t : State) (f : Frame) (n : ℕ) (st : TurnStep)
+pub hears : (E : Type 0) (password old new : List ℕ) (finished : Bool) (s t : State) (f : Frame)
+    (n : ℕ) (st : TurnStep)
     → head_of old ≡ head.Whole n → new ≡ after_first n old → GoesOn old (Some f) new → (f.dst == management_device) ≡ true
     → step_outcome st ≡ outcome_at password s f → t ≡ state_after password s f None
     → WorksBy {E = E} (session password old finished s Listen) (Ok (next_by st)) (session password new finished t (task_by st))
@@ -375,7 +405,8 @@ hears E password old new finished s t f n st whole after goes_on here outcome st
     (heard_load (length old) (length new) st (shorter old n new whole after))
 
 -- a frame for another port is dropped
-pub passes_frame : (E : Type 0) (password old new : List ℕ) (finished : Bool) (s : State) (f : Frame) (n : ℕ)
+pub passes_frame : (E : Type 0) (password old new : List ℕ) (finished : Bool) (s : State)
+    (f : Frame) (n : ℕ)
     → head_of old ≡ head.Whole n → new ≡ after_first n old → GoesOn old (Some f) new → (f.dst == management_device) ≡ false
     → WorksBy {E = E} (session password old finished s Listen) (Ok None) (session password new finished s Listen)
 unfolding still_asks still_sends still_ends is_finished load is_asking
@@ -425,7 +456,8 @@ pub record NoFrame (finished : Bool) (pending : List ℕ) (end : SessionEnd) : T
   pub frames : (more : List ℕ) → frames_of (pending ++ tail finished more) ≡ []
   pub ends : (more : List ℕ) → end_of (pending ++ tail finished more) ≡ end
 
-ends_steps : (password pending : List ℕ) (finished : Bool) (s : State) (end : SessionEnd) → NoFrame finished pending end
+ends_steps : (password pending : List ℕ) (finished : Bool) (s : State) (end : SessionEnd)
+    → NoFrame finished pending end
     → Steps (session password pending finished s Listen) [] [] (session password pending finished s (Over end))
 unfolding still_asks still_sends still_ends is_finished
 ends_steps password pending finished s end none = record {
@@ -435,21 +467,25 @@ ends_steps password pending finished s end none = record {
   finished = refl;
 }
 
-is_over_now : (password pending : List ℕ) (finished : Bool) (s : State) (end : SessionEnd) → IsOver end (session password pending finished s (Over end))
+is_over_now : (password pending : List ℕ) (finished : Bool) (s : State) (end : SessionEnd)
+    → IsOver end (session password pending finished s (Over end))
 unfolding still_asks still_sends still_ends reported_end
 is_over_now password pending finished s end = record { asks = λ more. refl; sends = λ more replies. refl; ends = λ more. refl; over = refl }
 
-pub comes_to_end : (E : Type 0) (password pending : List ℕ) (finished : Bool) (s : State) (end : SessionEnd) → NoFrame finished pending end
+pub comes_to_end : (E : Type 0) (password pending : List ℕ) (finished : Bool) (s : State)
+    (end : SessionEnd) → NoFrame finished pending end
     → WorksBy {E = E} (session password pending finished s Listen) (Ok (Some (next.End end))) (session password pending finished s (Over end))
 comes_to_end E password pending finished s end none = (ends_steps password pending finished s end none, is_over_now password pending finished s end)
 
 -- a session that is over
-pub is_over : (E : Type 0) (password pending : List ℕ) (finished : Bool) (s : State) (end : SessionEnd)
+pub is_over : (E : Type 0) (password pending : List ℕ) (finished : Bool) (s : State)
+    (end : SessionEnd)
     → WorksBy {E = E} (session password pending finished s (Over end)) (Ok (Some (next.End end))) (session password pending finished s (Over end))
 is_over E password pending finished s end = (stays (session password pending finished s (Over end)), is_over_now password pending finished s end)
 
 -- the input ended between two frames, or within one
-end_in_part : (bytes : List ℕ) (end : SessionEnd) → IsPart bytes → end_by head.Part bytes ≡ end → NoFrame true bytes end
+end_in_part : (bytes : List ℕ) (end : SessionEnd) → IsPart bytes → end_by head.Part bytes ≡ end
+    → NoFrame true bytes end
 unfolding end_of
 end_in_part bytes end part e = record {
   frames = λ more. ap frames_of (append-nil bytes) ∙ part.frames;
@@ -467,7 +503,8 @@ pub is_cut : (bytes : List ℕ) → IsPart bytes → bytes ≢ [] → NoFrame tr
 is_cut bytes part some = end_in_part bytes ending.Cut part (cut_by bytes some)
 
 -- an invalid header
-stops_by : (finished : Bool) (bytes : List ℕ) (front : Head) (end : SessionEnd) → Stops front bytes → ((rest : List ℕ) → end_by front rest ≡ end) → NoFrame finished bytes end
+stops_by : (finished : Bool) (bytes : List ℕ) (front : Head) (end : SessionEnd) → Stops front bytes
+    → ((rest : List ℕ) → end_by front rest ≡ end) → NoFrame finished bytes end
 unfolding end_of
 stops_by finished bytes front end stops e = record {
   frames = λ more. stops.frames (tail finished more);
@@ -477,10 +514,12 @@ stops_by finished bytes front end stops e = record {
       ∙ e (bytes ++ tail finished more);
 }
 
-pub is_bad_version : (finished : Bool) (bytes : List ℕ) → Stops head.BadVersion bytes → NoFrame finished bytes ending.BadVersion
+pub is_bad_version : (finished : Bool) (bytes : List ℕ) → Stops head.BadVersion bytes
+    → NoFrame finished bytes ending.BadVersion
 is_bad_version finished bytes stops = stops_by finished bytes head.BadVersion ending.BadVersion stops (λ rest. refl)
 
-pub is_too_long : (finished : Bool) (bytes : List ℕ) → Stops head.TooLong bytes → NoFrame finished bytes ending.TooLong
+pub is_too_long : (finished : Bool) (bytes : List ℕ) → Stops head.TooLong bytes
+    → NoFrame finished bytes ending.TooLong
 is_too_long finished bytes stops = stops_by finished bytes head.TooLong ending.TooLong stops (λ rest. refl)
 
 -- ---- the calls
@@ -495,16 +534,19 @@ fresh password = record {
   goes_on = refl;
 }
 
-pub fresh_by : (password p pending : List ℕ) (s : State) → p ≡ password → pending ≡ [] → s ≡ new_state → Owes password (session p pending false s Listen)
+pub fresh_by : (password p pending : List ℕ) (s : State) → p ≡ password → pending ≡ [] → s
+    ≡ new_state → Owes password (session p pending false s Listen)
 fresh_by password p pending s same empty none = rw (same, empty, none) (fresh password)
 
 -- after the end of the input no bytes are taken
-pub feeds_finished : (password pending : List ℕ) (s : State) (task : SessionTask) (bytes : List ℕ) → Feeds (session password pending true s task) bytes (session password pending true s task)
+pub feeds_finished : (password pending : List ℕ) (s : State) (task : SessionTask) (bytes : List ℕ)
+    → Feeds (session password pending true s task) bytes (session password pending true s task)
 unfolding still_asks still_sends still_ends
 feeds_finished password pending s task bytes = record { asks = λ more. refl; sends = λ more replies. refl; ends = λ more. refl; asking = refl; over = refl; finished = refl }
 
 -- once the session is over no bytes are taken
-pub feeds_over : (password pending : List ℕ) (finished : Bool) (s : State) (end : SessionEnd) (bytes : List ℕ)
+pub feeds_over : (password pending : List ℕ) (finished : Bool) (s : State) (end : SessionEnd)
+    (bytes : List ℕ)
     → Feeds (session password pending finished s (Over end)) bytes (session password pending finished s (Over end))
 unfolding still_asks still_sends still_ends
 feeds_over password pending finished s end bytes = record {
@@ -516,7 +558,9 @@ feeds_over password pending finished s end bytes = record {
   finished = refl;
 }
 
-pub feeds : (password pending : List ℕ) (s : State) (task : SessionTask) (bytes : List ℕ) → Feeds (session password pending false s task) bytes (session password (pending ++ bytes) false s task)
+pub feeds : (password pending : List ℕ) (s : State) (task : SessionTask) (bytes : List ℕ)
+    → Feeds (session password pending false s task) bytes
+    (session password (pending ++ bytes) false s task)
 unfolding still_asks still_sends still_ends is_asking reported_end is_finished
 feeds password pending s task bytes = record {
   asks = λ more. ap (λ (all : List ℕ). asks_of password s task (to_server (frames_of all))) (append_assoc pending bytes more);
@@ -528,7 +572,8 @@ feeds password pending s task bytes = record {
 }
 
 -- after an invalid header no bytes are taken
-feeds_none : (password pending : List ℕ) (s : State) (task : SessionTask) (bytes : List ℕ) (end : SessionEnd) → NoFrame false pending end
+feeds_none : (password pending : List ℕ) (s : State) (task : SessionTask) (bytes : List ℕ)
+    (end : SessionEnd) → NoFrame false pending end
     → Feeds (session password pending false s task) bytes (session password pending false s task)
 unfolding still_asks still_sends still_ends
 feeds_none password pending s task bytes end none = record {
@@ -545,7 +590,8 @@ tail_none true = refl
 tail_none false = refl
 
 -- the input has ended
-pub finishes : (password pending : List ℕ) (finished : Bool) (s : State) (task : SessionTask) → Finishes (session password pending finished s task) (session password pending true s task)
+pub finishes : (password pending : List ℕ) (finished : Bool) (s : State) (task : SessionTask)
+    → Finishes (session password pending finished s task) (session password pending true s task)
 unfolding still_asks still_sends still_ends is_asking reported_end is_finished
 finishes password pending finished s task = record {
   asks = λ more. ap (λ (rest : List ℕ). asks_of password s task (to_server (frames_of (pending ++ rest)))) (sym (tail_none finished));
@@ -557,7 +603,8 @@ finishes password pending finished s task = record {
 }
 
 -- a reply is taken in
-pub takes_reply : (password pending : List ℕ) (finished : Bool) (s : State) (asked : Asked) (reply : Reply) (text : List ℕ) (outgoing : Option Sending)
+pub takes_reply : (password pending : List ℕ) (finished : Bool) (s : State) (asked : Asked)
+    (reply : Reply) (text : List ℕ) (outgoing : Option Sending)
     → text ≡ reply_text asked reply → outgoing ≡ outgoing_by asked reply
     → Takes (session password pending finished s (Await asked)) reply (session password pending finished (record { link = s.link; incoming = s.incoming; outgoing = outgoing }) (Send text))
 unfolding still_asks still_sends still_ends is_asking is_finished load
@@ -573,27 +620,33 @@ takes_reply password pending finished s asked reply text outgoing t o = record {
 -- ---- values in answers
 
 -- the bytes of a long answer that are sent in blocks
-pub value_cut : (id : InvokeId) (value : Data) → answer_with_header id (response.Get id (result.Value value)) 4 ≡ value_answer id value
+pub value_cut : (id : InvokeId) (value : Data)
+    → answer_with_header id (response.Get id (result.Value value)) 4 ≡ value_answer id value
 unfolding response_text
 value_cut id value = refl
 
-pub values_cut : (id : InvokeId) (results : List GetResult) → answer_with_header id (response.GetList id results) 3 ≡ values_answer id results
+pub values_cut : (id : InvokeId) (results : List GetResult)
+    → answer_with_header id (response.GetList id results) 3 ≡ values_answer id results
 unfolding response_text
 values_cut id results = refl
 
 -- ---- the tasks of any session
 
 -- what holds for a session made of its parts holds for the session
-by_parts : (P : Session → Type 0) (s : Session) (finished : Bool) (task : SessionTask) → s.is_finished ≡ finished → s.task ≡ task → P (session s.password s.deframer finished s.state task) → P s
+by_parts : (P : Session → Type 0) (s : Session) (finished : Bool) (task : SessionTask)
+    → s.is_finished ≡ finished → s.task ≡ task
+    → P (session s.password s.deframer finished s.state task) → P s
 by_parts P s finished task f t p =
     subst (λ (b : Bool). P (session s.password s.deframer b s.state s.task)) (sym f) (subst (λ (u : SessionTask). P (session s.password s.deframer finished s.state u)) (sym t) p)
 
 -- the frame at the front, by the fields that were read
-front_frame : (bytes payload : List ℕ) (src dst n : ℕ) → src ≡ src_of bytes → dst ≡ dst_of bytes → payload ≡ take n (drop header_size bytes) → dst ≡ management_device
+front_frame : (bytes payload : List ℕ) (src dst n : ℕ) → src ≡ src_of bytes → dst ≡ dst_of bytes
+    → payload ≡ take n (drop header_size bytes) → dst ≡ management_device
     → first_frame n bytes ≡ heard_frame src payload
 front_frame bytes payload src dst n a b c d = let e : dst_of bytes ≡ management_device = sym b ∙ d in cc
 
-pub hears_any : (E : Type 0) (s t : Session) (pending payload : List ℕ) (kept : State) (src dst n : ℕ) (st : TurnStep) (r : Option Next) → s.task ≡ Listen
+pub hears_any : (E : Type 0) (s t : Session) (pending payload : List ℕ) (kept : State)
+    (src dst n : ℕ) (st : TurnStep) (r : Option Next) → s.task ≡ Listen
     → head_of s.deframer ≡ head.Whole n → src ≡ src_of s.deframer → dst ≡ dst_of s.deframer → dst ≡ management_device → payload ≡ take n (drop header_size s.deframer)
     → pending ≡ after_first n s.deframer → GoesOn s.deframer (Some (first_frame n s.deframer)) pending
     → step_outcome st ≡ outcome_at s.password s.state (heard_frame src payload) → kept ≡ state_after s.password s.state (heard_frame src payload) None
@@ -606,19 +659,22 @@ hears_any E s t pending payload kept src dst n st r listening whole src_is dst_i
     (subst (λ (f : Frame). GoesOn s.deframer (Some f) pending) (front_frame s.deframer payload src dst n src_is dst_is payload_is here) goes_on)
     refl outcome state)))
 
-pub passes_any : (E : Type 0) (s : Session) (pending : List ℕ) (dst n : ℕ) → s.task ≡ Listen → head_of s.deframer ≡ head.Whole n
+pub passes_any : (E : Type 0) (s : Session) (pending : List ℕ) (dst n : ℕ) → s.task ≡ Listen
+    → head_of s.deframer ≡ head.Whole n
     → dst ≡ dst_of s.deframer → (dst == management_device) ≡ false → pending ≡ after_first n s.deframer → GoesOn s.deframer (Some (first_frame n s.deframer)) pending
     → WorksBy {E = E} s (Ok None) (session s.password pending s.is_finished s.state s.task)
 passes_any E s pending dst n listening whole dst_is elsewhere left goes_on =
     subst (λ (u : SessionTask). WorksBy {E = E} (session s.password s.deframer s.is_finished s.state u) (Ok None) (session s.password pending s.is_finished s.state u)) (sym listening)
     (passes_frame E s.password s.deframer pending s.is_finished s.state (first_frame n s.deframer) n whole left goes_on (ap (λ (d : ℕ). d == management_device) (sym dst_is) ∙ elsewhere))
 
-pub listens_on : (E : Type 0) (s : Session) (h : Head) → s.task ≡ Listen → s.is_finished ≡ false → h ≡ head.Part → Fronts s.deframer h → WorksBy {E = E} s (Ok (Some next.Wait)) s
+pub listens_on : (E : Type 0) (s : Session) (h : Head) → s.task ≡ Listen → s.is_finished ≡ false → h
+    ≡ head.Part → Fronts s.deframer h → WorksBy {E = E} s (Ok (Some next.Wait)) s
 listens_on E s h listens goes_on is means =
     by_parts (λ (u : Session). WorksBy {E = E} u (Ok (Some next.Wait)) u) s false Listen goes_on listens
     (wants_more E s.password s.deframer s.state (subst (Fronts s.deframer) is means))
 
-listens_to_end : (E : Type 0) (s t : Session) (end : SessionEnd) (r : Option Next) → s.task ≡ Listen → NoFrame s.is_finished s.deframer end
+listens_to_end : (E : Type 0) (s t : Session) (end : SessionEnd) (r : Option Next) → s.task ≡ Listen
+    → NoFrame s.is_finished s.deframer end
     → r ≡ Some (next.End end) → t ≡ session s.password s.deframer s.is_finished s.state (Over end) → WorksBy {E = E} s (Ok r) t
 listens_to_end E s t end r listens none given after =
     subst (λ (u : Session). WorksBy {E = E} s (Ok r) u) (sym after)
@@ -626,33 +682,39 @@ listens_to_end E s t end r listens none given after =
     (by_parts (λ (u : Session). WorksBy {E = E} u (Ok (Some (next.End end))) (session s.password s.deframer s.is_finished s.state (Over end))) s s.is_finished Listen refl listens
     (comes_to_end E s.password s.deframer s.is_finished s.state end none)))
 
-pub listens_to_close : (E : Type 0) (s t : Session) (h : Head) (r : Option Next) → s.task ≡ Listen → s.is_finished ≡ true → h ≡ head.Part → Fronts s.deframer h → s.deframer ≡ []
+pub listens_to_close : (E : Type 0) (s t : Session) (h : Head) (r : Option Next) → s.task ≡ Listen
+    → s.is_finished ≡ true → h ≡ head.Part → Fronts s.deframer h → s.deframer ≡ []
     → r ≡ Some (next.End ending.Closed) → t ≡ session s.password s.deframer s.is_finished s.state (Over ending.Closed) → WorksBy {E = E} s (Ok r) t
 listens_to_close E s t h r listens finished is means empty given after =
     listens_to_end E s t ending.Closed r listens
     (subst (λ (b : Bool). NoFrame b s.deframer ending.Closed) (sym finished) (is_closed s.deframer (subst (Fronts s.deframer) is means) empty)) given after
 
-pub listens_to_cut : (E : Type 0) (s t : Session) (h : Head) (r : Option Next) → s.task ≡ Listen → s.is_finished ≡ true → h ≡ head.Part → Fronts s.deframer h → s.deframer ≢ []
+pub listens_to_cut : (E : Type 0) (s t : Session) (h : Head) (r : Option Next) → s.task ≡ Listen
+    → s.is_finished ≡ true → h ≡ head.Part → Fronts s.deframer h → s.deframer ≢ []
     → r ≡ Some (next.End ending.Cut) → t ≡ session s.password s.deframer s.is_finished s.state (Over ending.Cut) → WorksBy {E = E} s (Ok r) t
 listens_to_cut E s t h r listens finished is means some given after =
     listens_to_end E s t ending.Cut r listens
     (subst (λ (b : Bool). NoFrame b s.deframer ending.Cut) (sym finished) (is_cut s.deframer (subst (Fronts s.deframer) is means) some)) given after
 
-pub listens_to_bad_version : (E : Type 0) (s t : Session) (h : Head) (r : Option Next) → s.task ≡ Listen → h ≡ head.BadVersion → Fronts s.deframer h
+pub listens_to_bad_version : (E : Type 0) (s t : Session) (h : Head) (r : Option Next) → s.task
+    ≡ Listen → h ≡ head.BadVersion → Fronts s.deframer h
     → r ≡ Some (next.End ending.BadVersion) → t ≡ session s.password s.deframer s.is_finished s.state (Over ending.BadVersion) → WorksBy {E = E} s (Ok r) t
 listens_to_bad_version E s t h r listens is means given after =
     listens_to_end E s t ending.BadVersion r listens (is_bad_version s.is_finished s.deframer (subst (Fronts s.deframer) is means)) given after
 
-pub listens_to_too_long : (E : Type 0) (s t : Session) (h : Head) (r : Option Next) → s.task ≡ Listen → h ≡ head.TooLong → Fronts s.deframer h
+pub listens_to_too_long : (E : Type 0) (s t : Session) (h : Head) (r : Option Next) → s.task
+    ≡ Listen → h ≡ head.TooLong → Fronts s.deframer h
     → r ≡ Some (next.End ending.TooLong) → t ≡ session s.password s.deframer s.is_finished s.state (Over ending.TooLong) → WorksBy {E = E} s (Ok r) t
 listens_to_too_long E s t h r listens is means given after =
     listens_to_end E s t ending.TooLong r listens (is_too_long s.is_finished s.deframer (subst (Fronts s.deframer) is means)) given after
 
 -- the header that a fault of `feed` means
-pub bad_version : (bytes : List ℕ) (f : WrapperFault) → f ≡ fault.Version → StopsBy f bytes → Stops head.BadVersion bytes
+pub bad_version : (bytes : List ℕ) (f : WrapperFault) → f ≡ fault.Version → StopsBy f bytes
+    → Stops head.BadVersion bytes
 bad_version bytes f is stops = subst (λ (g : WrapperFault). StopsBy g bytes) is stops
 
-pub too_long : (bytes : List ℕ) (f : WrapperFault) → f ≡ fault.TooLong → StopsBy f bytes → Stops head.TooLong bytes
+pub too_long : (bytes : List ℕ) (f : WrapperFault) → f ≡ fault.TooLong → StopsBy f bytes
+    → Stops head.TooLong bytes
 too_long bytes f is stops = subst (λ (g : WrapperFault). StopsBy g bytes) is stops
 
 -- a session that has reported its end is over
@@ -674,35 +736,41 @@ pub feeds_after_end : (s : Session) (bytes : List ℕ) → s.is_finished ≡ tru
 feeds_after_end s bytes finished =
     by_parts (λ (u : Session). Feeds u bytes u) s true s.task finished refl (feeds_finished s.password s.deframer s.state s.task bytes)
 
-pub feeds_after_over : (s : Session) (bytes : List ℕ) (end : SessionEnd) → reported_end s ≡ Some end → Feeds s bytes s
+pub feeds_after_over : (s : Session) (bytes : List ℕ) (end : SessionEnd) → reported_end s ≡ Some end
+    → Feeds s bytes s
 feeds_after_over s bytes end over =
     by_parts (λ (u : Session). Feeds u bytes u) s s.is_finished (Over end) refl (ends_again s end over)
     (feeds_over s.password s.deframer s.is_finished s.state end bytes)
 
-pub feeds_any : (s : Session) (bytes pending : List ℕ) → s.is_finished ≡ false → pending ≡ s.deframer ++ bytes → Feeds s bytes (session s.password pending s.is_finished s.state s.task)
+pub feeds_any : (s : Session) (bytes pending : List ℕ) → s.is_finished ≡ false → pending
+    ≡ s.deframer ++ bytes → Feeds s bytes (session s.password pending s.is_finished s.state s.task)
 feeds_any s bytes pending goes_on longer =
     subst (λ (p : List ℕ). Feeds s bytes (session s.password p s.is_finished s.state s.task)) (sym longer)
     (subst (λ (b : Bool). Feeds (session s.password s.deframer b s.state s.task) bytes (session s.password (s.deframer ++ bytes) b s.state s.task)) (sym goes_on)
     (feeds s.password s.deframer s.state s.task bytes))
 
-feeds_behind : (s : Session) (bytes pending : List ℕ) (end : SessionEnd) → s.is_finished ≡ false → pending ≡ s.deframer → NoFrame false s.deframer end
+feeds_behind : (s : Session) (bytes pending : List ℕ) (end : SessionEnd) → s.is_finished ≡ false
+    → pending ≡ s.deframer → NoFrame false s.deframer end
     → Feeds s bytes (session s.password pending s.is_finished s.state s.task)
 feeds_behind s bytes pending end goes_on same none =
     subst (λ (p : List ℕ). Feeds s bytes (session s.password p s.is_finished s.state s.task)) (sym same)
     (subst (λ (b : Bool). Feeds (session s.password s.deframer b s.state s.task) bytes (session s.password s.deframer b s.state s.task)) (sym goes_on)
     (feeds_none s.password s.deframer s.state s.task bytes end none))
 
-pub feeds_behind_version : (s : Session) (bytes pending : List ℕ) → s.is_finished ≡ false → pending ≡ s.deframer → Stops head.BadVersion s.deframer
+pub feeds_behind_version : (s : Session) (bytes pending : List ℕ) → s.is_finished ≡ false → pending
+    ≡ s.deframer → Stops head.BadVersion s.deframer
     → Feeds s bytes (session s.password pending s.is_finished s.state s.task)
 feeds_behind_version s bytes pending goes_on same stops = feeds_behind s bytes pending ending.BadVersion goes_on same (is_bad_version false s.deframer stops)
 
-pub feeds_behind_length : (s : Session) (bytes pending : List ℕ) → s.is_finished ≡ false → pending ≡ s.deframer → Stops head.TooLong s.deframer
+pub feeds_behind_length : (s : Session) (bytes pending : List ℕ) → s.is_finished ≡ false → pending
+    ≡ s.deframer → Stops head.TooLong s.deframer
     → Feeds s bytes (session s.password pending s.is_finished s.state s.task)
 feeds_behind_length s bytes pending goes_on same stops = feeds_behind s bytes pending ending.TooLong goes_on same (is_too_long false s.deframer stops)
 
 -- ---- the other tasks of any session
 
-pub reads_any : (E : Type 0) (s t : Session) (joined : Joined) (st : TurnStep) (r : Option Next) → s.task ≡ Read joined → step_outcome st ≡ whole_outcome joined → IsTrue (is_settled st)
+pub reads_any : (E : Type 0) (s t : Session) (joined : Joined) (st : TurnStep) (r : Option Next)
+    → s.task ≡ Read joined → step_outcome st ≡ whole_outcome joined → IsTrue (is_settled st)
     → r ≡ next_by st → t ≡ session s.password s.deframer s.is_finished s.state (task_by st) → WorksBy {E = E} s (Ok r) t
 reads_any E s t joined st r reading outcome done given after =
     subst (λ (u : Session). WorksBy {E = E} s (Ok r) u) (sym after)
@@ -710,33 +778,39 @@ reads_any E s t joined st r reading outcome done given after =
     (by_parts (λ (u : Session). WorksBy {E = E} u (Ok (next_by st)) (session s.password s.deframer s.is_finished s.state (task_by st))) s s.is_finished (Read joined) refl reading
     (reads E s.password s.deframer s.is_finished s.state joined st outcome done)))
 
-pub awaits_any : (E : Type 0) (s : Session) (asked : Asked) → s.task ≡ Await asked → WorksBy {E = E} s (Ok (Some next.Wait)) s
+pub awaits_any : (E : Type 0) (s : Session) (asked : Asked) → s.task ≡ Await asked
+    → WorksBy {E = E} s (Ok (Some next.Wait)) s
 awaits_any E s asked awaiting =
     by_parts (λ (u : Session). WorksBy {E = E} u (Ok (Some next.Wait)) u) s s.is_finished (Await asked) refl awaiting (awaits_reply E s.password s.deframer s.is_finished s.state asked)
 
-pub says_any : (E : Type 0) (s t : Session) (due : Due) (text : List ℕ) → s.task ≡ Say due → text ≡ due_text due.to (answer_text due.answer)
+pub says_any : (E : Type 0) (s t : Session) (due : Due) (text : List ℕ) → s.task ≡ Say due → text
+    ≡ due_text due.to (answer_text due.answer)
     → t ≡ session s.password s.deframer s.is_finished s.state Listen → WorksBy {E = E} s (Ok (Some (next.Send text))) t
 says_any E s t due text saying e after =
     subst (λ (u : Session). WorksBy {E = E} s (Ok (Some (next.Send text))) u) (sym after)
     (by_parts (λ (u : Session). WorksBy {E = E} u (Ok (Some (next.Send text))) (session s.password s.deframer s.is_finished s.state Listen)) s s.is_finished (Say due) refl saying
     (says_text E s.password s.deframer s.is_finished s.state due text e))
 
-pub gives_any : (E : Type 0) (s : Session) (text : List ℕ) (task : SessionTask) → s.task ≡ Send text → task ≡ Listen
+pub gives_any : (E : Type 0) (s : Session) (text : List ℕ) (task : SessionTask) → s.task ≡ Send text
+    → task ≡ Listen
     → WorksBy {E = E} s (Ok (Some (next.Send text))) (session s.password s.deframer s.is_finished s.state task)
 gives_any E s text task sending after =
     subst (λ (u : SessionTask). WorksBy {E = E} s (Ok (Some (next.Send text))) (session s.password s.deframer s.is_finished s.state u)) (sym after)
     (by_parts (λ (u : Session). WorksBy {E = E} u (Ok (Some (next.Send text))) (session s.password s.deframer s.is_finished s.state Listen)) s s.is_finished (Send text) refl sending
     (gives_text E s.password s.deframer s.is_finished s.state text))
 
-pub over_any : (E : Type 0) (s : Session) (end : SessionEnd) → s.task ≡ Over end → WorksBy {E = E} s (Ok (Some (next.End end))) s
+pub over_any : (E : Type 0) (s : Session) (end : SessionEnd) → s.task ≡ Over end
+    → WorksBy {E = E} s (Ok (Some (next.End end))) s
 over_any E s end over =
     by_parts (λ (u : Session). WorksBy {E = E} u (Ok (Some (next.End end))) u) s s.is_finished (Over end) refl over (is_over E s.password s.deframer s.is_finished s.state end)
 
 -- a session that waits for more input
-pub idles : (s : Session) (h : Head) → s.task ≡ Listen → s.is_finished ≡ false → h ≡ head.Part → Fronts s.deframer h → IsQuiet s
+pub idles : (s : Session) (h : Head) → s.task ≡ Listen → s.is_finished ≡ false → h ≡ head.Part
+    → Fronts s.deframer h → IsQuiet s
 idles s h listens goes_on is means = by_parts IsQuiet s false Listen goes_on listens (is_quiet s.password s.deframer s.state (subst (Fronts s.deframer) is means))
 
-pub takes_any : (s t : Session) (asked : Asked) (reply : Reply) (text : List ℕ) (outgoing : Option Sending) → s.task ≡ Await asked
+pub takes_any : (s t : Session) (asked : Asked) (reply : Reply) (text : List ℕ)
+    (outgoing : Option Sending) → s.task ≡ Await asked
     → text ≡ reply_text asked reply → outgoing ≡ outgoing_by asked reply
     → t ≡ session s.password s.deframer s.is_finished (record { link = s.state.link; incoming = s.state.incoming; outgoing = outgoing }) (Send text) → Takes s reply t
 takes_any s t asked reply text outgoing awaiting e o after =
@@ -749,7 +823,8 @@ pub waits_again : (s : Session) → is_asking s ≡ true → IsAwaiting s
 unfolding is_asking still_sends
 waits_again s = awaiting_by s.password s.deframer s.is_finished s.state s.task
   where
-    awaiting_by : (password pending : List ℕ) (finished : Bool) (state : State) (task : SessionTask) → awaits task ≡ true → IsAwaiting (session password pending finished state task)
+    awaiting_by : (password pending : List ℕ) (finished : Bool) (state : State) (task : SessionTask)
+        → awaits task ≡ true → IsAwaiting (session password pending finished state task)
     awaiting_by password pending finished state Listen e = absurd cc
     awaiting_by password pending finished state (Read joined) e = absurd cc
     awaiting_by password pending finished state (Await asked) e = record { asking = refl; sends = λ more. refl }
@@ -761,6 +836,7 @@ pub over_again : (s : Session) (end : SessionEnd) → reported_end s ≡ Some en
 over_again s end e = by_parts (λ (u : Session). IsOver end u) s s.is_finished (Over end) refl (ends_again s end e) (is_over_now s.password s.deframer s.is_finished s.state end)
 
 -- a session that awaits a reply is not over
-pub asks_or_ends : (s : Session) (end : SessionEnd) → is_asking s ≡ true → reported_end s ≡ Some end → ⊥
+pub asks_or_ends : (s : Session) (end : SessionEnd) → is_asking s ≡ true → reported_end s ≡ Some end
+    → ⊥
 unfolding is_asking
 asks_or_ends s end asking e = let over : awaits (Over end) ≡ true = subst (λ (t : SessionTask). awaits t ≡ true) (ends_again s end e) asking in absurd cc

@@ -39,7 +39,8 @@ fed_all : (password input : List ℕ) (s fed : Session) (core : RelayCore) (writ
 fed_all password input s fed core written owes feeds = reached_fed [] input s fed core written (reached_new password s core written owes) feeds
 
 -- everything was written
-pub on_all : (password input : List ℕ) (s fed : Session) (core core' : RelayCore) (written written' : Option (List ℕ))
+pub on_all : (password input : List ℕ) (s fed : Session) (core core' : RelayCore)
+    (written written' : Option (List ℕ))
     → Owes password s → Feeds s input fed
     → DoesAll CoreSteps hex_line (still_asks fed []) (still_sends fed []) core written core' written'
     → DoesAll CoreSteps hex_line (Asks password input) (Answers password input) core written core' written'
@@ -48,7 +49,8 @@ on_all password input s fed core core' written written' owes feeds all =
     (does_all_on input [] fed core core' written written' (fed_all password input s fed core written owes feeds) all)
 
 -- the session ran out of memory
-on_short : (password input : List ℕ) (s fed : Session) (core core' : RelayCore) (written written' : Option (List ℕ)) (failed failed' : ℕ)
+on_short : (password input : List ℕ) (s fed : Session) (core core' : RelayCore)
+    (written written' : Option (List ℕ)) (failed failed' : ℕ)
     → Owes password s → Feeds s input fed
     → StopsShort CoreSteps hex_line (still_asks fed []) (still_sends fed []) core written core' written'
     → StopsShort CoreSteps hex_line (Asks password input) (Answers password input) core written core' written'
@@ -57,7 +59,8 @@ on_short password input s fed core core' written written' failed failed' owes fe
     (stops_on input [] fed core core' written written' failed failed' fault.Memory (fed_all password input s fed core written owes feeds) stops)
 
 -- a fault that is out of memory, in the session
-pub on_short_by : (password input : List ℕ) (s fed : Session) (core core' : RelayCore) (written written' : Option (List ℕ)) (failed failed' : ℕ) (f : ServeFault)
+pub on_short_by : (password input : List ℕ) (s fed : Session) (core core' : RelayCore)
+    (written written' : Option (List ℕ)) (failed failed' : ℕ) (f : ServeFault)
     → f ≡ fault.Memory → Owes password s → Feeds s input fed
     → Stops CoreSteps hex_line (still_asks fed []) (still_sends fed []) core written failed f core' written' failed'
     → StopsShort CoreSteps hex_line (Asks password input) (Answers password input) core written core' written'
@@ -66,7 +69,8 @@ on_short_by password input s fed core core' written written' failed failed' f is
     (subst (λ (g : ServeFault). Stops CoreSteps hex_line (still_asks fed []) (still_sends fed []) core written failed g core' written' failed') is stops)
 
 -- the result for a meter that was new
-pub played_new : (device password input : List ℕ) (core core' : RelayCore) (written written' : Option (List ℕ)) (failed failed' : ℕ) (result : Result (Unit {0}) HexFault)
+pub played_new : (device password input : List ℕ) (core core' : RelayCore)
+    (written written' : Option (List ℕ)) (failed failed' : ℕ) (result : Result (Unit {0}) HexFault)
     → StandsFor core (new_world device) → PlayedOn password input core written failed result core' written' failed'
     → Played device password input written failed result written' failed'
 played_new device password input core core' written written' failed failed' (Ok done) is_new all =
@@ -81,6 +85,7 @@ played_new device password input core core' written written' failed failed' (Err
     inr (record { core = core; core' = core'; is_new = is_new; stops = stops })
 
 -- a core never refuses an event as Exhausted
-pub never_used_up : (asks : List Event) (sends : List Reply → List (List ℕ)) (core core' : RelayCore) (written written' : Option (List ℕ))
+pub never_used_up : (asks : List Event) (sends : List Reply → List (List ℕ))
+    (core core' : RelayCore) (written written' : Option (List ℕ))
     → IsUsedUp CoreSteps hex_line asks sends core written core' written' → ⊥
 never_used_up asks sends core core' written written' used = used.refused.refused

@@ -24,7 +24,8 @@ use Rattle.call_fault.specs.declared.fault.CallFault.TheVariants as call
 
 -- ---- texts written one after the other
 
-wrote_more : (written_as : List ℕ → List ℕ) (a b c : Option (List ℕ)) (sent : List (List ℕ)) (text : List ℕ)
+wrote_more : (written_as : List ℕ → List ℕ) (a b c : Option (List ℕ)) (sent : List (List ℕ))
+    (text : List ℕ)
     → Appends a b (flat_map written_as sent) → Appends b c (written_as text) → Appends a c (flat_map written_as (sent ++ text ∷ []))
 wrote_more written_as a b c sent text before now =
     subst (Appends a c)
@@ -39,7 +40,9 @@ wrote_on written_as a b c sent more before now =
 
 -- ---- the start
 
-pub reached_new : {M : Type 0} {steps : M → Event → Result Reply CallFault → M → Type 0} {written_as : List ℕ → List ℕ} (password : List ℕ) (s : Session) (m : M) (written : Option (List ℕ))
+pub reached_new : {M : Type 0} {steps : M → Event → Result Reply CallFault → M
+    → Type 0} {written_as : List ℕ → List ℕ} (password : List ℕ) (s : Session) (m : M)
+    (written : Option (List ℕ))
     → Owes password s → Reached steps written_as (Asks password) (Answers password) end_of m written [] s m written
 reached_new password s m written owes = record {
   asked = [];
@@ -52,7 +55,8 @@ reached_new password s m written owes = record {
   wrote = Appends-nil written;
 }
 
-pub reached_none : {M : Type 0} {steps : M → Event → Result Reply CallFault → M → Type 0} {written_as : List ℕ → List ℕ} (s : Session) (m : M) (written : Option (List ℕ))
+pub reached_none : {M : Type 0} {steps : M → Event → Result Reply CallFault → M
+    → Type 0} {written_as : List ℕ → List ℕ} (s : Session) (m : M) (written : Option (List ℕ))
     → Reached steps written_as (still_asks s) (still_sends s) (still_ends s) m written [] s m written
 reached_none s m written = record {
   asked = [];
@@ -66,7 +70,8 @@ reached_none s m written = record {
 }
 
 module _ {M : Type 0} {steps : M → Event → Result Reply CallFault → M → Type 0} {written_as : List ℕ → List ℕ}
-    {asks : List ℕ → List Event} {sends : List ℕ → List Reply → List (List ℕ)} {ends : List ℕ → SessionEnd}
+    {asks : List ℕ → List Event} {sends : List ℕ → List Reply → List (List ℕ)} {ends : List ℕ
+        → SessionEnd}
     {m : M} {written : Option (List ℕ)} where
   -- ---- one step further
 
@@ -99,7 +104,8 @@ module _ {M : Type 0} {steps : M → Event → Result Reply CallFault → M → 
     wrote = r.wrote;
   }
 
-  pub reached_sent : (seen : List ℕ) (old new : Session) (m' : M) (written' written'' : Option (List ℕ)) (text : List ℕ)
+  pub reached_sent : (seen : List ℕ) (old new : Session) (m' : M)
+      (written' written'' : Option (List ℕ)) (text : List ℕ)
       → Reached steps written_as asks sends ends m written seen old m' written' → Steps old [] (text ∷ []) new → Appends written' written'' (written_as text)
       → Reached steps written_as asks sends ends m written seen new m' written''
   reached_sent seen old new m' written' written'' text r st wrote = record {
@@ -114,7 +120,8 @@ module _ {M : Type 0} {steps : M → Event → Result Reply CallFault → M → 
     wrote = wrote_more written_as written written' written'' r.sent text r.wrote wrote;
   }
 
-  pub reached_asked : (seen : List ℕ) (old middle new : Session) (m' m'' : M) (written' : Option (List ℕ)) (event : Event) (reply : Reply)
+  pub reached_asked : (seen : List ℕ) (old middle new : Session) (m' m'' : M)
+      (written' : Option (List ℕ)) (event : Event) (reply : Reply)
       → Reached steps written_as asks sends ends m written seen old m' written' → Steps old (event ∷ []) [] middle → steps m' event (Ok reply) m'' → Takes middle reply new
       → Reached steps written_as asks sends ends m written seen new m'' written'
   reached_asked seen old middle new m' m'' written' event reply r st step takes = record {
@@ -132,7 +139,8 @@ module _ {M : Type 0} {steps : M → Event → Result Reply CallFault → M → 
   }
 
   -- an attribute was asked for, and its answer was written
-  pub reached_answered : (seen : List ℕ) (old middle new : Session) (m' m'' : M) (written' written'' : Option (List ℕ)) (event : Event) (reply : Reply) (text : List ℕ)
+  pub reached_answered : (seen : List ℕ) (old middle new : Session) (m' m'' : M)
+      (written' written'' : Option (List ℕ)) (event : Event) (reply : Reply) (text : List ℕ)
       → Reached steps written_as asks sends ends m written seen old m' written' → Steps old (event ∷ []) [] middle → steps m' event (Ok reply) m''
       → AnswersBy middle reply text new → Appends written' written'' (written_as text)
       → Reached steps written_as asks sends ends m written seen new m'' written''
@@ -156,7 +164,8 @@ module _ {M : Type 0} {steps : M → Event → Result Reply CallFault → M → 
   }
 
   -- two stretches of a session, one after the other
-  pub reached_on : (seen bytes : List ℕ) (old new : Session) (m' m'' : M) (written' written'' : Option (List ℕ))
+  pub reached_on : (seen bytes : List ℕ) (old new : Session) (m' m'' : M)
+      (written' written'' : Option (List ℕ))
       → Reached steps written_as asks sends ends m written seen old m' written'
       → Reached steps written_as (still_asks old) (still_sends old) (still_ends old) m' written' bytes new m'' written''
       → Reached steps written_as asks sends ends m written (seen ++ bytes) new m'' written''
@@ -178,7 +187,8 @@ module _ {M : Type 0} {steps : M → Event → Result Reply CallFault → M → 
   -- ---- the end of a session
 
   -- the texts sent so far are those for the replies so far
-  sent_so_far : (seen : List ℕ) (s : Session) (m' : M) (written' : Option (List ℕ)) (r : Reached steps written_as asks sends ends m written seen s m' written') (more : List ℕ)
+  sent_so_far : (seen : List ℕ) (s : Session) (m' : M) (written' : Option (List ℕ))
+      (r : Reached steps written_as asks sends ends m written seen s m' written') (more : List ℕ)
       → sends (seen ++ more) r.replies ≡ r.sent ++ still_sends s more []
   sent_so_far seen s m' written' r more = ap (sends (seen ++ more)) (sym (append-nil r.replies)) ∙ r.sends_rest more []
 
@@ -213,7 +223,8 @@ module _ {M : Type 0} {steps : M → Event → Result Reply CallFault → M → 
   }
 
   -- the meter refused an event
-  refused_next : (seen : List ℕ) (s : Session) (m' m'' : M) (written' : Option (List ℕ)) (event : Event) (f : CallFault)
+  refused_next : (seen : List ℕ) (s : Session) (m' m'' : M) (written' : Option (List ℕ))
+      (event : Event) (f : CallFault)
       (r : Reached steps written_as asks sends ends m written seen s m' written') → steps m' event (Err f) m''
       → Refused steps m (r.asked ++ event ∷ []) r.replies f m''
   refused_next seen s m' m'' written' event f r step = record {
@@ -226,13 +237,15 @@ module _ {M : Type 0} {steps : M → Event → Result Reply CallFault → M → 
   }
 
   -- one more event, the next of the session's
-  asked_next : (seen more : List ℕ) (old new : Session) (m' : M) (written' : Option (List ℕ)) (event : Event)
+  asked_next : (seen more : List ℕ) (old new : Session) (m' : M) (written' : Option (List ℕ))
+      (event : Event)
       (r : Reached steps written_as asks sends ends m written seen old m' written') → Steps old (event ∷ []) [] new
       → asks (seen ++ more) ≡ (r.asked ++ event ∷ []) ++ still_asks new more
   asked_next seen more old new m' written' event r st =
       r.asks_rest more ∙ ap (λ (es : List Event). r.asked ++ es) (st.asks more) ∙ sym (append_assoc r.asked (event ∷ []) (still_asks new more))
 
-  pub refused : (seen more : List ℕ) (old new : Session) (m' m'' : M) (written' : Option (List ℕ)) (failed failed' : ℕ) (event : Event) (f : CallFault) (given : ServeFault)
+  pub refused : (seen more : List ℕ) (old new : Session) (m' m'' : M) (written' : Option (List ℕ))
+      (failed failed' : ℕ) (event : Event) (f : CallFault) (given : ServeFault)
       → Reached steps written_as asks sends ends m written seen old m' written' → Steps old (event ∷ []) [] new → IsAwaiting new
       → steps m' event (Err f) m'' → given ≡ fault_of f
       → Stops steps written_as (asks (seen ++ more)) (sends (seen ++ more)) m written failed given m'' written' failed'
@@ -263,7 +276,8 @@ module _ {M : Type 0} {steps : M → Event → Result Reply CallFault → M → 
       })
 
   -- out of memory, for a fault that a call's error was converted to
-  pub starved_by : {X : Type 0} (seen more : List ℕ) (old new : Session) (m' : M) (written' : Option (List ℕ)) (failed failed' : ℕ) (result : Result X ServeFault)
+  pub starved_by : {X : Type 0} (seen more : List ℕ) (old new : Session) (m' : M)
+      (written' : Option (List ℕ)) (failed failed' : ℕ) (result : Result X ServeFault)
       → Reached steps written_as asks sends ends m written seen old m' written' → Steps old [] [] new → IsErrAnd result (λ f. f ≡ fault.Memory)
       → IfErr result (λ f. Stops steps written_as (asks (seen ++ more)) (sends (seen ++ more)) m written failed f m' written' failed')
   starved_by seen more old new m' written' failed failed' (Ok x) r st is = tt
@@ -271,7 +285,9 @@ module _ {M : Type 0} {steps : M → Event → Result Reply CallFault → M → 
       subst (λ (g : ServeFault). Stops steps written_as (asks (seen ++ more)) (sends (seen ++ more)) m written failed g m' written' failed') (sym is)
       (starved seen more new m' written' (reached_steps seen old new m' written' r st))
 
-  pub refused_by : {X : Type 0} (seen more : List ℕ) (old new : Session) (m' m'' : M) (written' : Option (List ℕ)) (failed failed' : ℕ) (event : Event) (f : CallFault) (result : Result X ServeFault)
+  pub refused_by : {X : Type 0} (seen more : List ℕ) (old new : Session) (m' m'' : M)
+      (written' : Option (List ℕ)) (failed failed' : ℕ) (event : Event) (f : CallFault)
+      (result : Result X ServeFault)
       → Reached steps written_as asks sends ends m written seen old m' written' → Steps old (event ∷ []) [] new → IsAwaiting new
       → steps m' event (Err f) m'' → IsErrAnd result (λ g. g ≡ fault_of f)
       → IfErr result (λ g. Stops steps written_as (asks (seen ++ more)) (sends (seen ++ more)) m written failed g m'' written' failed')
@@ -280,7 +296,8 @@ module _ {M : Type 0} {steps : M → Event → Result Reply CallFault → M → 
       refused seen more old new m' m'' written' failed failed' event f g r st awaits step is
 
   -- out of memory while a reply was answered
-  pub unanswered : (seen more : List ℕ) (old new : Session) (m' m'' : M) (written' : Option (List ℕ)) (event : Event) (reply : Reply)
+  pub unanswered : (seen more : List ℕ) (old new : Session) (m' m'' : M)
+      (written' : Option (List ℕ)) (event : Event) (reply : Reply)
       → Reached steps written_as asks sends ends m written seen old m' written' → Steps old (event ∷ []) [] new → steps m' event (Ok reply) m''
       → StopsShort steps written_as (asks (seen ++ more)) (sends (seen ++ more)) m written m'' written'
   unanswered seen more old new m' m'' written' event reply r st step = record {
@@ -307,7 +324,8 @@ module _ {M : Type 0} {steps : M → Event → Result Reply CallFault → M → 
   }
 
   -- a frame was not written
-  unsent : (seen more : List ℕ) (old new : Session) (m' : M) (written' written'' : Option (List ℕ)) (failed failed1 failed' : ℕ) (frame : List ℕ) (f : ServeFault)
+  unsent : (seen more : List ℕ) (old new : Session) (m' : M) (written' written'' : Option (List ℕ))
+      (failed failed1 failed' : ℕ) (frame : List ℕ) (f : ServeFault)
       → Reached steps written_as asks sends ends m written seen old m' written' → Steps old [] (frame ∷ []) new
       → failed1 ≡ failed → FailsToWrite written' failed1 f written'' failed'
       → Stops steps written_as (asks (seen ++ more)) (sends (seen ++ more)) m written failed f m' written'' failed'
@@ -329,7 +347,9 @@ module _ {M : Type 0} {steps : M → Event → Result Reply CallFault → M → 
   unsent seen more old new m' written' written'' failed failed1 failed' frame fault.Exhausted r st even fails = absurd fails
   unsent seen more old new m' written' written'' failed failed1 failed' frame fault.Listen r st even fails = absurd fails
 
-  pub unsent_by : {X : Type 0} (seen more : List ℕ) (old new : Session) (m' : M) (written' written'' : Option (List ℕ)) (failed failed1 failed' : ℕ) (frame : List ℕ) (f : ServeFault) (result : Result X ServeFault)
+  pub unsent_by : {X : Type 0} (seen more : List ℕ) (old new : Session) (m' : M)
+      (written' written'' : Option (List ℕ)) (failed failed1 failed' : ℕ) (frame : List ℕ)
+      (f : ServeFault) (result : Result X ServeFault)
       → Reached steps written_as asks sends ends m written seen old m' written' → Steps old [] (frame ∷ []) new
       → failed1 ≡ failed → FailsToWrite written' failed1 f written'' failed' → IsErrAnd result (λ g. g ≡ f)
       → IfErr result (λ g. Stops steps written_as (asks (seen ++ more)) (sends (seen ++ more)) m written failed g m' written'' failed')
@@ -384,7 +404,8 @@ module _ {M : Type 0} {steps : M → Event → Result Reply CallFault → M → 
     replied = replied_on steps m m' m'' r.asked stop.asked r.replies stop.replies r.replied stop.replied;
   }
 
-  pub stops_on : (seen more : List ℕ) (s : Session) (m' m'' : M) (written' written'' : Option (List ℕ)) (failed failed' : ℕ) (f : ServeFault)
+  pub stops_on : (seen more : List ℕ) (s : Session) (m' m'' : M)
+      (written' written'' : Option (List ℕ)) (failed failed' : ℕ) (f : ServeFault)
       → Reached steps written_as asks sends ends m written seen s m' written'
       → Stops steps written_as (still_asks s more) (still_sends s more) m' written' failed f m'' written'' failed'
       → Stops steps written_as (asks (seen ++ more)) (sends (seen ++ more)) m written failed f m'' written'' failed'
@@ -394,7 +415,8 @@ module _ {M : Type 0} {steps : M → Event → Result Reply CallFault → M → 
   stops_on seen more s m' m'' written' written'' failed failed' fault.Exhausted r stop = used_on seen more s m' m'' written' written'' r stop
   stops_on seen more s m' m'' written' written'' failed failed' fault.Listen r stop = absurd stop
 
-  pub does_all_on : (seen more : List ℕ) (s : Session) (m' m'' : M) (written' written'' : Option (List ℕ))
+  pub does_all_on : (seen more : List ℕ) (s : Session) (m' m'' : M)
+      (written' written'' : Option (List ℕ))
       → Reached steps written_as asks sends ends m written seen s m' written'
       → DoesAll steps written_as (still_asks s more) (still_sends s more) m' written' m'' written''
       → DoesAll steps written_as (asks (seen ++ more)) (sends (seen ++ more)) m written m'' written''
@@ -439,7 +461,8 @@ module _ {M : Type 0} (steps : M → Event → Result Reply CallFault → M → 
     finished = st.finished ∙ finished;
   }
 
-  pub settled_over : (old s new : Session) (m m' : M) (written written' : Option (List ℕ)) (end : SessionEnd)
+  pub settled_over : (old s new : Session) (m m' : M) (written written' : Option (List ℕ))
+      (end : SessionEnd)
       → Reached steps written_as (still_asks old) (still_sends old) (still_ends old) m written [] s m' written'
       → is_finished s ≡ is_finished old
       → Steps s [] [] new → IsOver end new
@@ -453,11 +476,13 @@ module _ {M : Type 0} (steps : M → Event → Result Reply CallFault → M → 
   }
 
   -- an idle session has nothing to do
-  settled_idle : (s : Session) (m : M) (written : Option (List ℕ)) → IsQuiet s → Settled steps written_as s m written [] None s m written
+  settled_idle : (s : Session) (m : M) (written : Option (List ℕ)) → IsQuiet s
+      → Settled steps written_as s m written [] None s m written
   settled_idle s m written quiet = settled_quiet s s s m m written written (reached_none s m written) quiet.silent refl (steps_none s) (inr quiet)
 
   -- the effect of bytes that were fed first
-  settled_fed : (old middle new : Session) (bytes : List ℕ) (m m' : M) (written written' : Option (List ℕ)) (end : Option SessionEnd)
+  settled_fed : (old middle new : Session) (bytes : List ℕ) (m m' : M)
+      (written written' : Option (List ℕ)) (end : Option SessionEnd)
       → Feeds old bytes middle → Settled steps written_as middle m written [] end new m' written'
       → Settled steps written_as old m written bytes end new m' written'
   settled_fed old middle new bytes m m' written written' end fed settled = record {
@@ -470,17 +495,21 @@ module _ {M : Type 0} (steps : M → Event → Result Reply CallFault → M → 
   }
 
   -- and after these bytes there is nothing to do
-  pub settled_by_feeding : (old new : Session) (bytes : List ℕ) (m : M) (written : Option (List ℕ)) → Feeds old bytes new → IsQuiet new
+  pub settled_by_feeding : (old new : Session) (bytes : List ℕ) (m : M) (written : Option (List ℕ))
+      → Feeds old bytes new → IsQuiet new
       → Settled steps written_as old m written bytes None new m written
   settled_by_feeding old new bytes m written fed quiet = settled_fed old new new bytes m m written written None fed (settled_idle new m written quiet)
 
-  pub settled_in : (old middle new : Session) (bytes : List ℕ) (m m' : M) (written written' : Option (List ℕ)) (result : Result (Option SessionEnd) ServeFault)
+  pub settled_in : (old middle new : Session) (bytes : List ℕ) (m m' : M)
+      (written written' : Option (List ℕ)) (result : Result (Option SessionEnd) ServeFault)
       → Feeds old bytes middle → IfOk result (λ end. Settled steps written_as middle m written [] end new m' written')
       → IfOk result (λ end. Settled steps written_as old m written bytes end new m' written')
   settled_in old middle new bytes m m' written written' (Ok end) fed settled = settled_fed old middle new bytes m m' written written' end fed settled
   settled_in old middle new bytes m m' written written' (Err f) fed settled = tt
 
-  pub stopped_in : (old middle : Session) (bytes : List ℕ) (m m' : M) (written written' : Option (List ℕ)) (failed failed' : ℕ) (result : Result (Option SessionEnd) ServeFault)
+  pub stopped_in : (old middle : Session) (bytes : List ℕ) (m m' : M)
+      (written written' : Option (List ℕ)) (failed failed' : ℕ)
+      (result : Result (Option SessionEnd) ServeFault)
       → Feeds old bytes middle → IfErr result (λ f. Stops steps written_as (still_asks middle []) (still_sends middle []) m written failed f m' written' failed')
       → IfErr result (λ f. Stops steps written_as (still_asks old bytes) (still_sends old bytes) m written failed f m' written' failed')
   stopped_in old middle bytes m m' written written' failed failed' (Ok end) fed stops = tt
@@ -489,25 +518,29 @@ module _ {M : Type 0} (steps : M → Event → Result Reply CallFault → M → 
       (stops_on bytes [] middle m m' written written' failed failed' f (reached_fed [] bytes old middle m written (reached_none old m written) fed) stops)
 
   -- the input ended
-  reached_end : (old middle new : Session) (m m' : M) (written written' : Option (List ℕ)) (end : Option SessionEnd)
+  reached_end : (old middle new : Session) (m m' : M) (written written' : Option (List ℕ))
+      (end : Option SessionEnd)
       → Finishes old middle → Settled steps written_as middle m written [] end new m' written'
       → Reached steps written_as (λ _. still_asks old []) (λ _. still_sends old []) (λ _. still_ends old []) m written [] new m' written'
   reached_end old middle new m m' written written' end finishes settled =
       reached_on [] [] middle new m m' written written' (reached_finished [] old middle m written (reached_none old m written) finishes) settled.reached
 
-  pub ended_all : (old middle new : Session) (m m' : M) (written written' : Option (List ℕ)) (end : Option SessionEnd)
+  pub ended_all : (old middle new : Session) (m m' : M) (written written' : Option (List ℕ))
+      (end : Option SessionEnd)
       → Finishes old middle → Settled steps written_as middle m written [] end new m' written'
       → DoesAll steps written_as (still_asks old []) (still_sends old []) m written m' written'
   ended_all old middle new m m' written written' end finishes settled =
       does_all [] [] new m' written' (reached_end old middle new m m' written written' end finishes settled) settled.settled.asks settled.settled.sends
 
-  pub ended_so : (old middle new : Session) (m m' : M) (written written' : Option (List ℕ)) (end : SessionEnd)
+  pub ended_so : (old middle new : Session) (m m' : M) (written written' : Option (List ℕ))
+      (end : SessionEnd)
       → Finishes old middle → Settled steps written_as middle m written [] (Some end) new m' written'
       → end ≡ still_ends old []
   ended_so old middle new m m' written written' end finishes settled =
       sym ((reached_end old middle new m m' written written' (Some end) finishes settled).ends_rest [] ∙ settled.done.ends [])
 
-  pub ended_stop : (old middle : Session) (m m' : M) (written written' : Option (List ℕ)) (failed failed' : ℕ) (f : ServeFault)
+  pub ended_stop : (old middle : Session) (m m' : M) (written written' : Option (List ℕ))
+      (failed failed' : ℕ) (f : ServeFault)
       → Finishes old middle → Stops steps written_as (still_asks middle []) (still_sends middle []) m written failed f m' written' failed'
       → Stops steps written_as (still_asks old []) (still_sends old []) m written failed f m' written' failed'
   ended_stop old middle m m' written written' failed failed' f finishes stops =

@@ -7,7 +7,8 @@ use Rattle.call_fault.specs.declared.fault.CallFault.{CallFault}
 
 module _ {M : Type 0} (steps : M → Event → Result Reply CallFault → M → Type 0) where
   -- one more event
-  pub replied_more : (first next last : M) (events : List Event) (replies : List Reply) (event : Event) (reply : Reply)
+  pub replied_more : (first next last : M) (events : List Event) (replies : List Reply)
+      (event : Event) (reply : Reply)
       → Replied steps first events replies next → steps next event (Ok reply) last → Replied steps first (events ++ event ∷ []) (replies ++ reply ∷ []) last
   replied_more first next last [] [] event reply ran step = (last, subst (λ (m : M). steps m event (Ok reply) last) ran step, refl)
   replied_more first next last [] (r ∷ replies) event reply ran step = absurd ran
@@ -22,7 +23,8 @@ module _ {M : Type 0} (steps : M → Event → Result Reply CallFault → M → 
   replied_on first next last (e ∷ events) more [] later ran then_ran = absurd ran
   replied_on first next last (e ∷ events) more (r ∷ replies) later (m, one, ran) then_ran = (m, one, replied_on m next last events more replies later ran then_ran)
 
-  pub refused_on : (first next last : M) (events more : List Event) (replies later : List Reply) (fault : CallFault)
+  pub refused_on : (first next last : M) (events more : List Event) (replies later : List Reply)
+      (fault : CallFault)
       → Replied steps first events replies next → Refused steps next more later fault last → Refused steps first (events ++ more) (replies ++ later) fault last
   refused_on first next last events more replies later fault ran refused = record {
     taken = events ++ refused.taken;

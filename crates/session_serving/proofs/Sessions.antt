@@ -100,7 +100,8 @@ pieces_so_far seen count made made' short most counted = record {
 
 module _ {M : Type 0} (steps : M → Event → Result Reply CallFault → M → Type 0) (written_as : List ℕ → List ℕ) where
   -- the effect of a session, stated for its password
-  owed : (password seen : List ℕ) (old s : Session) (m m' : M) (written written' : Option (List ℕ)) → Owes password old
+  owed : (password seen : List ℕ) (old s : Session) (m m' : M) (written written' : Option (List ℕ))
+      → Owes password old
       → Reached steps written_as (still_asks old) (still_sends old) (still_ends old) m written seen s m' written'
       → Reached steps written_as (Asks password) (Answers password) end_of m written seen s m' written'
   owed password seen old s m m' written written' owes r = reached_on [] seen old s m m' written written' (reached_new password old m written owes) r
@@ -189,7 +190,8 @@ module _ {R W M : Type 0}
   did_stop password seen r r' w w' m m' fault.Listen stop = absurd stop
 
   -- out of memory before there was a session
-  pub served_none : (password : List ℕ) (r : R) (w : W) (m : M) (result : Result SessionEnd ServeFault)
+  pub served_none : (password : List ℕ) (r : R) (w : W) (m : M)
+      (result : Result SessionEnd ServeFault)
       → IsErrAnd result (λ f. f ≡ fault.Memory)
       → Served remaining reads read_failures contents write_failures steps password r w m result r w m
   served_none password r w m (Ok end) is = absurd is

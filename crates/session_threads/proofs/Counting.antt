@@ -3,7 +3,8 @@ use Rattle.std.proofs.Common.{◌≡◌, ℕ, ◌+◌, ◌<◌, ◌≤◌, ◌^�
 use Rattle.session_threads.specs.Listening.{RisesBy}
 
 -- a count that has not reached its limit is at least one below it
-pub count_on : (limit before after : ℕ) → limit < 2 ^ 64 → ((0 < limit) × (limit ≤ before) → ⊥) → (before < 18446744073709551615 → after ≡ before + 1) → 0 < limit → after ≤ limit
+pub count_on : (limit before after : ℕ) → limit < 2 ^ 64 → ((0 < limit) × (limit ≤ before) → ⊥)
+    → (before < 18446744073709551615 → after ≡ before + 1) → 0 < limit → after ≤ limit
 count_on limit before after fits open_still counted limited =
     let below : before < limit = grind (arith, limited, open_still) in
     let more = counted (omega arith) in
@@ -14,7 +15,8 @@ pub rises_none : (at : Option ℕ) → RisesBy at 0 at
 rises_none None = tt
 rises_none (Some number) = let same : number ≡ number + 0 = omega arith in ap (λ n. Some n) same
 
-rises_on : (before mid after : Option ℕ) (count : ℕ) → RisesBy before count mid → RisesBy mid 1 after
+rises_on : (before mid after : Option ℕ) (count : ℕ) → RisesBy before count mid
+    → RisesBy mid 1 after
     → RisesBy before (count + 1) after
 rises_on None mid after count first next = tt
 rises_on (Some number) mid after count first next =
@@ -31,7 +33,8 @@ counted_on before mid after count later first next counted rises below =
     let few : count < 18446744073709551615 = omega (arith, rises, below) in
     subst (λ n. RisesBy before n after) (sym (counted few)) (rises_on before mid after count (first few) next)
 
-rises_still : (before mid after : Option ℕ) (count : ℕ) → RisesBy before count mid → RisesBy mid 0 after
+rises_still : (before mid after : Option ℕ) (count : ℕ) → RisesBy before count mid
+    → RisesBy mid 0 after
     → RisesBy before count after
 rises_still None mid after count first next = tt
 rises_still (Some number) mid after count first next =

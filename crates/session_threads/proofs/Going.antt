@@ -12,7 +12,8 @@ use Rattle.session_threads.specs.Ports.{GoesOn}
 starts_itself : {A : Type 0} (xs : List A) → StartsWith xs xs
 starts_itself xs = ([], sym (append-nil xs))
 
-starts_trans : {A : Type 0} (xs ys zs : List A) → StartsWith ys xs → StartsWith zs ys → StartsWith zs xs
+starts_trans : {A : Type 0} (xs ys zs : List A) → StartsWith ys xs → StartsWith zs ys
+    → StartsWith zs xs
 starts_trans xs ys zs s t = (s.0 ++ t.0, t.1 ∙ ap (λ ws. ws ++ t.0) s.1 ∙ append_assoc xs s.0 t.0)
 
 pub among_front : (n : List ℕ) (ms ns : List (List ℕ)) → IsAmong n ms → IsAmong n (ms ++ ns)
@@ -24,7 +25,8 @@ among_at e [] ns = inl (sym e)
 among_at e (k ∷ ms) ns = inr (among_at e ms ns)
 
 module _ {E R O : Type 0} where
-  own_later : (p q : ShownPort E R O) → GoesOn p q → (n : List ℕ) → IsOwn p.known n → IsOwn q.known n
+  own_later : (p q : ShownPort E R O) → GoesOn p q → (n : List ℕ) → IsOwn p.known n
+      → IsOwn q.known n
   own_later p q s n h = elim h [ inl e ↦ inl (e ∙ sym s.number) | inr among ↦ inr (s.joined n among) ]
 
   pub goes_refl : (p : ShownPort E R O) → GoesOn p p
@@ -56,7 +58,8 @@ module _ {E R O : Type 0} where
       }
 
   -- a port was split off
-  pub goes_split : (p q : ShownPort E R O) → q.lock ≡ p.lock → q.bound ≡ p.bound → q.known ≡ divided p.known → GoesOn p q
+  pub goes_split : (p q : ShownPort E R O) → q.lock ≡ p.lock → q.bound ≡ p.bound → q.known
+      ≡ divided p.known → GoesOn p q
   goes_split p q lock bound known =
       record {
         lock = lock;
@@ -71,7 +74,8 @@ module _ {E R O : Type 0} where
       }
 
   -- the port u was joined in
-  pub goes_joins : (legal : O → List (Entry E R) → Type 0) (p q : ShownPort E R O) (u : Known E R O) → q.lock ≡ p.lock → q.bound ≡ p.bound → Joins legal p.known u q.known → GoesOn p q
+  pub goes_joins : (legal : O → List (Entry E R) → Type 0) (p q : ShownPort E R O) (u : Known E R O)
+      → q.lock ≡ p.lock → q.bound ≡ p.bound → Joins legal p.known u q.known → GoesOn p q
   goes_joins legal p q u lock bound joins =
       record {
         lock = lock;

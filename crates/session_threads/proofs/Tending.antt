@@ -11,14 +11,16 @@ use Rattle.session_threads.specs.Sessions.{IsEmpty, AreHeld, IsOpen, IsEnded, Te
 use Rattle.session_threads.proofs.Going.{among_at, goes_refl, goes_trans, goes_split, goes_joins}
 
 -- a port that was returned is the one that was lent
-pub returned_same : {E R O : Type 0} (did : ShownPort E R O → ShownPort E R O → Type 0) (p q : ShownPort E R O)
+pub returned_same : {E R O : Type 0} (did : ShownPort E R O → ShownPort E R O → Type 0)
+    (p q : ShownPort E R O)
     → ((r s : ShownPort E R O) → did r s → IsSame r s) → Returns did p q → IsSame p q
 returned_same did p q same (inl e) =
     record { lock = ap (λ r. r.lock) e; bound = ap (λ r. r.bound) e; origin = ap (λ r. r.known.origin) e; number = ap (λ r. r.known.number) e; splits = ap (λ r. r.known.splits) e; joined = ap (λ r. r.known.joined) e }
 returned_same did p q same (inr done) = same p q done
 
 -- a property of the connection that was given
-pub if_given : {C : Type 0} (P : C → Type 0) (next : Option C) (given : C) → next ≡ Some given → IfSome next P → P given
+pub if_given : {C : Type 0} (P : C → Type 0) (next : Option C) (given : C) → next ≡ Some given
+    → IfSome next P → P given
 if_given {C = C} P next given is so = let Q : Option C → Type 0 = λ o. IfSome o P in subst Q is so
 
 module _ {H E R O : Type 0} (port_of : H → ShownPort E R O) (terms_of : H → List ℕ)
@@ -32,10 +34,12 @@ module _ {H E R O : Type 0} (port_of : H → ShownPort E R O) (terms_of : H → 
   abbrev Goes : ShownPort E R O → Slab H → ShownPort E R O → Slab H → Type 0
   Goes = Tends port_of terms_of did terms
 
-  pub tends_refl : (p : ShownPort E R O) (held : Slab H) → Tends port_of terms_of did terms p held p held
+  pub tends_refl : (p : ShownPort E R O) (held : Slab H)
+      → Tends port_of terms_of did terms p held p held
   tends_refl p held = record { goes = goes_refl p; holds = λ h. h; accounts = λ from a. a }
 
-  pub tends_trans : (p : ShownPort E R O) (held : Slab H) (q : ShownPort E R O) (later : Slab H) (r : ShownPort E R O) (last : Slab H)
+  pub tends_trans : (p : ShownPort E R O) (held : Slab H) (q : ShownPort E R O) (later : Slab H)
+      (r : ShownPort E R O) (last : Slab H)
       → Tends port_of terms_of did terms p held q later → Tends port_of terms_of did terms q later r last → Tends port_of terms_of did terms p held r last
   tends_trans p held q later r last s t =
       record {
@@ -45,12 +49,14 @@ module _ {H E R O : Type 0} (port_of : H → ShownPort E R O) (terms_of : H → 
       }
 
   -- the same fact for equal terms
-  pub tends_by : (other : List ℕ) (p : ShownPort E R O) (held : Slab H) (q : ShownPort E R O) (later : Slab H) → terms ≡ other
+  pub tends_by : (other : List ℕ) (p : ShownPort E R O) (held : Slab H) (q : ShownPort E R O)
+      (later : Slab H) → terms ≡ other
       → Tends port_of terms_of did terms p held q later → Tends port_of terms_of did other p held q later
   tends_by other p held q later same tends = let T : List ℕ → Type 0 = λ t. Tends port_of terms_of did t p held q later in subst T same tends
 
   -- the slab's values after a removal were there before
-  held_before : (held later : Slab H) (key other : ℕ) (s : H) → Updates held later key None → get later other ≡ Some s → get held other ≡ Some s
+  held_before : (held later : Slab H) (key other : ℕ) (s : H) → Updates held later key None
+      → get later other ≡ Some s → get held other ≡ Some s
   held_before held later key other s updates found =
       elim (cases_eq other key) [
         | inl same ↦ let vacant : get later other ≡ None = ap (get later) same ∙ updates.changed in absurd (cc)
@@ -65,7 +71,8 @@ module _ {H E R O : Type 0} (port_of : H → ShownPort E R O) (terms_of : H → 
 
   -- an open session remains open if another place is cleared; otherwise it is the session that was
   -- there
-  open_later : (held later : Slab H) (key : ℕ) (s : H) (number : List ℕ) → get held key ≡ Some s → Updates held later key None → Opens held number → IsThis s number ⊎ Opens later number
+  open_later : (held later : Slab H) (key : ℕ) (s : H) (number : List ℕ) → get held key ≡ Some s
+      → Updates held later key None → Opens held number → IsThis s number ⊎ Opens later number
   open_later held later key s number there updates o =
       elim (cases_eq o.key key) [
         | inl same ↦
@@ -84,7 +91,8 @@ module _ {H E R O : Type 0} (port_of : H → ShownPort E R O) (terms_of : H → 
   }
 
   -- the port of a session was joined in
-  ended_now : (legal : O → List (Entry E R) → Type 0) (p q lent r : ShownPort E R O) (number : List ℕ) → Joins legal p.known r.known q.known → lent.known.number ≡ number
+  ended_now : (legal : O → List (Entry E R) → Type 0) (p q lent r : ShownPort E R O)
+      (number : List ℕ) → Joins legal p.known r.known q.known → lent.known.number ≡ number
       → calls_by number lent.known.seen ≡ [] → r.known.number ≡ number → Returns (did terms) lent r → Ends q number
   ended_now legal p q lent r number joins named fresh same returned = record {
     among = rw joins.joined (among_at same p.known.joined r.known.joined);
@@ -92,7 +100,9 @@ module _ {H E R O : Type 0} (port_of : H → ShownPort E R O) (terms_of : H → 
   }
 
   -- the session at this place ended, and its port was joined in
-  pub tends_close : (legal : O → List (Entry E R) → Type 0) (p q : ShownPort E R O) (held later : Slab H) (key : ℕ) (s : H) (r : ShownPort E R O) → get held key ≡ Some s → Updates held later key None → later.capacity ≡ held.capacity
+  pub tends_close : (legal : O → List (Entry E R) → Type 0) (p q : ShownPort E R O)
+      (held later : Slab H) (key : ℕ) (s : H) (r : ShownPort E R O) → get held key ≡ Some s
+      → Updates held later key None → later.capacity ≡ held.capacity
       → Returns (did (terms_of s)) (port_of s) r → IsSame (port_of s) r → q.lock ≡ p.lock → q.bound ≡ p.bound → Joins legal p.known r.known q.known → Tends port_of terms_of did terms p held q later
   tends_close legal p q held later key s r there updates capacity returned same lock bound joins =
       let goes = goes_joins legal p q r.known lock bound joins in
@@ -115,7 +125,9 @@ module _ {H E R O : Type 0} (port_of : H → ShownPort E R O) (terms_of : H → 
       }
 
   -- a port was split off, and a session opened with it
-  pub tends_open : (p q : ShownPort E R O) (held later : Slab H) (key : ℕ) (s : H) (own : ShownPort E R O) → q.lock ≡ p.lock → q.bound ≡ p.bound → q.known ≡ divided p.known → port_of s ≡ own → own.lock ≡ p.lock → own.known ≡ born p.known
+  pub tends_open : (p q : ShownPort E R O) (held later : Slab H) (key : ℕ) (s : H)
+      (own : ShownPort E R O) → q.lock ≡ p.lock → q.bound ≡ p.bound → q.known ≡ divided p.known
+      → port_of s ≡ own → own.lock ≡ p.lock → own.known ≡ born p.known
       → calls_by own.known.number own.known.seen ≡ [] → terms_of s ≡ terms
       → get held key ≡ None → key < 8 → Updates held later key (Some s) → later.capacity ≡ held.capacity → Tends port_of terms_of did terms p held q later
   tends_open p q held later key s own lock bound divides is lent birth fresh on_terms vacant within updates capacity =
@@ -155,7 +167,9 @@ module _ {H E R O : Type 0} (port_of : H → ShownPort E R O) (terms_of : H → 
       }
 
   -- a port was split off, no thread could be started for it, and it was joined in again
-  pub tends_back : (legal : O → List (Entry E R) → Type 0) (p q r own back : ShownPort E R O) (held : Slab H) → q.lock ≡ p.lock → q.bound ≡ p.bound → q.known ≡ divided p.known → own.known ≡ born p.known
+  pub tends_back : (legal : O → List (Entry E R) → Type 0) (p q r own back : ShownPort E R O)
+      (held : Slab H) → q.lock ≡ p.lock → q.bound ≡ p.bound → q.known ≡ divided p.known → own.known
+      ≡ born p.known
       → calls_by own.known.number own.known.seen ≡ [] → Returns (did terms) own back → IsSame own back → r.lock ≡ q.lock → r.bound ≡ q.bound → Joins legal q.known back.known r.known → Tends port_of terms_of did terms p held r held
   tends_back legal p q r own back held lock bound divides birth fresh returned same relock rebound joins =
       let splits = goes_split p q lock bound divides in
@@ -190,7 +204,8 @@ module _ {H E R O : Type 0} (port_of : H → ShownPort E R O) (terms_of : H → 
       }
 
   -- nothing happened
-  pub tends_same : (p q : ShownPort E R O) (held later : Slab H) → q.lock ≡ p.lock → q.bound ≡ p.bound → q.known ≡ p.known → later ≡ held → Tends port_of terms_of did terms p held q later
+  pub tends_same : (p q : ShownPort E R O) (held later : Slab H) → q.lock ≡ p.lock → q.bound
+      ≡ p.bound → q.known ≡ p.known → later ≡ held → Tends port_of terms_of did terms p held q later
   tends_same p q held later lock bound known same =
       let port : q ≡ p = λ i. record { lock = lock i; bound = bound i; known = known i } in
       let P : ShownPort E R O → Type 0 = λ x. Tends port_of terms_of did terms p held x later in
@@ -198,7 +213,9 @@ module _ {H E R O : Type 0} (port_of : H → ShownPort E R O) (terms_of : H → 
       subst P (sym port) (subst Q (sym same) (tends_refl p held))
 
   -- if no session is open, each port that was split off since has ended
-  pub ended_all : (p q : ShownPort E R O) (held later : Slab H) → IsEmpty held → Tends port_of terms_of did terms p held q later → ((key : ℕ) → key < 8 → get later key ≡ None)
+  pub ended_all : (p q : ShownPort E R O) (held later : Slab H) → IsEmpty held
+      → Tends port_of terms_of did terms p held q later
+      → ((key : ℕ) → key < 8 → get later key ≡ None)
       → (i : ℕ) → p.known.splits ≤ i → i < q.known.splits → Ends q (child q.known.number i)
   ended_all p q held later empty tends closed i low high =
       let at_first : AreHeld port_of p held = held_none p held empty in
@@ -208,8 +225,12 @@ module _ {H E R O : Type 0} (port_of : H → ShownPort E R O) (terms_of : H → 
         | inr o ↦ let none : get later o.key ≡ None = closed o.key (at_last.places o.key o.session o.there) in let some = o.there in absurd (cc)
       ]
 
-  pub joined_all : (p q : ShownPort E R O) (held later : Slab H) → IsEmpty held → Tends port_of terms_of did terms p held q later → ((key : ℕ) → key < 8 → get later key ≡ None) → AreJoined p.known.splits q
+  pub joined_all : (p q : ShownPort E R O) (held later : Slab H) → IsEmpty held
+      → Tends port_of terms_of did terms p held q later
+      → ((key : ℕ) → key < 8 → get later key ≡ None) → AreJoined p.known.splits q
   joined_all p q held later empty tends closed i low high = (ended_all p q held later empty tends closed i low high).among
 
-  pub served_all : (p q : ShownPort E R O) (held later : Slab H) → IsEmpty held → Tends port_of terms_of did terms p held q later → ((key : ℕ) → key < 8 → get later key ≡ None) → AreServed (did terms) p.known.splits q
+  pub served_all : (p q : ShownPort E R O) (held later : Slab H) → IsEmpty held
+      → Tends port_of terms_of did terms p held q later
+      → ((key : ℕ) → key < 8 → get later key ≡ None) → AreServed (did terms) p.known.splits q
   served_all p q held later empty tends closed i low high = (ended_all p q held later empty tends closed i low high).served

@@ -10,13 +10,17 @@ use Rattle.session_threads.specs.Workers.{Ended}
 use Rattle.session_threads.proofs.Going.{among_at, goes_trans, goes_split, goes_joins}
 
 module _ {E R O : Type 0} where
-  pub ended_same : (did : ShownPort E R O → ShownPort E R O → Result (Unit {0}) CallFault → Type 0) (p q : ShownPort E R O) (end : Option (Result (Unit {0}) CallFault)) → ((r s : ShownPort E R O) (e : Result (Unit {0}) CallFault) → did r s e → IsSame r s) → Ended did p q end → IsSame p q
+  pub ended_same : (did : ShownPort E R O → ShownPort E R O → Result (Unit {0}) CallFault → Type 0)
+      (p q : ShownPort E R O) (end : Option (Result (Unit {0}) CallFault))
+      → ((r s : ShownPort E R O) (e : Result (Unit {0}) CallFault) → did r s e → IsSame r s)
+      → Ended did p q end → IsSame p q
   ended_same did p q None same e =
       record { lock = ap (λ r. r.lock) e; bound = ap (λ r. r.bound) e; origin = ap (λ r. r.known.origin) e; number = ap (λ r. r.known.number) e; splits = ap (λ r. r.known.splits) e; joined = ap (λ r. r.known.joined) e }
   ended_same did p q (Some end) same done = same p q end done
 
   -- the port u was joined in
-  pub takes_in : (legal : O → List (Entry E R) → Type 0) (p u q : ShownPort E R O) → q.lock ≡ p.lock → q.bound ≡ p.bound → Joins legal p.known u.known q.known → TakesIn p u q
+  pub takes_in : (legal : O → List (Entry E R) → Type 0) (p u q : ShownPort E R O) → q.lock ≡ p.lock
+      → q.bound ≡ p.bound → Joins legal p.known u.known q.known → TakesIn p u q
   takes_in legal p u q lock bound joins =
       record {
         goes = goes_joins legal p q u.known lock bound joins;
@@ -28,7 +32,10 @@ module _ {E R O : Type 0} where
       }
 
   -- a port was split off, was not used, and was joined in again
-  pub none_lost : (legal : O → List (Entry E R) → Type 0) (p q r own back : ShownPort E R O) → q.lock ≡ p.lock → q.bound ≡ p.bound → q.known ≡ divided p.known → own.known ≡ born p.known → IsSame own back → r.lock ≡ q.lock → r.bound ≡ q.bound → Joins legal q.known back.known r.known → GoesOn p r × AreJoined p.known.splits r
+  pub none_lost : (legal : O → List (Entry E R) → Type 0) (p q r own back : ShownPort E R O)
+      → q.lock ≡ p.lock → q.bound ≡ p.bound → q.known ≡ divided p.known → own.known ≡ born p.known
+      → IsSame own back → r.lock ≡ q.lock → r.bound ≡ q.bound
+      → Joins legal q.known back.known r.known → GoesOn p r × AreJoined p.known.splits r
   none_lost legal p q r own back lock bound divides birth same relock rebound joins =
       let one_more = ap (λ k. k.splits) divides in (
         goes_trans p q r (goes_split p q lock bound divides) (goes_joins legal q r back.known relock rebound joins),

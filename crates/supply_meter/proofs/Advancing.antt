@@ -18,7 +18,8 @@ map_both f [] ys = refl
 map_both f (x ∷ xs) ys = ap (λ (zs : List _). f x ∷ zs) (map_both f xs ys)
 
 -- the session will still do the same, and the meter applied nothing
-pub advances_same : (old new : Dialogue) (r : Recording) → SameAhead old new → Advances old r [] new r
+pub advances_same : (old new : Dialogue) (r : Recording) → SameAhead old new
+    → Advances old r [] new r
 advances_same old new r same = record {
   told = [];
   histories = λ history origin stands. subst (λ (h : List Exchange). StandsForHistory r h origin) (sym (append-nil history)) stands;
@@ -32,7 +33,8 @@ pub advances_none : (d : Dialogue) (r : Recording) → Advances d r [] d r
 advances_none d r = advances_same d d r (record { asks = λ more. refl; sends = λ more replies. refl; ends = λ more. refl })
 
 -- some steps, followed by others
-pub advances_on : (old d new : Dialogue) (r r' r'' : Recording) (given : List (List ℕ)) → Advances old r [] d r' → Advances d r' given new r'' → Advances old r given new r''
+pub advances_on : (old d new : Dialogue) (r r' r'' : Recording) (given : List (List ℕ))
+    → Advances old r [] d r' → Advances d r' given new r'' → Advances old r given new r''
 advances_on old d new r r' r'' given first then_ = record {
   told = first.told ++ then_.told;
   histories = λ history origin stands.
@@ -66,12 +68,14 @@ advances_asked s event reply r r' continues capacity = record {
 }
 
 -- out of memory nothing has changed
-pub advances_kept : (old new : Dialogue) (r r' : Recording) → new ≡ old → r' ≡ r → Advances old r [] new r'
+pub advances_kept : (old new : Dialogue) (r r' : Recording) → new ≡ old → r' ≡ r
+    → Advances old r [] new r'
 advances_kept old new r r' e e' =
     subst (λ (n : Dialogue). Advances old r [] n r') (sym e) (subst (λ (q : Recording). Advances old r [] old q) (sym e') (advances_none old r))
 
 -- the meter applied the pending event, and its reply is pending now
-pub applied : (old : Dialogue) (s : Session) (u u' : UnderWay) (event : Event) (reply : Reply) (r r' : Recording)
+pub applied : (old : Dialogue) (s : Session) (u u' : UnderWay) (event : Event) (reply : Reply)
+    (r r' : Recording)
     → record { session = s; under_way = u } ≡ old → u ≡ Asked event → u' ≡ Answered reply
     → Continues r r' event reply → r'.capacity ≡ r.capacity
     → Advances old r [] (record { session = s; under_way = u' }) r' × (weight (record { session = s; under_way = u' }) < weight old)
@@ -82,5 +86,6 @@ applied old s u u' event reply r r' is asked answered continues capacity =
     (advances_asked s event reply r r' continues capacity, omega arith)))
 
 -- a frame is pending
-pub due_by : (old : Dialogue) (s : Session) (u : UnderWay) (frame : List ℕ) → record { session = s; under_way = u } ≡ old → u ≡ Due frame → IsDue old
+pub due_by : (old : Dialogue) (s : Session) (u : UnderWay) (frame : List ℕ)
+    → record { session = s; under_way = u } ≡ old → u ≡ Due frame → IsDue old
 due_by old s u frame is due = record { frame = frame; is = ap (λ (d : Dialogue). d.under_way) (sym is) ∙ due }

@@ -38,7 +38,8 @@ level_again : (level : Level) → level_in (decimal (level_number level)) ≡ Ok
 level_again Management = let h = number_word_again 16 1 (omega arith) (omega arith) in rw h refl
 level_again Public = let h = number_word_again 16 16 (omega arith) (omega arith) in rw h refl
 
-name_again : (name : Obis) → length name.0 ≡ 6 → IsBytes name.0 → name_in (encode_upper name.0) ≡ Ok name
+name_again : (name : Obis) → length name.0 ≡ 6 → IsBytes name.0
+    → name_in (encode_upper name.0) ≡ Ok name
 unfolding name_in
 name_again name long are =
     let h = bytes_word_again name.0 (omega arith) are in
@@ -66,14 +67,17 @@ attribute_again attr words named =
     let number = number_word_again 255 attr.number named.number_fits (omega arith) in
     rw (class, name, number) refl
 
-method_again : (method : MethodRef) (words : Row) → IsNamed method.class.0 method.name.0 method.number → method_at (method_words method words) ≡ Ok (method, words)
+method_again : (method : MethodRef) (words : Row)
+    → IsNamed method.class.0 method.name.0 method.number → method_at (method_words method words)
+    ≡ Ok (method, words)
 method_again method words named =
     let class = number_word_again 65535 method.class.0 named.class_fits (omega arith) in
     let name = name_again method.name named.name_fits named.name_bytes in
     let number = number_word_again 255 method.number named.number_fits (omega arith) in
     rw (class, name, number) refl
 
-selection_again : (item : AttributeSelection) (words : Row) → IsNamed item.attr.class.0 item.attr.name.0 item.attr.number
+selection_again : (item : AttributeSelection) (words : Row)
+    → IsNamed item.attr.class.0 item.attr.name.0 item.attr.number
     → selection_from (decimal item.attr.class.0) (encode_upper item.attr.name.0 ∷ decimal item.attr.number ∷ decimal (flag_number item.selected) ∷ words) ≡ Ok (item, words)
 unfolding selection_from
 selection_again item words named =
@@ -81,7 +85,8 @@ selection_again item words named =
     let flag = flag_again item.selected in
     rw (attr, flag) refl
 
-selections_again : (items : List AttributeSelection) (room : ℕ) → length items ≤ room → AreNamed items → all_at selection_from room (all_words selection_words items) ≡ Ok items
+selections_again : (items : List AttributeSelection) (room : ℕ) → length items ≤ room
+    → AreNamed items → all_at selection_from room (all_words selection_words items) ≡ Ok items
 unfolding all_at all_words
 selections_again [] zero le named = refl
 selections_again [] (suc room) le named = refl
@@ -93,7 +98,8 @@ selections_again (item ∷ items) (suc room) le named =
 
 -- ---- samples
 
-values_again : (values : List ℕ) (room : ℕ) → length values ≤ room → AreSamples values → all_at value_from room (all_words value_words values) ≡ Ok values
+values_again : (values : List ℕ) (room : ℕ) → length values ≤ room → AreSamples values
+    → all_at value_from room (all_words value_words values) ≡ Ok values
 unfolding all_at all_words
 values_again [] zero le are = refl
 values_again [] (suc room) le are = refl
@@ -103,7 +109,8 @@ values_again (value ∷ values) (suc room) le are =
     let others = values_again values room (omega arith) are.1 in
     rw (first, others) refl
 
-pairs_again : (imports exports : List ℕ) (room : ℕ) → length imports ≤ room → length imports ≡ length exports → AreSamples imports → AreSamples exports
+pairs_again : (imports exports : List ℕ) (room : ℕ) → length imports ≤ room → length imports
+    ≡ length exports → AreSamples imports → AreSamples exports
     → all_at pair_from room (pairs_words imports exports) ≡ Ok (zip imports exports)
 unfolding all_at pairs_words
 pairs_again [] [] zero le even are others = refl
@@ -117,12 +124,14 @@ pairs_again (import ∷ imports) (export ∷ exports) (suc room) le even are oth
     let rest = pairs_again imports exports room (omega arith) (omega arith) are.1 others.1 in
     rw (first, second, rest) refl
 
-firsts : (imports exports : List ℕ) → length imports ≡ length exports → map (λ (pair : ℕ × ℕ). pair.0) (zip imports exports) ≡ imports
+firsts : (imports exports : List ℕ) → length imports ≡ length exports
+    → map (λ (pair : ℕ × ℕ). pair.0) (zip imports exports) ≡ imports
 firsts [] exports even = refl
 firsts (import ∷ imports) [] even = absurd (omega arith)
 firsts (import ∷ imports) (export ∷ exports) even = ap (λ (rest : List ℕ). import ∷ rest) (firsts imports exports (omega arith))
 
-seconds : (imports exports : List ℕ) → length imports ≡ length exports → map (λ (pair : ℕ × ℕ). pair.1) (zip imports exports) ≡ exports
+seconds : (imports exports : List ℕ) → length imports ≡ length exports
+    → map (λ (pair : ℕ × ℕ). pair.1) (zip imports exports) ≡ exports
 seconds [] [] even = refl
 seconds [] (export ∷ exports) even = absurd (omega arith)
 seconds (import ∷ imports) [] even = absurd (omega arith)
@@ -135,14 +144,16 @@ no_hyphen : (value : Data) → IsHeld value → pointwise nat_eq (data_word valu
 no_hyphen value held =
     unequal nat_eq (data_word value) (codes "-") (λ e. let long : length (data_word value) ≡ 2 * length (text (tree_of value)) = length-encode_with upper_digits (text (tree_of value)) in absurd (omega (arith, e, long)))
 
-parameter_again : (parameter : Option Data) → IfSome parameter IsHeld → parameter_in (parameter_word parameter) ≡ Ok parameter
+parameter_again : (parameter : Option Data) → IfSome parameter IsHeld
+    → parameter_in (parameter_word parameter) ≡ Ok parameter
 parameter_again None held = refl
 parameter_again (Some value) held =
     let other = no_hyphen value held in
     let read = data_word_again value held in
     rw (other, read) refl
 
-block_again : (imports : List ℕ) (exports : Option (List ℕ)) → length imports ≤ 256 → AreSamples imports → AreExports imports exports
+block_again : (imports : List ℕ) (exports : Option (List ℕ)) → length imports ≤ 256
+    → AreSamples imports → AreExports imports exports
     → event_from Two (samples_kind exports) (samples_words imports exports) ≡ Ok (Samples (record { import = imports; export = exports }))
 unfolding event_from samples_from pairs_from
 block_again imports None few are others = let read = values_again imports 256 few are in rw read refl
@@ -150,7 +161,8 @@ block_again imports (Some exports) few are others =
     let read = pairs_again imports exports 256 few others.0 are others.1 in
     rw (read, firsts imports exports others.0, seconds imports exports others.0) refl
 
-words_again : (event : Event) → IsTraced event → event_from Two (kind_of event) (event_words event) ≡ Ok event
+words_again : (event : Event) → IsTraced event → event_from Two (kind_of event) (event_words event)
+    ≡ Ok event
 unfolding event_from event_words get_from get_list_from set_from execute_from moment_from
 words_again (Get level attr selected) traced =
     let port = level_again level in
@@ -185,7 +197,8 @@ event_again event traced =
 
 -- ---- the number of events
 
-pub events_again : (count : ℕ) → count ≤ 65536 → events_from (number_row (codes "events") count) ≡ Ok count
+pub events_again : (count : ℕ) → count ≤ 65536
+    → events_from (number_row (codes "events") count) ≡ Ok count
 events_again count le =
     let read = number_word_again 65536 count le (omega arith) in
     labelled_again (codes "events") (number_in 65536) (decimal count) count read

@@ -32,7 +32,8 @@ level_is_word : (level : Level) → is_word (decimal (level_number level)) ≡ t
 level_is_word Management = value_is_word 1 (omega arith)
 level_is_word Public = value_is_word 16 (omega arith)
 
-parameter_is_word : (parameter : Option Data) → IfSome parameter IsHeld → is_word (parameter_word parameter) ≡ true
+parameter_is_word : (parameter : Option Data) → IfSome parameter IsHeld
+    → is_word (parameter_word parameter) ≡ true
 parameter_is_word None held = refl
 parameter_is_word (Some value) held = data_is_word value held
 
@@ -46,7 +47,8 @@ verb_is_word OfSamples = refl
 verb_is_word OfPairs = refl
 verb_is_word OfMoment = refl
 
-named_are_words : (class : ℕ) (name : List ℕ) (number : ℕ) (words : Row) → IsNamed class name number → AreWords words → AreWords (decimal class ∷ encode_upper name ∷ decimal number ∷ words)
+named_are_words : (class : ℕ) (name : List ℕ) (number : ℕ) (words : Row) → IsNamed class name number
+    → AreWords words → AreWords (decimal class ∷ encode_upper name ∷ decimal number ∷ words)
 named_are_words class name number words named are =
     let n : is_word (encode_upper name) ≡ true = hex_is_word name (omega (arith, named.name_fits)) named.name_bytes in
     let c : class ≤ 4294967295 = omega (arith, named.class_fits) in
@@ -54,7 +56,8 @@ named_are_words class name number words named are =
     more (decimal class) (encode_upper name ∷ decimal number ∷ words) (value_is_word class c)
     (more (encode_upper name) (decimal number ∷ words) n (more (decimal number) words (value_is_word number m) are))
 
-selections_are_words : (items : List AttributeSelection) → AreNamed items → AreWords (all_words selection_words items)
+selections_are_words : (items : List AttributeSelection) → AreNamed items
+    → AreWords (all_words selection_words items)
 unfolding all_words
 selections_are_words [] named = refl
 selections_are_words (item ∷ items) named =
@@ -66,7 +69,8 @@ unfolding all_words
 values_are_words [] are = refl
 values_are_words (value ∷ values) are = more (decimal value) (all_words value_words values) (value_is_word value are.0) (values_are_words values are.1)
 
-pairs_are_words : (imports exports : List ℕ) → AreSamples imports → AreSamples exports → AreWords (pairs_words imports exports)
+pairs_are_words : (imports exports : List ℕ) → AreSamples imports → AreSamples exports
+    → AreWords (pairs_words imports exports)
 unfolding pairs_words
 pairs_are_words [] exports are others = refl
 pairs_are_words (import ∷ imports) [] are others = refl
@@ -74,7 +78,8 @@ pairs_are_words (import ∷ imports) (export ∷ exports) are others =
     more (decimal import) (decimal export ∷ pairs_words imports exports) (value_is_word import are.0)
     (more (decimal export) (pairs_words imports exports) (value_is_word export others.0) (pairs_are_words imports exports are.1 others.1))
 
-block_is_words : (imports : List ℕ) (exports : Option (List ℕ)) → AreSamples imports → AreExports imports exports → AreWords (samples_words imports exports)
+block_is_words : (imports : List ℕ) (exports : Option (List ℕ)) → AreSamples imports
+    → AreExports imports exports → AreWords (samples_words imports exports)
 block_is_words imports None are others = values_are_words imports are
 block_is_words imports (Some exports) are others = pairs_are_words imports exports are others.1
 
@@ -100,8 +105,10 @@ event_is_words (Moment now) traced = more (decimal now) [] (value_is_word now tr
 pub event_is_row : (event : Event) → IsTraced event → is_row (event_row event) ≡ true
 event_is_row event traced = more (verb_word (kind_of event)) (event_words event) (verb_is_word (kind_of event)) (event_is_words event traced)
 
-pub line_again : (event : Event) → IsTraced event → event_of Two (words_of (line_of (event_row event))) ≡ Ok event
+pub line_again : (event : Event) → IsTraced event
+    → event_of Two (words_of (line_of (event_row event))) ≡ Ok event
 line_again event traced = ap (event_of Two) (words_again (event_row event) (event_is_row event traced)) ∙ event_again event traced
 
-pub event_count_is_row : (count : ℕ) → count ≤ 65536 → is_row (number_row (codes "events") count) ≡ true
+pub event_count_is_row : (count : ℕ) → count ≤ 65536
+    → is_row (number_row (codes "events") count) ≡ true
 event_count_is_row count le = number_is_row (codes "events") count refl (omega arith)

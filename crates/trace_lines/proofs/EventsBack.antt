@@ -36,7 +36,8 @@ use Rattle.trace_words.proofs.LabelsBack.{IsRowBack, labelled_back}
 
 -- ---- single words
 
-level_is : (n : ℕ) (level : Level) → cond (n == 1) (done RowFault Management) (cond (n == 16) (Ok Public) (Err Wrong)) ≡ Ok level → n ≡ level_number level
+level_is : (n : ℕ) (level : Level) → cond (n == 1) (done RowFault Management)
+    (cond (n == 16) (Ok Public) (Err Wrong)) ≡ Ok level → n ≡ level_number level
 level_is n level e =
     elim (chosen (n == 1) (done RowFault Management) (cond (n == 16) (Ok Public) (Err Wrong)) (Ok level) e) [
       | inl one ↦ eqb-true n 1 one.0 ∙ ap level_number (ok_is Management level one.1)
@@ -62,7 +63,8 @@ name_back word name e =
 -- ---- the first word
 
 -- a word is that of this kind, or of one that is tried later
-kind_back : (kind : EventWord) (word : Word) (later : Result EventWord RowFault) (verb : EventWord) → (later ≡ Ok verb → word ≡ verb_word verb)
+kind_back : (kind : EventWord) (word : Word) (later : Result EventWord RowFault) (verb : EventWord)
+    → (later ≡ Ok verb → word ≡ verb_word verb)
     → cond (is_word_of kind word) (Ok kind) later ≡ Ok verb → word ≡ verb_word verb
 kind_back kind word later verb back e =
     elim (chosen (is_word_of kind word) (done RowFault kind) later (Ok verb) e) [
@@ -94,7 +96,8 @@ attribute_back word words attr rest e =
     ∙ ap (λ (ws : Row). decimal class.0 ∷ encode_upper name.0.0.0 ∷ ws) (next_number_back 255 (omega arith) name.0.1 number.0.1 number.0.0 number.1)
     ∙ ap (λ (p : AttrRef × Row). attribute_words p.0 p.1) (ok_is (record { class = record { 0 = class.0 }; name = name.0.0; number = number.0.0 }, number.0.1) (attr, rest) number.2)
 
-method_back : (words : Row) (method : MethodRef) (rest : Row) → method_at words ≡ Ok (method, rest) → words ≡ method_words method rest
+method_back : (words : Row) (method : MethodRef) (rest : Row) → method_at words ≡ Ok (method, rest)
+    → words ≡ method_words method rest
 method_back words method rest e =
     let class = bind_ok (next_as (number_in 65535) words) _ (method, rest) e in
     let name = bind_ok (next_as name_in class.0.1) _ (method, rest) class.2 in
@@ -113,7 +116,8 @@ selection_back word words item rest e =
     ∙ ap (attribute_words attr.0.0) (next_back Bool flag_in (λ flag. decimal (flag_number flag)) flag_back attr.0.1 selected.0.1 selected.0.0 selected.1)
     ∙ ap (λ (p : AttributeSelection × Row). selection_words p.0 p.1) (ok_is (record { attr = attr.0.0; selected = selected.0.0 }, selected.0.1) (item, rest) selected.2)
 
-selection_here_back : (words : Row) (item : AttributeSelection) (rest : Row) → selection_at words ≡ Ok (item, rest) → words ≡ selection_words item rest
+selection_here_back : (words : Row) (item : AttributeSelection) (rest : Row) → selection_at words
+    ≡ Ok (item, rest) → words ≡ selection_words item rest
 selection_here_back [] item rest e = absurd cc
 selection_here_back (word ∷ words) item rest e = selection_back word words item rest e
 
@@ -147,7 +151,8 @@ pair_back word words pair rest e =
     ∙ ap (λ (p : (ℕ × ℕ) × Row). pair_words p.0 p.1) (ok_is ((import.0, export.0.0), export.0.1) (pair, rest) export.2)
 
 -- the words of pairs are those of their import and export values
-all_pairs : (pairs : List (ℕ × ℕ)) → all_words pair_words pairs ≡ pairs_words (map (λ (pair : ℕ × ℕ). pair.0) pairs) (map (λ (pair : ℕ × ℕ). pair.1) pairs)
+all_pairs : (pairs : List (ℕ × ℕ)) → all_words pair_words pairs
+    ≡ pairs_words (map (λ (pair : ℕ × ℕ). pair.0) pairs) (map (λ (pair : ℕ × ℕ). pair.1) pairs)
 unfolding all_words pairs_words
 all_pairs [] = refl
 all_pairs (pair ∷ pairs) = ap (pair_words pair) (all_pairs pairs)
@@ -250,7 +255,8 @@ words_back Two OfPairs = pairs_back
 words_back version OfMoment = moment_back
 
 -- the words that an event was read from are those that are written for it
-pub event_back : (version : Version) (row : Row) (event : Event) → event_of version row ≡ Ok event → event_row event ≡ row
+pub event_back : (version : Version) (row : Row) (event : Event) → event_of version row ≡ Ok event
+    → event_row event ≡ row
 unfolding event_of
 event_back version [] event e = absurd cc
 event_back version (first ∷ words) event e =
@@ -258,7 +264,8 @@ event_back version (first ∷ words) event e =
     sym (ap (λ (w : Word). w ∷ words) (verb_back first verb.0 verb.1) ∙ words_back version verb.0 words event verb.2)
 
 -- the bytes of the line that an event was read from are those that are written for it
-pub event_line_back : (version : Version) (line : List ℕ) (event : Event) → event_of version (words_of line) ≡ Ok event → line_of (event_row event) ≡ line
+pub event_line_back : (version : Version) (line : List ℕ) (event : Event)
+    → event_of version (words_of line) ≡ Ok event → line_of (event_row event) ≡ line
 event_line_back version line event e = ap line_of (event_back version (words_of line) event e) ∙ line_of-words_of line
 
 -- ---- the number of events
@@ -267,5 +274,6 @@ pub events_back : IsRowBack ℕ events_from (λ count. number_row (codes "events
 events_back row count e = labelled_back ℕ (codes "events") (number_in max_events) decimal (number_back max_events (omega arith)) row count e
 
 -- the line of the number of events
-pub event_count_back : (row : Row) (count : ℕ) → events_from row ≡ Ok count → number_row (codes "events") count ≡ row
+pub event_count_back : (row : Row) (count : ℕ) → events_from row ≡ Ok count
+    → number_row (codes "events") count ≡ row
 event_count_back row count e = sym (events_back row count e)

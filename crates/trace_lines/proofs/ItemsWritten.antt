@@ -20,7 +20,8 @@ pub record LeftPairs (xs ys : List ℕ) (i : ℕ) (out total : List ℕ) : Type 
   pub all : out ++ words_after_blanks (pairs_words (drop i xs) (drop i ys)) ≡ total
 
 -- one more pair is written
-pub pair_more : (xs ys : List ℕ) (i : ℕ) (out middle new total : List ℕ) → i < length xs → length xs ≡ length ys
+pub pair_more : (xs ys : List ℕ) (i : ℕ) (out middle new total : List ℕ) → i < length xs → length xs
+    ≡ length ys
     → middle ≡ out ++ 32 ∷ decimal (get_or xs i 0) → new ≡ middle ++ 32 ∷ decimal (get_or ys i 0) → LeftPairs xs ys i out total → LeftPairs xs ys (i + 1) new total
 unfolding pairs_words
 pair_more xs ys i out middle new total lt even first second left =
@@ -37,7 +38,8 @@ pair_more xs ys i out middle new total lt even first second left =
     ∙ ap (λ (bs : List ℕ). bs ++ rest) (sym second) in
     record { all = rw add-one (sym one ∙ left.all) }
 
-pub all_pairs_written : (xs ys : List ℕ) (i : ℕ) (out total : List ℕ) → length xs ≤ i → length ys ≤ i → LeftPairs xs ys i out total → out ≡ total
+pub all_pairs_written : (xs ys : List ℕ) (i : ℕ) (out total : List ℕ) → length xs ≤ i
+    → length ys ≤ i → LeftPairs xs ys i out total → out ≡ total
 unfolding pairs_words
 all_pairs_written xs ys i out total lx ly left =
     sym (append-nil out)

@@ -32,7 +32,8 @@ level_short Public = number_short 16 (omega arith)
 level_short Management = number_short 1 (omega arith)
 
 -- class, name and number, before other words
-names_short : (class : ℕ) (name : List ℕ) (number most : ℕ) (words : Row) → IsNamed class name number → HasWords most words
+names_short : (class : ℕ) (name : List ℕ) (number most : ℕ) (words : Row)
+    → IsNamed class name number → HasWords most words
     → HasWords (35 + most) (decimal class ∷ encode_upper name ∷ decimal number ∷ words)
 names_short class name number most words named others =
     words_in (11 + (13 + (11 + most))) (35 + most) (decimal class ∷ encode_upper name ∷ decimal number ∷ words)
@@ -42,7 +43,8 @@ names_short class name number most words named others =
     (omega arith)
 
 -- attributes, each with its flag
-items_short : (items : List AttributeSelection) → AreNamed items → HasWords (length items * 46) (all_words selection_words items)
+items_short : (items : List AttributeSelection) → AreNamed items
+    → HasWords (length items * 46) (all_words selection_words items)
 unfolding all_words
 items_short [] named = no_words
 items_short (item ∷ items) (one, others) =
@@ -52,7 +54,8 @@ items_short (item ∷ items) (one, others) =
     words_in (35 + (11 + length items * 46)) (suc (length items) * 46) (selection_words item (all_words selection_words items)) words (omega (arith, more))
 
 -- samples alone
-values_short : (values : List ℕ) → AreSamples values → HasWords (length values * 11) (all_words value_words values)
+values_short : (values : List ℕ) → AreSamples values
+    → HasWords (length values * 11) (all_words value_words values)
 unfolding all_words
 values_short [] are = no_words
 values_short (value ∷ values) (one, others) =
@@ -61,7 +64,8 @@ values_short (value ∷ values) (one, others) =
     words_in (1 + 10 + length values * 11) (suc (length values) * 11) (decimal value ∷ all_words value_words values) words (omega (arith, more))
 
 -- samples in pairs
-pairs_short : (imports exports : List ℕ) → AreSamples imports → AreSamples exports → HasWords (length imports * 22) (pairs_words imports exports)
+pairs_short : (imports exports : List ℕ) → AreSamples imports → AreSamples exports
+    → HasWords (length imports * 22) (pairs_words imports exports)
 unfolding pairs_words
 pairs_short [] exports are others = no_words
 pairs_short (import ∷ imports) [] are others = words_in 0 (suc (length imports) * 22) [] no_words (omega arith)
@@ -71,11 +75,14 @@ pairs_short (import ∷ imports) (export ∷ exports) (one, are) (two, others) =
     let more : suc (length imports) * 22 ≡ 22 + length imports * 22 = omega arith in
     words_in (1 + 10 + (1 + 10 + length imports * 22)) (suc (length imports) * 22) (decimal import ∷ decimal export ∷ pairs_words imports exports) words (omega (arith, more))
 
-samples_short : (imports : List ℕ) (exports : Option (List ℕ)) → length imports ≤ 256 → AreSamples imports → AreExports imports exports → HasWords 16448 (samples_words imports exports)
+samples_short : (imports : List ℕ) (exports : Option (List ℕ)) → length imports ≤ 256
+    → AreSamples imports → AreExports imports exports
+    → HasWords 16448 (samples_words imports exports)
 samples_short imports None few are others = words_in (length imports * 11) 16448 (all_words value_words imports) (values_short imports are) (omega (arith, few))
 samples_short imports (Some exports) few are others = words_in (length imports * 22) 16448 (pairs_words imports exports) (pairs_short imports exports are others.1) (omega (arith, few))
 
-parameter_short : (parameter : Option Data) → IfSome parameter IsHeld → length (parameter_word parameter) ≤ 16384
+parameter_short : (parameter : Option Data) → IfSome parameter IsHeld
+    → length (parameter_word parameter) ≤ 16384
 parameter_short None held = omega arith
 parameter_short (Some value) held = data_short value held
 

@@ -15,7 +15,8 @@ use Rattle.trace_words.specs.declared.version.Version.TheVariants.{Two}
 use Rattle.trace_words.proofs.PlacesBack.{carried, Took, then, line_back}
 
 -- the lines of the settings
-settings_back : (which : Which) (place : Place) (settings : Settings) (behind : Place) → settings_from which place ≡ Ok (settings, behind)
+settings_back : (which : Which) (place : Place) (settings : Settings) (behind : Place)
+    → settings_from which place ≡ Ok (settings, behind)
     → Took (settings_rows which settings) place behind
 unfolding settings_from
 settings_back which place settings behind e =
@@ -45,7 +46,8 @@ settings_back which place settings behind e =
     (line_back _ (actions_from which) (actions_row which) (actions_back which) groups.0.1 actions.0.0 actions.0.1 actions.1)))))))
 
 -- the lines after that of the last sample
-pub limiter_back : (which : Which) (last : ℕ) (place : Place) (o : LimiterOpening) (behind : Place) → limiter_from which last place ≡ Ok (o, behind)
+pub limiter_back : (which : Which) (last : ℕ) (place : Place) (o : LimiterOpening) (behind : Place)
+    → limiter_from which last place ≡ Ok (o, behind)
     → (Took (limiter_rows which o) place behind) × (last ≡ o.value)
 unfolding limiter_from
 limiter_back which last place o behind e =
@@ -60,7 +62,8 @@ limiter_back which last place o behind e =
       refl,
     )
 
-pub export_back : (place : Place) (o : LimiterOpening) (behind : Place) → export_from Two place ≡ Ok (o, behind) → Took (value_row Export o ∷ limiter_rows Export o) place behind
+pub export_back : (place : Place) (o : LimiterOpening) (behind : Place) → export_from Two place
+    ≡ Ok (o, behind) → Took (value_row Export o ∷ limiter_rows Export o) place behind
 unfolding export_from
 export_back place o behind e =
     let last = bind_ok (value_line Export place) _ (o, behind) e in

@@ -38,7 +38,9 @@ record TableRead (scripts : List Script) (place behind : Place) : Type 0 where
   pub says : table_of form ≡ Ok scripts
   pub took : Took ((codes "scripts" ∷ data_word form ∷ []) ∷ []) place behind
 
-table_back : (place : Place) (scripts : List Script) (behind : Place) → line_as (labelled_value (codes "scripts") table_in) place ≡ Ok (scripts, behind) → TableRead scripts place behind
+table_back : (place : Place) (scripts : List Script) (behind : Place)
+    → line_as (labelled_value (codes "scripts") table_in) place ≡ Ok (scripts, behind)
+    → TableRead scripts place behind
 table_back place scripts behind e =
     let line = line_read (List Script) (labelled_value (codes "scripts") table_in) place scripts behind e in
     let word = labelled_read (List Script) (codes "scripts") table_in line.row scripts line.read in
@@ -55,7 +57,9 @@ record EntriesRead (number : ℕ) (schedule : Schedule) (place behind : Place) :
   pub says : entries_of form ≡ Ok schedule.entries
   pub took : Took (entries_row number schedule form ∷ []) place behind
 
-schedule_back : (number : ℕ) (place : Place) (schedule : Schedule) (behind : Place) → line_as (schedule_from number) place ≡ Ok (schedule, behind) → EntriesRead number schedule place behind
+schedule_back : (number : ℕ) (place : Place) (schedule : Schedule) (behind : Place)
+    → line_as (schedule_from number) place ≡ Ok (schedule, behind)
+    → EntriesRead number schedule place behind
 schedule_back number place schedule behind e =
     let line = line_read Schedule (schedule_from number) place schedule behind e in
     let form = schedule_read number line.row schedule line.read in
@@ -71,9 +75,12 @@ record SchedulesRead (schedules : Schedules) (place behind : Place) : Type 0 whe
   pub second_says : entries_of second ≡ Ok schedules.second.entries
   pub third_says : entries_of third ≡ Ok schedules.third.entries
   pub fourth_says : entries_of fourth ≡ Ok schedules.fourth.entries
-  pub took : Took (entries_row 0 schedules.first first ∷ entries_row 1 schedules.second second ∷ entries_row 2 schedules.third third ∷ entries_row 3 schedules.fourth fourth ∷ []) place behind
+  pub took : Took (entries_row 0 schedules.first first ∷ entries_row 1 schedules.second second
+      ∷ entries_row 2 schedules.third third ∷ entries_row 3 schedules.fourth fourth
+      ∷ []) place behind
 
-schedules_back : (place : Place) (schedules : Schedules) (behind : Place) → schedules_from place ≡ Ok (schedules, behind) → SchedulesRead schedules place behind
+schedules_back : (place : Place) (schedules : Schedules) (behind : Place) → schedules_from place
+    ≡ Ok (schedules, behind) → SchedulesRead schedules place behind
 unfolding schedules_from
 schedules_back place schedules behind e =
     let first = bind_ok (line_as (schedule_from 0) place) _ (schedules, behind) e in
@@ -103,7 +110,8 @@ schedules_back place schedules behind e =
 abbrev switch_rows : List ℕ → ControlState → ControlMode → List Row
 switch_rows device state mode = (codes "device" ∷ encode_upper device ∷ []) ∷ number_row (codes "state") (state_number state) ∷ number_row (codes "mode") (mode_number mode) ∷ []
 
-same_rows : (device other : List ℕ) (state other_state : ControlState) (mode other_mode : ControlMode) → device ≡ other → state ≡ other_state → mode ≡ other_mode
+same_rows : (device other : List ℕ) (state other_state : ControlState)
+    (mode other_mode : ControlMode) → device ≡ other → state ≡ other_state → mode ≡ other_mode
     → switch_rows device state mode ≡ switch_rows other other_state other_mode
 same_rows device other state other_state mode other_mode is_device is_state is_mode = rw (is_device, is_state, is_mode) refl
 
@@ -123,7 +131,8 @@ record RestRead (device : List ℕ) (state : ControlState) (mode : ControlMode) 
   pub say : AreFormsOf o forms
   pub took : Took (rest_rows o forms) place behind
 
-rest_back : (device : List ℕ) (state : ControlState) (mode : ControlMode) (place : Place) (o : Opening) (behind : Place) → opening_with Two device state mode place ≡ Ok (o, behind)
+rest_back : (device : List ℕ) (state : ControlState) (mode : ControlMode) (place : Place)
+    (o : Opening) (behind : Place) → opening_with Two device state mode place ≡ Ok (o, behind)
     → RestRead device state mode o place behind
 unfolding opening_with
 rest_back device state mode place o behind e =
@@ -162,7 +171,8 @@ record OpeningRead (o : Opening) (place behind : Place) : Type 0 where
   pub say : AreFormsOf o forms
   pub took : Took (rows_behind o forms) place behind
 
-inner_back : (place : Place) (o : Opening) (behind : Place) → opening_in Two place ≡ Ok (o, behind) → OpeningRead o place behind
+inner_back : (place : Place) (o : Opening) (behind : Place) → opening_in Two place ≡ Ok (o, behind)
+    → OpeningRead o place behind
 unfolding opening_in
 inner_back place o behind e =
     let device = bind_ok (line_as (labelled_value (codes "device") device_in) place) _ (o, behind) e in
@@ -184,7 +194,9 @@ inner_back place o behind e =
 abbrev all_rows : Opening → Forms → List Row
 all_rows o forms = number_row (codes "RELAYTRACE") 2 ∷ rows_behind o forms
 
-all_back : (place : Place) (o : Opening) (behind : Place) → opening_from place ≡ Ok ((Two, o), behind) → (forms : Forms) × AreFormsOf o forms × Took (all_rows o forms) place behind
+all_back : (place : Place) (o : Opening) (behind : Place) → opening_from place
+    ≡ Ok ((Two, o), behind) → (forms : Forms) × AreFormsOf o forms
+    × Took (all_rows o forms) place behind
 unfolding opening_from
 all_back place o behind e =
     let version = bind_ok (line_as version_from place) _ ((Two, o), behind) e in
@@ -209,14 +221,16 @@ rows_are o forms = refl
 
 -- ---- the law
 
-pub opening_back : (place : Place) (o : Opening) (behind : Place) → opening_from place ≡ Ok ((Two, o), behind)
+pub opening_back : (place : Place) (o : Opening) (behind : Place) → opening_from place
+    ≡ Ok ((Two, o), behind)
     → (forms : Forms) × AreFormsOf o forms × (place.rows ≡ rows_with o forms ++ behind.rows)
 opening_back place o behind e =
     let read = all_back place o behind e in
     (read.0, read.1, read.2.lines ∙ ap (λ (rows : List Row). rows ++ behind.rows) (rows_are o read.0))
 
 -- an opening has thirty lines
-pub opening_lines : (place : Place) (o : Opening) (behind : Place) → opening_from place ≡ Ok ((Two, o), behind) → (behind.number ≡ place.number + 30) × (behind.unended ≡ place.unended)
+pub opening_lines : (place : Place) (o : Opening) (behind : Place) → opening_from place
+    ≡ Ok ((Two, o), behind) → (behind.number ≡ place.number + 30) × (behind.unended ≡ place.unended)
 opening_lines place o behind e =
     let read = all_back place o behind e in
     (read.2.number, read.2.unended)

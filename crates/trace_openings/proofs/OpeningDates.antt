@@ -7,7 +7,8 @@ use Rattle.cosem_datetime.specs.declared.date.DayOfMonth.{DayOfMonth}
 use Rattle.cosem_datetime.specs.declared.date.DayOfMonth.TheVariants.{Any, Number, SecondLast, Last}
 use Rattle.trace_words.proofs.TextBytes.{no_bytes, one_more_byte, bytes_joined, number_is_bytes}
 
-field_is_byte : (low high : ℕ) (field : Option ℕ) → high < 256 → IsWithin low high field → field_byte field < 256
+field_is_byte : (low high : ℕ) (field : Option ℕ) → high < 256 → IsWithin low high field
+    → field_byte field < 256
 field_is_byte low high None less within = omega arith
 field_is_byte low high (Some n) less within = omega (arith, within)
 

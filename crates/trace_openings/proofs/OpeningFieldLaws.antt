@@ -48,7 +48,8 @@ use Rattle.trace_words.specs.declared.version.Version.TheVariants.{Two}
 
 -- ---- words
 
-device_again : (device : List ℕ) → 1 ≤ length device → length device ≤ 16 → IsBytes device → device_in (encode_upper device) ≡ Ok device
+device_again : (device : List ℕ) → 1 ≤ length device → length device ≤ 16 → IsBytes device
+    → device_in (encode_upper device) ≡ Ok device
 unfolding device_in
 device_again device some few are =
     let read = bytes_word_again device (omega arith) are in
@@ -60,7 +61,8 @@ state_again Disconnected = let read = number_word_again 2 0 (omega arith) (omega
 state_again Connected = let read = number_word_again 2 1 (omega arith) (omega arith) in rw read refl
 state_again ReadyForReconnection = let read = number_word_again 2 2 (omega arith) (omega arith) in rw read refl
 
-mode_fits : (mode : ControlMode) (state : ControlState) → (mode ≡ Mode0 → state ≡ Connected) → is_mode_fit mode state ≡ true
+mode_fits : (mode : ControlMode) (state : ControlState) → (mode ≡ Mode0 → state ≡ Connected)
+    → is_mode_fit mode state ≡ true
 unfolding is_mode_fit
 mode_fits Mode0 state fit = let is : state ≡ Connected = fit refl in rw is refl
 mode_fits Mode1 state fit = refl
@@ -70,7 +72,8 @@ mode_fits Mode4 state fit = refl
 mode_fits Mode5 state fit = refl
 mode_fits Mode6 state fit = refl
 
-mode_again : (mode : ControlMode) (state : ControlState) → (mode ≡ Mode0 → state ≡ Connected) → mode_in state (decimal (mode_number mode)) ≡ Ok mode
+mode_again : (mode : ControlMode) (state : ControlState) → (mode ≡ Mode0 → state ≡ Connected)
+    → mode_in state (decimal (mode_number mode)) ≡ Ok mode
 unfolding mode_in
 mode_again mode state fit =
     let read = number_word_again 6 (mode_number mode) (mode_small mode) (omega arith) in
@@ -79,12 +82,14 @@ mode_again mode state fit =
     rw (read, found, fits) refl
 
 -- `-`, the word of no moment, is not a number
-hyphen_is_no_number : (word : Word) → is_decimal word ≡ true → pointwise nat_eq word (codes "-") ≡ false
+hyphen_is_no_number : (word : Word) → is_decimal word ≡ true
+    → pointwise nat_eq word (codes "-") ≡ false
 hyphen_is_no_number [] e = refl
 hyphen_is_no_number (c ∷ []) e = grind (arith, nat_tests)
 hyphen_is_no_number (c ∷ d ∷ word) e = grind (arith, nat_tests)
 
-moment_again : (moment : Option ℕ) → IfSome moment (λ m. m ≤ 4294967295) → moment_in (moment_word moment) ≡ Ok moment
+moment_again : (moment : Option ℕ) → IfSome moment (λ m. m ≤ 4294967295)
+    → moment_in (moment_word moment) ≡ Ok moment
 moment_again None le = refl
 moment_again (Some m) le =
     let other = hyphen_is_no_number (decimal m) (is_decimal-decimal m (omega arith)) in
@@ -111,17 +116,20 @@ type_again kind =
     let found = type_found kind in
     rw (read, found) refl
 
-table_word_again : (scripts : List Script) → IsTable scripts → All IsTracedScript scripts → table_in (data_word (data_of scripts)) ≡ Ok scripts
+table_word_again : (scripts : List Script) → IsTable scripts → All IsTracedScript scripts
+    → table_in (data_word (data_of scripts)) ≡ Ok scripts
 unfolding table_in
 table_word_again scripts fits traced =
     let read = data_word_again (data_of scripts) (scripts_are_held scripts fits traced) in
     let table = table_again scripts fits in
     rw (read, table) refl
 
-entries_again : (entries : List EntryPattern) → AreEntries entries → entries_of (entries_data entries) ≡ Ok entries
+entries_again : (entries : List EntryPattern) → AreEntries entries
+    → entries_of (entries_data entries) ≡ Ok entries
 entries_again entries fits = entries_written {E = ℕ} (Ok (entries_data entries)) entries entries fits refl refl
 
-entries_word_again : (entries : List EntryPattern) → AreEntries entries → IsHeld (entries_data entries) → entries_in (data_word (entries_data entries)) ≡ Ok entries
+entries_word_again : (entries : List EntryPattern) → AreEntries entries
+    → IsHeld (entries_data entries) → entries_in (data_word (entries_data entries)) ≡ Ok entries
 unfolding entries_in
 entries_word_again entries fits held =
     let read = data_word_again (entries_data entries) held in
@@ -130,7 +138,8 @@ entries_word_again entries fits held =
 
 -- ---- lines of several words
 
-start_again : (p : DateTimeFields) → IsDateTimeFields p → start_in (encode_upper (date_time_bytes p)) ≡ Ok p
+start_again : (p : DateTimeFields) → IsDateTimeFields p
+    → start_in (encode_upper (date_time_bytes p)) ≡ Ok p
 unfolding start_in
 start_again p fits =
     let read = bytes_word_again (date_time_bytes p) (date_time_has_bytes p) (date_time_is_bytes p fits) in
@@ -143,27 +152,35 @@ version_again =
     let read = number_word_again 2 2 (omega arith) (omega arith) in
     rw (first, read) refl
 
-pub device_line_again : (device : List ℕ) → 1 ≤ length device → length device ≤ 16 → IsBytes device → labelled_value (codes "device") device_in (codes "device" ∷ encode_upper device ∷ []) ≡ Ok device
+pub device_line_again : (device : List ℕ) → 1 ≤ length device → length device ≤ 16 → IsBytes device
+    → labelled_value (codes "device") device_in (codes "device" ∷ encode_upper device
+    ∷ []) ≡ Ok device
 device_line_again device some few are = labelled_again (codes "device") device_in (encode_upper device) device (device_again device some few are)
 
-pub state_line_again : (state : ControlState) → labelled_value (codes "state") state_in (number_row (codes "state") (state_number state)) ≡ Ok state
+pub state_line_again : (state : ControlState)
+    → labelled_value (codes "state") state_in (number_row (codes "state") (state_number state)) ≡ Ok
+    state
 state_line_again state = labelled_again (codes "state") state_in (decimal (state_number state)) state (state_again state)
 
-pub mode_line_again : (mode : ControlMode) (state : ControlState) → (mode ≡ Mode0 → state ≡ Connected)
+pub mode_line_again : (mode : ControlMode) (state : ControlState)
+    → (mode ≡ Mode0 → state ≡ Connected)
     → labelled_value (codes "mode") (mode_in state) (number_row (codes "mode") (mode_number mode)) ≡ Ok mode
 mode_line_again mode state fit = labelled_again (codes "mode") (mode_in state) (decimal (mode_number mode)) mode (mode_again mode state fit)
 
-pub moment_line_again : (moment : Option ℕ) → IfSome moment (λ m. m ≤ 4294967295) → labelled_value (codes "now") moment_in (codes "now" ∷ moment_word moment ∷ []) ≡ Ok moment
+pub moment_line_again : (moment : Option ℕ) → IfSome moment (λ m. m ≤ 4294967295)
+    → labelled_value (codes "now") moment_in (codes "now" ∷ moment_word moment ∷ []) ≡ Ok moment
 moment_line_again moment le = labelled_again (codes "now") moment_in (moment_word moment) moment (moment_again moment le)
 
-pub value_line_again : (name : Word) (value : ℕ) → value ≤ 4294967295 → labelled_value name value_in (number_row name value) ≡ Ok value
+pub value_line_again : (name : Word) (value : ℕ) → value ≤ 4294967295
+    → labelled_value name value_in (number_row name value) ≡ Ok value
 value_line_again name value le = labelled_again name value_in (decimal value) value (number_word_again 4294967295 value le (omega arith))
 
 pub table_line_again : (scripts : List Script) → IsTable scripts → All IsTracedScript scripts
     → labelled_value (codes "scripts") table_in (codes "scripts" ∷ data_word (data_of scripts) ∷ []) ≡ Ok scripts
 table_line_again scripts fits traced = labelled_again (codes "scripts") table_in (data_word (data_of scripts)) scripts (table_word_again scripts fits traced)
 
-pub profile_again : (which : Which) (profile : Profile) → profile.id ≤ 65535 → IsDateTimeFields profile.start → profile.duration ≤ 4294967295
+pub profile_again : (which : Which) (profile : Profile) → profile.id ≤ 65535
+    → IsDateTimeFields profile.start → profile.duration ≤ 4294967295
     → profile_from which (profile_row which profile) ≡ Ok profile
 unfolding profile_from
 profile_again which profile id_fits start_fits duration_fits =
@@ -173,7 +190,8 @@ profile_again which profile id_fits start_fits duration_fits =
     let duration = number_word_again 4294967295 profile.duration duration_fits (omega arith) in
     rw (first, id, start, duration) refl
 
-ids_again : (ids : List ℕ) (room : ℕ) → length ids ≤ room → AreIds ids → all_at id_from room (all_words value_words ids) ≡ Ok ids
+ids_again : (ids : List ℕ) (room : ℕ) → length ids ≤ room → AreIds ids
+    → all_at id_from room (all_words value_words ids) ≡ Ok ids
 unfolding all_at all_words
 ids_again [] zero le are = refl
 ids_again [] (suc room) le are = refl
@@ -183,14 +201,16 @@ ids_again (id ∷ ids) (suc room) le are =
     let others = ids_again ids room (omega arith) are.1 in
     rw (first, others) refl
 
-pub groups_again : (which : Which) (groups : List ℕ) → length groups ≤ 32 → AreIds groups → groups_from which (groups_row which groups) ≡ Ok groups
+pub groups_again : (which : Which) (groups : List ℕ) → length groups ≤ 32 → AreIds groups
+    → groups_from which (groups_row which groups) ≡ Ok groups
 unfolding groups_from
 groups_again which groups few are =
     let first = behind_again (label which (codes "groups")) (all_words value_words groups) in
     let ids = ids_again groups 32 few are in
     rw (first, ids) refl
 
-pub actions_again : (which : Which) (actions : Actions) → actions.over ≤ 65535 → actions.under ≤ 65535
+pub actions_again : (which : Which) (actions : Actions) → actions.over ≤ 65535
+    → actions.under ≤ 65535
     → actions_from which (label which (codes "actions") ∷ decimal actions.over ∷ decimal actions.under ∷ []) ≡ Ok actions
 unfolding actions_from
 actions_again which actions over_fits under_fits =
@@ -199,7 +219,8 @@ actions_again which actions over_fits under_fits =
     let under = number_word_again 65535 actions.under under_fits (omega arith) in
     rw (first, over, under) refl
 
-count_again : (name : Word) (count : Count) → count.run ≤ cap → count_from name (count_row name count) ≡ Ok count
+count_again : (name : Word) (count : Count) → count.run ≤ cap
+    → count_from name (count_row name count) ≡ Ok count
 unfolding count_from
 count_again name count within =
     let first = behind_again name (decimal count.run ∷ decimal (flag_number count.fired) ∷ []) in
@@ -221,14 +242,17 @@ over_fits last over under fits = record {
   below = λ some. absurd (omega arith);
 }
 
-pub over_again : FitRunsMean → (which : Which) (last : ℕ) (over under : Count) → IsFit last over under → over_from which last (count_row (label which (codes "over")) over) ≡ Ok over
+pub over_again : FitRunsMean → (which : Which) (last : ℕ) (over under : Count)
+    → IsFit last over under → over_from which last (count_row (label which (codes "over")) over) ≡
+    Ok over
 unfolding over_from
 over_again mean which last over under fits =
     let read = count_again (label which (codes "over")) over fits.over_fits.within in
     let fit : are_fit last over no_run ≡ true = (mean last over no_run).1 (over_fits last over under fits) in
     rw (read, fit) refl
 
-pub under_again : FitRunsMean → (which : Which) (last : ℕ) (over under : Count) → IsFit last over under
+pub under_again : FitRunsMean → (which : Which) (last : ℕ) (over under : Count)
+    → IsFit last over under
     → under_from which last over (count_row (label which (codes "under")) under) ≡ Ok under
 unfolding under_from
 under_again mean which last over under fits =
@@ -236,7 +260,8 @@ under_again mean which last over under fits =
     let fit : are_fit last over under ≡ true = (mean last over under).1 fits in
     rw (read, fit) refl
 
-pub schedule_again : (number : ℕ) (schedule : Schedule) → number ≤ 3 → IsTracedSchedule schedule → schedule_from number (schedule_row number schedule) ≡ Ok schedule
+pub schedule_again : (number : ℕ) (schedule : Schedule) → number ≤ 3 → IsTracedSchedule schedule
+    → schedule_from number (schedule_row number schedule) ≡ Ok schedule
 unfolding schedule_from
 schedule_again number schedule le traced =
     let first = behind_again (codes "schedule") (decimal number ∷ decimal schedule.selector ∷ decimal (number_of schedule.kind) ∷ data_word (entries_data schedule.entries) ∷ []) in

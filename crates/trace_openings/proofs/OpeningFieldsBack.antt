@@ -34,19 +34,25 @@ use Rattle.trace_words.proofs.PlacesBack.{Took, line_back}
 use Rattle.trace_words.specs.Places.{Place, line_as}
 use Rattle.trace_words.proofs.LabelsBack.{behind_back, IsRowBack, labelled_back}
 
-pub version_back : IsRowBack Version version_from (λ version. number_row (codes "RELAYTRACE") (version_number version))
+pub version_back : IsRowBack Version version_from
+    (λ version. number_row (codes "RELAYTRACE") (version_number version))
 version_back row version e = labelled_back Version (codes "RELAYTRACE") version_in (λ v. decimal (version_number v)) version_word_back row version e
 
-pub device_line_back : IsRowBack (List ℕ) (labelled_value (codes "device") device_in) (λ device. codes "device" ∷ encode_upper device ∷ [])
+pub device_line_back : IsRowBack (List ℕ) (labelled_value (codes "device") device_in)
+    (λ device. codes "device" ∷ encode_upper device ∷ [])
 device_line_back row device e = labelled_back (List ℕ) (codes "device") device_in encode_upper device_back row device e
 
-pub state_line_back : IsRowBack ControlState (labelled_value (codes "state") state_in) (λ state. number_row (codes "state") (state_number state))
+pub state_line_back : IsRowBack ControlState (labelled_value (codes "state") state_in)
+    (λ state. number_row (codes "state") (state_number state))
 state_line_back row state e = labelled_back ControlState (codes "state") state_in (λ s. decimal (state_number s)) state_back row state e
 
-pub mode_line_back : (state : ControlState) → IsRowBack ControlMode (labelled_value (codes "mode") (mode_in state)) (λ mode. number_row (codes "mode") (mode_number mode))
+pub mode_line_back : (state : ControlState) → IsRowBack ControlMode
+    (labelled_value (codes "mode") (mode_in state))
+    (λ mode. number_row (codes "mode") (mode_number mode))
 mode_line_back state row mode e = labelled_back ControlMode (codes "mode") (mode_in state) (λ m. decimal (mode_number m)) (mode_back state) row mode e
 
-pub moment_line_back : IsRowBack (Option ℕ) (labelled_value (codes "now") moment_in) (λ moment. codes "now" ∷ moment_word moment ∷ [])
+pub moment_line_back : IsRowBack (Option ℕ) (labelled_value (codes "now") moment_in)
+    (λ moment. codes "now" ∷ moment_word moment ∷ [])
 moment_line_back row moment e = labelled_back (Option ℕ) (codes "now") moment_in moment_word moment_back row moment e
 
 pub value_line_back : (name : Word) → IsRowBack ℕ (labelled_value name value_in) (number_row name)
@@ -104,14 +110,16 @@ count_back name row count e =
     ∙ ap (λ (ws : Row). decimal run.0.0 ∷ ws) (last_back Bool flag_in (λ flag. decimal (flag_number flag)) flag_back run.0.1 fired.0 fired.1))
     ∙ ap (count_row name) (ok_is (record { run = run.0.0; fired = fired.0 }) count fired.2)
 
-pub over_back : (which : Which) (last : ℕ) → IsRowBack Count (over_from which last) (count_row (label which (codes "over")))
+pub over_back : (which : Which) (last : ℕ) → IsRowBack Count (over_from which last)
+    (count_row (label which (codes "over")))
 unfolding over_from
 over_back which last row count e =
     let read = bind_ok (count_from (label which (codes "over")) row) _ count e in
     let fit = guard_ok (are_fit last read.0 no_run) Wrong _ count read.2 in
     count_back (label which (codes "over")) row read.0 read.1 ∙ ap (count_row (label which (codes "over"))) (ok_is read.0 count fit.1)
 
-pub under_back : (which : Which) (last : ℕ) (over : Count) → IsRowBack Count (under_from which last over) (count_row (label which (codes "under")))
+pub under_back : (which : Which) (last : ℕ) (over : Count)
+    → IsRowBack Count (under_from which last over) (count_row (label which (codes "under")))
 unfolding under_from
 under_back which last over row count e =
     let read = bind_ok (count_from (label which (codes "under")) row) _ count e in
@@ -119,7 +127,8 @@ under_back which last over row count e =
     count_back (label which (codes "under")) row read.0 read.1 ∙ ap (count_row (label which (codes "under"))) (ok_is read.0 count fit.1)
 
 -- the words of a schedule's line, one after the other
-schedule_line : (row a b c d : Row) (found number : ℕ) (word : Word) (selector : ℕ) (kind : ScheduleType) (entries : List EntryPattern) (form : Data)
+schedule_line : (row a b c d : Row) (found number : ℕ) (word : Word) (selector : ℕ)
+    (kind : ScheduleType) (entries : List EntryPattern) (form : Data)
     → row ≡ codes "schedule" ∷ a → a ≡ decimal found ∷ b → found ≡ number → b ≡ decimal selector ∷ c → c ≡ decimal (number_of kind) ∷ d → d ≡ word ∷ [] → word ≡ data_word form
     → row ≡ entries_row number (record { selector = selector; kind = kind; entries = entries }) form
 schedule_line row a b c d found number word selector kind entries form is_row is_a is_number is_b is_c is_d is_word =
@@ -130,7 +139,8 @@ schedule_line row a b c d found number word selector kind entries form is_row is
     is_d ∙ ap (λ (w : Word). w ∷ []) is_word))))
 
 -- a schedule, and a Data that is read as its entries
-pub schedule_read : (number : ℕ) (row : Row) (schedule : Schedule) → schedule_from number row ≡ Ok schedule
+pub schedule_read : (number : ℕ) (row : Row) (schedule : Schedule) → schedule_from number row
+    ≡ Ok schedule
     → (form : Data) × (entries_of form ≡ Ok schedule.entries) × (row ≡ entries_row number schedule form)
 unfolding schedule_from
 schedule_read number row schedule e =
@@ -156,6 +166,7 @@ schedule_read number row schedule e =
 
 -- ---- at a place
 
-pub value_back : (which : Which) (name : Word) (place : Place) (x : ℕ) (behind : Place) → line_as (labelled_value (label which name) value_in) place ≡ Ok (x, behind)
+pub value_back : (which : Which) (name : Word) (place : Place) (x : ℕ) (behind : Place)
+    → line_as (labelled_value (label which name) value_in) place ≡ Ok (x, behind)
     → Took (number_row (label which name) x ∷ []) place behind
 value_back which name place x behind e = line_back ℕ (labelled_value (label which name) value_in) (number_row (label which name)) (value_line_back (label which name)) place x behind e

@@ -41,7 +41,8 @@ AreRows rows = list_all is_row rows ≡ true
 more_rows : (row : Row) (rows : List Row) → is_row row ≡ true → AreRows rows → AreRows (row ∷ rows)
 more_rows row rows is are = rw is are
 
-label_is_word : (which : Which) (name : Word) → is_word name ≡ true → is_word (label which name) ≡ true
+label_is_word : (which : Which) (name : Word) → is_word name ≡ true
+    → is_word (label which name) ≡ true
 label_is_word Import name is = is
 label_is_word Export [] is = refl
 label_is_word Export (b ∷ bytes) is = is
@@ -51,13 +52,15 @@ state_small Disconnected = omega arith
 state_small Connected = omega arith
 state_small ReadyForReconnection = omega arith
 
-moment_is_row : (moment : Option ℕ) → IfSome moment (λ m. m ≤ 4294967295) → is_row (codes "now" ∷ moment_word moment ∷ []) ≡ true
+moment_is_row : (moment : Option ℕ) → IfSome moment (λ m. m ≤ 4294967295)
+    → is_row (codes "now" ∷ moment_word moment ∷ []) ≡ true
 moment_is_row None le = refl
 moment_is_row (Some m) le = more (codes "now") (decimal m ∷ []) refl (more (decimal m) [] (number_is_word m (omega arith)) refl)
 
 -- ---- a limiter
 
-profile_is_row : (which : Which) (o : LimiterOpening) → IsTracedLimiter o → is_row (profile_row which o.settings.profile) ≡ true
+profile_is_row : (which : Which) (o : LimiterOpening) → IsTracedLimiter o
+    → is_row (profile_row which o.settings.profile) ≡ true
 profile_is_row which o traced =
     let id : o.settings.profile.id ≤ 42949672950 = omega (arith, traced.profile_id) in
     let duration : o.settings.profile.duration ≤ 42949672950 = omega (arith, traced.profile_duration) in
@@ -71,19 +74,23 @@ unfolding all_words
 ids_are_words [] are = refl
 ids_are_words (id ∷ ids) are = more (decimal id) (all_words value_words ids) (number_is_word id (omega (arith, are.0))) (ids_are_words ids are.1)
 
-groups_is_row : (which : Which) (groups : List ℕ) → AreIds groups → is_row (groups_row which groups) ≡ true
+groups_is_row : (which : Which) (groups : List ℕ) → AreIds groups → is_row (groups_row which groups)
+    ≡ true
 groups_is_row which groups are = more (label which (codes "groups")) (all_words value_words groups) (label_is_word which (codes "groups") refl) (ids_are_words groups are)
 
-two_numbers_are_row : (name : Word) (one other : ℕ) → is_word name ≡ true → one ≤ 42949672950 → other ≤ 42949672950 → is_row (name ∷ decimal one ∷ decimal other ∷ []) ≡ true
+two_numbers_are_row : (name : Word) (one other : ℕ) → is_word name ≡ true → one ≤ 42949672950
+    → other ≤ 42949672950 → is_row (name ∷ decimal one ∷ decimal other ∷ []) ≡ true
 two_numbers_are_row name one other is le less =
     more name (decimal one ∷ decimal other ∷ []) is (more (decimal one) (decimal other ∷ []) (number_is_word one le) (more (decimal other) [] (number_is_word other less) refl))
 
-count_is_row : (name : Word) (count : Count) → is_word name ≡ true → count.run ≤ cap → is_row (count_row name count) ≡ true
+count_is_row : (name : Word) (count : Count) → is_word name ≡ true → count.run ≤ cap
+    → is_row (count_row name count) ≡ true
 count_is_row name count is within =
     more name (decimal count.run ∷ decimal (flag_number count.fired) ∷ []) is
     (more (decimal count.run) (decimal (flag_number count.fired) ∷ []) (number_is_word count.run within) (more (decimal (flag_number count.fired)) [] (flag_is_word count.fired) refl))
 
-limiter_are_rows : (which : Which) (o : LimiterOpening) (rows : List Row) → IsFitLimiterOpening o → IsTracedLimiter o → AreRows rows → AreRows (limiter_rows which o ++ rows)
+limiter_are_rows : (which : Which) (o : LimiterOpening) (rows : List Row) → IsFitLimiterOpening o
+    → IsTracedLimiter o → AreRows rows → AreRows (limiter_rows which o ++ rows)
 limiter_are_rows which o rows fit traced are =
     let normal = number_is_row (label which (codes "normal")) o.settings.threshold_normal (label_is_word which (codes "normal") refl) (omega (arith, traced.threshold_normal)) in
     let emergency = number_is_row (label which (codes "emergency")) o.settings.threshold_emergency (label_is_word which (codes "emergency") refl) (omega (arith, traced.threshold_emergency)) in
@@ -97,12 +104,14 @@ limiter_are_rows which o rows fit traced are =
     let under = count_is_row (label which (codes "under")) o.under (label_is_word which (codes "under") refl) fit.runs.under_fits.within in
     rw (normal, emergency, minover, minunder, profile, groups, actions, over, under) are
 
-value_is_row : (which : Which) (o : LimiterOpening) → IsTracedLimiter o → is_row (value_row which o) ≡ true
+value_is_row : (which : Which) (o : LimiterOpening) → IsTracedLimiter o → is_row (value_row which o)
+    ≡ true
 value_is_row which o traced = number_is_row (label which (codes "value")) o.value (label_is_word which (codes "value") refl) (omega (arith, traced.value))
 
 -- ---- all of it
 
-schedule_is_row : (number : ℕ) (schedule : Schedule) → number ≤ 3 → IsTracedSchedule schedule → is_row (schedule_row number schedule) ≡ true
+schedule_is_row : (number : ℕ) (schedule : Schedule) → number ≤ 3 → IsTracedSchedule schedule
+    → is_row (schedule_row number schedule) ≡ true
 schedule_is_row number schedule le traced =
     let value = data_word (entries_data schedule.entries) in
     let selector : schedule.selector ≤ 42949672950 = omega (arith, traced.selector) in
@@ -112,7 +121,9 @@ schedule_is_row number schedule le traced =
     (more (decimal schedule.selector) (decimal (number_of schedule.kind) ∷ value ∷ []) (number_is_word schedule.selector selector)
     (more (decimal (number_of schedule.kind)) (value ∷ []) (number_is_word (number_of schedule.kind) kind) (more value [] (data_is_word (entries_data schedule.entries) (entries_are_held schedule.entries traced.entries)) refl))))
 
-schedules_are_rows : (schedules : Schedules) → IsTracedSchedule schedules.first → IsTracedSchedule schedules.second → IsTracedSchedule schedules.third → IsTracedSchedule schedules.fourth
+schedules_are_rows : (schedules : Schedules) → IsTracedSchedule schedules.first
+    → IsTracedSchedule schedules.second → IsTracedSchedule schedules.third
+    → IsTracedSchedule schedules.fourth
     → AreRows (schedule_rows schedules)
 schedules_are_rows schedules traced_first traced_second traced_third traced_fourth =
     let first = schedule_is_row 0 schedules.first (omega arith) traced_first in
@@ -121,7 +132,8 @@ schedules_are_rows schedules traced_first traced_second traced_third traced_four
     let fourth = schedule_is_row 3 schedules.fourth (omega arith) traced_fourth in
     rw (first, second, third, fourth) refl
 
-head_are_rows : (o : Opening) (rows : List Row) → IsWritable o → AreRows rows → AreRows (head_rows o ++ rows)
+head_are_rows : (o : Opening) (rows : List Row) → IsWritable o → AreRows rows
+    → AreRows (head_rows o ++ rows)
 head_are_rows o rows writable are =
     let version = number_is_row (codes "RELAYTRACE") 2 refl (omega arith) in
     let device = more (codes "device") (encode_upper o.device ∷ []) refl (more (encode_upper o.device) [] (hex_is_word o.device (omega (arith, writable.fit.device_some)) writable.device) refl) in

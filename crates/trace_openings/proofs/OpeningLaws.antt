@@ -35,7 +35,8 @@ four_on number = suc (three_on number)
 
 -- ---- a limiter
 
-number_line_again : (which : Which) (name : Word) (value number : ℕ) (rows : List Row) (unended : List ℕ) → value ≤ 4294967295
+number_line_again : (which : Which) (name : Word) (value number : ℕ) (rows : List Row)
+    (unended : List ℕ) → value ≤ 4294967295
     → line_as (labelled_value (label which name) value_in) (place number (number_row (label which name) value ∷ rows) unended) ≡ Ok (value, place (suc number) rows unended)
 number_line_again which name value number rows unended le =
     line_again (labelled_value (label which name) value_in) (number_row (label which name) value) value number rows unended (value_line_again (label which name) value le)
@@ -43,7 +44,8 @@ number_line_again which name value number rows unended le =
 abbrev nine_on : ℕ → ℕ
 nine_on number = two_on (three_on (four_on number))
 
-limiter_again : FitRunsMean → (which : Which) (o : LimiterOpening) (number : ℕ) (rows : List Row) (unended : List ℕ) → IsFitLimiterOpening o → IsTracedLimiter o
+limiter_again : FitRunsMean → (which : Which) (o : LimiterOpening) (number : ℕ) (rows : List Row)
+    (unended : List ℕ) → IsFitLimiterOpening o → IsTracedLimiter o
     → limiter_from which o.value (place number (limiter_rows which o ++ rows) unended) ≡ Ok (o, place (nine_on number) rows unended)
 unfolding limiter_from settings_from
 limiter_again mean which o number rows unended fit traced =
@@ -66,7 +68,8 @@ limiter_again mean which o number rows unended fit traced =
     let under = line_again (under_from which o.value o.over) under_row o.under (suc (three_on (four_on number))) rows unended (under_again mean which o.value o.over o.under fit.runs) in
     rw (normal, emergency, min_over, min_under, profile, groups, actions, over, under) refl
 
-export_again : FitRunsMean → (o : LimiterOpening) (number : ℕ) (rows : List Row) (unended : List ℕ) → IsFitLimiterOpening o → IsTracedLimiter o
+export_again : FitRunsMean → (o : LimiterOpening) (number : ℕ) (rows : List Row) (unended : List ℕ)
+    → IsFitLimiterOpening o → IsTracedLimiter o
     → export_from Two (place number (value_row Export o ∷ (limiter_rows Export o ++ rows)) unended) ≡ Ok (o, place (suc (nine_on number)) rows unended)
 unfolding export_from
 export_again mean o number rows unended fit traced =
@@ -97,7 +100,8 @@ behind_version o rows =
     ∷ value_row Import o.import ∷ (codes "now" ∷ moment_word o.moment ∷ []) ∷ (limiter_rows Import o.import ++ (value_row Export o.export ∷ (limiter_rows Export o.export
     ++ ((codes "scripts" ∷ data_word (data_of o.scripts) ∷ []) ∷ (schedule_rows o.schedules ++ rows)))))
 
-inner_again : FitRunsMean → (o : Opening) (rows : List Row) (unended : List ℕ) → IsWritable o → opening_in Two (place 2 (behind_version o rows) unended) ≡ Ok (o, place 31 rows unended)
+inner_again : FitRunsMean → (o : Opening) (rows : List Row) (unended : List ℕ) → IsWritable o
+    → opening_in Two (place 2 (behind_version o rows) unended) ≡ Ok (o, place 31 rows unended)
 unfolding opening_in opening_with
 inner_again mean o rows unended writable =
     let last_rows : List Row = schedule_rows o.schedules ++ rows in

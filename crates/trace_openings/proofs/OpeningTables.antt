@@ -54,12 +54,14 @@ record AreSmall (ts : Trees) (count most deep : ℕ) : Type 0 where
 short_length : (n : ℕ) → n < 0x80 → length (length_text n) ≡ 1
 short_length n less = let short : nat_lt n 0x80 ≡ true = grind (arith, nat_tests) in rw short refl
 
-short_string : (bytes : List ℕ) → length bytes < 0x80 → length (string_text bytes) ≡ 1 + length bytes
+short_string : (bytes : List ℕ) → length bytes < 0x80 → length (string_text bytes) ≡ 1
+    + length bytes
 short_string bytes less = length-append (length_text (length bytes)) bytes ∙ ap (λ (n : ℕ). n + length bytes) (short_length (length bytes) less)
 
 -- ---- arrays and structures
 
-all_small : {X : Type 0} (write : X → Data) (P Q : X → Type 0) (most deep : ℕ) → ((x : X) → P x → Q x → IsSmall (tree_of (write x)) most deep)
+all_small : {X : Type 0} (write : X → Data) (P Q : X → Type 0) (most deep : ℕ)
+    → ((x : X) → P x → Q x → IsSmall (tree_of (write x)) most deep)
     → (xs : List X) → All P xs → All Q xs → AreSmall (trees_of (all_trees (map write xs))) (length xs) most deep
 all_small write P Q most deep small [] are others = record { within = tt; fine = tt; short = omega arith; flat = omega arith; counted = refl }
 all_small write P Q most deep small (x ∷ xs) are others =
@@ -77,7 +79,8 @@ all_small write P Q most deep small (x ∷ xs) are others =
       counted = omega (arith, rest.counted);
     }
 
-array_small : (ts : Trees) (count most deep total : ℕ) → count < 0x80 → count * most ≤ total → AreSmall ts count most deep → IsSmall (array ts) (2 + total) (deep + 1)
+array_small : (ts : Trees) (count most deep total : ℕ) → count < 0x80 → count * most ≤ total
+    → AreSmall ts count most deep → IsSmall (array ts) (2 + total) (deep + 1)
 array_small ts count most deep total less le small =
     let few : count_of ts < 0x80 = omega (arith, small.counted) in
     let joined : length (length_text (count_of ts) ++ texts ts) ≡ length (length_text (count_of ts)) + length (texts ts) = length-append (length_text (count_of ts)) (texts ts) in
@@ -89,14 +92,16 @@ array_small ts count most deep total less le small =
     }
 
 -- a structure whose items have at most `most` bytes
-structure_small : (ts : Trees) (most deep : ℕ) → count_of ts < 0x80 → AreWithin ts → AreFine ts → length (texts ts) ≤ most → nests ts ≤ deep → IsSmall (structure ts) (2 + most) (deep + 1)
+structure_small : (ts : Trees) (most deep : ℕ) → count_of ts < 0x80 → AreWithin ts → AreFine ts
+    → length (texts ts) ≤ most → nests ts ≤ deep → IsSmall (structure ts) (2 + most) (deep + 1)
 structure_small ts most deep few within fine short flat =
     let joined : length (length_text (count_of ts) ++ texts ts) ≡ length (length_text (count_of ts)) + length (texts ts) = length-append (length_text (count_of ts)) (texts ts) in
     record { within = within; fine = (omega arith, fine); short = omega (arith, joined, short_length (count_of ts) few); flat = omega arith }
 
 -- ---- the entries of a schedule
 
-entry_small : (entry : EntryPattern) → IsEntry entry → IsEntry entry → IsSmall (tree_of (entry_data entry)) 15 1
+entry_small : (entry : EntryPattern) → IsEntry entry → IsEntry entry
+    → IsSmall (tree_of (entry_data entry)) 15 1
 unfolding entry_data
 entry_small entry is _ =
     let date = date_bytes entry.date in
@@ -106,7 +111,8 @@ entry_small entry is _ =
     structure_small (tree (octet_string (time_bytes entry.time)) (tree (octet_string date) no_trees)) 13 0 (omega arith)
     (time_is_bytes entry.time is.time, (date_is_bytes entry.date is.date, tt)) (tt, (tt, tt)) (omega (arith, joined, string, five)) (omega arith)
 
-pub entries_are_held : (entries : List EntryPattern) → AreEntries entries → IsHeld (entries_data entries)
+pub entries_are_held : (entries : List EntryPattern) → AreEntries entries
+    → IsHeld (entries_data entries)
 unfolding entries_data
 entries_are_held entries are =
     let all = all_small entry_data IsEntry IsEntry 15 1 entry_small entries are.fit are.fit in
@@ -133,7 +139,8 @@ method_small = record { within = fits_signed_from_abs w8 (pos 0) (omega arith); 
 mode_data_small : (mode : ControlMode) → IsSmall (enumerated (mode_number mode)) 24 1
 mode_data_small mode = record { within = omega (arith, mode_small mode); fine = tt; short = omega arith; flat = omega arith }
 
-profile_small : (profile : Profile) → profile.id ≤ 65535 → IsDateTimeFields profile.start → profile.duration ≤ 4294967295 → IsSmall (tree_of (profile_data profile)) 24 1
+profile_small : (profile : Profile) → profile.id ≤ 65535 → IsDateTimeFields profile.start
+    → profile.duration ≤ 4294967295 → IsSmall (tree_of (profile_data profile)) 24 1
 profile_small profile id_fits start_fits duration_fits =
     let start = date_time_bytes profile.start in
     let twelve = twelve_bytes profile.start in
@@ -144,7 +151,9 @@ profile_small profile id_fits start_fits duration_fits =
     (omega arith, (date_time_is_bytes profile.start start_fits, (omega arith, tt))) (tt, (tt, (tt, tt))) (omega (arith, joined, string, twelve)) (omega arith)
 
 -- a step's service, class, name, index and parameter
-parts_small : (service class index : ℕ) (name : List ℕ) (parameter : Data) → service < 256 → class < 2 ^ 16 → index < 128 → length name ≡ 6 → IsBytes name → IsSmall (tree_of parameter) 24 1
+parts_small : (service class index : ℕ) (name : List ℕ) (parameter : Data) → service < 256
+    → class < 2 ^ 16 → index < 128 → length name ≡ 6 → IsBytes name
+    → IsSmall (tree_of parameter) 24 1
     → IsSmall (tree_of (structure_with (Enum service ∷ LongUnsigned class ∷ OctetString name ∷ Integer (pos index) ∷ parameter ∷ []))) 41 2
 parts_small service class index name parameter service_fits class_fits index_fits six are small =
     let t = tree_of parameter in
@@ -157,17 +166,20 @@ parts_small service class index name parameter service_fits class_fits index_fit
     (tt, (tt, (tt, (tt, (small.fine, tt))))) (omega (arith, joined, end, string, six, small.short)) (omega (arith, small.flat))
 
 -- the logical names of the disconnect control and of both limiters
-six_bytes : (a b c d e f : ℕ) → a < 256 → b < 256 → c < 256 → d < 256 → e < 256 → f < 256 → IsBytes (a ∷ b ∷ c ∷ d ∷ e ∷ f ∷ [])
+six_bytes : (a b c d e f : ℕ) → a < 256 → b < 256 → c < 256 → d < 256 → e < 256 → f < 256
+    → IsBytes (a ∷ b ∷ c ∷ d ∷ e ∷ f ∷ [])
 six_bytes a b c d e f la lb lc ld le lf =
     one_more_byte a (b ∷ c ∷ d ∷ e ∷ f ∷ []) la (one_more_byte b (c ∷ d ∷ e ∷ f ∷ []) lb (one_more_byte c (d ∷ e ∷ f ∷ []) lc (one_more_byte d (e ∷ f ∷ []) ld (one_more_byte e (f ∷ []) le (one_more_byte f [] lf no_bytes)))))
 
-control_small : (service index : ℕ) (parameter : Data) → service < 256 → index < 128 → IsSmall (tree_of parameter) 24 1
+control_small : (service index : ℕ) (parameter : Data) → service < 256 → index < 128
+    → IsSmall (tree_of parameter) 24 1
     → IsSmall (tree_of (structure_with (Enum service ∷ LongUnsigned 70 ∷ OctetString (0 ∷ 0 ∷ 96 ∷ 3 ∷ 10 ∷ 255 ∷ []) ∷ Integer (pos index) ∷ parameter ∷ []))) 41 2
 control_small service index parameter service_fits index_fits small =
     parts_small service 70 index (0 ∷ 0 ∷ 96 ∷ 3 ∷ 10 ∷ 255 ∷ []) parameter service_fits (omega arith) index_fits refl
     (six_bytes 0 0 96 3 10 255 (omega arith) (omega arith) (omega arith) (omega arith) (omega arith) (omega arith)) small
 
-limiter_small : (channel index : ℕ) (parameter : Data) → channel < 256 → index < 128 → IsSmall (tree_of parameter) 24 1
+limiter_small : (channel index : ℕ) (parameter : Data) → channel < 256 → index < 128
+    → IsSmall (tree_of parameter) 24 1
     → IsSmall (tree_of (structure_with (Enum 1 ∷ LongUnsigned 71 ∷ OctetString (0 ∷ channel ∷ 17 ∷ 0 ∷ 0 ∷ 255 ∷ []) ∷ Integer (pos index) ∷ parameter ∷ []))) 41 2
 limiter_small channel index parameter channel_fits index_fits small =
     parts_small 1 71 index (0 ∷ channel ∷ 17 ∷ 0 ∷ 0 ∷ 255 ∷ []) parameter (omega arith) (omega arith) index_fits refl
@@ -189,7 +201,8 @@ step_small (step.WriteProfile Export profile) is traced = limiter_small 1 8 (pro
 step_small step.Disconnect is traced = control_small 2 1 (Integer (pos 0)) (omega arith) (omega arith) method_small
 step_small step.Reconnect is traced = control_small 2 2 (Integer (pos 0)) (omega arith) (omega arith) method_small
 
-script_small : (s : Script) → IsScript s → IsTracedScript s → IsSmall (tree_of (script_data s)) 335 4
+script_small : (s : Script) → IsScript s → IsTracedScript s
+    → IsSmall (tree_of (script_data s)) 335 4
 unfolding script_data
 script_small s is traced =
     let ts = trees_of (all_trees (map step_data s.steps)) in
@@ -198,7 +211,8 @@ script_small s is traced =
     structure_small (tree (long_unsigned s.identifier) (tree (array ts) no_trees)) 333 3 (omega arith)
     (omega (arith, traced.identifier), (steps.within, tt)) (tt, (steps.fine, tt)) (omega (arith, end, steps.short)) (omega (arith, steps.flat))
 
-pub scripts_are_held : (scripts : List Script) → IsTable scripts → All IsTracedScript scripts → IsHeld (data_of scripts)
+pub scripts_are_held : (scripts : List Script) → IsTable scripts → All IsTracedScript scripts
+    → IsHeld (data_of scripts)
 unfolding data_of
 scripts_are_held scripts fits traced =
     let ts = trees_of (all_trees (map script_data scripts)) in

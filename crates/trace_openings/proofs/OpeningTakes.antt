@@ -20,7 +20,8 @@ settings_takes which place =
     takes_then 1 3 _ _ _ (takes_line _ min_over.1) (λ min_under. takes_then 1 2 _ _ _ (takes_line _ min_under.1) (λ profile. takes_then 1 1 _ _ _ (takes_line _ profile.1) (λ groups.
     takes_then 1 0 _ _ _ (takes_line _ groups.1) (λ actions. takes_none _ _)))))))
 
-limiter_takes : (which : Which) (last : ℕ) (place : Place) → Takes 9 place (limiter_from which last place)
+limiter_takes : (which : Which) (last : ℕ) (place : Place)
+    → Takes 9 place (limiter_from which last place)
 unfolding limiter_from
 limiter_takes which last place =
     takes_then 7 2 _ _ _ (settings_takes which place) (λ settings. takes_then 1 1 _ _ _ (takes_line _ settings.1) (λ over. takes_then 1 0 _ _ _ (takes_line _ over.1) (λ under. takes_none _ _)))
@@ -30,7 +31,8 @@ abbrev export_lines : Version → ℕ
 export_lines One = 0
 export_lines Two = 10
 
-export_takes : (version : Version) (place : Place) → Takes (export_lines version) place (export_from version place)
+export_takes : (version : Version) (place : Place)
+    → Takes (export_lines version) place (export_from version place)
 unfolding export_from
 export_takes One place = takes_none _ _
 export_takes Two place = takes_then 1 9 _ _ _ (takes_line _ place) (λ last. limiter_takes Export last.0 last.1)
@@ -45,7 +47,8 @@ schedules_takes place =
 abbrev pub lines_behind : Version → ℕ
 lines_behind version = 1 + (1 + (1 + (1 + (1 + (9 + (export_lines version + (1 + (4 + 0))))))))
 
-pub opening_in_takes : (version : Version) (place : Place) → Takes (lines_behind version) place (opening_in version place)
+pub opening_in_takes : (version : Version) (place : Place)
+    → Takes (lines_behind version) place (opening_in version place)
 unfolding opening_in opening_with
 opening_in_takes version place =
     takes_then 1 _ _ _ _ (takes_line _ place) (λ device. takes_then 1 _ _ _ _ (takes_line _ device.1) (λ state. takes_then 1 _ _ _ _ (takes_line _ state.1) (λ mode.
@@ -54,7 +57,8 @@ opening_in_takes version place =
     takes_then 1 _ _ _ _ (takes_line _ export.1) (λ scripts. takes_then 4 0 _ _ _ (schedules_takes scripts.1) (λ schedules. takes_none _ _)))))))))
 
 -- the lines between the start of an opening and the place after it
-pub opening_stands : (place : Place) (parts : Version × Opening) (behind : Place) → opening_from place ≡ Ok (parts, behind) → (rows : List Row) × Took rows place behind
+pub opening_stands : (place : Place) (parts : Version × Opening) (behind : Place)
+    → opening_from place ≡ Ok (parts, behind) → (rows : List Row) × Took rows place behind
 unfolding opening_from
 opening_stands place parts behind e =
     let version = bind_ok (line_as version_from place) _ (parts, behind) e in

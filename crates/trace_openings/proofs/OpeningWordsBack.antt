@@ -37,7 +37,9 @@ use Rattle.trace_words.specs.declared.version.Version.{Version}
 use Rattle.trace_words.specs.declared.version.Version.TheVariants.{One, Two}
 
 -- a value found by its number among several: this one, or one of those tried later
-found_back : (X : Type 0) (number : X → ℕ) (n k : ℕ) (x : X) (later : Option X) (y : X) → k ≡ number x → (later ≡ Some y → n ≡ number y) → cond (n == k) (Some x) later ≡ Some y → n ≡ number y
+found_back : (X : Type 0) (number : X → ℕ) (n k : ℕ) (x : X) (later : Option X) (y : X) → k
+    ≡ number x → (later ≡ Some y → n ≡ number y) → cond (n == k) (Some x) later ≡ Some y
+    → n ≡ number y
 found_back X number n k x later y is back e =
     elim (chosen (n == k) (Some x) later (Some y) e) [
       | inl here ↦ let same : x ≡ y = cc in eqb-true n k here.0 ∙ is ∙ ap number same
@@ -67,7 +69,8 @@ abbrev pub version_number : Version → ℕ
 version_number One = 1
 version_number Two = 2
 
-version_is : (n : ℕ) (version : Version) → cond (n == 1) (done RowFault One) (cond (n == 2) (Ok Two) (Err Wrong)) ≡ Ok version → n ≡ version_number version
+version_is : (n : ℕ) (version : Version) → cond (n == 1) (done RowFault One)
+    (cond (n == 2) (Ok Two) (Err Wrong)) ≡ Ok version → n ≡ version_number version
 version_is n version e =
     elim (chosen (n == 1) (done RowFault One) (cond (n == 2) (Ok Two) (Err Wrong)) (Ok version) e) [
       | inl one ↦ eqb-true n 1 one.0 ∙ ap version_number (ok_is One version one.1)
@@ -78,7 +81,8 @@ version_is n version e =
           ]
     ]
 
-pub version_word_back : IsWrittenBack Version version_in (λ version. decimal (version_number version))
+pub version_word_back : IsWrittenBack Version version_in (λ version. decimal
+    (version_number version))
 version_word_back word version e =
     let read = bind_ok (number_in 2 word) _ version e in
     number_back 2 (omega arith) word read.0 read.1 ∙ ap decimal (version_is read.0 version read.2)
@@ -93,7 +97,9 @@ device_back word device e =
 two_left : (n : ℕ) → n ≤ 2 → (n == 0) ≡ false → (n == 1) ≡ false → n ≡ 2
 two_left n le zero one = grind (arith, nat_tests)
 
-state_is : (n : ℕ) (state : ControlState) → n ≤ 2 → cond (n == 0) Disconnected (cond (n == 1) Connected ReadyForReconnection) ≡ state → n ≡ state_number state
+state_is : (n : ℕ) (state : ControlState) → n ≤ 2
+    → cond (n == 0) Disconnected (cond (n == 1) Connected ReadyForReconnection) ≡ state → n
+    ≡ state_number state
 state_is n state le e =
     elim (chosen (n == 0) Disconnected (cond (n == 1) Connected ReadyForReconnection) state e) [
       | inl zero ↦ eqb-true n 0 zero.0 ∙ ap state_number zero.1
@@ -110,7 +116,8 @@ state_back word state e =
     number_back 2 (omega arith) word read.0 read.1
     ∙ ap decimal (state_is read.0 state (number_limited 2 (omega arith) word read.0 read.1) (ok_is (cond (read.0 == 0) Disconnected (cond (read.0 == 1) Connected ReadyForReconnection)) state read.2))
 
-pub mode_back : (state : ControlState) → IsWrittenBack ControlMode (mode_in state) (λ mode. decimal (mode_number mode))
+pub mode_back : (state : ControlState) → IsWrittenBack ControlMode (mode_in state)
+    (λ mode. decimal (mode_number mode))
 unfolding mode_in
 mode_back state word mode e =
     let read = bind_ok (number_in 6 word) _ mode e in
@@ -133,7 +140,8 @@ value_of_ok : (X F : Type 0) (r : Result X F) (x : X) → result_ok r ≡ Some x
 value_of_ok X F (Ok y) x e = cc
 value_of_ok X F (Err fault) x e = absurd (cc e)
 
-pub start_back : IsWrittenBack DateTimeFields start_in (λ start. encode_upper (date_time_bytes start))
+pub start_back : IsWrittenBack DateTimeFields start_in (λ start. encode_upper
+    (date_time_bytes start))
 unfolding start_in
 start_back word start e =
     let read = bind_ok (bytes_in word) _ start e in
@@ -152,13 +160,15 @@ id_back word words id rest e =
     ∙ ap (λ (p : ℕ × Row). value_words p.0 p.1) (ok_is (read.0, words) (id, rest) read.2)
 
 -- a Data that is read as these scripts, or as these entries
-pub table_read : (word : Word) (scripts : List Script) → table_in word ≡ Ok scripts → (table : Data) × (table_of table ≡ Ok scripts) × (word ≡ data_word table)
+pub table_read : (word : Word) (scripts : List Script) → table_in word ≡ Ok scripts → (table : Data)
+    × (table_of table ≡ Ok scripts) × (word ≡ data_word table)
 unfolding table_in
 table_read word scripts e =
     let read = bind_ok (data_in word) _ scripts e in
     (read.0, value_of_ok _ _ (table_of read.0) scripts (wanted_is (result_ok (table_of read.0)) scripts read.2), data_back word read.0 read.1)
 
-pub entries_read : (word : Word) (entries : List EntryPattern) → entries_in word ≡ Ok entries → (form : Data) × (entries_of form ≡ Ok entries) × (word ≡ data_word form)
+pub entries_read : (word : Word) (entries : List EntryPattern) → entries_in word ≡ Ok entries
+    → (form : Data) × (entries_of form ≡ Ok entries) × (word ≡ data_word form)
 unfolding entries_in
 entries_read word entries e =
     let read = bind_ok (data_in word) _ entries e in

@@ -31,11 +31,13 @@ use Rattle.trace_words.proofs.ShortRows.{AreShort, HasWords, IsShort, both_short
 -- ---- lines
 
 -- a line of a first word and one short word
-word_row_short : (name word : Word) (long : ℕ) → length name ≤ 20 → length word ≤ long → long ≤ 16384 → IsShort (name ∷ word ∷ [])
+word_row_short : (name word : Word) (long : ℕ) → length name ≤ 20 → length word ≤ long
+    → long ≤ 16384 → IsShort (name ∷ word ∷ [])
 word_row_short name word long short le most =
     words_in (1 + 20 + (1 + long + 0)) 20000 (name ∷ word ∷ []) (word_on 20 (1 + long + 0) name (word ∷ []) short (word_on long 0 word [] le no_words)) (omega (arith, most))
 
-count_row_short : (name : Word) (count : Count) → length name ≤ 20 → IsFitCount count → IsShort (count_row name count)
+count_row_short : (name : Word) (count : Count) → length name ≤ 20 → IsFitCount count
+    → IsShort (count_row name count)
 count_row_short name count long fit =
     words_in (1 + 20 + (1 + 11 + (1 + 10 + 0))) 20000 (count_row name count) (word_on 20 (1 + 11 + (1 + 10 + 0)) name (decimal count.run ∷ decimal (flag_number count.fired) ∷ []) long
     (word_on 11 (1 + 10 + 0) (decimal count.run) (decimal (flag_number count.fired) ∷ []) (run_short count.run (omega (arith, fit.within)))
@@ -53,14 +55,16 @@ ids_short (id ∷ ids) (one, others) =
 -- ---- a limiter
 
 -- the label of a limiter's line has at most one byte more than its name
-label_short : (which : Which) (name : Word) (long : ℕ) → length name ≤ long → length (label which name) ≤ suc long
+label_short : (which : Which) (name : Word) (long : ℕ) → length name ≤ long
+    → length (label which name) ≤ suc long
 label_short Import name long le = omega (arith, le)
 label_short Export name long le = omega (arith, le)
 
 named : (which : Which) (name : Word) → length name ≤ 19 → length (label which name) ≤ 20
 named which name le = label_short which name 19 le
 
-limiter_short : (which : Which) (o : LimiterOpening) → IsFitLimiterOpening o → IsTracedLimiter o → AreShort (limiter_rows which o)
+limiter_short : (which : Which) (o : LimiterOpening) → IsFitLimiterOpening o → IsTracedLimiter o
+    → AreShort (limiter_rows which o)
 limiter_short which o fit traced =
     let settings = o.settings in
     let profile = settings.profile in
@@ -116,11 +120,13 @@ kind_short Type3 = number_short 3 (omega arith)
 kind_short Type4 = number_short 4 (omega arith)
 kind_short Type5 = number_short 5 (omega arith)
 
-moment_short : (moment : Option ℕ) → IfSome moment (λ m. m ≤ 4294967295) → length (moment_word moment) ≤ 10
+moment_short : (moment : Option ℕ) → IfSome moment (λ m. m ≤ 4294967295)
+    → length (moment_word moment) ≤ 10
 moment_short None fits = omega arith
 moment_short (Some m) fits = number_short m fits
 
-schedule_short : (number : ℕ) (schedule : Schedule) → number ≤ 3 → IsTracedSchedule schedule → IsShort (schedule_row number schedule)
+schedule_short : (number : ℕ) (schedule : Schedule) → number ≤ 3 → IsTracedSchedule schedule
+    → IsShort (schedule_row number schedule)
 schedule_short number schedule few traced =
     let entries = data_word (entries_data schedule.entries) in
     words_in (1 + 20 + (1 + 10 + (1 + 10 + (1 + 10 + (1 + 16384 + 0))))) 20000 (schedule_row number schedule)

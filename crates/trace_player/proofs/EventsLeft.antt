@@ -17,11 +17,13 @@ pub record EventsLeft (events : List Event) (i : ℕ) (out total : List ℕ) : T
   pub all : out ++ rows_text (map event_row (drop i events)) ≡ total
 
 -- nothing is written yet
-pub no_event_written : (events : List Event) (out : List ℕ) → EventsLeft events 0 out (out ++ rows_text (map event_row events))
+pub no_event_written : (events : List Event) (out : List ℕ)
+    → EventsLeft events 0 out (out ++ rows_text (map event_row events))
 no_event_written events out = record { all = refl }
 
 -- the line of one more event is written
-pub event_more : (events : List Event) (i : ℕ) (event : Event) (out new total : List ℕ) → i < length events → event ≡ get_or events i event
+pub event_more : (events : List Event) (i : ℕ) (event : Event) (out new total : List ℕ)
+    → i < length events → event ≡ get_or events i event
     → new ≡ out ++ line_of (event_row event) ++ 10 ∷ [] → EventsLeft events i out total → EventsLeft events (i + 1) new total
 event_more events i event out new total lt is written left =
     let rest = rows_text (map event_row (drop (suc i) events)) in
@@ -35,7 +37,8 @@ event_more events i event out new total lt is written left =
     record { all = rw add-one (sym one ∙ left.all) }
 
 -- all lines are written
-pub events_written : (events : List Event) (i : ℕ) (out total : List ℕ) → length events ≤ i → EventsLeft events i out total → out ≡ total
+pub events_written : (events : List Event) (i : ℕ) (out total : List ℕ) → length events ≤ i
+    → EventsLeft events i out total → out ≡ total
 events_written events i out total le left =
     sym (append-nil out)
     ∙ ap (λ (bs : List ℕ). out ++ bs) (sym rows_text-nil)
@@ -43,7 +46,8 @@ events_written events i out total le left =
     ∙ left.all
 
 -- the parts of a text make all of it
-pub text_joined : (trace : Trace) (a b c : List ℕ) → a ≡ [] ++ rows_text (opening_rows trace.opening)
+pub text_joined : (trace : Trace) (a b c : List ℕ) → a ≡ []
+    ++ rows_text (opening_rows trace.opening)
     → b ≡ a ++ rows_text (number_row (codes "events") (length trace.events) ∷ []) → c ≡ b ++ rows_text (map event_row trace.events) → c ≡ trace_text trace
 text_joined trace a b c first second third =
     let rows : List Row = opening_rows trace.opening in

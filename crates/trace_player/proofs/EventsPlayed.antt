@@ -17,7 +17,9 @@ use Rattle.trace_player.specs.Traces.{events_at}
 use Rattle.trace_player.proofs.EventsRead.{EventsRead, none_read, event_read, events_read}
 
 -- the lines of a run followed by one more
-lines_text-push : (number : ℕ) (lines : List Line) (line : Line) → lines_text number (lines ++ line ∷ []) ≡ lines_text number lines ++ line_text (length lines + number) line ++ 10 ∷ []
+lines_text-push : (number : ℕ) (lines : List Line) (line : Line)
+    → lines_text number (lines ++ line ∷ []) ≡ lines_text number lines
+    ++ line_text (length lines + number) line ++ 10 ∷ []
 unfolding lines_text
 lines_text-push number [] line =
     let k : length {A = Line} [] + number ≡ number = omega arith in
@@ -47,13 +49,15 @@ pub record Underway (version : Version) (count i : ℕ) (start place : Place) (o
   pub wrote : (w : World) → StandsFor old w → out ≡ lines_text 1 (lines_of events w)
 
 -- no event was
-pub none_played : (version : Version) (count : ℕ) (start : Place) (core : RelayCore) → Underway version count 0 start start core core []
+pub none_played : (version : Version) (count : ℕ) (start : Place) (core : RelayCore)
+    → Underway version count 0 start start core core []
 unfolding lines_text
 none_played version count start core =
     record { events = []; read = none_read version count start; counted = refl; within = omega arith; world = λ w stands. stands; wrote = λ w stands. refl }
 
 -- one more event was
-pub event_played : (version : Version) (count i number : ℕ) (start place after : Place) (old now next : RelayCore) (out out' : List ℕ) → i < count → number ≡ i + 1
+pub event_played : (version : Version) (count i number : ℕ) (start place after : Place)
+    (old now next : RelayCore) (out out' : List ℕ) → i < count → number ≡ i + 1
     → PlaysEvent version number place after now next out out' → Underway version count i start place old now out → Underway version count (i + 1) start after old next out'
 event_played version count i number start place after old now next out out' lt numbered one so_far =
     let front = so_far.events in
@@ -76,7 +80,8 @@ event_played version count i number start place after old now next out out' lt n
     }
 
 -- all events were
-pub events_played : (version : Version) (count i : ℕ) (start place : Place) (old now : RelayCore) (out : List ℕ) → count ≤ i → Underway version count i start place old now out
+pub events_played : (version : Version) (count i : ℕ) (start place : Place) (old now : RelayCore)
+    (out : List ℕ) → count ≤ i → Underway version count i start place old now out
     → PlaysEvents version count start place old out
 events_played version count i start place old now out le so_far =
     record {

@@ -25,7 +25,8 @@ regroup front event (Ok (others, place)) = ap (λ (events : List Event). done Tr
 regroup front event (Err fault) = refl
 
 -- no event was read
-pub none_read : (version : Version) (count : ℕ) (place : Place) → EventsRead version count 0 [] place (events_at version count place)
+pub none_read : (version : Version) (count : ℕ) (place : Place)
+    → EventsRead version count 0 [] place (events_at version count place)
 none_read version count place = let k : count - 0 ≡ count = omega arith in record { all = rw k (same (events_at version count place)) }
   where
     same : (read : ReadLines (List Event)) → with_front [] read ≡ read
@@ -33,7 +34,8 @@ none_read version count place = let k : count - 0 ≡ count = omega arith in rec
     same (Err fault) = refl
 
 -- one more event
-pub event_read : (version : Version) (count i : ℕ) (front new : List Event) (old after : Place) (event : Event) (total : ReadLines (List Event))
+pub event_read : (version : Version) (count i : ℕ) (front new : List Event) (old after : Place)
+    (event : Event) (total : ReadLines (List Event))
     → i < count → line_as (event_of version) old ≡ Ok (event, after) → new ≡ front ++ event ∷ [] → EventsRead version count i front old total
     → EventsRead version count (i + 1) new after total
 unfolding events_at
@@ -45,7 +47,8 @@ event_read version count i front new old after event total lt h pushed so_far =
     subst (λ (events : List Event). EventsRead version count (i + 1) events after total) (sym pushed) all
 
 -- an event that is refused ends the reading
-pub event_refused : (version : Version) (count i : ℕ) (front : List Event) (old : Place) (fault : TraceFault) (total : ReadLines (List Event))
+pub event_refused : (version : Version) (count i : ℕ) (front : List Event) (old : Place)
+    (fault : TraceFault) (total : ReadLines (List Event))
     → i < count → Fails Memory fault (line_as (event_of version) old) → EventsRead version count i front old total → Fails Memory fault total
 unfolding events_at
 event_refused version count i front old fault total lt (inl memory) so_far = inl memory
@@ -55,7 +58,8 @@ event_refused version count i front old fault total lt (inr h) so_far =
     inr (sym so_far.all ∙ one)
 
 -- all events were read
-pub events_read : (version : Version) (count i : ℕ) (front : List Event) (place : Place) (total : ReadLines (List Event)) → count ≤ i → EventsRead version count i front place total
+pub events_read : (version : Version) (count i : ℕ) (front : List Event) (place : Place)
+    (total : ReadLines (List Event)) → count ≤ i → EventsRead version count i front place total
     → total ≡ Ok (front, place)
 unfolding events_at
 events_read version count i front place total le so_far =

@@ -10,7 +10,8 @@ use Rattle.trace_player.specs.Exported.{PrintsTheEnd}
 use Rattle.trace_player.specs.Playing.{lines_text}
 
 -- a trace that replays the run of a recorder prints the same lines
-pub prints_the_end : (r : Recording) (trace : Trace) → trace.events ≡ r.events → Replays r (world_of_opening trace.opening) → PrintsTheEnd r trace
+pub prints_the_end : (r : Recording) (trace : Trace) → trace.events ≡ r.events
+    → Replays r (world_of_opening trace.opening) → PrintsTheEnd r trace
 prints_the_end r trace same replays = λ history origin stands.
     let runs = replays history origin stands in
     ap (λ (events : List Event). lines_text 1 (lines_of events (world_of_opening trace.opening))) same ∙ ap (lines_text 1) runs.lines

@@ -27,7 +27,8 @@ fault_is : (X Y : Type 0) (f g : TraceFault) → failed X f ≡ failed X g → f
 fault_is X Y f g e = cc
 
 -- two steps with other results, one after the other
-then_other : {X Y : Type 0} (r : Result X TraceFault) (next : X → Result Y TraceFault) → IsOther r → ((x : X) → IsOther (next x)) → IsOther (r >>= next)
+then_other : {X Y : Type 0} (r : Result X TraceFault) (next : X → Result Y TraceFault) → IsOther r
+    → ((x : X) → IsOther (next x)) → IsOther (r >>= next)
 then_other (Ok x) next first others e = others x e
 then_other {X = X} {Y = Y} (Err fault) next first others e = first (fault_is Y X fault TooLong e)
 
@@ -36,20 +37,24 @@ value_other : {X : Type 0} (x : X) → IsOther (Ok x)
 value_other x e = absurd cc
 
 -- the result of a line
-passed_other : {X : Type 0} (r : Result X RowFault) (number : ℕ) (rows : List Row) (unended : List ℕ) → IsOther (line_result r number rows unended)
+passed_other : {X : Type 0} (r : Result X RowFault) (number : ℕ) (rows : List Row)
+    (unended : List ℕ) → IsOther (line_result r number rows unended)
 passed_other (Ok x) number rows unended e = absurd cc
 passed_other (Err fault) number rows unended e = absurd cc
 
-first_other : {X : Type 0} (value_in : Row → Result X RowFault) (number : ℕ) (rows : List Row) (unended : List ℕ) → IsOther (first_as value_in number rows unended)
+first_other : {X : Type 0} (value_in : Row → Result X RowFault) (number : ℕ) (rows : List Row)
+    (unended : List ℕ) → IsOther (first_as value_in number rows unended)
 first_other value_in number [] unended e = absurd cc
 first_other value_in number (row ∷ rows) unended e = passed_other (value_in row) number rows unended e
 
-line_other : {X : Type 0} (value_in : Row → Result X RowFault) (place : Place) → IsOther (line_as value_in place)
+line_other : {X : Type 0} (value_in : Row → Result X RowFault) (place : Place)
+    → IsOther (line_as value_in place)
 unfolding line_as
 line_other value_in place e = first_other value_in place.number place.rows place.unended e
 
 -- the result of the end
-left_other : {X : Type 0} (number : ℕ) (rows : List Row) (unended : List ℕ) (x : X) → IsOther (value_at_end number rows unended x)
+left_other : {X : Type 0} (number : ℕ) (rows : List Row) (unended : List ℕ) (x : X)
+    → IsOther (value_at_end number rows unended x)
 left_other number [] [] x e = absurd cc
 left_other number [] (byte ∷ bytes) x e = absurd cc
 left_other number (row ∷ rows) unended x e = absurd cc
@@ -95,7 +100,8 @@ unfolding opening_from
 opening_other place = then_other _ _ (line_other _ place) (λ version. then_other _ _ (behind_version_other version.0 version.1) (λ opening. value_other _))
 
 -- the result of the events
-events_other : (version : Version) (count : ℕ) (place : Place) → IsOther (events_at version count place)
+events_other : (version : Version) (count : ℕ) (place : Place)
+    → IsOther (events_at version count place)
 unfolding events_at
 events_other version zero place = value_other _
 events_other version (suc count) place =
@@ -108,7 +114,9 @@ trace_other place =
     then_other _ _ (opening_other place) (λ opening. then_other _ _ (line_other _ opening.1) (λ count. then_other _ _ (events_other opening.0.0 count.0 count.1) (λ events. ended_other events.1 _)))
 
 -- the fault `TooLong` means that the text is too long
-told_long : (text : List ℕ) (long : Bool) → nat_lt most_bytes (length text) ≡ long → IsOther (trace_from (place_of text)) → (if long then Err TooLong else trace_from (place_of text)) ≡ Err TooLong → most_bytes < length text
+told_long : (text : List ℕ) (long : Bool) → nat_lt most_bytes (length text) ≡ long
+    → IsOther (trace_from (place_of text)) → (if long then Err TooLong else trace_from
+    (place_of text)) ≡ Err TooLong → most_bytes < length text
 told_long text true is other e = grind (arith, nat_tests)
 told_long text false is other e = absurd (other e)
 

@@ -20,16 +20,21 @@ use Rattle.trace_player.specs.Traces.{most_bytes, trace_behind, trace_from}
 pub record IsHeld (text rest : List ℕ) (version : Version) (count : ℕ) (opening : Opening) (number : ℕ) : Type 0 where
   pub within : length rest ≤ length text
   pub counted : number + length text < 2 ^ 64
-  pub is : trace_behind version count opening (place_at number (drop (length text - length rest) text)) ≡ trace_from (place_of text)
+  pub is : trace_behind version count opening
+      (place_at number (drop (length text - length rest) text)) ≡ trace_from (place_of text)
 
 -- an opening and the number of the events were read, and the trace is that of the events that
 -- follow
-trace_is : (start middle behind : Place) (version : Version) (opening : Opening) (count : ℕ) → opening_from start ≡ Ok ((version, opening), middle) → line_as events_from middle ≡ Ok (count, behind)
+trace_is : (start middle behind : Place) (version : Version) (opening : Opening) (count : ℕ)
+    → opening_from start ≡ Ok ((version, opening), middle) → line_as events_from middle
+    ≡ Ok (count, behind)
     → trace_behind version count opening behind ≡ trace_from start
 unfolding trace_from
 trace_is start middle behind version opening count opened counted = rw (opened, counted) refl
 
-pub held_behind : (text bytes rest : List ℕ) (version : Version) (opening : Opening) (count number : ℕ) (start middle behind : Place) → length text ≤ most_bytes → start ≡ place_of bytes → bytes ≡ text
+pub held_behind : (text bytes rest : List ℕ) (version : Version) (opening : Opening)
+    (count number : ℕ) (start middle behind : Place) → length text ≤ most_bytes → start
+    ≡ place_of bytes → bytes ≡ text
     → opening_from start ≡ Ok ((version, opening), middle) → line_as events_from middle ≡ Ok (count, behind) → number ≡ behind.number → place_at behind.number rest ≡ behind
     → IsHeld text rest version count opening number
 held_behind text bytes rest version opening count number start middle behind short is_start is_text opened counted numbered at =
@@ -52,7 +57,8 @@ held_behind text bytes rest version opening count number start middle behind sho
     }
 
 -- the number of the events cannot be read
-pub count_fails : (text bytes : List ℕ) (version : Version) (opening : Opening) (start middle : Place) (fault : TraceFault) → start ≡ place_of bytes → bytes ≡ text
+pub count_fails : (text bytes : List ℕ) (version : Version) (opening : Opening)
+    (start middle : Place) (fault : TraceFault) → start ≡ place_of bytes → bytes ≡ text
     → opening_from start ≡ Ok ((version, opening), middle) → Fails Memory fault (line_as events_from middle) → Fails Memory fault (trace_from (place_of text))
 unfolding trace_from
 count_fails text bytes version opening start middle fault is_start is_text opened (inl memory) = inl memory

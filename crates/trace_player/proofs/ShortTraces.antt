@@ -23,7 +23,8 @@ thirty_rows : (o : Opening) → length (opening_rows o) ≡ 30
 unfolding opening_rows
 thirty_rows o = refl
 
-pub few_are_short : (trace : Trace) → IsWritable trace.opening → AreTraced trace.events → length trace.events ≤ 1024 → length (trace_text trace) ≤ most_bytes
+pub few_are_short : (trace : Trace) → IsWritable trace.opening → AreTraced trace.events
+    → length trace.events ≤ 1024 → length (trace_text trace) ≤ most_bytes
 few_are_short trace opening events few =
     let count : Row = number_row (codes "events") (length trace.events) in
     let others : List Row = map event_row trace.events in

@@ -42,7 +42,8 @@ are_rows [] are = refl
 are_rows (event ∷ events) (one, are) = both_true (is_row (event_row event)) (list_all is_row (map event_row events)) (event_is_row event one) (are_rows events are)
 
 -- all lines of a trace are lines of words
-rows_are : HasRows → (trace : Trace) → IsWritableTrace trace → list_all is_row (trace_rows trace) ≡ true
+rows_are : HasRows → (trace : Trace) → IsWritableTrace trace
+    → list_all is_row (trace_rows trace) ≡ true
 rows_are has trace is =
     let count : Row = number_row (codes "events") (length trace.events) in
     let others : List Row = map event_row trace.events in
@@ -60,12 +61,15 @@ behind_events number (event ∷ events) = behind_events (suc number) events
 abbrev events_place : ℕ → List Event → Place
 events_place number events = record { number = number; rows = map event_row events; unended = [] }
 
-events_again : (events : List Event) (number : ℕ) → AreTraced events → events_at Two (length events) (events_place number events) ≡ Ok (events, events_place (behind_events number events) [])
+events_again : (events : List Event) (number : ℕ) → AreTraced events
+    → events_at Two (length events) (events_place number events)
+    ≡ Ok (events, events_place (behind_events number events) [])
 unfolding events_at line_as
 events_again [] number are = refl
 events_again (event ∷ events) number (one, are) = let h = event_again event one in let others = events_again events (suc number) are in rw (h, others) refl
 
-from_again : OpensAgain → (trace : Trace) → IsWritableTrace trace → trace_from (record { number = 1; rows = trace_rows trace; unended = [] }) ≡ Ok trace
+from_again : OpensAgain → (trace : Trace) → IsWritableTrace trace
+    → trace_from (record { number = 1; rows = trace_rows trace; unended = [] }) ≡ Ok trace
 unfolding trace_from ended_at
 from_again opens trace is =
     let h = opens trace.opening (number_row (codes "events") (length trace.events) ∷ map event_row trace.events) [] is.opening in
@@ -75,7 +79,8 @@ from_again opens trace is =
 
 -- ---- all of it
 
-place_is : HasRows → (trace : Trace) → IsWritableTrace trace → place_of (trace_text trace) ≡ record { number = 1; rows = trace_rows trace; unended = [] }
+place_is : HasRows → (trace : Trace) → IsWritableTrace trace → place_of (trace_text trace)
+    ≡ record { number = 1; rows = trace_rows trace; unended = [] }
 place_is has trace is =
     let made : List Row → List ℕ → Place = λ rows unended. record { number = 1; rows = rows; unended = unended } in
     ap₂ made (rows_whole (trace_rows trace) (rows_are has trace is)) (rows_ended (trace_rows trace) (rows_are has trace is))
@@ -83,7 +88,8 @@ place_is has trace is =
 short_enough : (n : ℕ) → n ≤ most_bytes → nat_lt most_bytes n ≡ false
 short_enough n le = grind (arith, nat_tests)
 
-pub trace_again : OpensAgain → HasRows → (trace : Trace) → IsWritableTrace trace → trace_of (trace_text trace) ≡ Ok trace
+pub trace_again : OpensAgain → HasRows → (trace : Trace) → IsWritableTrace trace
+    → trace_of (trace_text trace) ≡ Ok trace
 unfolding trace_of
 trace_again opens has trace is =
     let short = short_enough (length (trace_text trace)) is.short in

@@ -32,7 +32,8 @@ nothing : (place : Place) → Took [] place place
 nothing place = record { lines = refl; number = omega arith; unended = refl }
 
 -- the lines of events, and their number
-all_events_back : (version : Version) (count : ℕ) (place : Place) (events : List Event) (behind : Place) → events_at version count place ≡ Ok (events, behind)
+all_events_back : (version : Version) (count : ℕ) (place : Place) (events : List Event)
+    (behind : Place) → events_at version count place ≡ Ok (events, behind)
     → (length events ≡ count) × Took (map event_row events) place behind
 unfolding events_at
 all_events_back version zero place events behind e =
@@ -48,12 +49,14 @@ all_events_back version (suc count) place events behind e =
 
 -- ---- the end
 
-none_left : (number : ℕ) (rows : List Row) (unended : List ℕ) (x y : Trace) → value_at_end number rows unended x ≡ Ok y → (rows ≡ []) × (unended ≡ []) × (x ≡ y)
+none_left : (number : ℕ) (rows : List Row) (unended : List ℕ) (x y : Trace)
+    → value_at_end number rows unended x ≡ Ok y → (rows ≡ []) × (unended ≡ []) × (x ≡ y)
 none_left number [] [] x y e = (refl, refl, ok_is x y e)
 none_left number [] (byte ∷ bytes) x y e = absurd cc
 none_left number (row ∷ rows) unended x y e = absurd cc
 
-ended_back : (place : Place) (x y : Trace) → ended_at place x ≡ Ok y → (place.rows ≡ []) × (place.unended ≡ []) × (x ≡ y)
+ended_back : (place : Place) (x y : Trace) → ended_at place x ≡ Ok y → (place.rows ≡ [])
+    × (place.unended ≡ []) × (x ≡ y)
 unfolding ended_at
 ended_back place x y e = none_left place.number place.rows place.unended x y e
 
@@ -62,7 +65,8 @@ ended_back place x y e = none_left place.number place.rows place.unended x y e
 first_is : (a b : Row) (rows others : List Row) → a ∷ rows ≡ b ∷ others → a ≡ b
 first_is a b rows others e = cc
 
-version_two : (place : Place) (rows : List Row) (version : Version) (o : Opening) (behind : Place) → place.rows ≡ number_row (codes "RELAYTRACE") 2 ∷ rows
+version_two : (place : Place) (rows : List Row) (version : Version) (o : Opening) (behind : Place)
+    → place.rows ≡ number_row (codes "RELAYTRACE") 2 ∷ rows
     → opening_from place ≡ Ok ((version, o), behind) → version ≡ Two
 unfolding opening_from
 version_two place rows version o behind is e =
@@ -76,7 +80,8 @@ version_two place rows version o behind is e =
 -- ---- all of it
 
 -- the text of these lines, after which nothing is left
-text_is : (text : List ℕ) (front middle others last events : List Row) (count : Row) (a b c : List ℕ)
+text_is : (text : List ℕ) (front middle others last events : List Row) (count : Row)
+    (a b c : List ℕ)
     → rows_of text ≡ front ++ middle → middle ≡ (count ∷ []) ++ others → others ≡ events ++ last → last ≡ []
     → a ≡ unended_of text → b ≡ a → c ≡ b → c ≡ [] → text ≡ rows_text (front ++ count ∷ events)
 text_is text front middle others last events count a b c is_front is_count is_events is_last is_a is_b is_c none =
@@ -88,7 +93,8 @@ text_is text front middle others last events count a b c is_front is_count is_ev
     ∙ ap₂ (λ (rows : List Row) (unended : List ℕ). rows_text rows ++ unended) rows unended
     ∙ append-nil (rows_text (front ++ count ∷ events))
 
-pub trace_back : (text : List ℕ) (trace : Trace) → IsOfVersionTwo text → trace_of text ≡ Ok trace → (forms : Forms) × AreFormsOf trace.opening forms × (text ≡ text_with trace forms)
+pub trace_back : (text : List ℕ) (trace : Trace) → IsOfVersionTwo text → trace_of text ≡ Ok trace
+    → (forms : Forms) × AreFormsOf trace.opening forms × (text ≡ text_with trace forms)
 unfolding trace_of trace_from
 trace_back text trace two e =
     let short = refused_ok (nat_lt most_bytes (length text)) TooLong (trace_from (place_of text)) trace e in
@@ -114,5 +120,6 @@ trace_back text trace two e =
     )
 
 -- with the Datas that are written, it is the text that is written
-pub written_text : (trace : Trace) → text_with trace (written_forms trace.opening) ≡ trace_text trace
+pub written_text : (trace : Trace) → text_with trace (written_forms trace.opening)
+    ≡ trace_text trace
 written_text trace = ap (λ (rows : List Row). rows_text (rows ++ number_row (codes "events") (length trace.events) ∷ map event_row trace.events)) (written_rows trace.opening)

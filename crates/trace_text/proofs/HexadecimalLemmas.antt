@@ -73,7 +73,8 @@ capital_digit c e =
 -- ---- written and read back
 
 -- all digits that are written are capitals
-encode_capitals : (bytes : List ℕ) → IsBytes bytes → list_all is_capital_digit (encode_upper bytes) ≡ true
+encode_capitals : (bytes : List ℕ) → IsBytes bytes → list_all is_capital_digit (encode_upper bytes)
+    ≡ true
 unfolding encode_with
 encode_capitals [] h = refl
 encode_capitals (b ∷ bytes) h =
@@ -89,7 +90,8 @@ encode_some : (bytes : List ℕ) → 0 < length bytes → 0 < length (encode_upp
 encode_some bytes some = omega (arith, length-encode_with upper_digits bytes)
 
 -- bytes that are written are read back
-pub bytes_again : (bytes : List ℕ) → 0 < length bytes → IsBytes bytes → bytes_of (encode_upper bytes) ≡ Some bytes
+pub bytes_again : (bytes : List ℕ) → 0 < length bytes → IsBytes bytes
+    → bytes_of (encode_upper bytes) ≡ Some bytes
 unfolding bytes_of
 bytes_again bytes some h =
     rw (some_test (encode_upper bytes) (encode_some bytes some), encode_capitals bytes h, decode_of-encode_upper bytes h) refl
@@ -98,18 +100,21 @@ bytes_again bytes some h =
 capital_is_word_byte : (c : ℕ) → is_capital_digit c ≡ true → is_word_byte c ≡ true
 capital_is_word_byte c e = grind (arith, nat_tests)
 
-pub hex_is_word : (bytes : List ℕ) → 0 < length bytes → IsBytes bytes → is_word (encode_upper bytes) ≡ true
+pub hex_is_word : (bytes : List ℕ) → 0 < length bytes → IsBytes bytes → is_word (encode_upper bytes)
+    ≡ true
 hex_is_word bytes some h =
     word_is (encode_upper bytes) (encode_some bytes some)
     (list_all_less is_capital_digit is_word_byte capital_is_word_byte (encode_upper bytes) (encode_capitals bytes h))
 
 -- the value of a step that was put in front
-uncons : (v : ℕ) (r : Result (List ℕ) FromHexError) (bytes : List ℕ) → cons_byte v r ≡ Ok bytes → (rest : List ℕ) × (r ≡ Ok rest) × (v ∷ rest ≡ bytes)
+uncons : (v : ℕ) (r : Result (List ℕ) FromHexError) (bytes : List ℕ) → cons_byte v r ≡ Ok bytes
+    → (rest : List ℕ) × (r ≡ Ok rest) × (v ∷ rest ≡ bytes)
 uncons v (Ok rest) bytes e = (rest, refl, cc e)
 uncons v (Err fault) bytes e = absurd (cc e)
 
 -- the digits of one byte, followed by those of others
-encode_pair : (high low h l : ℕ) (rest bytes : List ℕ) → h < 16 → l < 16 → slice_index upper_digits h ≡ high → slice_index upper_digits l ≡ low
+encode_pair : (high low h l : ℕ) (rest bytes : List ℕ) → h < 16 → l < 16
+    → slice_index upper_digits h ≡ high → slice_index upper_digits l ≡ low
     → rest ≡ encode_upper bytes → encode_upper ((h * 16 + l) ∷ bytes) ≡ high ∷ low ∷ rest
 unfolding encode_with
 encode_pair high low h l rest bytes small_high small_low is_high is_low others =
@@ -130,7 +135,8 @@ pair_only i high low rest bytes h l others e =
     sym front ∙ ap encode_upper tail.2
 
 -- capital digits that decode are those that write the bytes
-pairs_only : (i : ℕ) (word bytes : List ℕ) → list_all is_capital_digit word ≡ true → decode_pairs i word ≡ Ok bytes → word ≡ encode_upper bytes
+pairs_only : (i : ℕ) (word bytes : List ℕ) → list_all is_capital_digit word ≡ true
+    → decode_pairs i word ≡ Ok bytes → word ≡ encode_upper bytes
 unfolding decode_pairs encode_with
 pairs_only i [] [] capitals e = refl
 pairs_only i [] (b ∷ bytes) capitals e = absurd (cc e)
@@ -141,16 +147,19 @@ pairs_only i (high ∷ low ∷ rest) bytes capitals e =
     pair_only i high low rest bytes (capital_digit high first.0) (capital_digit low second.0) (λ tail. pairs_only (i + 2) rest tail second.1) e
 
 -- a choice that gave bytes
-chosen_bytes : (b : Bool) (x : Option (List ℕ)) (y : List ℕ) → cond b x None ≡ Some y → (b ≡ true) × (x ≡ Some y)
+chosen_bytes : (b : Bool) (x : Option (List ℕ)) (y : List ℕ) → cond b x None ≡ Some y → (b ≡ true)
+    × (x ≡ Some y)
 chosen_bytes true x y e = (refl, e)
 chosen_bytes false x y e = absurd (cc e)
 
-ok_from : (r : Result (List ℕ) FromHexError) (bytes : List ℕ) → result_ok r ≡ Some bytes → r ≡ Ok bytes
+ok_from : (r : Result (List ℕ) FromHexError) (bytes : List ℕ) → result_ok r ≡ Some bytes
+    → r ≡ Ok bytes
 ok_from (Ok x) bytes e = cc e
 ok_from (Err fault) bytes e = absurd (cc e)
 
 -- no other word is read as these bytes
-pub bytes_only : (word bytes : List ℕ) → bytes_of word ≡ Some bytes → (word ≡ encode_upper bytes) × IsBytes bytes × (length word ≡ 2 * length bytes) × (0 < length bytes)
+pub bytes_only : (word bytes : List ℕ) → bytes_of word ≡ Some bytes → (word ≡ encode_upper bytes)
+    × IsBytes bytes × (length word ≡ 2 * length bytes) × (0 < length bytes)
 unfolding bytes_of
 bytes_only word bytes e =
     let found = chosen_bytes (is_hexadecimal word) (result_ok (decode_of word)) bytes e in

@@ -10,10 +10,12 @@ use Rattle.trace_text.specs.Numbers.{number_of}
 use Rattle.trace_text.proofs.NumbersLemmas.{number_again, number_only}
 use Rattle.trace_text.proofs.WordsLemmas.{decimal_is_word, words_again, line_of-words_of, line_of-push}
 
-pub number_is : (word : List ℕ) (n limit : ℕ) → limit < 2 ^ 64 → number_of limit word ≡ Some n → word ≡ decimal n
+pub number_is : (word : List ℕ) (n limit : ℕ) → limit < 2 ^ 64 → number_of limit word ≡ Some n
+    → word ≡ decimal n
 number_is word n limit small e = (number_only limit n word small e).0
 
-pub number_within : (word : List ℕ) (n limit : ℕ) → limit < 2 ^ 64 → number_of limit word ≡ Some n → n ≤ limit
+pub number_within : (word : List ℕ) (n limit : ℕ) → limit < 2 ^ 64 → number_of limit word ≡ Some n
+    → n ≤ limit
 number_within word n limit small e = (number_only limit n word small e).1
 
 pub hex_is : (word bytes : List ℕ) → bytes_of word ≡ Some bytes → word ≡ encode_upper bytes
@@ -28,10 +30,12 @@ length-hex word bytes e = (bytes_only word bytes e).2
 pub hex_some : (word bytes : List ℕ) → bytes_of word ≡ Some bytes → 0 < length bytes
 hex_some word bytes e = (bytes_only word bytes e).3
 
-pub rows_whole : (rows : List (List (List ℕ))) → list_all is_row rows ≡ true → rows_of (rows_text rows) ≡ rows
+pub rows_whole : (rows : List (List (List ℕ))) → list_all is_row rows ≡ true
+    → rows_of (rows_text rows) ≡ rows
 rows_whole rows all = (rows_of-rows_text rows all).0
 
-pub rows_ended : (rows : List (List (List ℕ))) → list_all is_row rows ≡ true → unended_of (rows_text rows) ≡ []
+pub rows_ended : (rows : List (List (List ℕ))) → list_all is_row rows ≡ true
+    → unended_of (rows_text rows) ≡ []
 rows_ended rows all = (rows_of-rows_text rows all).1
 
 pub ruleset numbers = (decimal_is_word, number_again, number_is, number_within)

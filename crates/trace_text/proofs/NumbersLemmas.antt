@@ -41,7 +41,8 @@ and_both x y e f = rw (e, f) refl
 -- ---- digit by digit
 
 -- the digits of two words, one after the other
-after-append : (n : ℕ) (xs ys : List ℕ) → digits_value_after 10 n (xs ++ ys) ≡ digits_value_after 10 (digits_value_after 10 n xs) ys
+after-append : (n : ℕ) (xs ys : List ℕ) → digits_value_after 10 n (xs ++ ys)
+    ≡ digits_value_after 10 (digits_value_after 10 n xs) ys
 after-append n [] ys = refl
 after-append n (x ∷ xs) ys = after-append (n * 10 + digit_value x) xs ys
 
@@ -56,7 +57,8 @@ none_taken limit [] = record { digits = refl; value = refl; within = omega arith
 none_taken limit (c ∷ word) = record { digits = refl; value = refl; within = omega arith }
 
 -- the number that one more digit writes
-more_value : (word : List ℕ) (i number digit : ℕ) → i < length word → digit ≡ get_or word i 0 → is_ascii_digit digit ≡ true → digits_value 10 (take i word) ≡ number
+more_value : (word : List ℕ) (i number digit : ℕ) → i < length word → digit ≡ get_or word i 0
+    → is_ascii_digit digit ≡ true → digits_value 10 (take i word) ≡ number
     → digits_value 10 (take (i + 1) word) ≡ number * 10 + (digit - 48)
 more_value word i number digit lt is test value =
     let range : IsInRange 48 57 digit = grind (arith, nat_tests) in
@@ -66,7 +68,8 @@ more_value word i number digit lt is test value =
     ∙ ap (λ (n : ℕ). n * 10 + digit_value digit) value
     ∙ ap (λ (d : ℕ). number * 10 + d) (sym own)
 
-pub digit_taken : (limit : ℕ) (word : List ℕ) (i number digit longer : ℕ) → i < length word → digit ≡ get_or word i 0
+pub digit_taken : (limit : ℕ) (word : List ℕ) (i number digit longer : ℕ) → i < length word → digit
+    ≡ get_or word i 0
     → (IsTrue (is_ascii_digit digit) × (number * 10 + (digit - 48) ≤ limit)) × (longer ≡ number * 10 + (digit - 48)) → Taken limit word i number → Taken limit word (i + 1) longer
 digit_taken limit word i number digit longer lt is more so_far =
     record {
@@ -81,14 +84,16 @@ chosen_none true x unmet = absurd (unmet refl)
 chosen_none false x unmet = refl
 
 -- each byte of digits is a digit
-digit_at : (word : List ℕ) (i : ℕ) → i < length word → list_all is_ascii_digit word ≡ true → is_ascii_digit (get_or word i 0) ≡ true
+digit_at : (word : List ℕ) (i : ℕ) → i < length word → list_all is_ascii_digit word ≡ true
+    → is_ascii_digit (get_or word i 0) ≡ true
 digit_at word i lt all = by (is_ascii_digit (get_or word i 0)) refl
   where
     by : (b : Bool) → is_ascii_digit (get_or word i 0) ≡ b → b ≡ true
     by true e = refl
     by false e = let none : list_all is_ascii_digit word ≡ false = list_all_at is_ascii_digit word i 0 lt e in absurd (cc (sym all ∙ none))
 
-pub digit_refused : (limit : ℕ) (word : List ℕ) (i number digit : ℕ) → i < length word → digit ≡ get_or word i 0
+pub digit_refused : (limit : ℕ) (word : List ℕ) (i number digit : ℕ) → i < length word → digit
+    ≡ get_or word i 0
     → ¬ (IsTrue (is_ascii_digit digit) × (number * 10 + (digit - 48) ≤ limit)) → Taken limit word i number → value_of limit word ≡ None
 unfolding value_of
 digit_refused limit word i number digit lt is unfit so_far =
@@ -98,7 +103,8 @@ digit_refused limit word i number digit lt is unfit so_far =
     let fits : digits_value 10 word ≤ limit = grind (arith, nat_tests) in
     unfit (test, omega (arith, more_value word i number digit lt is test so_far.value, digits_value-take-le 10 word (i + 1) (omega arith), fits)))
 
-pub all_taken : (limit : ℕ) (word : List ℕ) (i number : ℕ) → length word ≤ i → Taken limit word i number → value_of limit word ≡ Some number
+pub all_taken : (limit : ℕ) (word : List ℕ) (i number : ℕ) → length word ≤ i
+    → Taken limit word i number → value_of limit word ≡ Some number
 unfolding value_of
 all_taken limit word i number le so_far =
     let whole = take_all i word le in
@@ -109,26 +115,31 @@ all_taken limit word i number le so_far =
     rw (digits, value, fits) refl
 
 -- the parts of the form of a number
-form_parts : (some digits lead fits : Bool) (n : Option ℕ) → cond (some && lead) (cond (digits && fits) n None) None ≡ cond ((some && digits && lead) && fits) n None
+form_parts : (some digits lead fits : Bool) (n : Option ℕ)
+    → cond (some && lead) (cond (digits && fits) n None) None
+    ≡ cond ((some && digits && lead) && fits) n None
 form_parts true true true fits n = refl
 form_parts true true false fits n = refl
 form_parts true false true fits n = refl
 form_parts true false false fits n = refl
 form_parts false digits lead fits n = refl
 
-pub begins_not : (limit : ℕ) (word : List ℕ) → begins_number word ≡ false → number_of limit word ≡ None
+pub begins_not : (limit : ℕ) (word : List ℕ) → begins_number word ≡ false
+    → number_of limit word ≡ None
 unfolding number_of value_of
 begins_not limit word other =
     sym (form_parts (nat_lt 0 (length word)) (list_all is_ascii_digit word) (length word == 1 || not (slice_index word 0 == 48)) (nat_le (digits_value 10 word) limit) (Some (digits_value 10 word)))
     ∙ ap (λ (b : Bool). cond b (value_of limit word) None) other
 
-pub begins_so : (limit : ℕ) (word : List ℕ) → begins_number word ≡ true → number_of limit word ≡ value_of limit word
+pub begins_so : (limit : ℕ) (word : List ℕ) → begins_number word ≡ true → number_of limit word
+    ≡ value_of limit word
 unfolding number_of value_of
 begins_so limit word so =
     sym (form_parts (nat_lt 0 (length word)) (list_all is_ascii_digit word) (length word == 1 || not (slice_index word 0 == 48)) (nat_le (digits_value 10 word) limit) (Some (digits_value 10 word)))
     ∙ ap (λ (b : Bool). cond b (value_of limit word) None) so
 
-pub value_within : (limit number : ℕ) (word : List ℕ) → value_of limit word ≡ Some number → number ≤ limit
+pub value_within : (limit number : ℕ) (word : List ℕ) → value_of limit word ≡ Some number
+    → number ≤ limit
 unfolding value_of
 value_within limit number word e =
     let found = chosen_some (list_all is_ascii_digit word && nat_le (digits_value 10 word) limit) (digits_value 10 word) number e in
@@ -145,7 +156,8 @@ pub ruleset reading = (begins_not, begins_so, value_within, nat_tests)
 below_test : (m n : ℕ) → m < n → nat_lt m n ≡ true
 below_test m n h = grind (arith, nat_tests)
 
-lead_test : (word : List ℕ) → 48 < slice_index word 0 → (length word == 1 || not (slice_index word 0 == 48)) ≡ true
+lead_test : (word : List ℕ) → 48 < slice_index word 0
+    → (length word == 1 || not (slice_index word 0 == 48)) ≡ true
 lead_test word h = grind (arith, nat_tests)
 
 -- a number that is written has the form of a number
@@ -170,7 +182,8 @@ number_again limit n within small =
     rw (form, value, fits) refl
 
 -- no other word writes a number
-pub number_only : (limit n : ℕ) (word : List ℕ) → limit < 2 ^ 64 → number_of limit word ≡ Some n → (word ≡ decimal n) × (n ≤ limit)
+pub number_only : (limit n : ℕ) (word : List ℕ) → limit < 2 ^ 64 → number_of limit word ≡ Some n
+    → (word ≡ decimal n) × (n ≤ limit)
 unfolding number_of
 number_only limit n word small e =
     let found = chosen_some (is_decimal word && nat_le (digits_value 10 word) limit) (digits_value 10 word) n e in

@@ -16,7 +16,8 @@ use Rattle.trace_text.proofs.NumbersLemmas.{is_decimal-decimal}
 -- ---- tests of all bytes
 
 -- bytes that pass a test pass every weaker test
-pub list_all_less : (p q : ℕ → Bool) → ((b : ℕ) → p b ≡ true → q b ≡ true) → (bytes : List ℕ) → list_all p bytes ≡ true → list_all q bytes ≡ true
+pub list_all_less : (p q : ℕ → Bool) → ((b : ℕ) → p b ≡ true → q b ≡ true) → (bytes : List ℕ)
+    → list_all p bytes ≡ true → list_all q bytes ≡ true
 list_all_less p q less [] e = refl
 list_all_less p q less (b ∷ bytes) e =
     let both = and_parts (p b) (list_all p bytes) e in
@@ -27,7 +28,8 @@ abbrev pub HasNo : ℕ → List ℕ → Type 0
 HasNo byte bytes = All (λ b. is_byte byte b ≡ false) bytes
 
 -- bytes without this byte pass a test that only this byte fails
-has_no : (p : ℕ → Bool) (byte : ℕ) → ((b : ℕ) → p b ≡ true → is_byte byte b ≡ false) → (bytes : List ℕ) → list_all p bytes ≡ true → HasNo byte bytes
+has_no : (p : ℕ → Bool) (byte : ℕ) → ((b : ℕ) → p b ≡ true → is_byte byte b ≡ false)
+    → (bytes : List ℕ) → list_all p bytes ≡ true → HasNo byte bytes
 has_no p byte fails [] e = All-nil (λ b. is_byte byte b ≡ false)
 has_no p byte fails (b ∷ bytes) e =
     let both = and_parts (p b) (list_all p bytes) e in
@@ -46,7 +48,8 @@ word_bytes [] e = absurd (cc e)
 word_bytes (b ∷ bytes) e = e
 
 -- one or more bytes are a word if each may be in one
-pub word_is : (word : List ℕ) → 0 < length word → list_all is_word_byte word ≡ true → is_word word ≡ true
+pub word_is : (word : List ℕ) → 0 < length word → list_all is_word_byte word ≡ true → is_word word
+    ≡ true
 word_is [] some e = absurd (omega arith)
 word_is (b ∷ bytes) some e = e
 
@@ -69,7 +72,8 @@ decimal_is_word n small =
 -- ---- lines
 
 -- the words of a line that is written are read back
-all_words_again : (word : List ℕ) (words : List (List ℕ)) → is_word word ≡ true → list_all is_word words ≡ true → words_of (line_of (word ∷ words)) ≡ word ∷ words
+all_words_again : (word : List ℕ) (words : List (List ℕ)) → is_word word ≡ true
+    → list_all is_word words ≡ true → words_of (line_of (word ∷ words)) ≡ word ∷ words
 unfolding words_of line_of
 all_words_again word [] e all = slice_split_none (is_byte 32) word (word_has_no_blank word e)
 all_words_again word (next ∷ words) e all =
@@ -89,7 +93,8 @@ unfolding words_of line_of
 line_of-words_of line = join_with_byte-slice_split 32 line
 
 -- a line of words contains no end of a line
-all_no_end : (word : List ℕ) (words : List (List ℕ)) → is_word word ≡ true → list_all is_word words ≡ true → HasNo 10 (line_of (word ∷ words))
+all_no_end : (word : List ℕ) (words : List (List ℕ)) → is_word word ≡ true → list_all is_word words
+    ≡ true → HasNo 10 (line_of (word ∷ words))
 unfolding line_of
 all_no_end word [] e all = word_has_no_end word e
 all_no_end word (next ∷ words) e all =
@@ -104,7 +109,8 @@ row_has_no_end (word ∷ words) e =
     all_no_end word words both.0 both.1
 
 -- one word more
-pub line_of-push : (words : List (List ℕ)) (word : List ℕ) → 0 < length words → line_of (words ++ word ∷ []) ≡ line_of words ++ 32 ∷ word
+pub line_of-push : (words : List (List ℕ)) (word : List ℕ) → 0 < length words
+    → line_of (words ++ word ∷ []) ≡ line_of words ++ 32 ∷ word
 unfolding line_of
 line_of-push [] word some = absurd (omega arith)
 line_of-push (first ∷ []) word some = refl

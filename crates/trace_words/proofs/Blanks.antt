@@ -5,13 +5,15 @@ use Rattle.trace_words.specs.Rows.{Word, Row}
 use Rattle.trace_words.specs.Writing.{words_after_blanks, all_words, value_words}
 
 -- a line is its first word, followed by each other word after a blank
-pub line_of_first : (word : Word) (words : Row) → line_of (word ∷ words) ≡ word ++ words_after_blanks words
+pub line_of_first : (word : Word) (words : Row) → line_of (word ∷ words) ≡ word
+    ++ words_after_blanks words
 unfolding line_of
 line_of_first word [] = sym (append-nil word)
 line_of_first word (next ∷ words) = ap (λ (rest : List ℕ). word ++ 32 ∷ rest) (line_of_first next words)
 
 -- words followed by others
-pub blanked-append : (words others : Row) → words_after_blanks (words ++ others) ≡ words_after_blanks words ++ words_after_blanks others
+pub blanked-append : (words others : Row) → words_after_blanks (words ++ others)
+    ≡ words_after_blanks words ++ words_after_blanks others
 blanked-append [] others = refl
 blanked-append (word ∷ words) others = ap (λ (rest : List ℕ). (32 ∷ word) ++ rest) (blanked-append words others) ∙ sym (append_assoc (32 ∷ word) (words_after_blanks words) (words_after_blanks others))
 
@@ -27,7 +29,8 @@ pub record Left (X : Type 0) (item : X → Row → Row) (xs : List X) (i : ℕ) 
   pub all : out ++ words_after_blanks (all_words item (drop i xs)) ≡ total
 
 -- one more value is written
-pub one_more : {X : Type 0} (item : X → Row → Row) → Stands X item → (xs : List X) (i : ℕ) (x d : X) (out new total : List ℕ) → i < length xs → x ≡ get_or xs i d
+pub one_more : {X : Type 0} (item : X → Row → Row) → Stands X item
+    → (xs : List X) (i : ℕ) (x d : X) (out new total : List ℕ) → i < length xs → x ≡ get_or xs i d
     → new ≡ out ++ words_after_blanks (item x []) → Left X item xs i out total → Left X item xs (i + 1) new total
 unfolding all_words
 one_more {X} item stands xs i x d out new total lt is written left =
@@ -40,7 +43,8 @@ one_more {X} item stands xs i x d out new total lt is written left =
     record { all = rw add-one (sym one ∙ left.all) }
 
 -- nothing is written yet
-pub none_written : {X : Type 0} (item : X → Row → Row) (xs : List X) (out : List ℕ) → Left X item xs 0 out (out ++ words_after_blanks (all_words item xs))
+pub none_written : {X : Type 0} (item : X → Row → Row) (xs : List X) (out : List ℕ)
+    → Left X item xs 0 out (out ++ words_after_blanks (all_words item xs))
 none_written item xs out = record { all = refl }
 
 -- after the last place nothing is left
@@ -51,6 +55,7 @@ behind_all (x ∷ xs) zero le = absurd (omega arith)
 behind_all (x ∷ xs) (suc i) le = behind_all xs i (omega arith)
 
 -- all values are written
-pub all_written : {X : Type 0} (item : X → Row → Row) (xs : List X) (i : ℕ) (out total : List ℕ) → length xs ≤ i → Left X item xs i out total → out ≡ total
+pub all_written : {X : Type 0} (item : X → Row → Row) (xs : List X) (i : ℕ) (out total : List ℕ)
+    → length xs ≤ i → Left X item xs i out total → out ≡ total
 unfolding all_words
 all_written {X} item xs i out total le left = sym (append-nil out) ∙ ap (λ (ys : List X). out ++ words_after_blanks (all_words item ys)) (sym (behind_all xs i le)) ∙ left.all

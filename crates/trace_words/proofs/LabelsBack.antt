@@ -9,7 +9,8 @@ use Rattle.trace_words.specs.declared.fault.RowFault.{RowFault}
 use Rattle.trace_words.specs.declared.fault.RowFault.TheVariants.{Wrong}
 
 -- the first word is this one
-pub behind_back : (name : Word) (row : Row) (u : Unit {0}) (words : Row) → behind name row ≡ Ok (u, words) → row ≡ name ∷ words
+pub behind_back : (name : Word) (row : Row) (u : Unit {0}) (words : Row) → behind name row
+    ≡ Ok (u, words) → row ≡ name ∷ words
 unfolding behind
 behind_back name [] u words e = absurd cc
 behind_back name (word ∷ others) u words e =
@@ -17,7 +18,8 @@ behind_back name (word ∷ others) u words e =
     ap (λ (w : Word). w ∷ others) (same_is word name same.0) ∙ ap (λ (p : Unit {0} × Row). name ∷ p.1) (ok_is (tt, others) (u, words) same.1)
 
 -- a line of a first word and one value
-pub labelled_read : (X : Type 0) (name : Word) (value_in : Word → Result X RowFault) (row : Row) (x : X) → labelled_value name value_in row ≡ Ok x
+pub labelled_read : (X : Type 0) (name : Word) (value_in : Word → Result X RowFault) (row : Row)
+    (x : X) → labelled_value name value_in row ≡ Ok x
     → (word : Word) × (row ≡ name ∷ word ∷ []) × (value_in word ≡ Ok x)
 labelled_read X name value_in row x e =
     let words = bind_ok (behind name row) _ x e in
@@ -28,7 +30,8 @@ labelled_read X name value_in row x e =
 abbrev pub IsRowBack : (X : Type 0) → (Row → Result X RowFault) → (X → Row) → Type 0
 IsRowBack X value_in row_of = (row : Row) (x : X) → value_in row ≡ Ok x → row ≡ row_of x
 
-pub labelled_back : (X : Type 0) (name : Word) (value_in : Word → Result X RowFault) (word_of : X → Word) → IsWrittenBack X value_in word_of
+pub labelled_back : (X : Type 0) (name : Word) (value_in : Word → Result X RowFault) (word_of : X
+    → Word) → IsWrittenBack X value_in word_of
     → IsRowBack X (labelled_value name value_in) (λ x. name ∷ word_of x ∷ [])
 labelled_back X name value_in word_of back row x e =
     let read = labelled_read X name value_in row x e in

@@ -17,7 +17,8 @@ pub record Passes (n : ℕ) (place behind : Place) : Type 0 where
 abbrev pub Takes : {X : Type 0} → ℕ → Place → ReadLines X → Type 0
 Takes {X} n place read = (x : X) (behind : Place) → read ≡ Ok (x, behind) → Passes n place behind
 
-pub takes_then : {X Y : Type 0} (m n : ℕ) (place : Place) (read : ReadLines X) (next : X × Place → ReadLines Y)
+pub takes_then : {X Y : Type 0} (m n : ℕ) (place : Place) (read : ReadLines X) (next : X × Place
+    → ReadLines Y)
     → Takes m place read → ((x : X × Place) → Takes n x.1 (next x)) → Takes (m + n) place (read >>= next)
 takes_then m n place read next first others y behind e =
     let b = bind_ok read next (y, behind) e in
@@ -32,6 +33,7 @@ pub takes_none : {X : Type 0} (place : Place) (x : X) → Takes {X = X} 0 place 
 takes_none {X = X} place x y behind e =
     carried X (λ _ q. Passes 0 place q) x y place behind e (record { rows = []; long = refl; took = record { lines = refl; number = omega arith; unended = refl } })
 
-pub takes_line : {X : Type 0} (value_in : Row → Result X RowFault) (place : Place) → Takes 1 place (line_as value_in place)
+pub takes_line : {X : Type 0} (value_in : Row → Result X RowFault) (place : Place)
+    → Takes 1 place (line_as value_in place)
 takes_line {X = X} value_in place x behind e =
     let line = line_read X value_in place x behind e in record { rows = line.row ∷ []; long = refl; took = line.took }

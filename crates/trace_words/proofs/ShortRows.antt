@@ -22,7 +22,8 @@ pub record HasWords (most : ℕ) (row : Row) : Type 0 where
 pub no_words : HasWords 0 []
 no_words = record { short = omega arith }
 
-pub word_on : (long most : ℕ) (word : Word) (words : Row) → length word ≤ long → HasWords most words → HasWords (1 + long + most) (word ∷ words)
+pub word_on : (long most : ℕ) (word : Word) (words : Row) → length word ≤ long → HasWords most words
+    → HasWords (1 + long + most) (word ∷ words)
 word_on long most word words one others = record { short = omega (arith, one, others.short, length-append (32 ∷ word) (words_after_blanks words)) }
 
 pub words_in : (less most : ℕ) (row : Row) → HasWords less row → less ≤ most → HasWords most row
@@ -38,7 +39,8 @@ number_short n le = length-decimal-le 10 n (omega arith) (omega arith) (omega ar
 pub run_short : (n : ℕ) → n ≤ 42949672950 → length (decimal n) ≤ 11
 run_short n le = length-decimal-le 11 n (omega arith) (omega arith) (omega arith)
 
-pub bytes_short : (bytes : List ℕ) (most : ℕ) → length bytes ≤ most → length (encode_upper bytes) ≤ 2 * most
+pub bytes_short : (bytes : List ℕ) (most : ℕ) → length bytes ≤ most
+    → length (encode_upper bytes) ≤ 2 * most
 bytes_short bytes most le = omega (arith, length-encode_with upper_digits bytes, le)
 
 pub flag_short : (flag : Bool) → length (decimal (flag_number flag)) ≤ 10
@@ -58,12 +60,14 @@ abbrev pub AreShort : List Row → Type 0
 AreShort [] = Unit {0}
 AreShort (row ∷ rows) = IsShort row × AreShort rows
 
-pub both_short : (rows others : List Row) → AreShort rows → AreShort others → AreShort (rows ++ others)
+pub both_short : (rows others : List Row) → AreShort rows → AreShort others
+    → AreShort (rows ++ others)
 both_short [] others first then = then
 both_short (row ∷ rows) others (one, first) then = (one, both_short rows others first then)
 
 -- a line of a first word and a number
-pub number_row_short : (name : Word) (n : ℕ) → length name ≤ 20 → n ≤ 4294967295 → IsShort (number_row name n)
+pub number_row_short : (name : Word) (n : ℕ) → length name ≤ 20 → n ≤ 4294967295
+    → IsShort (number_row name n)
 number_row_short name n long le =
     words_in (1 + 20 + (1 + 10 + 0)) 20000 (number_row name n) (word_on 20 (1 + 10 + 0) name (decimal n ∷ []) long (word_on 10 0 (decimal n) [] (number_short n le) no_words)) (omega arith)
 

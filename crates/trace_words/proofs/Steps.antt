@@ -16,12 +16,14 @@ pub record SoFar (X : Type 0) (item_from : Word → Row → Read X) (max : ℕ) 
   pub all : with_front front (all_at item_from (max - length front) words) ≡ total
 
 -- one value moves from those still to be read to those read
-regroup : {X : Type 0} (front : List X) (d : X) (read : Result (List X) RowFault) → with_front front (read >>= λ others. Ok (d ∷ others)) ≡ with_front (front ++ d ∷ []) read
+regroup : {X : Type 0} (front : List X) (d : X) (read : Result (List X) RowFault)
+    → with_front front (read >>= λ others. Ok (d ∷ others)) ≡ with_front (front ++ d ∷ []) read
 regroup front d (Ok x) = ap (done RowFault) (sym (append_assoc front (d ∷ []) x))
 regroup front d (Err fault) = refl
 
 -- nothing has been read
-pub none_yet : {X : Type 0} (item_from : Word → Row → Read X) (max : ℕ) (words : Row) → SoFar X item_from max [] words (all_at item_from max words)
+pub none_yet : {X : Type 0} (item_from : Word → Row → Read X) (max : ℕ) (words : Row)
+    → SoFar X item_from max [] words (all_at item_from max words)
 none_yet item_from max words = let k : max - 0 ≡ max = omega arith in record { few = omega arith; all = rw k (same (all_at item_from max words)) }
   where
     same : {Y : Type 0} (r : Result (List Y) RowFault) → with_front [] r ≡ r
@@ -29,7 +31,8 @@ none_yet item_from max words = let k : max - 0 ≡ max = omega arith in record {
     same (Err fault) = refl
 
 -- one more value
-pub goes_on : {X : Type 0} (item_from : Word → Row → Read X) (max : ℕ) (front : List X) (old : Row) (word : Word) (words : Row) (d : X) (after : Row) (total : Result (List X) RowFault)
+pub goes_on : {X : Type 0} (item_from : Word → Row → Read X) (max : ℕ) (front : List X) (old : Row)
+    (word : Word) (words : Row) (d : X) (after : Row) (total : Result (List X) RowFault)
     → old ≡ word ∷ words → (length front ≡ max → ⊥) → item_from word words ≡ Ok (d, after) → SoFar X item_from max front old total → SoFar X item_from max (front ++ d ∷ []) after total
 unfolding all_at
 goes_on {X} item_from max front old word words d after total is more h so_far =
@@ -41,7 +44,8 @@ goes_on {X} item_from max front old word words d after total is more h so_far =
     record { few = omega arith; all = sym one ∙ so_far.all }
 
 -- a value that is refused ends the reading
-pub refused : {X : Type 0} (item_from : Word → Row → Read X) (max : ℕ) (fault : RowFault) (front : List X) (old : Row) (word : Word) (words : Row) (total : Result (List X) RowFault)
+pub refused : {X : Type 0} (item_from : Word → Row → Read X) (max : ℕ) (fault : RowFault)
+    (front : List X) (old : Row) (word : Word) (words : Row) (total : Result (List X) RowFault)
     → old ≡ word ∷ words → (length front ≡ max → ⊥) → Fails Memory fault (item_from word words) → SoFar X item_from max front old total → Fails Memory fault total
 unfolding all_at
 refused item_from max fault front old word words total is more (inl memory) so_far = inl memory
@@ -52,7 +56,8 @@ refused item_from max fault front old word words total is more (inr h) so_far =
     inr (sym so_far.all ∙ one)
 
 -- one word more than the maximum number of values
-pub too_many : {X : Type 0} (item_from : Word → Row → Read X) (max : ℕ) (front : List X) (old : Row) (word : Word) (words : Row) (total : Result (List X) RowFault)
+pub too_many : {X : Type 0} (item_from : Word → Row → Read X) (max : ℕ) (front : List X) (old : Row)
+    (word : Word) (words : Row) (total : Result (List X) RowFault)
     → old ≡ word ∷ words → length front ≡ max → SoFar X item_from max front old total → total ≡ Err Wrong
 unfolding all_at
 too_many item_from max front old word words total is full so_far =
@@ -61,7 +66,9 @@ too_many item_from max front old word words total is full so_far =
     sym so_far.all ∙ one
 
 -- no word is left
-pub is_done : {X : Type 0} (item_from : Word → Row → Read X) (max : ℕ) (front : List X) (old : Row) (total : Result (List X) RowFault) → old ≡ [] → SoFar X item_from max front old total → total ≡ Ok front
+pub is_done : {X : Type 0} (item_from : Word → Row → Read X) (max : ℕ) (front : List X) (old : Row)
+    (total : Result (List X) RowFault) → old ≡ [] → SoFar X item_from max front old total
+    → total ≡ Ok front
 unfolding all_at
 is_done {X} item_from max front old total is so_far =
     let one : with_front front (all_at item_from (max - length front) old) ≡ Ok front = rw is (at_end (max - length front)) in

@@ -31,7 +31,8 @@ number_is_bytes (suc k) n = one_more_byte (byte_at k n) (bytes_high_first k n) (
 
 -- ---- a Data's text
 
-in_either : (P : List ℕ → Type 0) (test : Bool) (one other : List ℕ) → (test ≡ true → P one) → (test ≡ false → P other) → P (if test then one else other)
+in_either : (P : List ℕ → Type 0) (test : Bool) (one other : List ℕ) → (test ≡ true → P one)
+    → (test ≡ false → P other) → P (if test then one else other)
 in_either P true one other if_so if_not = if_so refl
 in_either P false one other if_so if_not = if_not refl
 

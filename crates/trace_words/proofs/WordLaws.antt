@@ -20,14 +20,16 @@ use Rattle.trace_text.proofs.WordsLemmas.{decimal_is_word}
 use Rattle.trace_words.specs.Labels.{behind, labelled_value, number_row}
 use Rattle.trace_words.specs.declared.fault.RowFault.{RowFault}
 
-pub number_word_again : (limit n : ℕ) → n ≤ limit → limit < 2 ^ 64 → number_in limit (decimal n) ≡ Ok n
+pub number_word_again : (limit n : ℕ) → n ≤ limit → limit < 2 ^ 64
+    → number_in limit (decimal n) ≡ Ok n
 number_word_again limit n le small = ap (λ (o : Option ℕ). or_wrong o) (number_again limit n le small)
 
 pub flag_again : (flag : Bool) → flag_in (decimal (flag_number flag)) ≡ Ok flag
 flag_again true = let h = number_word_again 1 1 (omega arith) (omega arith) in rw h refl
 flag_again false = let h = number_word_again 1 0 (omega arith) (omega arith) in rw h refl
 
-pub bytes_word_again : (bytes : List ℕ) → 0 < length bytes → IsBytes bytes → bytes_in (encode_upper bytes) ≡ Ok bytes
+pub bytes_word_again : (bytes : List ℕ) → 0 < length bytes → IsBytes bytes
+    → bytes_in (encode_upper bytes) ≡ Ok bytes
 bytes_word_again bytes some are = ap (λ (o : Option (List ℕ)). or_wrong o) (bytes_again bytes some are)
 
 -- a list of bytes equals itself
@@ -47,7 +49,8 @@ pub behind_again : (name : Word) (words : Row) → behind name (name ∷ words) 
 unfolding behind
 behind_again name words = let same = same_bytes name in rw same refl
 
-pub labelled_again : {X : Type 0} (name : Word) (value_in : Word → Result X RowFault) (word : Word) (x : X) → value_in word ≡ Ok x → labelled_value name value_in (name ∷ word ∷ []) ≡ Ok x
+pub labelled_again : {X : Type 0} (name : Word) (value_in : Word → Result X RowFault) (word : Word)
+    (x : X) → value_in word ≡ Ok x → labelled_value name value_in (name ∷ word ∷ []) ≡ Ok x
 labelled_again name value_in word x e =
     let first = behind_again name (word ∷ []) in
     rw (first, e) refl
@@ -69,8 +72,10 @@ pub data_is_word : (value : Data) → IsHeld value → is_word (data_word value)
 data_is_word value held = hex_is_word (text (tree_of value)) (omega arith) (text_is_bytes (tree_of value) held.fits)
 
 -- one more word
-pub more : (word : List ℕ) (words : Row) → is_word word ≡ true → AreWords words → AreWords (word ∷ words)
+pub more : (word : List ℕ) (words : Row) → is_word word ≡ true → AreWords words
+    → AreWords (word ∷ words)
 more word words is are = rw is are
 
-pub number_is_row : (name : Word) (n : ℕ) → is_word name ≡ true → n ≤ 42949672950 → is_row (number_row name n) ≡ true
+pub number_is_row : (name : Word) (n : ℕ) → is_word name ≡ true → n ≤ 42949672950
+    → is_row (number_row name n) ≡ true
 number_is_row name n is le = more name (decimal n ∷ []) is (more (decimal n) [] (number_is_word n le) refl)

@@ -37,7 +37,8 @@ AreWrittenBack X item_from words_of = (word : Word) (words : Row) (x : X) (rest 
 pub number_back : (limit : ℕ) → limit < 2 ^ 64 → IsWrittenBack ℕ (number_in limit) decimal
 number_back limit small word n e = (number_only limit n word small (wanted_is (number_of limit word) n e)).0
 
-pub number_limited : (limit : ℕ) → limit < 2 ^ 64 → (word : Word) (n : ℕ) → number_in limit word ≡ Ok n → n ≤ limit
+pub number_limited : (limit : ℕ) → limit < 2 ^ 64 → (word : Word) (n : ℕ) → number_in limit word
+    ≡ Ok n → n ≤ limit
 number_limited limit small word n e = (number_only limit n word small (wanted_is (number_of limit word) n e)).1
 
 flag_is : (n : ℕ) (flag : Bool) → n ≤ 1 → done RowFault (n == 1) ≡ Ok flag → n ≡ flag_number flag
@@ -71,38 +72,45 @@ data_back word value e =
 
 -- ---- words in a row
 
-pub next_back : (X : Type 0) (value_in : Word → Result X RowFault) (word_of : X → Word) → IsWrittenBack X value_in word_of
+pub next_back : (X : Type 0) (value_in : Word → Result X RowFault) (word_of : X → Word)
+    → IsWrittenBack X value_in word_of
     → (words rest : Row) (x : X) → next_as value_in words ≡ Ok (x, rest) → words ≡ word_of x ∷ rest
 next_back X value_in word_of back [] rest x e = absurd cc
 next_back X value_in word_of back (word ∷ words) rest x e =
     let read = bind_ok (value_in word) _ (x, rest) e in
     ap (λ (w : Word). w ∷ words) (back word read.0 read.1) ∙ ap (λ (p : X × Row). word_of p.0 ∷ p.1) (ok_is (read.0, words) (x, rest) read.2)
 
-pub next_number_back : (limit : ℕ) → limit < 2 ^ 64 → (words rest : Row) (n : ℕ) → next_as (number_in limit) words ≡ Ok (n, rest) → words ≡ decimal n ∷ rest
+pub next_number_back : (limit : ℕ) → limit < 2 ^ 64 → (words rest : Row) (n : ℕ)
+    → next_as (number_in limit) words ≡ Ok (n, rest) → words ≡ decimal n ∷ rest
 next_number_back limit small words rest n e = next_back ℕ (number_in limit) decimal (number_back limit small) words rest n e
 
 -- a value after which no word is left
-pub ended_back : (X : Type 0) (words : Row) (x y : X) → if_last words x ≡ Ok y → (words ≡ []) × (x ≡ y)
+pub ended_back : (X : Type 0) (words : Row) (x y : X) → if_last words x ≡ Ok y
+    → (words ≡ []) × (x ≡ y)
 ended_back X [] x y e = (refl, ok_is x y e)
 ended_back X (word ∷ words) x y e = absurd cc
 
 -- the last word, and the value that is read from it
-pub last_read : (X : Type 0) (value_in : Word → Result X RowFault) (words : Row) (x : X) → last_as value_in words ≡ Ok x → (word : Word) × (words ≡ word ∷ []) × (value_in word ≡ Ok x)
+pub last_read : (X : Type 0) (value_in : Word → Result X RowFault) (words : Row) (x : X)
+    → last_as value_in words ≡ Ok x → (word : Word) × (words ≡ word ∷ []) × (value_in word ≡ Ok x)
 last_read X value_in [] x e = absurd cc
 last_read X value_in (word ∷ []) x e = (word, refl, e)
 last_read X value_in (word ∷ other ∷ words) x e = absurd cc
 
-pub last_back : (X : Type 0) (value_in : Word → Result X RowFault) (word_of : X → Word) → IsWrittenBack X value_in word_of
+pub last_back : (X : Type 0) (value_in : Word → Result X RowFault) (word_of : X → Word)
+    → IsWrittenBack X value_in word_of
     → (words : Row) (x : X) → last_as value_in words ≡ Ok x → words ≡ word_of x ∷ []
 last_back X value_in word_of back words x e =
     let read = last_read X value_in words x e in
     read.1 ∙ ap (λ (w : Word). w ∷ []) (back read.0 x read.2)
 
-pub last_number_back : (limit : ℕ) → limit < 2 ^ 64 → (words : Row) (n : ℕ) → last_as (number_in limit) words ≡ Ok n → words ≡ decimal n ∷ []
+pub last_number_back : (limit : ℕ) → limit < 2 ^ 64 → (words : Row) (n : ℕ)
+    → last_as (number_in limit) words ≡ Ok n → words ≡ decimal n ∷ []
 last_number_back limit small words n e = last_back ℕ (number_in limit) decimal (number_back limit small) words n e
 
 -- values up to the end of the line
-pub all_back : (X : Type 0) (item_from : Word → Row → Read X) (words_of : X → Row → Row) → AreWrittenBack X item_from words_of
+pub all_back : (X : Type 0) (item_from : Word → Row → Read X) (words_of : X → Row → Row)
+    → AreWrittenBack X item_from words_of
     → (room : ℕ) (words : Row) (xs : List X) → all_at item_from room words ≡ Ok xs → words ≡ all_words words_of xs
 unfolding all_at all_words
 all_back X item_from words_of back zero [] xs e = ap (all_words words_of) (ok_is [] xs e)

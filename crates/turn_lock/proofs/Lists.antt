@@ -42,29 +42,35 @@ is_same-true (x ∷ xs) [] e = cc
 is_same-true (x ∷ xs) (y ∷ ys) e = let t = both_true (x == y) (is_same xs ys) e in let a = eqb-true x y t.0 in let b = is_same-true xs ys t.1 in λ i. a i ∷ b i
 
 module _ {E R : Type 0} where
-  tail_calls : (b : Bool) (x : Entry E R) (u v w : List (Entry E R)) → u ≡ v ++ w → (if b then x ∷ u else u) ≡ (if b then x ∷ v else v) ++ w
+  tail_calls : (b : Bool) (x : Entry E R) (u v w : List (Entry E R)) → u ≡ v ++ w
+      → (if b then x ∷ u else u) ≡ (if b then x ∷ v else v) ++ w
   tail_calls true x u v w e = ap (λ l. x ∷ l) e
   tail_calls false x u v w e = e
 
-  pub calls_by-append : (p : List ℕ) (xs ys : List (Entry E R)) → calls_by p (xs ++ ys) ≡ calls_by p xs ++ calls_by p ys
+  pub calls_by-append : (p : List ℕ) (xs ys : List (Entry E R)) → calls_by p (xs ++ ys)
+      ≡ calls_by p xs ++ calls_by p ys
   calls_by-append p [] ys = refl
   calls_by-append p (x ∷ xs) ys = tail_calls (is_same x.by p) x (calls_by p (xs ++ ys)) (calls_by p xs) (calls_by p ys) (calls_by-append p xs ys)
 
   -- appending a call of port p appends it to p's calls
-  pub calls_by-own : (p : List ℕ) (xs : List (Entry E R)) (e : E) (r : R) → calls_by p (xs ++ entry p e r ∷ []) ≡ calls_by p xs ++ entry p e r ∷ []
+  pub calls_by-own : (p : List ℕ) (xs : List (Entry E R)) (e : E) (r : R)
+      → calls_by p (xs ++ entry p e r ∷ []) ≡ calls_by p xs ++ entry p e r ∷ []
   calls_by-own p xs e r = let x : Entry E R = entry p e r in
       calls_by-append p xs (x ∷ []) ∙ ap (λ (b : Bool). calls_by p xs ++ (if b then x ∷ [] else [])) (is_same-refl p)
 
   -- appending a call of another port leaves the port's calls unchanged
-  pub calls_by-other : (q p : List ℕ) (xs : List (Entry E R)) (e : E) (r : R) → q ≢ p → calls_by q (xs ++ entry p e r ∷ []) ≡ calls_by q xs
+  pub calls_by-other : (q p : List ℕ) (xs : List (Entry E R)) (e : E) (r : R) → q ≢ p
+      → calls_by q (xs ++ entry p e r ∷ []) ≡ calls_by q xs
   calls_by-other q p xs e r n = let x : Entry E R = entry p e r in
       calls_by-append q xs (x ∷ []) ∙ (ap (λ (b : Bool). calls_by q xs ++ (if b then x ∷ [] else [])) (not_true (is_same p q) (λ t. n (sym (is_same-true p q t)))) ∙ append-nil (calls_by q xs))
 
   -- if a history begins with another, its calls of p begin with the other's calls of p
-  pub calls_by-starts : (p : List ℕ) (xs ys : List (Entry E R)) → StartsWith xs ys → StartsWith (calls_by p xs) (calls_by p ys)
+  pub calls_by-starts : (p : List ℕ) (xs ys : List (Entry E R)) → StartsWith xs ys
+      → StartsWith (calls_by p xs) (calls_by p ys)
   calls_by-starts p xs ys a = (calls_by p a.0, ap (calls_by p) a.1 ∙ calls_by-append p ys a.0)
 
-  pub calls_none : (p : List ℕ) (xs ys : List (Entry E R)) → StartsWith xs ys → calls_by p xs ≡ [] → calls_by p ys ≡ []
+  pub calls_none : (p : List ℕ) (xs ys : List (Entry E R)) → StartsWith xs ys → calls_by p xs ≡ []
+      → calls_by p ys ≡ []
   calls_none p xs ys a e = let t = calls_by-starts p xs ys a in nil_left (calls_by p ys) t.0 (sym t.1 ∙ e)
 
 -- whether q begins with c
@@ -90,18 +96,22 @@ pub future_sooner : (p : List ℕ) (k : ℕ) (q : List ℕ) → IsFuture p (k + 
 future_sooner p k q f = (f.0, f.1, f.2, omega arith)
 
 -- a number that begins with p and the next split count is a future number
-pub front_is_future : (p : List ℕ) (k : ℕ) (q : List ℕ) → StartsWith q (p ++ k ∷ []) → IsFuture p k q
+pub front_is_future : (p : List ℕ) (k : ℕ) (q : List ℕ) → StartsWith q (p ++ k ∷ [])
+    → IsFuture p k q
 front_is_future p k q a = (k, a.0, a.1 ∙ append_assoc p (k ∷ []) a.0, le_refl k)
 
 -- no number of a split after the next one begins with p and the next split count
-pub future-not-front : (p : List ℕ) (k : ℕ) (q : List ℕ) → IsFuture p (k + 1) q → has_front (p ++ k ∷ []) q ≡ false
+pub future-not-front : (p : List ℕ) (k : ℕ) (q : List ℕ) → IsFuture p (k + 1) q
+    → has_front (p ++ k ∷ []) q ≡ false
 future-not-front p k q f = not_true _ (λ t. let a = has_front-true (p ++ k ∷ []) q t in
     let e : f.0 ∷ f.1 ≡ k ∷ a.0 = append_cancel_left p (f.0 ∷ f.1) (k ∷ a.0) (sym f.2 ∙ (a.1 ∙ append_assoc p (k ∷ []) a.0)) in let same : f.0 ≡ k = cc in absurd (omega arith))
 
-pub apart-not-front : (p : List ℕ) (k : ℕ) (q : List ℕ) → ¬ IsFuture p k q → has_front (p ++ k ∷ []) q ≡ false
+pub apart-not-front : (p : List ℕ) (k : ℕ) (q : List ℕ) → ¬ IsFuture p k q
+    → has_front (p ++ k ∷ []) q ≡ false
 apart-not-front p k q n = not_true _ (λ t. n (front_is_future p k q (has_front-true (p ++ k ∷ []) q t)))
 
 -- a member of two joined lists is in the first, is the element between them, or is in the second
-pub among-append : (q p : List ℕ) (xs ys : List (List ℕ)) → IsAmong q (xs ++ p ∷ ys) → IsAmong q xs ⊎ ((q ≡ p) ⊎ IsAmong q ys)
+pub among-append : (q p : List ℕ) (xs ys : List (List ℕ)) → IsAmong q (xs ++ p ∷ ys) → IsAmong q xs
+    ⊎ ((q ≡ p) ⊎ IsAmong q ys)
 among-append q p [] ys m = inr m
 among-append q p (x ∷ xs) ys m = ⊎_elim (λ e. inl (inl e)) (λ r. ⊎_elim (λ a. inl (inr a)) inr (among-append q p xs ys r)) m

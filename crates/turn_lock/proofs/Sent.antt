@@ -8,8 +8,10 @@ use Rattle.turn_lock.specs.declared.turned.Turned.{Ghosts}
 use Rattle.turn_lock.specs.contracts.port.Port as port
 use Rattle.turn_lock.specs.contracts.port.Note as note
 
-pub port_send : (T E R O : RattleType) (g : Ghosts T.Denot E.Denot R.Denot O.Denot) → IsSend T → IsSend (port.the_row T E R O g)
+pub port_send : (T E R O : RattleType) (g : Ghosts T.Denot E.Denot R.Denot O.Denot) → IsSend T
+    → IsSend (port.the_row T E R O g)
 port_send T E R O g s = search (sendable, crosses, table_send, table_sync, seat_send) depth 20
 
-pub note_send : (T E R O : RattleType) (g : Ghosts T.Denot E.Denot R.Denot O.Denot) → IsSend T → IsSend (note.the_row T E R O g)
+pub note_send : (T E R O : RattleType) (g : Ghosts T.Denot E.Denot R.Denot O.Denot) → IsSend T
+    → IsSend (note.the_row T E R O g)
 note_send T E R O g s = search (sendable, crosses, seat_send) depth 20

@@ -40,37 +40,44 @@ passed_on h other i q = if h q == other then i else h q
 passed_here : (h : List ℕ → ℕ) (other i : ℕ) (q : List ℕ) → h q ≡ other → passed_on h other i q ≡ i
 passed_here h other i q e = ap (λ (b : Bool). if b then i else h q) (eq-eqb (h q) other e)
 
-passed_else : (h : List ℕ → ℕ) (other i j : ℕ) (q : List ℕ) → j ≢ other → h q ≡ j → passed_on h other i q ≡ j
+passed_else : (h : List ℕ → ℕ) (other i j : ℕ) (q : List ℕ) → j ≢ other → h q ≡ j
+    → passed_on h other i q ≡ j
 passed_else h other i j q n e = ap (λ (b : Bool). if b then i else h q) (ne_eqb (h q) other (λ x. n (sym e ∙ x))) ∙ e
 
 -- the numbers that begin with c now belong to seat i
 abbrev forked : (List ℕ → ℕ) → List ℕ → ℕ → List ℕ → ℕ
 forked h c i q = if has_front c q then i else h q
 
-forked_here : (h : List ℕ → ℕ) (c : List ℕ) (i : ℕ) (q : List ℕ) → has_front c q ≡ true → forked h c i q ≡ i
+forked_here : (h : List ℕ → ℕ) (c : List ℕ) (i : ℕ) (q : List ℕ) → has_front c q ≡ true
+    → forked h c i q ≡ i
 forked_here h c i q e = ap (λ (b : Bool). if b then i else h q) e
 
-forked_else : (h : List ℕ → ℕ) (c : List ℕ) (i : ℕ) (q : List ℕ) → has_front c q ≡ false → forked h c i q ≡ h q
+forked_else : (h : List ℕ → ℕ) (c : List ℕ) (i : ℕ) (q : List ℕ) → has_front c q ≡ false
+    → forked h c i q ≡ h q
 forked_else h c i q e = ap (λ (b : Bool). if b then i else h q) e
 
 -- an element of a list with one more is the last or is in the list before
-at_end : {A : Type 0} (l : List A) (a b : A) (j : ℕ) → get_elem? (l ++ a ∷ []) j ≡ some b → (get_elem? l j ≡ some b) ⊎ ((j ≡ length l) × (a ≡ b))
+at_end : {A : Type 0} (l : List A) (a b : A) (j : ℕ) → get_elem? (l ++ a ∷ []) j ≡ some b
+    → (get_elem? l j ≡ some b) ⊎ ((j ≡ length l) × (a ≡ b))
 at_end [] a b zero e = inr (refl, some-injective a b e)
 at_end [] a b (suc j) e = absurd (some-ne-none b (sym e))
 at_end (x ∷ xs) a b zero e = inl e
 at_end (x ∷ xs) a b (suc j) e = ⊎_elim inl (λ t. inr (omega (arith, t.0), t.1)) (at_end xs a b j e)
 
 module _ {E R : Type 0} where
-  added_own : (p : List ℕ) (xs : List (Entry E R)) (l : Option (Snapshot E × Snapshot R)) → calls_by p (xs ++ added p l) ≡ calls_by p xs ++ added p l
+  added_own : (p : List ℕ) (xs : List (Entry E R)) (l : Option (Snapshot E × Snapshot R))
+      → calls_by p (xs ++ added p l) ≡ calls_by p xs ++ added p l
   added_own p xs None = ap (calls_by p) (append-nil xs) ∙ sym (append-nil (calls_by p xs))
   added_own p xs (Some l) = calls_by-own p xs l.0.value l.1.value
 
-  added_other : (q p : List ℕ) (xs : List (Entry E R)) (l : Option (Snapshot E × Snapshot R)) → q ≢ p → calls_by q (xs ++ added p l) ≡ calls_by q xs
+  added_other : (q p : List ℕ) (xs : List (Entry E R)) (l : Option (Snapshot E × Snapshot R))
+      → q ≢ p → calls_by q (xs ++ added p l) ≡ calls_by q xs
   added_other q p xs None n = ap (calls_by q) (append-nil xs)
   added_other q p xs (Some l) n = calls_by-other q p xs l.0.value l.1.value n
 
   -- a turn adds at most one call
-  added_few : (p : List ℕ) (xs : List (Entry E R)) (l : Option (Snapshot E × Snapshot R)) → length (xs ++ added p l) ≤ length xs + 1
+  added_few : (p : List ℕ) (xs : List (Entry E R)) (l : Option (Snapshot E × Snapshot R))
+      → length (xs ++ added p l) ≤ length xs + 1
   added_few p xs None = omega (arith, length-append xs (added p None))
   added_few p xs (Some l) = omega (arith, length-append xs (added p (Some l)))
 
@@ -122,16 +129,21 @@ module _ {T E R O : Type 0} (origin : T → O) (stands : T → List (Entry E R) 
   kept m vs f = record { now = m; words_are = refl; homes_are = refl; facts = f }
 
   -- a claim about every table that satisfies the invariant need only be shown for each moment
-  by_moment : (P : St → Type 0) → ((m : Mo) (vs : List V) → F m vs → P (canon m vs)) → (s : St) → Rule s → P s
+  by_moment : (P : St → Type 0) → ((m : Mo) (vs : List V) → F m vs → P (canon m vs)) → (s : St)
+      → Rule s → P s
   by_moment P h s r = let same : canon r.now s.views ≡ s = λ k. record { words = sym r.words_are k; homes = sym r.homes_are k; views = s.views } in subst P same (h r.now s.views r.facts)
 
   -- what holds for each seat once seat i has the view w
-  seats : (K : ℕ → V → Type 0) (vs : List V) (i : ℕ) (w : V) → K i w → ((j : ℕ) (d : V) → j ≢ i → get_elem? vs j ≡ some d → K j d) → (j : ℕ) (d : V) → get_elem? (set vs i w) j ≡ some d → K j d
+  seats : (K : ℕ → V → Type 0) (vs : List V) (i : ℕ) (w : V) → K i w
+      → ((j : ℕ) (d : V) → j ≢ i → get_elem? vs j ≡ some d → K j d) → (j : ℕ) (d : V)
+      → get_elem? (set vs i w) j ≡ some d → K j d
   seats K vs i w mine others j d e = ⊎_elim (λ (t : (j ≡ i) × (w ≡ d)). subst (λ (x : ℕ × V). K x.0 x.1) (λ k. (sym t.0 k, t.1 k)) mine)
       (λ (t : (j ≢ i) × (get_elem? vs j ≡ some d)). others j d t.0 t.1) (at_set vs i j w d e)
 
   -- a step of seat i that leads from one moment to another
-  moves : (m m' : Mo) (vs : List V) (i : ℕ) (w : V) → F m vs → m'.serving ≤ m'.ticket → m'.ticket ≤ most_turns + m'.closed → m'.closed ≤ 1 → legal m'.start m'.whole → length m'.whole ≤ m'.serving
+  moves : (m m' : Mo) (vs : List V) (i : ℕ) (w : V) → F m vs → m'.serving ≤ m'.ticket
+      → m'.ticket ≤ most_turns + m'.closed → m'.closed ≤ 1 → legal m'.start m'.whole
+      → length m'.whole ≤ m'.serving
       → IsHome origin stands m' ⊎ (m'.serving < m'.ticket) → Fit m' i w → ((j : ℕ) (d : V) → j ≢ i → Fit m j d → Fit m' j d) → F m' (set vs i w)
   moves m m' vs i w f range few once lawful counted held mine others = record {
     range = range;
@@ -147,7 +159,8 @@ module _ {T E R O : Type 0} (origin : T → O) (stands : T → List (Entry E R) 
   stays : (m : Mo) (vs : List V) (i : ℕ) (w : V) → F m vs → Fit m i w → F m (set vs i w)
   stays m vs i w f mine = moves m m vs i w f f.range f.few f.once f.lawful f.counted f.held mine (λ _ _ _ x. x)
 
-  at_stage : (m : Mo) (i : ℕ) (v : V) (stage : Stage E R O) → Fit m i v → Stand m i v.known stage → Fit m i (posed v stage)
+  at_stage : (m : Mo) (i : ℕ) (v : V) (stage : Stage E R O) → Fit m i v → Stand m i v.known stage
+      → Fit m i (posed v stage)
   at_stage m i v stage f st = record { named = f.named; seen = f.seen; drawn = f.drawn; served = f.served; lone = f.lone; staged = st; port = f.port }
 
   -- a port's knowledge after it has seen the longest history
@@ -157,7 +170,8 @@ module _ {T E R O : Type 0} (origin : T → O) (stands : T → List (Entry E R) 
   abbrev informed_view : Mo → V → Stage E R O → V
   informed_view m v stage = record { known = informed m v.known; is_port = v.is_port; stage = stage }
 
-  informs : (m : Mo) (i : ℕ) (v : V) (stage : Stage E R O) → Fit m i v → Stand m i (informed m v.known) stage → Fit m i (informed_view m v stage)
+  informs : (m : Mo) (i : ℕ) (v : V) (stage : Stage E R O) → Fit m i v
+      → Stand m i (informed m v.known) stage → Fit m i (informed_view m v stage)
   informs m i v stage f st = record {
     named = f.named;
     seen = starts_refl m.whole;
@@ -168,7 +182,8 @@ module _ {T E R O : Type 0} (origin : T → O) (stands : T → List (Entry E R) 
     port = λ e. let p = f.port e in record { begun = p.begun; own = λ q o. ((p.own q o).0, refl); future = p.future; apart = p.apart };
   }
 
-  watches : (m : Mo) (i : ℕ) (v : V) → Fit m i v → v.is_port ≡ true → legal m.start m.whole → Watches legal v.known (informed m v.known)
+  watches : (m : Mo) (i : ℕ) (v : V) → Fit m i v → v.is_port ≡ true → legal m.start m.whole
+      → Watches legal v.known (informed m v.known)
   watches m i v f port lawful = record {
     sees = record {
       origin = refl;
@@ -186,7 +201,9 @@ module _ {T E R O : Type 0} (origin : T → O) (stands : T → List (Entry E R) 
   abbrev M : Type 0
   M = Me Sl V
 
-  watched : (m : Mo) (i : ℕ) (me : M) (stage : Stage E R O) (cs : List (ℕ × Sl)) → Fit m i me.0 → me.0.is_port ≡ true → legal m.start m.whole → Watched legal stage me (informed_view m me.0 stage, cs)
+  watched : (m : Mo) (i : ℕ) (me : M) (stage : Stage E R O) (cs : List (ℕ × Sl)) → Fit m i me.0
+      → me.0.is_port ≡ true → legal m.start m.whole
+      → Watched legal stage me (informed_view m me.0 stage, cs)
   watched m i me stage cs f port lawful = record { port = port; staged = refl; watches = watches m i me.0 f port lawful }
 
   -- a load that takes no slot
@@ -198,11 +215,13 @@ module _ {T E R O : Type 0} (origin : T → O) (stands : T → List (Entry E R) 
       (λ m vs f _ at _. let t = h m vs f (f.fits id me.0 at) in let same = set-get_or (m.ticket ∷ m.serving ∷ []) i 0 in
       (t.0, keeps, tt, subst (λ (ws : List ℕ). Rule record { words = ws; homes = m.home ∷ []; views = set vs id t.0 }) (sym same) (kept m (set vs id t.0) (stays m vs id t.0 f t.1)), t.2))
 
-  pub settles : (slots id : ℕ) (me : M) → Allows Rule slots id me 1 (λ n. n) (settled (step slots 1 0 0 none) me)
+  pub settles : (slots id : ℕ) (me : M) → Allows Rule slots id me 1 (λ n. n)
+      (settled (step slots 1 0 0 none) me)
   settles slots id me = loads slots id me 1 (settled (step slots 1 0 0 none) me) (λ m vs f fit.
       (posed me.0 Idle, at_stage m id me.0 Idle fit tt, (refl, λ e. subst (Stand m id me.0.known) e fit.staged)))
 
-  pub looks : (slots id : ℕ) (me : M) → me.0.is_port ≡ true → Allows Rule slots id me 0 (λ n. n) (looked legal (step slots 0 0 0 none) me)
+  pub looks : (slots id : ℕ) (me : M) → me.0.is_port ≡ true
+      → Allows Rule slots id me 0 (λ n. n) (looked legal (step slots 0 0 0 none) me)
   looks slots id me port = loads slots id me 0 (looked legal (step slots 0 0 0 none) me) (λ m vs f fit.
       (informed_view m me.0 Idle, informs m id me.0 Idle fit tt, (watched m id me Idle me.1 fit port f.lawful, refl, refl)))
 
@@ -218,7 +237,8 @@ module _ {T E R O : Type 0} (origin : T → O) (stands : T → List (Entry E R) 
     port = λ e. let p = f.port e in record { begun = p.begun; own = p.own; future = p.future; apart = p.apart };
   }
 
-  pub sees : (slots id : ℕ) (me : M) → Allows Rule slots id me 1 (λ n. n) (saw (step slots 1 0 0 none) me)
+  pub sees : (slots id : ℕ) (me : M) → Allows Rule slots id me 1 (λ n. n)
+      (saw (step slots 1 0 0 none) me)
   sees slots id me = loads slots id me 1 (saw (step slots 1 0 0 none) me) (λ m vs f fit.
       let a : m.serving ≤ m.ticket = f.range in let b : m.ticket ≤ most_turns + m.closed = f.few in let c : m.closed ≤ 1 = f.once in
       let d : length m.whole ≤ m.serving = f.counted in let e : length me.0.known.seen ≤ length m.whole = starts_length m.whole me.0.known.seen fit.seen in
@@ -228,7 +248,8 @@ module _ {T E R O : Type 0} (origin : T → O) (stands : T → List (Entry E R) 
   abbrev after_draw : Mo → ℕ → ℕ → Mo
   after_draw m i new = record m { ticket = new; owner = put m.owner m.ticket i }
 
-  draw_staged : (m : Mo) (i new j : ℕ) (k : Known E R O) → new ≡ m.ticket + 1 → (st : Stage E R O) → Stand m j k st → Stand (after_draw m i new) j k st
+  draw_staged : (m : Mo) (i new j : ℕ) (k : Known E R O) → new ≡ m.ticket + 1 → (st : Stage E R O)
+      → Stand m j k st → Stand (after_draw m i new) j k st
   draw_staged m i new j k up New h = h
   draw_staged m i new j k up Young h = h
   draw_staged m i new j k up Idle h = tt
@@ -237,20 +258,26 @@ module _ {T E R O : Type 0} (origin : T → O) (stands : T → List (Entry E R) 
   draw_staged m i new j k up (SawServing n) h = h
   draw_staged m i new j k up (Met b u) h = let few : u.drawn ≤ m.ticket = h.2 in (h.0, h.1, omega arith, h.3)
 
-  draw_fit : (m : Mo) (i new j : ℕ) (d : V) → new ≡ m.ticket + 1 → Fit m j d → Fit (after_draw m i new) j d
+  draw_fit : (m : Mo) (i new j : ℕ) (d : V) → new ≡ m.ticket + 1 → Fit m j d
+      → Fit (after_draw m i new) j d
   draw_fit m i new j d up f = let low : d.known.drawn ≤ m.ticket = f.drawn in
       record { named = f.named; seen = f.seen; drawn = omega arith; served = f.served; lone = f.lone; staged = draw_staged m i new j d.known up d.stage f.staged; port = f.port }
 
-  at_home : (m : Mo) → IsHome origin stands m ⊎ (m.serving < m.ticket) → m.ticket ≡ m.serving → IsHome origin stands m
+  at_home : (m : Mo) → IsHome origin stands m ⊎ (m.serving < m.ticket) → m.ticket ≡ m.serving
+      → IsHome origin stands m
   at_home m held e = ⊎_elim (λ h. h) (λ l. absurd (omega arith)) held
 
-  draws_at : (id : ℕ) (me : M) (old new : ℕ) (m : Mo) (vs : List V) → F m vs → Fit m id me.0 → new ≡ old + 1 → old < most_turns → m.ticket ≡ old → F (after_draw m id new) (set vs id (posed me.0 (Waiting m.ticket)))
+  draws_at : (id : ℕ) (me : M) (old new : ℕ) (m : Mo) (vs : List V) → F m vs → Fit m id me.0 → new
+      ≡ old + 1 → old < most_turns → m.ticket ≡ old
+      → F (after_draw m id new) (set vs id (posed me.0 (Waiting m.ticket)))
   draws_at id me old new m vs f fit up few hit = let low : m.serving ≤ m.ticket = f.range in let more : new ≡ m.ticket + 1 = omega arith in
       moves m (after_draw m id new) vs id (posed me.0 (Waiting m.ticket)) f (omega arith) (omega arith) f.once f.lawful f.counted (⊎_elim inl (λ (l : m.serving < m.ticket). inr (omega arith)) f.held)
       (at_stage (after_draw m id new) id me.0 (Waiting m.ticket) (draw_fit m id new id me.0 more fit) ((low, omega arith, put_here m.owner m.ticket id), at_home m f.held))
       (λ j d _ x. draw_fit m id new j d more x)
 
-  pub draws : (slots id : ℕ) (me : M) (old new : ℕ) → new ≡ old + 1 → old < most_turns → Allows Rule slots id me 0 (λ n. either (eqb n old) new n) (drew (step slots 0 old new none) me)
+  pub draws : (slots id : ℕ) (me : M) (old new : ℕ) → new ≡ old + 1 → old < most_turns
+      → Allows Rule slots id me 0 (λ n. either (eqb n old) new n)
+      (drew (step slots 0 old new none) me)
   draws slots id me old new up few = by_moment
       (λ s. length s.homes ≡ slots → get_elem? s.views id ≡ some me.0 → get_or s.words 0 0 < 18446744073709551616
       → (w : V) × (a : Act Sl) × Valid s.homes me.1 a × Rule (stepped s 0 (either (eqb (get_or s.words 0 0) old) new (get_or s.words 0 0)) id me.1 w a) × drew (step slots 0 old new none) me (get_or s.words 0 0) (w, carried_after me.1 a))
@@ -265,10 +292,12 @@ module _ {T E R O : Type 0} (origin : T → O) (stands : T → List (Entry E R) 
   after_take m = record m { home = none }
 
   -- a seat that is one of two is not alone
-  not_lone : {X : Type 0} (m : Mo) (i j : ℕ) (v d : V) → j ≢ i → Fit m i v → Fit m j d → m.lone ≡ true → X
+  not_lone : {X : Type 0} (m : Mo) (i j : ℕ) (v d : V) → j ≢ i → Fit m i v → Fit m j d
+      → m.lone ≡ true → X
   not_lone m i j v d other f g lone = absurd (other (g.lone lone ∙ sym (f.lone lone)))
 
-  take_staged : (m : Mo) (i n j : ℕ) (k : Known E R O) → j ≢ i → m.owner n ≡ i → n ≡ m.serving → (m.lone ≡ true → ⊥) → (st : Stage E R O) → Stand m j k st → Stand (after_take m) j k st
+  take_staged : (m : Mo) (i n j : ℕ) (k : Known E R O) → j ≢ i → m.owner n ≡ i → n ≡ m.serving
+      → (m.lone ≡ true → ⊥) → (st : Stage E R O) → Stand m j k st → Stand (after_take m) j k st
   take_staged m i n j k other mine here pair New h = absurd (pair h.0)
   take_staged m i n j k other mine here pair Young h = h
   take_staged m i n j k other mine here pair Idle h = tt
@@ -277,7 +306,9 @@ module _ {T E R O : Type 0} (origin : T → O) (stands : T → List (Entry E R) 
   take_staged m i n j k other mine here pair (SawServing q) h = h
   take_staged m i n j k other mine here pair (Met b u) h = h
 
-  restaged : (m m' : Mo) (i : ℕ) (v : V) → m'.start ≡ m.start → m'.whole ≡ m.whole → m.ticket ≤ m'.ticket → m.serving ≤ m'.serving → (m'.lone ≡ true → m.lone ≡ true) → m'.holder ≡ m.holder → Fit m i v → Stand m' i v.known v.stage → Fit m' i v
+  restaged : (m m' : Mo) (i : ℕ) (v : V) → m'.start ≡ m.start → m'.whole ≡ m.whole
+      → m.ticket ≤ m'.ticket → m.serving ≤ m'.serving → (m'.lone ≡ true → m.lone ≡ true) → m'.holder
+      ≡ m.holder → Fit m i v → Stand m' i v.known v.stage → Fit m' i v
   restaged m m' i v start whole more later lone holder f st = let low : v.known.drawn ≤ m.ticket = f.drawn in let few : v.known.served ≤ m.serving = f.served in record {
     named = λ o e. f.named o e ∙ sym start;
     seen = subst (λ h. StartsWith h v.known.seen) (sym whole) f.seen;
@@ -288,13 +319,15 @@ module _ {T E R O : Type 0} (origin : T → O) (stands : T → List (Entry E R) 
     port = λ e. subst (λ (z : O × (List ℕ → ℕ) × List (Entry E R)). IsPort z.0 z.1 i z.2 v.known) (λ c. (sym start c, sym holder c, sym whole c)) (f.port e);
   }
 
-  takes_at : (id n : ℕ) (v : V) (m : Mo) (vs : List V) → F m vs → Fit m id v → v.stage ≡ Waiting n → m.serving ≡ n → F (after_take m) (set vs id (informed_view m v (Turn n)))
+  takes_at : (id n : ℕ) (v : V) (m : Mo) (vs : List V) → F m vs → Fit m id v → v.stage ≡ Waiting n
+      → m.serving ≡ n → F (after_take m) (set vs id (informed_view m v (Turn n)))
   takes_at id n v m vs f fit is hit = let w : V = informed_view m v (Turn n) in let st = subst (Stand m id v.known) is fit.staged in let home = st.1 (sym hit) in let low : n < m.ticket = st.0.1 in
       moves m (after_take m) vs id w f f.range f.few f.once f.lawful f.counted (inr (omega arith))
       (restaged m (after_take m) id w refl refl (le_refl m.ticket) (le_refl m.serving) (λ e. e) refl (informs m id v (Turn n) fit (st.0, sym hit, refl, home.5)) (st.0, sym hit, refl, home.5))
       (λ j d other g. restaged m (after_take m) j d refl refl (le_refl m.ticket) (le_refl m.serving) (λ e. e) refl g (take_staged m id n j d.known other st.0.2 (sym hit) (not_lone m id j v d other fit g) d.stage g.staged))
 
-  pub reaches : (slots id n : ℕ) (me : M) → me.0.is_port ≡ true → me.0.stage ≡ Waiting n → Allows Rule slots id me 1 (λ x. x) (reached origin stands legal (step slots 1 0 0 none) me)
+  pub reaches : (slots id n : ℕ) (me : M) → me.0.is_port ≡ true → me.0.stage ≡ Waiting n
+      → Allows Rule slots id me 1 (λ x. x) (reached origin stands legal (step slots 1 0 0 none) me)
   reaches slots id n me port is = by_moment
       (λ s. length s.homes ≡ slots → get_elem? s.views id ≡ some me.0 → get_or s.words 1 0 < 18446744073709551616
       → (w : V) × (a : Act Sl) × Valid s.homes me.1 a × Rule (stepped s 1 (get_or s.words 1 0) id me.1 w a) × reached origin stands legal (step slots 1 0 0 none) me (get_or s.words 1 0) (w, carried_after me.1 a))
@@ -327,7 +360,9 @@ module _ {T E R O : Type 0} (origin : T → O) (stands : T → List (Entry E R) 
   abbrev after_end : Mo → List ℕ → T → Option (Snapshot E × Snapshot R) → Mo
   after_end m p x l = record m { serving = m.serving + 1; whole = m.whole ++ added p l; home = some (full x l) }
 
-  end_staged : (m : Mo) (i n j : ℕ) (p : List ℕ) (x : T) (l : Option (Snapshot E × Snapshot R)) (k : Known E R O) → j ≢ i → m.owner n ≡ i → n ≡ m.serving → m.holder p ≡ i → (m.lone ≡ true → ⊥)
+  end_staged : (m : Mo) (i n j : ℕ) (p : List ℕ) (x : T) (l : Option (Snapshot E × Snapshot R))
+      (k : Known E R O) → j ≢ i → m.owner n ≡ i → n ≡ m.serving → m.holder p ≡ i
+      → (m.lone ≡ true → ⊥)
       → IsHome origin stands (after_end m p x l) → (st : Stage E R O) → Stand m j k st → Stand (after_end m p x l) j k st
   end_staged m i n j p x l k other mine here holds pair home New h = absurd (pair h.0)
   end_staged m i n j p x l k other mine here holds pair home Young h = h
@@ -342,7 +377,8 @@ module _ {T E R O : Type 0} (origin : T → O) (stands : T → List (Entry E R) 
     λ yes q one. let a = h.3 yes q one in (a.0, added_other q p m.whole l (λ e. other (sym a.0 ∙ (ap m.holder e ∙ holds))) ∙ a.1, a.2, a.3),
   )
 
-  end_others : (m : Mo) (i n j : ℕ) (p : List ℕ) (x : T) (l : Option (Snapshot E × Snapshot R)) (d : V) → j ≢ i → m.owner n ≡ i → n ≡ m.serving → m.holder p ≡ i → (m.lone ≡ true → ⊥)
+  end_others : (m : Mo) (i n j : ℕ) (p : List ℕ) (x : T) (l : Option (Snapshot E × Snapshot R))
+      (d : V) → j ≢ i → m.owner n ≡ i → n ≡ m.serving → m.holder p ≡ i → (m.lone ≡ true → ⊥)
       → IsHome origin stands (after_end m p x l) → Fit m j d → Fit (after_end m p x l) j d
   end_others m i n j p x l d other mine here holds pair home f = let few : d.known.served ≤ m.serving = f.served in record {
     named = f.named;
@@ -363,7 +399,8 @@ module _ {T E R O : Type 0} (origin : T → O) (stands : T → List (Entry E R) 
   abbrev ended_view : V → Option (Snapshot E × Snapshot R) → V
   ended_view v l = record v { stage = Idle; known = record v.known { seen = v.known.seen ++ added v.known.number l } }
 
-  end_mine : (m : Mo) (i : ℕ) (x : T) (l : Option (Snapshot E × Snapshot R)) (v : V) → v.known.seen ≡ m.whole → Fit m i v → Fit (after_end m v.known.number x l) i (ended_view v l)
+  end_mine : (m : Mo) (i : ℕ) (x : T) (l : Option (Snapshot E × Snapshot R)) (v : V) → v.known.seen
+      ≡ m.whole → Fit m i v → Fit (after_end m v.known.number x l) i (ended_view v l)
   end_mine m i x l v all f = let p : List ℕ = v.known.number in let same : m.whole ++ added p l ≡ v.known.seen ++ added p l = ap (λ h. h ++ added p l) (sym all) in let few : v.known.served ≤ m.serving = f.served in record {
     named = f.named;
     seen = subst (λ h. StartsWith h (v.known.seen ++ added p l)) (sym same) (starts_refl (v.known.seen ++ added p l));
@@ -380,7 +417,9 @@ module _ {T E R O : Type 0} (origin : T → O) (stands : T → List (Entry E R) 
   }
 
   module _ (law : (x : T) (h : List (Entry E R)) → stands x h → legal (origin x) h) where
-    ends_at : (id n : ℕ) (v : V) (x : T) (l : Option (Snapshot E × Snapshot R)) (m : Mo) (vs : List V) → F m vs → Fit m id v → v.is_port ≡ true → v.stage ≡ Turn n → v.known.origin ≡ Some (origin x)
+    ends_at : (id n : ℕ) (v : V) (x : T) (l : Option (Snapshot E × Snapshot R)) (m : Mo)
+        (vs : List V) → F m vs → Fit m id v → v.is_port ≡ true → v.stage ≡ Turn n
+        → v.known.origin ≡ Some (origin x)
         → stands x (v.known.seen ++ added v.known.number l) → F (after_end m v.known.number x l) (set vs id (ended_view v l)) × Ended legal l v (ended_view v l)
     ends_at id n v x l m vs f fit port is begun stood = let p : List ℕ = v.known.number in let st = subst (Stand m id v.known) is fit.staged in let all = st.2 in let mine = fit.port port in
         let start : origin x ≡ m.start = fit.named (origin x) begun in let whole : v.known.seen ++ added p l ≡ m.whole ++ added p l = ap (λ h. h ++ added p l) all in
@@ -398,7 +437,9 @@ module _ {T E R O : Type 0} (origin : T → O) (stands : T → List (Entry E R) 
           },
         )
 
-    ends_with : (slots id n : ℕ) (v : V) (x : T) (l : Option (Snapshot E × Snapshot R)) → v.is_port ≡ true → v.stage ≡ Turn n → v.known.origin ≡ Some (origin x) → stands x (v.known.seen ++ added v.known.number l)
+    ends_with : (slots id n : ℕ) (v : V) (x : T) (l : Option (Snapshot E × Snapshot R)) → v.is_port
+        ≡ true → v.stage ≡ Turn n → v.known.origin ≡ Some (origin x)
+        → stands x (v.known.seen ++ added v.known.number l)
         → Allows Rule slots id (v, (0, full x l) ∷ []) 1 (λ q. (q + 1) % 2 ^ 64) (ended legal (step slots 1 1 0 none) (v, (0, full x l) ∷ []))
     ends_with slots id n v x l port is begun stood = let me : M = (v, (0, full x l) ∷ []) in by_moment
         (λ s. length s.homes ≡ slots → get_elem? s.views id ≡ some v → get_or s.words 1 0 < 18446744073709551616
@@ -407,7 +448,9 @@ module _ {T E R O : Type 0} (origin : T → O) (stands : T → List (Entry E R) 
         let a : m.serving ≤ m.ticket = f.range in let b : m.ticket ≤ most_turns + m.closed = f.few in let c : m.closed ≤ 1 = f.once in let small : m.serving + 1 < 2 ^ 64 = omega arith in
         (w, gives, tt, subst (λ (z : ℕ). Rule record { words = m.ticket ∷ z ∷ []; homes = some (full x l) ∷ []; views = set vs id w }) (sym (mod-eq_of_lt small)) (kept (after_end m v.known.number x l) (set vs id w) t.0), (refl, t.1)))
 
-    pub ends : (slots id n : ℕ) (me : M) (x : T) (l : Option (Snapshot E × Snapshot R)) → me.0.is_port ≡ true → me.0.stage ≡ Turn n → me.1 ≡ (0, full x l) ∷ [] → me.0.known.origin ≡ Some (origin x)
+    pub ends : (slots id n : ℕ) (me : M) (x : T) (l : Option (Snapshot E × Snapshot R))
+        → me.0.is_port ≡ true → me.0.stage ≡ Turn n → me.1 ≡ (0, full x l) ∷ []
+        → me.0.known.origin ≡ Some (origin x)
         → stands x (me.0.known.seen ++ added me.0.known.number l) → Allows Rule slots id me 1 (λ q. (q + 1) % 2 ^ 64) (ended legal (step slots 1 1 0 none) me)
     ends slots id n me x l port is carried begun stood = subst (λ (cs : List (ℕ × Sl)). Allows Rule slots id (me.0, cs) 1 (λ q. (q + 1) % 2 ^ 64) (ended legal (step slots 1 1 0 none) (me.0, cs))) (sym carried)
         (ends_with slots id n me.0 x l port is begun stood)
@@ -430,7 +473,8 @@ module _ {T E R O : Type 0} (origin : T → O) (stands : T → List (Entry E R) 
         the_value : {a b : O} → Some a ≡ Some b → a ≡ b
         the_value e = cc
 
-    pub made : (x : T) → stands x [] → x ≡ first → Rule (opening (0 ∷ 0 ∷ []) (full x None ∷ []) (newcomer (origin x)))
+    pub made : (x : T) → stands x [] → x ≡ first
+        → Rule (opening (0 ∷ 0 ∷ []) (full x None ∷ []) (newcomer (origin x)))
     made x empty same = let m : Mo = first_moment x in let w : V = newcomer (origin x) in let mine = first_fit x same in let home : IsHome origin stands m = (x, None, refl, empty, refl, refl) in
         kept m (w ∷ []) (moves m m (w ∷ []) 0 w (record {
           range = le_refl 0;
@@ -446,7 +490,8 @@ module _ {T E R O : Type 0} (origin : T → O) (stands : T → List (Entry E R) 
   abbrev after_close : Mo → Mo
   after_close m = record m { ticket = m.ticket + 1; home = none; closed = 1 }
 
-  close_staged : (m : Mo) (j : ℕ) (k : Known E R O) → m.ticket ≡ m.serving → (m.lone ≡ true → ⊥) → (st : Stage E R O) → Stand m j k st → Stand (after_close m) j k st
+  close_staged : (m : Mo) (j : ℕ) (k : Known E R O) → m.ticket ≡ m.serving → (m.lone ≡ true → ⊥)
+      → (st : Stage E R O) → Stand m j k st → Stand (after_close m) j k st
   close_staged m j k ended pair New h = absurd (pair h.0)
   close_staged m j k ended pair Young h = h
   close_staged m j k ended pair Idle h = tt
@@ -455,13 +500,15 @@ module _ {T E R O : Type 0} (origin : T → O) (stands : T → List (Entry E R) 
   close_staged m j k ended pair (SawServing q) h = h
   close_staged m j k ended pair (Met b u) h = let few : u.drawn ≤ m.ticket = h.2 in (h.0, h.1, omega arith, h.3)
 
-  closes_at : (id : ℕ) (v : V) (m : Mo) (vs : List V) → F m vs → Fit m id v → m.ticket ≡ m.serving → m.closed ≡ 0 → F (after_close m) (set vs id (informed_view m v Idle))
+  closes_at : (id : ℕ) (v : V) (m : Mo) (vs : List V) → F m vs → Fit m id v → m.ticket ≡ m.serving
+      → m.closed ≡ 0 → F (after_close m) (set vs id (informed_view m v Idle))
   closes_at id v m vs f fit ended fresh = let few : m.ticket ≤ most_turns + m.closed = f.few in let more : m.ticket ≤ m.ticket + 1 = omega arith in let w : V = informed_view m v Idle in
       moves m (after_close m) vs id w f (omega arith) (omega arith) (omega arith) f.lawful f.counted (inr (omega arith))
       (restaged m (after_close m) id w refl refl more (le_refl m.serving) (λ e. e) refl (informs m id v Idle fit tt) tt)
       (λ j d other g. restaged m (after_close m) j d refl refl more (le_refl m.serving) (λ e. e) refl g (close_staged m j d.known ended (not_lone m id j v d other fit g) d.stage g.staged))
 
-  pub closes : (slots id old new : ℕ) (me : M) → new ≡ old + 1 → me.0.is_port ≡ true → me.0.stage ≡ SawServing old
+  pub closes : (slots id old new : ℕ) (me : M) → new ≡ old + 1 → me.0.is_port ≡ true → me.0.stage
+      ≡ SawServing old
       → Allows Rule slots id me 0 (λ n. either (eqb n old) new n) (closed origin stands legal (step slots 0 old new none) me)
   closes slots id old new me up port is = by_moment
       (λ s. length s.homes ≡ slots → get_elem? s.views id ≡ some me.0 → get_or s.words 0 0 < 18446744073709551616
@@ -500,7 +547,8 @@ module _ {T E R O : Type 0} (origin : T → O) (stands : T → List (Entry E R) 
   abbrev merged_known : Mo → Known E R O → Bool → Known E R O → Known E R O
   merged_known m k b u = record k { joined = (if b then k.joined ++ u.number ∷ u.joined else k.joined); seen = m.whole; drawn = m.ticket }
 
-  merge_port : (m : Mo) (i : ℕ) (k : Known E R O) (b : Bool) (u : Known E R O) → Stand m i k (Met b u) → IsPort m.start m.holder i m.whole k
+  merge_port : (m : Mo) (i : ℕ) (k : Known E R O) (b : Bool) (u : Known E R O)
+      → Stand m i k (Met b u) → IsPort m.start m.holder i m.whole k
       → IsPort m.start m.holder i m.whole (merged_known m k b u)
   merge_port m i k false u st t = record { begun = t.begun; own = λ q o. ((t.own q o).0, refl); future = t.future; apart = t.apart }
   merge_port m i k true u st t = record {
@@ -510,7 +558,8 @@ module _ {T E R O : Type 0} (origin : T → O) (stands : T → List (Entry E R) 
     apart = λ q a. ⊎_elim (t.apart q) (λ x. let y = st.3 refl q x in (y.2, y.3)) (among-append q u.number k.joined u.joined a);
   }
 
-  pub merges : (slots id : ℕ) (me : M) (b : Bool) (u : Known E R O) → me.0.is_port ≡ true → me.0.stage ≡ Met b u
+  pub merges : (slots id : ℕ) (me : M) (b : Bool) (u : Known E R O) → me.0.is_port ≡ true
+      → me.0.stage ≡ Met b u
       → Allows Rule slots id me 1 (λ n. n) (merged legal (step slots 1 0 0 none) me)
   merges slots id me b u port is = loads slots id me 1 (merged legal (step slots 1 0 0 none) me) (λ m vs f fit. let st = subst (Stand m id me.0.known) is fit.staged in let k : Known E R O = me.0.known in
       let w : V = record { known = merged_known m k b u; is_port = me.0.is_port; stage = Idle } in let see = (watches m id me.0 fit port f.lawful).sees in
@@ -547,7 +596,8 @@ module _ {T E R O : Type 0} (origin : T → O) (stands : T → List (Entry E R) 
   never : {X : Type 0} → false ≡ true → X
   never e = cc
 
-  tell_staged : (m : Mo) (j : ℕ) (k : Known E R O) → (m.lone ≡ true → ⊥) → (st : Stage E R O) → Stand m j k st → Stand (after_tell m) j k st
+  tell_staged : (m : Mo) (j : ℕ) (k : Known E R O) → (m.lone ≡ true → ⊥) → (st : Stage E R O)
+      → Stand m j k st → Stand (after_tell m) j k st
   tell_staged m j k pair New h = absurd (pair h.0)
   tell_staged m j k pair Young h = h
   tell_staged m j k pair Idle h = tt
@@ -557,7 +607,8 @@ module _ {T E R O : Type 0} (origin : T → O) (stands : T → List (Entry E R) 
   tell_staged m j k pair (Met b u) h = h
 
   -- the invariant after a new seat with the view w was added
-  comes : (m m' : Mo) (vs : List V) (i : ℕ) (v w : V) → F m vs → m'.serving ≡ m.serving → m'.ticket ≡ m.ticket → m'.closed ≡ m.closed → m'.start ≡ m.start → m'.whole ≡ m.whole → m'.home ≡ m.home
+  comes : (m m' : Mo) (vs : List V) (i : ℕ) (v w : V) → F m vs → m'.serving ≡ m.serving → m'.ticket
+      ≡ m.ticket → m'.closed ≡ m.closed → m'.start ≡ m.start → m'.whole ≡ m.whole → m'.home ≡ m.home
       → Fit m' i v → Fit m' (length (set vs i v)) w → ((j : ℕ) (d : V) → j ≢ i → Fit m j d → Fit m' j d) → F m' (set vs i v ++ w ∷ [])
   comes m m' vs i v w f serving ticket end start whole home mine theirs others =
       let few : m.ticket ≤ most_turns + m.closed = f.few in let range : m.serving ≤ m.ticket = f.range in let once : m.closed ≤ 1 = f.once in record {
@@ -583,7 +634,8 @@ module _ {T E R O : Type 0} (origin : T → O) (stands : T → List (Entry E R) 
     theirs_stay : (j : ℕ) (q : List ℕ) → j ≢ i → m.holder q ≡ j → Forked.holder q ≡ j
     theirs_stay j q other h = forked_else m.holder (next_number k) new q (apart-not-front k.number k.splits q (λ t. other (sym h ∙ (mine.future q t).0))) ∙ h
 
-    split_staged : (j : ℕ) (d : Known E R O) → j ≢ i → (m.lone ≡ true → ⊥) → (st : Stage E R O) → Stand m j d st → Stand Forked j d st
+    split_staged : (j : ℕ) (d : Known E R O) → j ≢ i → (m.lone ≡ true → ⊥) → (st : Stage E R O)
+        → Stand m j d st → Stand Forked j d st
     split_staged j d other pair New h = absurd (pair h.0)
     split_staged j d other pair Young h = h
     split_staged j d other pair Idle h = tt
@@ -613,7 +665,8 @@ module _ {T E R O : Type 0} (origin : T → O) (stands : T → List (Entry E R) 
     own_stays q o = let n : has_front (next_number k) q ≡ false = apart-not-front k.number k.splits q (λ t. ⊎_elim (λ e. future-not-self k.number k.splits q t e) (λ a. (mine.apart q a).1 t) o) in
         forked_else m.holder (next_number k) new q n ∙ (mine.own q o).0
 
-    split_mine : (v : V) → v.known ≡ k → v.stage ≡ Idle → Fit m i v → Fit Forked i (record v { known = record k { splits = k.splits + 1 } })
+    split_mine : (v : V) → v.known ≡ k → v.stage ≡ Idle → Fit m i v
+        → Fit Forked i (record v { known = record k { splits = k.splits + 1 } })
     split_mine v same idle f = let g : Fit m i (record v { known = k }) = subst (λ (z : Known E R O). Fit m i (record v { known = z })) same f in record {
       named = g.named;
       seen = g.seen;
@@ -630,10 +683,12 @@ module _ {T E R O : Type 0} (origin : T → O) (stands : T → List (Entry E R) 
     }
 
     -- numbers that begin with the new port's number belong to the new seat
-    front_of_child : (q : List ℕ) → StartsWith q (next_number k) → (Forked.holder q ≡ new) × (calls_by q m.whole ≡ [])
+    front_of_child : (q : List ℕ) → StartsWith q (next_number k) → (Forked.holder q ≡ new)
+        × (calls_by q m.whole ≡ [])
     front_of_child q a = (forked_here m.holder (next_number k) new q (ap (has_front (next_number k)) a.1 ∙ has_front-append (next_number k) a.0), (mine.future q (front_is_future k.number k.splits q a)).1)
 
-    split_born : (v : V) → v.known ≡ k → Fit m i v → Fit Forked new (born_view (record v { known = k }))
+    split_born : (v : V) → v.known ≡ k → Fit m i v
+        → Fit Forked new (born_view (record v { known = k }))
     split_born v same f = let g : Fit m i (record v { known = k }) = subst (λ (z : Known E R O). Fit m i (record v { known = z })) same f in let c : List ℕ = next_number k in
         let self = front_of_child c (starts_refl c) in let none_seen : calls_by c k.seen ≡ [] = calls_none c m.whole k.seen g.seen self.1 in record {
           named = g.named;
@@ -650,13 +705,15 @@ module _ {T E R O : Type 0} (origin : T → O) (stands : T → List (Entry E R) 
           };
         }
 
-  pub splits : (id : ℕ) (v : V) → v.is_port ≡ true → v.stage ≡ Idle → Splits Rule id v (divided_view v) (born_view v)
+  pub splits : (id : ℕ) (v : V) → v.is_port ≡ true → v.stage ≡ Idle
+      → Splits Rule id v (divided_view v) (born_view v)
   splits id v port idle = by_moment (λ s. get_elem? s.views id ≡ some v → Rule record { words = s.words; homes = s.homes; views = set s.views id (divided_view v) ++ born_view v ∷ [] })
       (λ m vs f at. let fit = f.fits id v at in let mine = fit.port port in let new : ℕ = length (set vs id (divided_view v)) in let m' : Mo = after_split m (next_number v.known) new in
       kept m' (set vs id (divided_view v) ++ born_view v ∷ []) (comes m m' vs id (divided_view v) (born_view v) f refl refl refl refl refl refl (split_mine m id new v.known mine v refl idle fit)
       (split_born m id new v.known mine v refl fit) (λ j d other g. split_others m id new v.known mine v j d fit other g)))
 
-  told_fit : (m : Mo) (i : ℕ) (v : V) → Fit m i v → Stand (after_tell m) i v.known v.stage → Fit (after_tell m) i v
+  told_fit : (m : Mo) (i : ℕ) (v : V) → Fit m i v → Stand (after_tell m) i v.known v.stage
+      → Fit (after_tell m) i v
   told_fit m i v f st = record { named = f.named; seen = f.seen; drawn = f.drawn; served = f.served; lone = λ e. never e; staged = st; port = f.port }
 
   pub tells : (id : ℕ) (v : V) → v.stage ≡ Idle → Splits Rule id v v (noted_view v)
@@ -670,7 +727,8 @@ module _ {T E R O : Type 0} (origin : T → O) (stands : T → List (Entry E R) 
   abbrev after_join : Mo → ℕ → ℕ → Mo
   after_join m other i = record m { holder = passed_on m.holder other i }
 
-  join_staged : (m : Mo) (other i j : ℕ) (k : Known E R O) → j ≢ other → (st : Stage E R O) → Stand m j k st → Stand (after_join m other i) j k st
+  join_staged : (m : Mo) (other i j : ℕ) (k : Known E R O) → j ≢ other → (st : Stage E R O)
+      → Stand m j k st → Stand (after_join m other i) j k st
   join_staged m other i j k apart New h = h
   join_staged m other i j k apart Young h = h
   join_staged m other i j k apart Idle h = tt
@@ -680,7 +738,8 @@ module _ {T E R O : Type 0} (origin : T → O) (stands : T → List (Entry E R) 
   join_staged m other i j k apart (Met b u) h = (h.0, h.1, h.2, λ yes q one. let a = h.3 yes q one in (passed_else m.holder other i j q apart a.0, a.1, a.2, a.3))
 
   -- a seat other than the one that was taken in
-  join_fit : (m : Mo) (other i j : ℕ) (d : V) → j ≢ other → Fit m j d → Fit (after_join m other i) j d
+  join_fit : (m : Mo) (other i j : ℕ) (d : V) → j ≢ other → Fit m j d
+      → Fit (after_join m other i) j d
   join_fit m other i j d apart f = record {
     named = f.named;
     seen = f.seen;
@@ -697,7 +756,8 @@ module _ {T E R O : Type 0} (origin : T → O) (stands : T → List (Entry E R) 
   }
 
   -- a port's knowledge of the seat that it took in
-  join_met : (m : Mo) (other i : ℕ) (v w : V) → i ≢ other → v.is_port ≡ true → Fit m i v → Fit m other w
+  join_met : (m : Mo) (other i : ℕ) (v w : V) → i ≢ other → v.is_port ≡ true → Fit m i v
+      → Fit m other w
       → Stand (after_join m other i) i v.known (Met w.is_port w.known)
   join_met m other i v w apart port f g = let mine = f.port port in (
     g.seen,
@@ -711,7 +771,8 @@ module _ {T E R O : Type 0} (origin : T → O) (stands : T → List (Entry E R) 
     ),
   )
 
-  pub joins : (id : ℕ) (v : V) (other : ℕ) (w : V) → v.is_port ≡ true → Joins Rule id v other w (met_view v w) spent_view
+  pub joins : (id : ℕ) (v : V) (other : ℕ) (w : V) → v.is_port ≡ true
+      → Joins Rule id v other w (met_view v w) spent_view
   joins id v other w port = by_moment
       (λ s. get_elem? s.views id ≡ some v → ¬ (other ≡ id) → get_elem? (set s.views id (met_view v w)) other ≡ some w → Rule record { words = s.words; homes = s.homes; views = set (set s.views id (met_view v w)) other spent_view })
       (λ m vs f at apart there. let n : id ≢ other = λ e. apart (sym e) in let fit = f.fits id v at in let m' : Mo = after_join m other id in let both : V = met_view v w in
@@ -732,6 +793,7 @@ module _ {T E R O : Type 0} (origin : T → O) (stands : T → List (Entry E R) 
       no_origin e = cc
 
   -- while the first seat has taken no step, the slot has the value that the table was made with
-  pub regained : (ws : List ℕ) (xs : List Sl) (id : ℕ) (v : V) → v.stage ≡ New → Final (Seen Rule id v) ws xs → get_elem? xs 0 ≡ some (full first None)
+  pub regained : (ws : List ℕ) (xs : List Sl) (id : ℕ) (v : V) → v.stage ≡ New
+      → Final (Seen Rule id v) ws xs → get_elem? xs 0 ≡ some (full first None)
   regained ws xs id v is (s, seen, words, count, homes) = let r = seen.0 in let fit = r.facts.fits id v seen.1 in let st = subst (Stand r.now id v.known) is fit.staged in
       homes 0 (full first None) (ap (λ h. get_elem? h 0) r.homes_are ∙ ap (λ h. some h) st.1)

@@ -19,7 +19,8 @@ module _ {E R O : Type 0} {legal : O → List (Entry E R) → Type 0} where
   }
 
   -- watching twice in a row is watching
-  pub watches_trans : (k l m : Known E R O) → Watches legal k l → Watches legal l m → Watches legal k m
+  pub watches_trans : (k l m : Known E R O) → Watches legal k l → Watches legal l m
+      → Watches legal k m
   watches_trans k l m a b = let s = a.sees in let t = b.sees in record {
     sees = record {
       origin = t.origin ∙ s.origin;
@@ -35,7 +36,8 @@ module _ {E R O : Type 0} {legal : O → List (Entry E R) → Type 0} where
   }
 
   -- a port whose turn added nothing has watched
-  pub watches_turned : (k : Known E R O) (v w : View E R O) → Watches legal k v.known → Ended legal None v w → Watches legal k w.known
+  pub watches_turned : (k : Known E R O) (v w : View E R O) → Watches legal k v.known
+      → Ended legal None v w → Watches legal k w.known
   watches_turned k v w a ended = let t = a.sees in let is = ended.view in record {
     sees = record {
       origin = ap (λ x. x.known.origin) is ∙ t.origin;
@@ -52,7 +54,9 @@ module _ {E R O : Type 0} {legal : O → List (Entry E R) → Type 0} where
   }
 
   -- a port whose turn added an entry has made that call
-  pub called_turned : (k : Known E R O) (v w : View E R O) (e : Snapshot E) (r : Snapshot R) → Watches legal k v.known → Ended legal (Some (e, r)) v w → Called legal k e.value r.value w.known
+  pub called_turned : (k : Known E R O) (v w : View E R O) (e : Snapshot E) (r : Snapshot R)
+      → Watches legal k v.known → Ended legal (Some (e, r)) v w
+      → Called legal k e.value r.value w.known
   called_turned k v w e r a ended = let t = a.sees in let is = ended.view in record {
     origin = ap (λ x. x.known.origin) is ∙ t.origin;
     number = ap (λ x. x.known.number) is ∙ t.number;

@@ -14,21 +14,25 @@ abbrev pub uncut : List ℕ → Cut
 uncut bytes = record { frames = []; rest = bytes }
 
 -- two splits by the same beginning are equal if the bytes after the first frame are split equally
-cut_by_same : (head : Head) (bytes : List ℕ) (f g : List ℕ → Cut) → ((n : ℕ) → head ≡ Whole n → f (after_first n bytes) ≡ g (after_first n bytes)) → cut_by head bytes f ≡ cut_by head bytes g
+cut_by_same : (head : Head) (bytes : List ℕ) (f g : List ℕ → Cut)
+    → ((n : ℕ) → head ≡ Whole n → f (after_first n bytes) ≡ g (after_first n bytes))
+    → cut_by head bytes f ≡ cut_by head bytes g
 cut_by_same (Whole n) bytes f g same = ap (cut_after (first_frame n bytes)) (same n refl)
 cut_by_same Part bytes f g same = refl
 cut_by_same BadVersion bytes f g same = refl
 cut_by_same TooLong bytes f g same = refl
 
 -- without a whole frame at the front, nothing is split off
-cut_none : (head : Head) (bytes : List ℕ) (f : List ℕ → Cut) → ((n : ℕ) → head ≢ Whole n) → cut_by head bytes f ≡ uncut bytes
+cut_none : (head : Head) (bytes : List ℕ) (f : List ℕ → Cut) → ((n : ℕ) → head ≢ Whole n)
+    → cut_by head bytes f ≡ uncut bytes
 cut_none (Whole n) bytes f unlike = absurd (unlike n refl)
 cut_none Part bytes f unlike = refl
 cut_none BadVersion bytes f unlike = refl
 cut_none TooLong bytes f unlike = refl
 
 -- the bytes after a frame are fewer
-pub after_shorter : (bytes : List ℕ) (n : ℕ) → head_of bytes ≡ Whole n → length (after_first n bytes) < length bytes
+pub after_shorter : (bytes : List ℕ) (n : ℕ) → head_of bytes ≡ Whole n
+    → length (after_first n bytes) < length bytes
 after_shorter bytes n h = let w = whole_parts bytes n h in omega (arith, w.there, length-drop (header_size + n) bytes)
 
 -- no bytes do not begin with a frame
@@ -36,7 +40,8 @@ pub short_whole : (bytes : List ℕ) → length bytes ≤ 0 → (n : ℕ) → he
 short_whole bytes short n h = let w = whole_parts bytes n h in omega (arith, w.there)
 
 -- any limit on the number of frames that is at least the number of bytes gives the same split
-same_cut : (f g : ℕ) (bytes : List ℕ) → length bytes ≤ f → length bytes ≤ g → cut_in f bytes ≡ cut_in g bytes
+same_cut : (f g : ℕ) (bytes : List ℕ) → length bytes ≤ f → length bytes ≤ g → cut_in f bytes
+    ≡ cut_in g bytes
 unfolding cut_in
 same_cut zero zero bytes a b = refl
 same_cut zero (suc g) bytes a b = sym (cut_none (head_of bytes) bytes (cut_in g) (short_whole bytes a))
@@ -49,7 +54,8 @@ same_cut (suc f) (suc g) bytes a b =
 abbrev pub cut_of : List ℕ → Cut
 cut_of bytes = cut_in (length bytes) bytes
 
-cut_step_in : (most : ℕ) (bytes : List ℕ) → length bytes ≤ most → cut_in most bytes ≡ cut_by (head_of bytes) bytes cut_of
+cut_step_in : (most : ℕ) (bytes : List ℕ) → length bytes ≤ most → cut_in most bytes
+    ≡ cut_by (head_of bytes) bytes cut_of
 unfolding cut_in
 cut_step_in zero bytes short = sym (cut_none (head_of bytes) bytes cut_of (short_whole bytes short))
 cut_step_in (suc most) bytes short =
@@ -65,11 +71,13 @@ pub cut_stays : (bytes : List ℕ) → ((n : ℕ) → head_of bytes ≢ Whole n)
 cut_stays bytes unlike = cut_step bytes ∙ cut_none (head_of bytes) bytes cut_of unlike
 
 -- a whole frame at the front is the first; the others are those of the bytes after it
-pub cut_first : (bytes : List ℕ) (n : ℕ) → head_of bytes ≡ Whole n → cut_of bytes ≡ cut_after (first_frame n bytes) (cut_of (after_first n bytes))
+pub cut_first : (bytes : List ℕ) (n : ℕ) → head_of bytes ≡ Whole n → cut_of bytes
+    ≡ cut_after (first_frame n bytes) (cut_of (after_first n bytes))
 cut_first bytes n h = cut_step bytes ∙ ap (λ (head : Head). cut_by head bytes cut_of) h
 
 -- the frame at the front is independent of the bytes after it
-frame_more : (bytes more : List ℕ) (n : ℕ) → header_size + n ≤ length bytes → first_frame n (bytes ++ more) ≡ first_frame n bytes
+frame_more : (bytes more : List ℕ) (n : ℕ) → header_size + n ≤ length bytes
+    → first_frame n (bytes ++ more) ≡ first_frame n bytes
 frame_more bytes more n h =
     let headed : header_size ≤ length bytes = omega arith in
     let there : n ≤ length (drop header_size bytes) = omega (arith, length-drop header_size bytes) in
@@ -90,11 +98,13 @@ cut_first_more bytes more n h =
     ∙ ap (λ (rest : List ℕ). cut_after (first_frame n bytes) (cut_of rest)) after
 
 -- a payload has the length that its header states
-pub payload_length : (bytes : List ℕ) (n : ℕ) → header_size + n ≤ length bytes → length (first_frame n bytes).payload ≡ n
+pub payload_length : (bytes : List ℕ) (n : ℕ) → header_size + n ≤ length bytes
+    → length (first_frame n bytes).payload ≡ n
 payload_length bytes n h = length-take-le n (drop header_size bytes) (omega (arith, length-drop header_size bytes))
 
 -- the frame taken if a whole frame is at the front
-pub goes_on : (bytes : List ℕ) (n : ℕ) → head_of bytes ≡ Whole n → GoesOn bytes (Some (first_frame n bytes)) (after_first n bytes)
+pub goes_on : (bytes : List ℕ) (n : ℕ) → head_of bytes ≡ Whole n
+    → GoesOn bytes (Some (first_frame n bytes)) (after_first n bytes)
 unfolding frames_of rest_of
 goes_on bytes n h = record {
   frames = λ more. ap (λ (cut : Cut). cut.frames) (cut_first_more bytes more n h);
@@ -102,7 +112,8 @@ goes_on bytes n h = record {
 }
 
 -- the frame taken, by the parts of a first frame
-pub first_on : (old : List ℕ) (frame : Frame) (new : List ℕ) → IsFirst old frame new → GoesOn old (Some frame) new
+pub first_on : (old : List ℕ) (frame : Frame) (new : List ℕ) → IsFirst old frame new
+    → GoesOn old (Some frame) new
 first_on old frame new is =
     subst (λ (rest : List ℕ). GoesOn old (Some frame) rest) (sym is.after)
     (subst (λ (first : Frame). GoesOn old (Some first) (after_first (length frame.payload) old)) (sym is.frame_is)
@@ -120,7 +131,8 @@ is_part bytes h =
     record { front = h; few = part_few bytes h; frames = ap (λ (cut : Cut). cut.frames) none; rest = ap (λ (cut : Cut). cut.rest) none }
 
 -- a front that is not a frame, and remains so whatever bytes follow, stops the reading
-stops_at : (front : Head) (bytes : List ℕ) → ((n : ℕ) → front ≢ Whole n) → ((more : List ℕ) → head_of (bytes ++ more) ≡ front) → Stops front bytes
+stops_at : (front : Head) (bytes : List ℕ) → ((n : ℕ) → front ≢ Whole n)
+    → ((more : List ℕ) → head_of (bytes ++ more) ≡ front) → Stops front bytes
 unfolding frames_of rest_of
 stops_at front bytes unlike same =
     let none = λ (more : List ℕ). cut_stays (bytes ++ more) (λ n e. unlike n (sym (same more) ∙ e)) in
@@ -133,11 +145,13 @@ pub stops_long : (bytes : List ℕ) → head_of bytes ≡ TooLong → Stops TooL
 stops_long bytes h = stops_at TooLong bytes (λ n e. cc) (λ more. long_more bytes more h)
 
 -- a whole frame at the front is contained in the bytes
-pub whole_there : (bytes : List ℕ) (n : ℕ) → head_of bytes ≡ Whole n → header_size + n ≤ length bytes
+pub whole_there : (bytes : List ℕ) (n : ℕ) → head_of bytes ≡ Whole n → header_size
+    + n ≤ length bytes
 whole_there bytes n h = (whole_parts bytes n h).there
 
 -- the bytes left after a first frame
-pub goes_on_as : (bytes : List ℕ) (n : ℕ) (new : List ℕ) → head_of bytes ≡ Whole n → new ≡ after_first n bytes → GoesOn bytes (Some (first_frame n bytes)) new
+pub goes_on_as : (bytes : List ℕ) (n : ℕ) (new : List ℕ) → head_of bytes ≡ Whole n → new
+    ≡ after_first n bytes → GoesOn bytes (Some (first_frame n bytes)) new
 goes_on_as bytes n new h e = subst (λ (rest : List ℕ). GoesOn bytes (Some (first_frame n bytes)) rest) (sym e) (goes_on bytes n h)
 
 -- what a front means

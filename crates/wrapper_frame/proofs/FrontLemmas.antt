@@ -19,25 +19,29 @@ abbrev pub told_by : (size version n : ℕ) → Head
 told_by size version n = by_tests (nat_lt size header_size) (version == wrapper_version) (nat_lt max_payload n) (nat_lt size (header_size + n)) n
 
 -- what bytes begin with depends only on their number and on two fields of the header
-pub head_is : (bytes : List ℕ) → head_of bytes ≡ told_by (length bytes) (version_of bytes) (length_of bytes)
+pub head_is : (bytes : List ℕ) → head_of bytes
+    ≡ told_by (length bytes) (version_of bytes) (length_of bytes)
 unfolding head_of
 head_is bytes = refl
 
-whole_tests : (b c d e : Bool) (k n : ℕ) → by_tests b c d e k ≡ Whole n → (b ≡ false) × (c ≡ true) × (d ≡ false) × (e ≡ false) × (k ≡ n)
+whole_tests : (b c d e : Bool) (k n : ℕ) → by_tests b c d e k ≡ Whole n → (b ≡ false) × (c ≡ true)
+    × (d ≡ false) × (e ≡ false) × (k ≡ n)
 whole_tests true c d e k n h = absurd cc
 whole_tests false false d e k n h = absurd cc
 whole_tests false true true e k n h = absurd cc
 whole_tests false true false true k n h = absurd cc
 whole_tests false true false false k n h = (refl, refl, refl, refl, cc)
 
-version_tests : (b c d e : Bool) (k : ℕ) → by_tests b c d e k ≡ BadVersion → (b ≡ false) × (c ≡ false)
+version_tests : (b c d e : Bool) (k : ℕ) → by_tests b c d e k ≡ BadVersion → (b ≡ false)
+    × (c ≡ false)
 version_tests true c d e k h = absurd cc
 version_tests false false d e k h = (refl, refl)
 version_tests false true true e k h = absurd cc
 version_tests false true false true k h = absurd cc
 version_tests false true false false k h = absurd cc
 
-long_tests : (b c d e : Bool) (k : ℕ) → by_tests b c d e k ≡ TooLong → (b ≡ false) × (c ≡ true) × (d ≡ true)
+long_tests : (b c d e : Bool) (k : ℕ) → by_tests b c d e k ≡ TooLong → (b ≡ false) × (c ≡ true)
+    × (d ≡ true)
 long_tests true c d e k h = absurd cc
 long_tests false false d e k h = absurd cc
 long_tests false true true e k h = (refl, refl, refl)
@@ -45,7 +49,8 @@ long_tests false true false true k h = absurd cc
 long_tests false true false false k h = absurd cc
 
 -- for part of a frame, the header or the payload is incomplete
-part_tests : (b c d e : Bool) (k : ℕ) → by_tests b c d e k ≡ Part → b ≡ false → (d ≡ false) × (e ≡ true)
+part_tests : (b c d e : Bool) (k : ℕ) → by_tests b c d e k ≡ Part → b ≡ false → (d ≡ false)
+    × (e ≡ true)
 part_tests true c d e k h s = absurd cc
 part_tests false false d e k h s = absurd cc
 part_tests false true true e k h s = absurd cc
@@ -53,7 +58,8 @@ part_tests false true false true k h s = (refl, refl)
 part_tests false true false false k h s = absurd cc
 
 -- a field of the header is independent of the bytes after it
-pub field_more : (at : ℕ) (bytes more : List ℕ) → at + 2 ≤ length bytes → big_number 2 (drop at (bytes ++ more)) ≡ big_number 2 (drop at bytes)
+pub field_more : (at : ℕ) (bytes more : List ℕ) → at + 2 ≤ length bytes
+    → big_number 2 (drop at (bytes ++ more)) ≡ big_number 2 (drop at bytes)
 field_more at bytes more h =
     let there : at ≤ length bytes = omega arith in
     let two : 2 ≤ length (drop at bytes) = omega (arith, length-drop at bytes) in
@@ -76,7 +82,8 @@ whole_parts bytes n h =
     record { there = rw told at there; small = rw told at small; version = eqb-true _ _ tests.1; told = told }
 
 -- a front determined by three numbers, of which two are right
-told_with : (size version n : ℕ) → version ≡ wrapper_version → n ≤ max_payload → header_size + n ≤ size → told_by size version n ≡ Whole n
+told_with : (size version n : ℕ) → version ≡ wrapper_version → n ≤ max_payload → header_size
+    + n ≤ size → told_by size version n ≡ Whole n
 told_with size version n v small there =
     rw (le-ltb size header_size (omega arith), v, le-ltb max_payload n small, le-ltb size (header_size + n) there) refl
 
@@ -86,7 +93,8 @@ parts_whole bytes n w =
     head_is bytes ∙ ap (told_by (length bytes) (version_of bytes)) w.told ∙ told_with (length bytes) (version_of bytes) n w.version w.small w.there
 
 -- a whole frame remains at the front
-pub whole_more : (bytes more : List ℕ) (n : ℕ) → head_of bytes ≡ Whole n → head_of (bytes ++ more) ≡ Whole n
+pub whole_more : (bytes more : List ℕ) (n : ℕ) → head_of bytes ≡ Whole n → head_of (bytes ++ more)
+    ≡ Whole n
 whole_more bytes more n h =
     let w = whole_parts bytes n h in
     parts_whole (bytes ++ more) n (record {
@@ -97,11 +105,13 @@ whole_more bytes more n h =
     })
 
 -- a wrong version at the front
-told_version : (size version n : ℕ) → header_size ≤ size → version ≢ wrapper_version → told_by size version n ≡ BadVersion
+told_version : (size version n : ℕ) → header_size ≤ size → version ≢ wrapper_version
+    → told_by size version n ≡ BadVersion
 told_version size version n headed v = rw (le-ltb size header_size headed, ne_eqb version wrapper_version v) refl
 
 -- a wrong version remains at the front
-pub version_more : (bytes more : List ℕ) → head_of bytes ≡ BadVersion → head_of (bytes ++ more) ≡ BadVersion
+pub version_more : (bytes more : List ℕ) → head_of bytes ≡ BadVersion → head_of (bytes ++ more)
+    ≡ BadVersion
 version_more bytes more h =
     let tests = version_tests _ _ _ _ _ (sym (head_is bytes) ∙ h) in
     let headed : header_size ≤ length bytes = ltb-false _ _ tests.0 in
@@ -110,7 +120,8 @@ version_more bytes more h =
     head_is (bytes ++ more) ∙ told_version _ _ _ (omega (arith, length-append bytes more)) (λ e. other (sym same ∙ e))
 
 -- too long a payload at the front
-told_long : (size version n : ℕ) → header_size ≤ size → version ≡ wrapper_version → max_payload < n → told_by size version n ≡ TooLong
+told_long : (size version n : ℕ) → header_size ≤ size → version ≡ wrapper_version → max_payload < n
+    → told_by size version n ≡ TooLong
 told_long size version n headed v long = rw (le-ltb size header_size headed, v, lt-ltb max_payload n long) refl
 
 -- too long a payload remains at the front
@@ -125,7 +136,8 @@ long_more bytes more h =
     head_is (bytes ++ more) ∙ told_long _ _ _ (omega (arith, length-append bytes more)) (same_version ∙ version) (omega arith)
 
 -- part of a frame is shorter than the longest frame
-few_by : (b c d e : Bool) (size n : ℕ) → b ≡ nat_lt size header_size → d ≡ nat_lt max_payload n → e ≡ nat_lt size (header_size + n) → by_tests b c d e n ≡ Part
+few_by : (b c d e : Bool) (size n : ℕ) → b ≡ nat_lt size header_size → d ≡ nat_lt max_payload n → e
+    ≡ nat_lt size (header_size + n) → by_tests b c d e n ≡ Part
     → size < header_size + max_payload
 few_by true c d e size n b_is d_is e_is h =
     let headless : size < header_size = ltb-true _ _ (sym b_is) in omega arith

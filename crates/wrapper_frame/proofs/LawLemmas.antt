@@ -24,7 +24,8 @@ pub record Fields (bytes : List ℕ) (src dst size : ℕ) (after : List ℕ) : T
   pub after_is : drop header_size bytes ≡ after
 
 -- the text of a header has its fields
-header_fields : (src dst size : ℕ) (after : List ℕ) → src < 2 ^ 16 → dst < 2 ^ 16 → size < 2 ^ 16 → Fields (header_text src dst size ++ after) src dst size after
+header_fields : (src dst size : ℕ) (after : List ℕ) → src < 2 ^ 16 → dst < 2 ^ 16 → size < 2 ^ 16
+    → Fields (header_text src dst size ++ after) src dst size after
 header_fields src dst size after s d z = record {
   headed = omega (arith, length-append (header_text src dst size) after);
   version = refl;
@@ -35,12 +36,15 @@ header_fields src dst size after s d z = record {
 }
 
 -- the text of a frame has its fields
-text_fields : (frame : Frame) (more : List ℕ) → IsFrame frame → Fields (frame_text frame ++ more) frame.src frame.dst (length frame.payload) (frame.payload ++ more)
+text_fields : (frame : Frame) (more : List ℕ) → IsFrame frame
+    → Fields (frame_text frame ++ more) frame.src frame.dst (length frame.payload)
+    (frame.payload ++ more)
 unfolding frame_text
 text_fields frame more is = header_fields frame.src frame.dst (length frame.payload) (frame.payload ++ more) is.src is.dst (omega (arith, is.payload))
 
 -- the text of a frame begins with the frame
-text_whole : (frame : Frame) (more : List ℕ) → IsFrame frame → head_of (frame_text frame ++ more) ≡ Whole (length frame.payload)
+text_whole : (frame : Frame) (more : List ℕ) → IsFrame frame → head_of (frame_text frame ++ more)
+    ≡ Whole (length frame.payload)
 text_whole frame more is =
     let fields = text_fields frame more is in
     let after : length (frame_text frame ++ more) - header_size ≡ length frame.payload + length more =
@@ -53,12 +57,14 @@ text_whole frame more is =
     })
 
 -- frames with equal parts are equal
-same_frame : (src dst src' dst' : ℕ) (payload payload' : List ℕ) → src ≡ src' → dst ≡ dst' → payload ≡ payload'
+same_frame : (src dst src' dst' : ℕ) (payload payload' : List ℕ) → src ≡ src' → dst ≡ dst' → payload
+    ≡ payload'
     → ◌≡◌ {A = Frame} (record { src = src; dst = dst; payload = payload }) (record { src = src'; dst = dst'; payload = payload' })
 same_frame src dst src' dst' payload payload' s d p = cc
 
 -- the first frame of a frame's text is that frame
-text_first : (frame : Frame) (more : List ℕ) → IsFrame frame → first_frame (length frame.payload) (frame_text frame ++ more) ≡ frame
+text_first : (frame : Frame) (more : List ℕ) → IsFrame frame
+    → first_frame (length frame.payload) (frame_text frame ++ more) ≡ frame
 text_first frame more is =
     let fields = text_fields frame more is in
     let payload : take (length frame.payload) (drop header_size (frame_text frame ++ more)) ≡ frame.payload =
@@ -66,14 +72,16 @@ text_first frame more is =
     same_frame _ _ frame.src frame.dst _ frame.payload fields.src_is fields.dst_is payload
 
 -- the bytes after the first frame are those after its text
-text_after : (frame : Frame) (more : List ℕ) → IsFrame frame → after_first (length frame.payload) (frame_text frame ++ more) ≡ more
+text_after : (frame : Frame) (more : List ℕ) → IsFrame frame
+    → after_first (length frame.payload) (frame_text frame ++ more) ≡ more
 text_after frame more is =
     let fields = text_fields frame more is in
     sym (drop-drop (length frame.payload) header_size (frame_text frame ++ more))
     ∙ ap (drop (length frame.payload)) fields.after_is ∙ drop-append_seam frame.payload more
 
 -- bytes that begin with a frame's text are split into that frame and the split of the others
-cut_text : (frame : Frame) (more : List ℕ) → IsFrame frame → cut_of (frame_text frame ++ more) ≡ cut_after frame (cut_of more)
+cut_text : (frame : Frame) (more : List ℕ) → IsFrame frame → cut_of (frame_text frame ++ more)
+    ≡ cut_after frame (cut_of more)
 cut_text frame more is =
     cut_first (frame_text frame ++ more) (length frame.payload) (text_whole frame more is)
     ∙ ap (λ (first : Frame). cut_after first (cut_of (after_first (length frame.payload) (frame_text frame ++ more)))) (text_first frame more is)
@@ -101,7 +109,8 @@ two_bytes a b ha hb =
     cc
 
 -- two bytes at the front are the bytes of their number, and the others follow
-two_spelled : (xs : List ℕ) → 2 ≤ length xs → AreBytes xs → big_bytes 2 (big_number 2 xs) ++ drop 2 xs ≡ xs
+two_spelled : (xs : List ℕ) → 2 ≤ length xs → AreBytes xs → big_bytes 2 (big_number 2 xs)
+    ++ drop 2 xs ≡ xs
 two_spelled [] h all = absurd (omega arith)
 two_spelled (a ∷ []) h all = absurd (omega arith)
 two_spelled (a ∷ b ∷ xs) h all =
@@ -128,7 +137,8 @@ header_spelled bytes h all =
     ∙ first
 
 -- a whole frame at the front is spelled by its text
-front_spelled : (bytes : List ℕ) (n : ℕ) → head_of bytes ≡ Whole n → AreBytes bytes → frame_text (first_frame n bytes) ++ after_first n bytes ≡ bytes
+front_spelled : (bytes : List ℕ) (n : ℕ) → head_of bytes ≡ Whole n → AreBytes bytes
+    → frame_text (first_frame n bytes) ++ after_first n bytes ≡ bytes
 unfolding frame_text
 front_spelled bytes n h all =
     let w = whole_parts bytes n h in
@@ -145,7 +155,8 @@ front_spelled bytes n h all =
     ∙ header_spelled bytes (omega (arith, w.there)) all
 
 -- the frame at the front can be written
-front_fits : (bytes : List ℕ) (n : ℕ) → head_of bytes ≡ Whole n → AreBytes bytes → IsFrame (first_frame n bytes)
+front_fits : (bytes : List ℕ) (n : ℕ) → head_of bytes ≡ Whole n → AreBytes bytes
+    → IsFrame (first_frame n bytes)
 front_fits bytes n h all =
     let w = whole_parts bytes n h in
     record {
@@ -166,7 +177,8 @@ begins_with_none : (bytes : List ℕ) → ((n : ℕ) → head_of bytes ≢ Whole
 begins_with_none bytes unlike frame more is e = unlike (length frame.payload) (ap head_of e ∙ text_whole frame more is)
 
 -- the converse
-none_whole : (bytes : List ℕ) → AreBytes bytes → BeginsWithNone bytes → (n : ℕ) → head_of bytes ≢ Whole n
+none_whole : (bytes : List ℕ) → AreBytes bytes → BeginsWithNone bytes → (n : ℕ)
+    → head_of bytes ≢ Whole n
 none_whole bytes all none n h = none (first_frame n bytes) (after_first n bytes) (front_fits bytes n h all) (sym (front_spelled bytes n h all))
 
 -- a split of bytes satisfies the relation
@@ -174,7 +186,8 @@ abbrev IsCut : List ℕ → Cut → Type 0
 IsCut bytes cut = Messages bytes cut.frames cut.rest
 
 -- one more frame
-messages_first : (bytes : List ℕ) (n : ℕ) (cut : Cut) → head_of bytes ≡ Whole n → AreBytes bytes → IsCut (after_first n bytes) cut
+messages_first : (bytes : List ℕ) (n : ℕ) (cut : Cut) → head_of bytes ≡ Whole n → AreBytes bytes
+    → IsCut (after_first n bytes) cut
     → IsCut bytes (cut_after (first_frame n bytes) cut)
 messages_first bytes n cut h all m =
     let text = frame_text (first_frame n bytes) in
@@ -187,14 +200,16 @@ messages_first bytes n cut h all m =
     }
 
 -- the split satisfies the relation if that of the bytes after the first frame does
-found_by : (bytes : List ℕ) → AreBytes bytes → ((n : ℕ) × (head_of bytes ≡ Whole n)) ⊎ ((n : ℕ) → head_of bytes ≢ Whole n)
+found_by : (bytes : List ℕ) → AreBytes bytes → ((n : ℕ) × (head_of bytes ≡ Whole n))
+    ⊎ ((n : ℕ) → head_of bytes ≢ Whole n)
     → ((n : ℕ) → head_of bytes ≡ Whole n → IsCut (after_first n bytes) (cut_of (after_first n bytes))) → IsCut bytes (cut_of bytes)
 found_by bytes all (inl (n, h)) later =
     subst (IsCut bytes) (sym (cut_first bytes n h)) (messages_first bytes n (cut_of (after_first n bytes)) h all (later n h))
 found_by bytes all (inr unlike) later =
     subst (IsCut bytes) (sym (cut_stays bytes unlike)) (record { spelled = refl; fit = tt; ended = begins_with_none bytes unlike })
 
-found_in : (most : ℕ) (bytes : List ℕ) → length bytes ≤ most → AreBytes bytes → IsCut bytes (cut_of bytes)
+found_in : (most : ℕ) (bytes : List ℕ) → length bytes ≤ most → AreBytes bytes
+    → IsCut bytes (cut_of bytes)
 found_in zero bytes short all = found_by bytes all (inr (short_whole bytes short)) (λ n h. absurd (short_whole bytes short n h))
 found_in (suc most) bytes short all =
     found_by bytes all (front_cases (head_of bytes))
@@ -206,7 +221,8 @@ unfolding frames_of rest_of
 is_found bytes all = found_in (length bytes) bytes (omega arith) all
 
 -- the split of the texts of frames followed by a rest that begins with none
-only_in : (frames : List Frame) (rest : List ℕ) → AreBytes (flat_map frame_text frames ++ rest) → AreFrames frames → BeginsWithNone rest
+only_in : (frames : List Frame) (rest : List ℕ) → AreBytes (flat_map frame_text frames ++ rest)
+    → AreFrames frames → BeginsWithNone rest
     → cut_of (flat_map frame_text frames ++ rest) ≡ record { frames = frames; rest = rest }
 only_in [] rest all fit none = cut_stays rest (none_whole rest all none)
 only_in (frame ∷ frames) rest all fit none =
@@ -218,7 +234,8 @@ only_in (frame ∷ frames) rest all fit none =
     ∙ ap (cut_after frame) (only_in frames rest (bytes_after (frame_text frame) (flat_map frame_text frames ++ rest) (subst AreBytes same all)) fit.1 none)
 
 -- bytes are the texts of no other frames
-pub is_only : (bytes : List ℕ) (frames : List Frame) (rest : List ℕ) → AreBytes bytes → Messages bytes frames rest → (frames ≡ frames_of bytes) × (rest ≡ rest_of bytes)
+pub is_only : (bytes : List ℕ) (frames : List Frame) (rest : List ℕ) → AreBytes bytes
+    → Messages bytes frames rest → (frames ≡ frames_of bytes) × (rest ≡ rest_of bytes)
 unfolding frames_of rest_of
 is_only bytes frames rest all m =
     let cut = ap cut_of m.spelled ∙ only_in frames rest (subst AreBytes m.spelled all) m.fit m.ended in
@@ -232,7 +249,8 @@ end_cases BadVersion unlike = tt
 end_cases TooLong unlike = tt
 
 -- the rest begins with one of the three ends if that of the bytes after the first frame does
-end_by : (bytes : List ℕ) → ((n : ℕ) × (head_of bytes ≡ Whole n)) ⊎ ((n : ℕ) → head_of bytes ≢ Whole n)
+end_by : (bytes : List ℕ) → ((n : ℕ) × (head_of bytes ≡ Whole n))
+    ⊎ ((n : ℕ) → head_of bytes ≢ Whole n)
     → ((n : ℕ) → head_of bytes ≡ Whole n → IsEnd (head_of (cut_of (after_first n bytes)).rest)) → IsEnd (head_of (cut_of bytes).rest)
 end_by bytes (inl (n, h)) later = subst (λ (cut : Cut). IsEnd (head_of cut.rest)) (sym (cut_first bytes n h)) (later n h)
 end_by bytes (inr unlike) later = subst (λ (cut : Cut). IsEnd (head_of cut.rest)) (sym (cut_stays bytes unlike)) (end_cases (head_of bytes) unlike)

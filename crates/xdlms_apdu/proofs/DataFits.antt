@@ -29,7 +29,8 @@ back_bytes a b whole parts bytes = λ i.
     subst (λ (n : ℕ). n < 256) (get_or-append-add a b i 0) given
 
 -- a byte replaced by a byte leaves bytes
-set_at : (l : List ℕ) (j v : ℕ) → IsBytes l → v < 256 → (i : ℕ) → slice_index (slice_set l j v) i < 256
+set_at : (l : List ℕ) (j v : ℕ) → IsBytes l → v < 256 → (i : ℕ)
+    → slice_index (slice_set l j v) i < 256
 set_at [] j v bytes below i = bytes i
 set_at (x ∷ l) zero v bytes below zero = below
 set_at (x ∷ l) zero v bytes below (suc i) = bytes (suc i)
@@ -37,7 +38,8 @@ set_at (x ∷ l) (suc j) v bytes below zero = bytes 0
 set_at (x ∷ l) (suc j) v bytes below (suc i) = set_at l j v (λ k. bytes (suc k)) below i
 
 -- an idempotent change of one element is idempotent on the list
-set_again : (f : ℕ → ℕ) → ((n : ℕ) → f (f n) ≡ f n) → (l : List ℕ) (i : ℕ) → let once = slice_set l i (f (slice_index l i)) in slice_set once i (f (slice_index once i)) ≡ once
+set_again : (f : ℕ → ℕ) → ((n : ℕ) → f (f n) ≡ f n) → (l : List ℕ) (i : ℕ) → let once =
+    slice_set l i (f (slice_index l i)) in slice_set once i (f (slice_index once i)) ≡ once
 set_again f same [] i = refl
 set_again f same (x ∷ l) zero = ap (λ (n : ℕ). n ∷ l) (same x)
 set_again f same (x ∷ l) (suc i) = ap (λ (xs : List ℕ). x ∷ xs) (set_again f same l i)
@@ -47,7 +49,8 @@ highest_again : (k n : ℕ) → highest_bits k (highest_bits k n) ≡ highest_bi
 highest_again k n = ap (λ (q : ℕ). q * 2 ^ (8 - k)) (mul-div_cancel (n / 2 ^ (8 - k)) (pow_pos (8 - k)))
 
 -- clearing bits twice is clearing them once
-cleared_again : (k : ℕ) (raw : List ℕ) → without_unused_bits k (without_unused_bits k raw) ≡ without_unused_bits k raw
+cleared_again : (k : ℕ) (raw : List ℕ) → without_unused_bits k (without_unused_bits k raw)
+    ≡ without_unused_bits k raw
 cleared_again k raw = set_again (highest_bits (k % 8)) (highest_again (k % 8)) raw (k / 8)
 
 cleared_bytes : (k : ℕ) (raw : List ℕ) → IsBytes raw → IsBytes (without_unused_bits k raw)
@@ -59,7 +62,9 @@ cleared_bytes k raw bytes = λ i.
 -- ---- lengths
 
 -- the length of a length's text, by the number of bits of the length
-short_form : (n : ℕ) → ((n < 2 ^ 8) → length (length_text n) ≤ 2) × ((n < 2 ^ 16) → length (length_text n) ≤ 3) × ((n < 2 ^ 24) → length (length_text n) ≤ 4) × (length (length_text n) ≤ 5)
+short_form : (n : ℕ) → ((n < 2 ^ 8) → length (length_text n) ≤ 2)
+    × ((n < 2 ^ 16) → length (length_text n) ≤ 3) × ((n < 2 ^ 24) → length (length_text n) ≤ 4)
+    × (length (length_text n) ≤ 5)
 short_form n =
     elim (cases_lt n 0x80) [
       | inl h ↦ rw (lt-ltb n 0x80 h) ((λ _. omega arith), (λ _. omega arith), (λ _. omega arith), omega arith)
@@ -76,7 +81,8 @@ short_form n =
     ]
 
 -- any form of a length below 2 ^ 32 is at least as long as the shortest
-pub length_is_short : (text : List ℕ) (n : ℕ) → IsBytes text → IsLength text n → (n < 2 ^ 32) × (length (length_text n) ≤ length text)
+pub length_is_short : (text : List ℕ) (n : ℕ) → IsBytes text → IsLength text n → (n < 2 ^ 32)
+    × (length (length_text n) ≤ length text)
 length_is_short [] n bytes is = absurd is
 length_is_short (first ∷ []) n bytes (inl h) =
     let below : n < 0x80 = omega (arith, h.0, h.2) in
@@ -116,24 +122,30 @@ below_64 s bytes = omega (arith, bytes 0, bytes 1, bytes 2, bytes 3, bytes 4, by
 abbrev FitsIn : List ℕ → Tree → Type 0
 FitsIn contents t = IsWithin t × IsFine t × (length (contents_text t) ≤ length contents)
 
-pub unsigned_fits : (w : Width) (limit : ℕ) → ((s : List ℕ) → IsBytes s → from_be_bytes w s < limit) → (contents : List ℕ) (n : ℕ) → IsBytes contents → IsUnsigned w contents n → n < limit
+pub unsigned_fits : (w : Width) (limit : ℕ) → ((s : List ℕ) → IsBytes s → from_be_bytes w s < limit)
+    → (contents : List ℕ) (n : ℕ) → IsBytes contents → IsUnsigned w contents n → n < limit
 unsigned_fits w limit below contents n bytes is = rw is.1 (below contents bytes)
 
-signed_fits : (w : Width) (k : ℕ) → ((n : ℕ) → n < 2 ^ k → FitsSigned w (cast_signed w n)) → ((s : List ℕ) → IsBytes s → from_be_bytes w s < 2 ^ k) → (contents : List ℕ) (z : ℤ) → IsBytes contents → IsSigned w contents z → FitsSigned w z
+signed_fits : (w : Width) (k : ℕ) → ((n : ℕ) → n < 2 ^ k → FitsSigned w (cast_signed w n))
+    → ((s : List ℕ) → IsBytes s → from_be_bytes w s < 2 ^ k) → (contents : List ℕ) (z : ℤ)
+    → IsBytes contents → IsSigned w contents z → FitsSigned w z
 signed_fits w k fits below contents z bytes is = subst (λ (y : ℤ). FitsSigned w y) (sym is.1) (fits (from_be_bytes w contents) (below contents bytes))
 
-string_fits : (contents string : List ℕ) → IsBytes contents → IsString contents string → IsBytes string × (length (string_text string) ≤ length contents)
+string_fits : (contents string : List ℕ) → IsBytes contents → IsString contents string
+    → IsBytes string × (length (string_text string) ≤ length contents)
 string_fits contents string bytes is =
     let l = length_is_short is.length_text (length string) (front_bytes is.length_text string contents is.parts bytes) is.is_length in (
       back_bytes is.length_text string contents is.parts bytes,
       omega (arith, l.1, length-append (length_text (length string)) string, length-append is.length_text string, ap (λ (s : List ℕ). length s) is.parts),
     )
 
-fixed_fits : (n : ℕ) (contents bytes : List ℕ) → IsBytes contents → IsFixed n contents bytes → ((length bytes ≡ n) × IsBytes bytes) × (length bytes ≤ length contents)
+fixed_fits : (n : ℕ) (contents bytes : List ℕ) → IsBytes contents → IsFixed n contents bytes
+    → ((length bytes ≡ n) × IsBytes bytes) × (length bytes ≤ length contents)
 fixed_fits n contents bytes are is =
     subst (λ (s : List ℕ). ((length s ≡ n) × IsBytes s) × (length s ≤ length contents)) (sym is.1) ((is.0, are), omega arith)
 
-bits_fit : (contents : List ℕ) (k : ℕ) (bytes : List ℕ) → IsBytes contents → IsBits contents k bytes → FitsIn contents (bit_string k bytes)
+bits_fit : (contents : List ℕ) (k : ℕ) (bytes : List ℕ) → IsBytes contents → IsBits contents k bytes
+    → FitsIn contents (bit_string k bytes)
 bits_fit contents k bytes are is =
     let l = length_is_short is.length_text k (front_bytes is.length_text is.raw contents is.parts are) is.is_length in
     let raw : IsBytes is.raw = back_bytes is.length_text is.raw contents is.parts are in
@@ -146,12 +158,14 @@ bits_fit contents k bytes are is =
     subst (λ (s : List ℕ). FitsIn contents (bit_string k s)) (sym is.value) done
 
 -- two texts, each no longer than another, are together no longer than the others together
-joined_fit : (a b x y whole : List ℕ) → whole ≡ x ++ y → length a ≤ length x → length b ≤ length y → length (a ++ b) ≤ length whole
+joined_fit : (a b x y whole : List ℕ) → whole ≡ x ++ y → length a ≤ length x → length b ≤ length y
+    → length (a ++ b) ≤ length whole
 joined_fit a b x y whole parts first second = omega (arith, length-append a b, length-append x y, ap (λ (s : List ℕ). length s) parts)
 
 -- what bytes spell fits: the contents of a value, and items one after the other
 mutual
-  contents_fit : (t : Tree) (contents : List ℕ) → IsBytes contents → AreContents contents t → FitsIn contents t
+  contents_fit : (t : Tree) (contents : List ℕ) → IsBytes contents → AreContents contents t
+      → FitsIn contents t
   contents_fit null contents bytes is = (tt, tt, omega arith)
   contents_fit (array ts) contents bytes is =
       let l = length_is_short is.length_text (count_of ts) (front_bytes is.length_text is.items contents is.parts bytes) is.is_length in
@@ -179,7 +193,8 @@ mutual
   contents_fit (date s) contents bytes is = let f = fixed_fits 5 contents s bytes is in (f.0, tt, f.1)
   contents_fit (time s) contents bytes is = let f = fixed_fits 4 contents s bytes is in (f.0, tt, f.1)
 
-  items_fit : (ts : Trees) (items : List ℕ) → IsBytes items → AreSpelled items ts → AreWithin ts × AreFine ts × (length (texts ts) ≤ length items)
+  items_fit : (ts : Trees) (items : List ℕ) → IsBytes items → AreSpelled items ts → AreWithin ts
+      × AreFine ts × (length (texts ts) ≤ length items)
   items_fit no_trees items bytes is = (tt, tt, omega arith)
   items_fit (tree t ts) items bytes is =
       let one = is.is_first in

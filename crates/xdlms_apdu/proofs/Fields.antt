@@ -51,7 +51,8 @@ length_takes (first ∷ rest) x e =
           subst (λ (z : ℕ × List ℕ). Took ℕ IsCount (first ∷ rest) z) (ok_is made x b.2) (record { text = first ∷ u.text; parts = ap (λ (r : List ℕ). first ∷ r) u.parts; spelled = spelled })
     ]
 
-length_again : (n : ℕ) (text rest : List ℕ) → IsCount n text → length_at (text ++ rest) ≡ Ok (n, rest)
+length_again : (n : ℕ) (text rest : List ℕ) → IsCount n text → length_at (text ++ rest)
+    ≡ Ok (n, rest)
 unfolding length_at
 length_again n [] rest none = absurd none
 length_again n (first ∷ bytes) rest (inl h) =

@@ -20,10 +20,14 @@ use Rattle.xdlms_apdu.proofs.Responses.{IsNothing, get_block_agrees, is_get_bloc
 -- ---- an APDU at the front of bytes
 
 -- one field, and two, followed by other bytes
-one_before : {X R : Type 0} (make : X → R) (field : List ℕ → Read X) (P : X → List ℕ → Type 0) → Agrees X field P → (x : X) (body rest : List ℕ) → P x body → one_at make field (body ++ rest) ≡ Ok (make x, rest)
+one_before : {X R : Type 0} (make : X → R) (field : List ℕ → Read X) (P : X → List ℕ → Type 0)
+    → Agrees X field P → (x : X) (body rest : List ℕ) → P x body → one_at make field (body ++ rest)
+    ≡ Ok (make x, rest)
 one_before make field P agrees x body rest s = (made_agrees make field P agrees).again (make x) body rest (x, refl, s)
 
-two_before : {X Y R : Type 0} (make : X → Y → R) (first : List ℕ → Read X) (second : List ℕ → Read Y) (P : X → List ℕ → Type 0) (Q : Y → List ℕ → Type 0) → Agrees X first P → Agrees Y second Q
+two_before : {X Y R : Type 0} (make : X → Y → R) (first : List ℕ → Read X) (second : List ℕ
+    → Read Y) (P : X → List ℕ → Type 0) (Q : Y → List ℕ → Type 0) → Agrees X first P
+    → Agrees Y second Q
     → (x : X) (y : Y) (body rest : List ℕ) → IsJoined (P x) (Q y) body → two_at make first second (body ++ rest) ≡ Ok (make x y, rest)
 two_before make first second P Q one two x y body rest s = (two_agrees make first second P Q one two).again (make x y) body rest (x, y, refl, s)
 
@@ -36,7 +40,8 @@ front_request (tag ∷ bytes) = request_at tag bytes
 abbrev front_of : {R : Type 0} → (List ℕ → Read R) → List ℕ → List ℕ → Read R
 front_of front rest bytes = front (bytes ++ rest)
 
-request_before : (bytes rest : List ℕ) (r : Request) → SpellsRequest bytes r → front_request (bytes ++ rest) ≡ Ok (r, rest)
+request_before : (bytes rest : List ℕ) (r : Request) → SpellsRequest bytes r
+    → front_request (bytes ++ rest) ≡ Ok (r, rest)
 unfolding request_at get_request_at set_request_at action_request_at
 request_before bytes rest (request.Get id target) s = ap (front_of front_request rest) s.parts ∙ one_before (request.Get id) target_at IsTarget target_agrees target s.body rest s.is_body
 request_before bytes rest (request.GetNext id number) s = ap (front_of front_request rest) s.parts ∙ one_before (request.GetNext id) number_at IsNumber number_agrees number s.body rest s.is_body
@@ -58,7 +63,8 @@ abbrev front_response : List ℕ → Read Response
 front_response [] = Err UnknownTag
 front_response (tag ∷ bytes) = response_at tag bytes
 
-response_before : (bytes rest : List ℕ) (r : Response) → SpellsResponse bytes r → front_response (bytes ++ rest) ≡ Ok (r, rest)
+response_before : (bytes rest : List ℕ) (r : Response) → SpellsResponse bytes r
+    → front_response (bytes ++ rest) ≡ Ok (r, rest)
 unfolding response_at get_response_at set_response_at action_response_at exception_at
 response_before bytes rest (response.Get id result) s = ap (front_of front_response rest) s.parts ∙ one_before (response.Get id) result_at IsResult result_agrees result s.body rest s.is_body
 response_before bytes rest (response.GetBlock id block) s =
@@ -82,7 +88,8 @@ response_before bytes rest (response.Exception exception.Unreadable) s = ap (fro
 
 -- a reader at the front that ignores the bytes after it gives one value, so no spelling is a prefix
 -- of another
-one_value : {R : Type 0} (front : List ℕ → Read R) (Spells : List ℕ → R → Type 0) → ((bytes rest : List ℕ) (r : R) → Spells bytes r → front (bytes ++ rest) ≡ Ok (r, rest))
+one_value : {R : Type 0} (front : List ℕ → Read R) (Spells : List ℕ → R → Type 0)
+    → ((bytes rest : List ℕ) (r : R) → Spells bytes r → front (bytes ++ rest) ≡ Ok (r, rest))
     → (bytes rest : List ℕ) (one other : R) → Spells bytes one → Spells (bytes ++ rest) other → (rest ≡ []) × (one ≡ other)
 one_value {R = R} front Spells before bytes rest one other s t =
     let here : front (bytes ++ rest) ≡ Ok (one, rest) = before bytes rest one s in
@@ -92,8 +99,10 @@ one_value {R = R} front Spells before bytes rest one other s t =
     let same : a ≡ b = ok_is {F = ApduFault} a b (sym here ∙ there) in
     (ap (λ (x : R × List ℕ). x.1) same, ap (λ (x : R × List ℕ). x.0) same)
 
-pub one_request : (bytes rest : List ℕ) (one other : Request) → SpellsRequest bytes one → SpellsRequest (bytes ++ rest) other → (rest ≡ []) × (one ≡ other)
+pub one_request : (bytes rest : List ℕ) (one other : Request) → SpellsRequest bytes one
+    → SpellsRequest (bytes ++ rest) other → (rest ≡ []) × (one ≡ other)
 one_request = one_value front_request SpellsRequest request_before
 
-pub one_response : (bytes rest : List ℕ) (one other : Response) → SpellsResponse bytes one → SpellsResponse (bytes ++ rest) other → (rest ≡ []) × (one ≡ other)
+pub one_response : (bytes rest : List ℕ) (one other : Response) → SpellsResponse bytes one
+    → SpellsResponse (bytes ++ rest) other → (rest ≡ []) × (one ≡ other)
 one_response = one_value front_response SpellsResponse response_before

@@ -32,7 +32,8 @@ use Rattle.xdlms_apdu.proofs.Joined.{IsPair, IsTriple, then_agrees, one_agrees, 
 
 -- ---- a Data
 
-front_ok : (bytes : List ℕ) (read : Result (Data × ℕ) DataFault) (x : Data × List ℕ) → front_of bytes read ≡ Ok x → (n : ℕ) × (read ≡ Ok (x.0, n)) × (drop n bytes ≡ x.1)
+front_ok : (bytes : List ℕ) (read : Result (Data × ℕ) DataFault) (x : Data × List ℕ)
+    → front_of bytes read ≡ Ok x → (n : ℕ) × (read ≡ Ok (x.0, n)) × (drop n bytes ≡ x.1)
 front_ok bytes (Ok y) x e =
     let same = ok_is {F = ApduFault} (y.0, drop y.1 bytes) x e in
     (y.1, ap (λ (d : Data). done DataFault (d, y.1)) (ap (λ (z : Data × List ℕ). z.0) same), ap (λ (z : Data × List ℕ). z.1) same)
@@ -45,7 +46,8 @@ data_takes bytes x e =
     let found = data_found bytes (x.0, f.0) f.1 in
     record { text = take f.0 bytes; parts = sym (take-append-drop f.0 bytes) ∙ ap (λ (r : List ℕ). take f.0 bytes ++ r) f.2; spelled = found.1 }
 
-data_is_read : (value : Data) (text rest : List ℕ) → IsData value text → data_at (text ++ rest) ≡ Ok (value, rest)
+data_is_read : (value : Data) (text rest : List ℕ) → IsData value text → data_at (text ++ rest)
+    ≡ Ok (value, rest)
 unfolding data_at
 data_is_read value text rest s =
     let back : drop (length text) (text ++ rest) ≡ rest = drop_at text rest (length text) refl in
@@ -81,7 +83,8 @@ abbrev no_code : Option ResultCode
 no_code = None
 
 -- one row of the table: the result is this one, or that of a later row
-line : (k n : ℕ) (given code : ResultCode) (others : Option ResultCode) → code_of given ≡ k → cond (n == k) (Some given) others ≡ Some code → (code_of code ≡ n) ⊎ (others ≡ Some code)
+line : (k n : ℕ) (given code : ResultCode) (others : Option ResultCode) → code_of given ≡ k
+    → cond (n == k) (Some given) others ≡ Some code → (code_of code ≡ n) ⊎ (others ≡ Some code)
 line k n given code others is e =
     elim (chosen (n == k) (some_code given) others (some_code code) e) [
       | inl h ↦
@@ -150,7 +153,8 @@ code_of-result n code e =
     none_is : (c : ResultCode) → no_code ≡ some_code c → ⊥
     none_is c e = cc
 
-code_takes : (bytes : List ℕ) (x : ResultCode × List ℕ) → code_at bytes ≡ Ok x → Took ResultCode IsCode bytes x
+code_takes : (bytes : List ℕ) (x : ResultCode × List ℕ) → code_at bytes ≡ Ok x
+    → Took ResultCode IsCode bytes x
 unfolding code_at
 code_takes bytes x e =
     let b = bind_ok (byte_at bytes) (λ byte. known_result byte.0 byte.1 (result_of byte.0)) x e in
@@ -162,13 +166,15 @@ code_takes bytes x e =
       spelled = t.spelled ∙ ap (λ (n : ℕ). n ∷ []) (sym (code_of-result b.0.0 x.0 known.0));
     }
   where
-    known_ok : (n : ℕ) (rest : List ℕ) (found : Option ResultCode) (y : ResultCode × List ℕ) → known_result n rest found ≡ Ok y → (found ≡ Some y.0) × (rest ≡ y.1)
+    known_ok : (n : ℕ) (rest : List ℕ) (found : Option ResultCode) (y : ResultCode × List ℕ)
+        → known_result n rest found ≡ Ok y → (found ≡ Some y.0) × (rest ≡ y.1)
     known_ok n rest None y e = absurd cc
     known_ok n rest (Some code) y e =
         let same = ok_is {F = ApduFault} (code, rest) y e in
         (ap (λ (z : ResultCode × List ℕ). some_code z.0) same, ap (λ (z : ResultCode × List ℕ). z.1) same)
 
-code_is_read : (code : ResultCode) (text rest : List ℕ) → IsCode code text → code_at (text ++ rest) ≡ Ok (code, rest)
+code_is_read : (code : ResultCode) (text rest : List ℕ) → IsCode code text → code_at (text ++ rest)
+    ≡ Ok (code, rest)
 unfolding code_at
 code_is_read code text rest s = rw (s, result_of-code_of code) refl
 
@@ -212,7 +218,9 @@ abbrev Optional : {X : Type 0} → X → (X → List ℕ → Type 0) → Bool �
 Optional none P true x text = P x text
 Optional none P false x text = IsNone none x text
 
-optional_agrees : {X : Type 0} (none : X) (read : List ℕ → Read X) (P : X → List ℕ → Type 0) → Agrees X read P → (present : Bool) → Agrees X (λ bytes. cond present (read bytes) (Ok (none, bytes))) (Optional none P present)
+optional_agrees : {X : Type 0} (none : X) (read : List ℕ → Read X) (P : X → List ℕ → Type 0)
+    → Agrees X read P → (present : Bool) → Agrees X
+    (λ bytes. cond present (read bytes) (Ok (none, bytes))) (Optional none P present)
 optional_agrees none read P agrees true = agrees
 optional_agrees none read P agrees false = none_agrees none
 
@@ -229,25 +237,30 @@ zero_is_no : (text : List ℕ) → IsByte 0 text → IsFlag false text
 zero_is_no text s = (0, s, refl)
 
 -- a part that is followed by nothing is the whole text
-alone : {P Q : List ℕ → Type 0} (text : List ℕ) (j : IsJoined P Q text) → j.others ≡ [] → text ≡ j.first
+alone : {P Q : List ℕ → Type 0} (text : List ℕ) (j : IsJoined P Q text) → j.others ≡ []
+    → text ≡ j.first
 alone text j none = j.parts ∙ ap (λ (s : List ℕ). j.first ++ s) none ∙ append-nil j.first
 
 -- the byte 0 marks a part as absent
-absent : (text : List ℕ) {Q : List ℕ → Type 0} (j : IsJoined (IsFlag false) Q text) → j.others ≡ [] → IsByte 0 text
+absent : (text : List ℕ) {Q : List ℕ → Type 0} (j : IsJoined (IsFlag false) Q text) → j.others ≡ []
+    → IsByte 0 text
 absent text j none = alone text j none ∙ no_is_zero j.first j.is_first
 
 -- an access selection, whose selector and parameters are discarded
 abbrev IsSelected : Bool → List ℕ → Type 0
 IsSelected selected text = IsPair (λ selector parameters. true) IsByte IsData selected text
 
-selection_is : (present selected : Bool) (text : List ℕ) → IsJoined (IsFlag present) (Optional false IsSelected present selected) text → IsSelection selected text
+selection_is : (present selected : Bool) (text : List ℕ)
+    → IsJoined (IsFlag present) (Optional false IsSelected present selected) text
+    → IsSelection selected text
 selection_is true selected text j =
     let o = j.are_others in
     subst (λ (b : Bool). IsSelection b text) o.2
     (with_others j (record { first = o.3.first; others = o.3.others; parts = o.3.parts; is_first = (o.0, o.3.is_first); are_others = (o.1, o.3.are_others) }))
 selection_is false selected text j = subst (λ (b : Bool). IsSelection b text) j.are_others.0 (absent text j j.are_others.1)
 
-is_selection : (selected : Bool) (text : List ℕ) → IsSelection selected text → (present : Bool) × IsJoined (IsFlag present) (Optional false IsSelected present selected) text
+is_selection : (selected : Bool) (text : List ℕ) → IsSelection selected text → (present : Bool)
+    × IsJoined (IsFlag present) (Optional false IsSelected present selected) text
 is_selection true text s =
     let o = s.are_others in
     let both : IsJoined (IsByte o.is_first.0) (IsData o.are_others.0) s.others = record { first = o.first; others = o.others; parts = o.parts; is_first = o.is_first.1; are_others = o.are_others.1 } in
@@ -274,12 +287,15 @@ target_agrees =
 abbrev IsGiven : Option Data → List ℕ → Type 0
 IsGiven parameter text = IsMade Some IsData parameter text
 
-parameter_is : (present : Bool) (parameter : Option Data) (text : List ℕ) → IsJoined (IsFlag present) (Optional None IsGiven present parameter) text → IsParameter parameter text
+parameter_is : (present : Bool) (parameter : Option Data) (text : List ℕ)
+    → IsJoined (IsFlag present) (Optional None IsGiven present parameter) text
+    → IsParameter parameter text
 parameter_is true parameter text j =
     subst (λ (o : Option Data). IsParameter o text) j.are_others.1 (with_others j j.are_others.2)
 parameter_is false parameter text j = subst (λ (o : Option Data). IsParameter o text) j.are_others.0 (absent text j j.are_others.1)
 
-is_parameter : (parameter : Option Data) (text : List ℕ) → IsParameter parameter text → (present : Bool) × IsJoined (IsFlag present) (Optional None IsGiven present parameter) text
+is_parameter : (parameter : Option Data) (text : List ℕ) → IsParameter parameter text
+    → (present : Bool) × IsJoined (IsFlag present) (Optional None IsGiven present parameter) text
 is_parameter (Some value) text s = (true, with_others s (value, refl, s.are_others))
 is_parameter None text s = (false, record { first = text; others = []; parts = sym (append-nil text); is_first = zero_is_no text s; are_others = (refl, refl) })
 
@@ -312,7 +328,8 @@ ByTests A B true one x text = A x text
 ByTests A B false true x text = B x text
 ByTests A B false false x text = ⊥
 
-by_tests_agrees : {X : Type 0} (zero_at one_at : List ℕ → Read X) (A B : X → List ℕ → Type 0) → Agrees X zero_at A → Agrees X one_at B → (zero one : Bool)
+by_tests_agrees : {X : Type 0} (zero_at one_at : List ℕ → Read X) (A B : X → List ℕ → Type 0)
+    → Agrees X zero_at A → Agrees X one_at B → (zero one : Bool)
     → Agrees X (λ bytes. cond zero (zero_at bytes) (cond one (one_at bytes) (Err Unreadable))) (ByTests A B zero one)
 by_tests_agrees zero_at one_at A B a b true one = a
 by_tests_agrees zero_at one_at A B a b false true = b
@@ -321,14 +338,17 @@ by_tests_agrees zero_at one_at A B a b false false = record { takes = λ bytes x
     no_value : {X : Type 0} (x : X × List ℕ) → failed (X × List ℕ) Unreadable ≡ Ok x → ⊥
     no_value x e = cc
 
-either_is : {X : Type 0} (A B : X → List ℕ → Type 0) (choice : ℕ) (zero one : Bool) → (choice == 0) ≡ zero → (choice == 1) ≡ one → (x : X) (text : List ℕ) → IsJoined (IsByte choice) (ByTests A B zero one x) text → IsEither A B x text
+either_is : {X : Type 0} (A B : X → List ℕ → Type 0) (choice : ℕ) (zero one : Bool) → (choice == 0)
+    ≡ zero → (choice == 1) ≡ one → (x : X) (text : List ℕ)
+    → IsJoined (IsByte choice) (ByTests A B zero one x) text → IsEither A B x text
 either_is A B choice true one z o x text j =
     inl (record { first = j.first; others = j.others; parts = j.parts; is_first = subst (λ (n : ℕ). IsByte n j.first) (eqb-true choice 0 z) j.is_first; are_others = j.are_others })
 either_is A B choice false true z o x text j =
     inr (record { first = j.first; others = j.others; parts = j.parts; is_first = subst (λ (n : ℕ). IsByte n j.first) (eqb-true choice 1 o) j.is_first; are_others = j.are_others })
 either_is A B choice false false z o x text j = absurd j.are_others
 
-is_either : {X : Type 0} (A B : X → List ℕ → Type 0) (x : X) (text : List ℕ) → IsEither A B x text → (choice : ℕ) × IsJoined (IsByte choice) (ByTests A B (choice == 0) (choice == 1) x) text
+is_either : {X : Type 0} (A B : X → List ℕ → Type 0) (x : X) (text : List ℕ) → IsEither A B x text
+    → (choice : ℕ) × IsJoined (IsByte choice) (ByTests A B (choice == 0) (choice == 1) x) text
 is_either A B x text (inl j) = (0, with_others j j.are_others)
 is_either A B x text (inr j) = (1, with_others j j.are_others)
 
@@ -336,7 +356,8 @@ is_either A B x text (inr j) = (1, with_others j j.are_others)
 abbrev pub either_at : {X : Type 0} → (List ℕ → Read X) → (List ℕ → Read X) → List ℕ → Read X
 either_at zero_at one_at bytes = byte_at bytes >>= λ choice. cond (choice.0 == 0) (zero_at choice.1) (cond (choice.0 == 1) (one_at choice.1) (Err Unreadable))
 
-pub either_agrees : {X : Type 0} (zero_at one_at : List ℕ → Read X) (A B : X → List ℕ → Type 0) → Agrees X zero_at A → Agrees X one_at B → Agrees X (either_at zero_at one_at) (IsEither A B)
+pub either_agrees : {X : Type 0} (zero_at one_at : List ℕ → Read X) (A B : X → List ℕ → Type 0)
+    → Agrees X zero_at A → Agrees X one_at B → Agrees X (either_at zero_at one_at) (IsEither A B)
 either_agrees zero_at one_at A B a b =
     then_agrees byte_at (λ choice bytes. cond (choice == 0) (zero_at bytes) (cond (choice == 1) (one_at bytes) (Err Unreadable))) IsByte (λ choice. ByTests A B (choice == 0) (choice == 1)) (IsEither A B)
     (byte_agrees Unreadable) (λ choice. by_tests_agrees zero_at one_at A B a b (choice == 0) (choice == 1))
@@ -344,11 +365,13 @@ either_agrees zero_at one_at A B a b =
     (is_either A B)
 
 -- a value or a result
-result_is : (result : GetResult) (text : List ℕ) → IsEither (IsMade Value IsData) (IsMade Code IsCode) result text → IsResult result text
+result_is : (result : GetResult) (text : List ℕ)
+    → IsEither (IsMade Value IsData) (IsMade Code IsCode) result text → IsResult result text
 result_is result text (inl j) = subst (λ (r : GetResult). IsResult r text) j.are_others.1 (with_others j j.are_others.2)
 result_is result text (inr j) = subst (λ (r : GetResult). IsResult r text) j.are_others.1 (with_others j j.are_others.2)
 
-is_result : (result : GetResult) (text : List ℕ) → IsResult result text → IsEither (IsMade Value IsData) (IsMade Code IsCode) result text
+is_result : (result : GetResult) (text : List ℕ) → IsResult result text
+    → IsEither (IsMade Value IsData) (IsMade Code IsCode) result text
 is_result (Value value) text s = inl (with_others s (value, refl, s.are_others))
 is_result (Code code) text s = inr (with_others s (code, refl, s.are_others))
 
@@ -365,26 +388,31 @@ result_agrees =
 abbrev AreCounted : {X : Type 0} → (X → List ℕ → Type 0) → ℕ → List X → List ℕ → Type 0
 AreCounted P n items text = (length items ≡ n) × AreItems P items text
 
-items_are : {X : Type 0} (P : X → List ℕ → Type 0) (n : ℕ) (items : List X) (text : List ℕ) → IsPair (λ x xs. x ∷ xs) P (AreCounted P n) items text → AreCounted P (suc n) items text
+items_are : {X : Type 0} (P : X → List ℕ → Type 0) (n : ℕ) (items : List X) (text : List ℕ)
+    → IsPair (λ x xs. x ∷ xs) P (AreCounted P n) items text → AreCounted P (suc n) items text
 items_are P n items text s =
     let j = s.3 in
     let more : AreCounted P (suc n) (s.0 ∷ s.1) text = (ap suc j.are_others.0, with_others j j.are_others.1) in
     subst (λ (xs : List _). AreCounted P (suc n) xs text) s.2 more
 
-are_items : {X : Type 0} (P : X → List ℕ → Type 0) (n : ℕ) (items : List X) (text : List ℕ) → AreCounted P (suc n) items text → IsPair (λ x xs. x ∷ xs) P (AreCounted P n) items text
+are_items : {X : Type 0} (P : X → List ℕ → Type 0) (n : ℕ) (items : List X) (text : List ℕ)
+    → AreCounted P (suc n) items text → IsPair (λ x xs. x ∷ xs) P (AreCounted P n) items text
 are_items P n [] text s = absurd (omega (arith, s.0))
 are_items P n (x ∷ xs) text s =
     let j = s.1 in
     (x, xs, refl, with_others j (omega (arith, s.0), j.are_others))
 
-none_are : {X : Type 0} (P : X → List ℕ → Type 0) (items : List X) (text : List ℕ) → IsNone [] items text → AreCounted P 0 items text
+none_are : {X : Type 0} (P : X → List ℕ → Type 0) (items : List X) (text : List ℕ)
+    → IsNone [] items text → AreCounted P 0 items text
 none_are P items text s = subst (λ (xs : List _). AreCounted P 0 xs text) s.0 (refl, s.1)
 
-are_none : {X : Type 0} (P : X → List ℕ → Type 0) (items : List X) (text : List ℕ) → AreCounted P 0 items text → IsNone [] items text
+are_none : {X : Type 0} (P : X → List ℕ → Type 0) (items : List X) (text : List ℕ)
+    → AreCounted P 0 items text → IsNone [] items text
 are_none P [] text s = (refl, s.1)
 are_none P (x ∷ xs) text s = absurd (omega (arith, s.0))
 
-items_agrees : {X : Type 0} (item_at : List ℕ → Read X) (P : X → List ℕ → Type 0) → Agrees X item_at P → (n : ℕ) → Agrees (List X) (items_at item_at n) (AreCounted P n)
+items_agrees : {X : Type 0} (item_at : List ℕ → Read X) (P : X → List ℕ → Type 0)
+    → Agrees X item_at P → (n : ℕ) → Agrees (List X) (items_at item_at n) (AreCounted P n)
 unfolding items_at
 items_agrees item_at P agrees zero = seen_as (λ bytes. Ok ([], bytes)) (IsNone []) (AreCounted P 0) (none_agrees []) (none_are P) (are_none P)
 items_agrees item_at P agrees (suc n) =
@@ -392,7 +420,8 @@ items_agrees item_at P agrees (suc n) =
     (two_agrees (λ x xs. x ∷ xs) item_at (items_at item_at n) P (AreCounted P n) agrees (items_agrees item_at P agrees n))
     (items_are P n) (are_items P n)
 
-pub list_agrees : {X : Type 0} (item_at : List ℕ → Read X) (P : X → List ℕ → Type 0) → Agrees X item_at P → Agrees (List X) (list_at item_at) (IsList P)
+pub list_agrees : {X : Type 0} (item_at : List ℕ → Read X) (P : X → List ℕ → Type 0)
+    → Agrees X item_at P → Agrees (List X) (list_at item_at) (IsList P)
 unfolding list_at
 list_agrees item_at P agrees =
     then_agrees length_at (items_at item_at) (λ n text. IsLength text n) (AreCounted P) (IsList P) length_agrees (items_agrees item_at P agrees)
@@ -401,7 +430,8 @@ list_agrees item_at P agrees =
 
 -- ---- no return parameters
 
-nothing_takes : (bytes : List ℕ) (x : Unit {0} × List ℕ) → nothing_at bytes ≡ Ok x → Took (Unit {0}) (λ nothing text. IsByte 0 text) bytes x
+nothing_takes : (bytes : List ℕ) (x : Unit {0} × List ℕ) → nothing_at bytes ≡ Ok x
+    → Took (Unit {0}) (λ nothing text. IsByte 0 text) bytes x
 nothing_takes bytes x e =
     let b = bind_ok (byte_at bytes) (λ byte. guard (byte.0 == 0) Unreadable >> done ApduFault (tt {0}, byte.1)) x e in
     let t = (byte_agrees Unreadable).takes bytes b.0 b.1 in

@@ -30,7 +30,8 @@ no_request fault r e = cc
 -- ---- what is read is spelled
 
 -- a form with one field after the invoke-id-and-priority
-one_form : {X : Type 0} (tag form tag' form' : ℕ) (make : InvokeId → X → Request) (field : List ℕ → Read X) (P : X → List ℕ → Type 0) → Agrees X field P → tag ≡ tag' → form ≡ form'
+one_form : {X : Type 0} (tag form tag' form' : ℕ) (make : InvokeId → X → Request) (field : List ℕ
+    → Read X) (P : X → List ℕ → Type 0) → Agrees X field P → tag ≡ tag' → form ≡ form'
     → ((id : InvokeId) (x : X) → request_head (make id x) ≡ head tag' form' id) → ((id : InvokeId) (x : X) (body : List ℕ) → P x body → IsRequestBody (make id x) body)
     → (more : List ℕ) (r : Request) → two_at make invoke_id_at field more ≡ Ok (r, []) → SpellsRequest (tag ∷ form ∷ more) r
 one_form tag form tag' form' make field P agrees t f heads bodies more r e =
@@ -39,7 +40,9 @@ one_form tag form tag' form' make field P agrees t f heads bodies more r e =
     subst (λ (q : Request). SpellsRequest (tag ∷ form ∷ more) q) s.2 (record { body = s.3.others; parts = parts; is_body = bodies s.0 s.1 s.3.others s.3.are_others })
 
 -- a form with two fields after the invoke-id-and-priority
-two_form : {X Y : Type 0} (tag form tag' form' : ℕ) (make : InvokeId → X → Y → Request) (first : List ℕ → Read X) (second : List ℕ → Read Y) (P : X → List ℕ → Type 0) (Q : Y → List ℕ → Type 0)
+two_form : {X Y : Type 0} (tag form tag' form' : ℕ) (make : InvokeId → X → Y → Request)
+    (first : List ℕ → Read X) (second : List ℕ → Read Y) (P : X → List ℕ → Type 0) (Q : Y → List ℕ
+    → Type 0)
     → Agrees X first P → Agrees Y second Q → tag ≡ tag' → form ≡ form'
     → ((id : InvokeId) (x : X) (y : Y) → request_head (make id x y) ≡ head tag' form' id) → ((id : InvokeId) (x : X) (y : Y) (body : List ℕ) → IsJoined (P x) (Q y) body → IsRequestBody (make id x y) body)
     → (more : List ℕ) (r : Request) → three_at make invoke_id_at first second more ≡ Ok (r, []) → SpellsRequest (tag ∷ form ∷ more) r
@@ -48,7 +51,8 @@ two_form tag form tag' form' make first second P Q one two t f heads bodies more
     let parts = head_is tag form tag' form' s.0 (IsJoined (P s.1) (Q s.2)) more t f s.4 ∙ ap (λ (h : List ℕ). h ++ s.4.others) (sym (heads s.0 s.1 s.2)) in
     subst (λ (q : Request). SpellsRequest (tag ∷ form ∷ more) q) s.3 (record { body = s.4.others; parts = parts; is_body = bodies s.0 s.1 s.2 s.4.others s.4.are_others })
 
-get_found : (tag : ℕ) → tag ≡ 0xC0 → (bytes : List ℕ) (r : Request) → get_request_at bytes ≡ Ok (r, []) → SpellsRequest (tag ∷ bytes) r
+get_found : (tag : ℕ) → tag ≡ 0xC0 → (bytes : List ℕ) (r : Request) → get_request_at bytes
+    ≡ Ok (r, []) → SpellsRequest (tag ∷ bytes) r
 unfolding get_request_at
 get_found tag is [] r e = absurd cc
 get_found tag is (form ∷ more) r e =
@@ -63,7 +67,8 @@ get_found tag is (form ∷ more) r e =
       ]
     ]
 
-set_found : (tag : ℕ) → tag ≡ 0xC1 → (bytes : List ℕ) (r : Request) → set_request_at bytes ≡ Ok (r, []) → SpellsRequest (tag ∷ bytes) r
+set_found : (tag : ℕ) → tag ≡ 0xC1 → (bytes : List ℕ) (r : Request) → set_request_at bytes
+    ≡ Ok (r, []) → SpellsRequest (tag ∷ bytes) r
 unfolding set_request_at
 set_found tag is [] r e = absurd cc
 set_found tag is (form ∷ more) r e =
@@ -78,7 +83,8 @@ set_found tag is (form ∷ more) r e =
       ]
     ]
 
-action_found : (tag : ℕ) → tag ≡ 0xC3 → (bytes : List ℕ) (r : Request) → action_request_at bytes ≡ Ok (r, []) → SpellsRequest (tag ∷ bytes) r
+action_found : (tag : ℕ) → tag ≡ 0xC3 → (bytes : List ℕ) (r : Request) → action_request_at bytes
+    ≡ Ok (r, []) → SpellsRequest (tag ∷ bytes) r
 unfolding action_request_at
 action_found tag is [] r e = absurd cc
 action_found tag is (form ∷ more) r e =
@@ -111,11 +117,15 @@ request_found (tag ∷ bytes) r e =
 -- ---- what is spelled is read
 
 -- one field after the invoke-id-and-priority
-one_again : {X : Type 0} (make : X → Request) (field : List ℕ → Read X) (P : X → List ℕ → Type 0) → Agrees X field P → (x : X) (body : List ℕ) → P x body → whole (one_at make field body) ≡ Ok (make x)
+one_again : {X : Type 0} (make : X → Request) (field : List ℕ → Read X) (P : X → List ℕ → Type 0)
+    → Agrees X field P → (x : X) (body : List ℕ) → P x body → whole (one_at make field body)
+    ≡ Ok (make x)
 one_again make field P agrees x body s = all_read Unreadable (one_at make field) (IsMade make P) (made_agrees make field P agrees) (make x) body (x, refl, s)
 
 -- two fields after the invoke-id-and-priority
-two_again : {X Y : Type 0} (make : X → Y → Request) (first : List ℕ → Read X) (second : List ℕ → Read Y) (P : X → List ℕ → Type 0) (Q : Y → List ℕ → Type 0) → Agrees X first P → Agrees Y second Q
+two_again : {X Y : Type 0} (make : X → Y → Request) (first : List ℕ → Read X) (second : List ℕ
+    → Read Y) (P : X → List ℕ → Type 0) (Q : Y → List ℕ → Type 0) → Agrees X first P
+    → Agrees Y second Q
     → (x : X) (y : Y) (body : List ℕ) → IsJoined (P x) (Q y) body → whole (two_at make first second body) ≡ Ok (make x y)
 two_again make first second P Q one two x y body s = all_read Unreadable (two_at make first second) (IsPair make P Q) (two_agrees make first second P Q one two) (make x y) body (x, y, refl, s)
 

@@ -36,7 +36,8 @@ no_response fault r e = cc
 -- ---- what is read is spelled
 
 -- a form with one field after the invoke-id-and-priority
-one_form : {X : Type 0} (tag form tag' form' : ℕ) (make : InvokeId → X → Response) (field : List ℕ → Read X) (P : X → List ℕ → Type 0) → Agrees X field P → tag ≡ tag' → form ≡ form'
+one_form : {X : Type 0} (tag form tag' form' : ℕ) (make : InvokeId → X → Response) (field : List ℕ
+    → Read X) (P : X → List ℕ → Type 0) → Agrees X field P → tag ≡ tag' → form ≡ form'
     → ((id : InvokeId) (x : X) → response_head (make id x) ≡ head tag' form' id) → ((id : InvokeId) (x : X) (body : List ℕ) → P x body → IsResponseBody (make id x) body)
     → (more : List ℕ) (r : Response) → two_at make invoke_id_at field more ≡ Ok (r, []) → SpellsResponse (tag ∷ form ∷ more) r
 one_form tag form tag' form' make field P agrees t f heads bodies more r e =
@@ -45,7 +46,9 @@ one_form tag form tag' form' make field P agrees t f heads bodies more r e =
     subst (λ (q : Response). SpellsResponse (tag ∷ form ∷ more) q) s.2 (record { body = s.3.others; parts = parts; is_body = bodies s.0 s.1 s.3.others s.3.are_others })
 
 -- a form with two fields after the invoke-id-and-priority
-two_form : {X Y : Type 0} (tag form tag' form' : ℕ) (make : InvokeId → X → Y → Response) (first : List ℕ → Read X) (second : List ℕ → Read Y) (P : X → List ℕ → Type 0) (Q : Y → List ℕ → Type 0)
+two_form : {X Y : Type 0} (tag form tag' form' : ℕ) (make : InvokeId → X → Y → Response)
+    (first : List ℕ → Read X) (second : List ℕ → Read Y) (P : X → List ℕ → Type 0) (Q : Y → List ℕ
+    → Type 0)
     → Agrees X first P → Agrees Y second Q → tag ≡ tag' → form ≡ form'
     → ((id : InvokeId) (x : X) (y : Y) → response_head (make id x y) ≡ head tag' form' id) → ((id : InvokeId) (x : X) (y : Y) (body : List ℕ) → IsJoined (P x) (Q y) body → IsResponseBody (make id x y) body)
     → (more : List ℕ) (r : Response) → three_at make invoke_id_at first second more ≡ Ok (r, []) → SpellsResponse (tag ∷ form ∷ more) r
@@ -102,7 +105,8 @@ get_block_agrees =
     (λ id r text j. (id, j)) (λ r text s. s)
 
 -- a block is spelled by its first bytes and its fields
-block_found : (tag form : ℕ) → tag ≡ 0xC4 → form ≡ 2 → (more : List ℕ) (r : Response) → IsGetBlock r more → SpellsResponse (tag ∷ form ∷ more) r
+block_found : (tag form : ℕ) → tag ≡ 0xC4 → form ≡ 2 → (more : List ℕ) (r : Response)
+    → IsGetBlock r more → SpellsResponse (tag ∷ form ∷ more) r
 block_found tag form t f more r s =
     let j = s.1 in
     let k = j.are_others.1 in
@@ -115,11 +119,15 @@ block_found tag form t f more r s =
           (record { body = j.others; parts = parts; is_body = with_others k (with_others l (with_others m m.are_others.2)) })
     ]
 
-pub is_get_block : (id : InvokeId) (block : DataBlock) (body : List ℕ) → IsResponseBody (response.GetBlock id block) body → IsGetBlock (response.GetBlock id block) (id.0 ∷ body)
+pub is_get_block : (id : InvokeId) (block : DataBlock) (body : List ℕ)
+    → IsResponseBody (response.GetBlock id block) body
+    → IsGetBlock (response.GetBlock id block) (id.0 ∷ body)
 is_get_block id block body s =
     (id, join (id.0 ∷ []) body refl (block.last, behind body (λ t k. (block.number, behind t (λ u l. inl (behind u (λ v raw. (block.raw, refl, raw)) l)) k)) s))
 
-pub is_refused_block : (id : InvokeId) (last : Bool) (number : ℕ) (code : ResultCode) (body : List ℕ) → IsResponseBody (response.GetBlockRefused id last number code) body → IsGetBlock (response.GetBlockRefused id last number code) (id.0 ∷ body)
+pub is_refused_block : (id : InvokeId) (last : Bool) (number : ℕ) (code : ResultCode)
+    (body : List ℕ) → IsResponseBody (response.GetBlockRefused id last number code) body
+    → IsGetBlock (response.GetBlockRefused id last number code) (id.0 ∷ body)
 is_refused_block id last number code body s =
     (id, join (id.0 ∷ []) body refl (last, behind body (λ t k. (number, behind t (λ u l. inr (behind u (λ v c. (code, refl, c)) l)) k)) s))
 
@@ -129,13 +137,17 @@ is_refused_block id last number code body s =
 both : (a x b y : ℕ) → (a == x && b == y) ≡ true → (a ≡ x) × (b ≡ y)
 both a x b y e = let h = and_parts _ _ e in (eqb-true a x h.0, eqb-true b y h.1)
 
-exception_is : (tag : ℕ) → tag ≡ 0xD8 → (state service : ℕ) (rest : List ℕ) (x : Exception) (r : Response) → state ∷ service ∷ [] ≡ exception_text x → done {A = Response × List ℕ} ApduFault (response.Exception x, rest) ≡ Ok (r, []) → SpellsResponse (tag ∷ state ∷ service ∷ rest) r
+exception_is : (tag : ℕ) → tag ≡ 0xD8 → (state service : ℕ) (rest : List ℕ) (x : Exception)
+    (r : Response) → state ∷ service ∷ [] ≡ exception_text x
+    → done {A = Response × List ℕ} ApduFault (response.Exception x, rest) ≡ Ok (r, [])
+    → SpellsResponse (tag ∷ state ∷ service ∷ rest) r
 exception_is tag is state service rest x r text e =
     let same = ok_is {A = Response × List ℕ} {F = ApduFault} (response.Exception x, rest) (r, []) e in
     let parts : tag ∷ state ∷ service ∷ rest ≡ 0xD8 ∷ state ∷ service ∷ [] = ap₂ (λ (a : ℕ) (b : List ℕ). a ∷ state ∷ service ∷ b) is (ap (λ (z : Response × List ℕ). z.1) same) in
     subst (λ (q : Response). SpellsResponse (tag ∷ state ∷ service ∷ rest) q) (ap (λ (z : Response × List ℕ). z.0) same) (record { body = state ∷ service ∷ []; parts = parts; is_body = text })
 
-get_found : (tag : ℕ) → tag ≡ 0xC4 → (bytes : List ℕ) (r : Response) → get_response_at bytes ≡ Ok (r, []) → SpellsResponse (tag ∷ bytes) r
+get_found : (tag : ℕ) → tag ≡ 0xC4 → (bytes : List ℕ) (r : Response) → get_response_at bytes
+    ≡ Ok (r, []) → SpellsResponse (tag ∷ bytes) r
 unfolding get_response_at
 get_found tag is [] r e = absurd cc
 get_found tag is (form ∷ more) r e =
@@ -150,7 +162,8 @@ get_found tag is (form ∷ more) r e =
       ]
     ]
 
-set_found : (tag : ℕ) → tag ≡ 0xC5 → (bytes : List ℕ) (r : Response) → set_response_at bytes ≡ Ok (r, []) → SpellsResponse (tag ∷ bytes) r
+set_found : (tag : ℕ) → tag ≡ 0xC5 → (bytes : List ℕ) (r : Response) → set_response_at bytes
+    ≡ Ok (r, []) → SpellsResponse (tag ∷ bytes) r
 unfolding set_response_at
 set_found tag is [] r e = absurd cc
 set_found tag is (form ∷ more) r e =
@@ -165,7 +178,8 @@ set_found tag is (form ∷ more) r e =
       ]
     ]
 
-action_found : (tag : ℕ) → tag ≡ 0xC7 → (bytes : List ℕ) (r : Response) → action_response_at bytes ≡ Ok (r, []) → SpellsResponse (tag ∷ bytes) r
+action_found : (tag : ℕ) → tag ≡ 0xC7 → (bytes : List ℕ) (r : Response) → action_response_at bytes
+    ≡ Ok (r, []) → SpellsResponse (tag ∷ bytes) r
 unfolding action_response_at
 action_found tag is [] r e = absurd cc
 action_found tag is (form ∷ more) r e =
@@ -177,7 +191,8 @@ action_found tag is (form ∷ more) r e =
       ]
     ]
 
-exception_found : (tag : ℕ) → tag ≡ 0xD8 → (bytes : List ℕ) (r : Response) → exception_at bytes ≡ Ok (r, []) → SpellsResponse (tag ∷ bytes) r
+exception_found : (tag : ℕ) → tag ≡ 0xD8 → (bytes : List ℕ) (r : Response) → exception_at bytes
+    ≡ Ok (r, []) → SpellsResponse (tag ∷ bytes) r
 unfolding exception_at
 exception_found tag is [] r e = absurd cc
 exception_found tag is (state ∷ []) r e = absurd cc
@@ -193,7 +208,8 @@ exception_found tag is (state ∷ service ∷ rest) r e =
       ]
     ]
 
-pub response_found : (bytes : List ℕ) (r : Response) → response_of bytes ≡ Ok r → SpellsResponse bytes r
+pub response_found : (bytes : List ℕ) (r : Response) → response_of bytes ≡ Ok r
+    → SpellsResponse bytes r
 unfolding response_of response_at
 response_found [] r e = absurd cc
 response_found (tag ∷ bytes) r e =
@@ -214,15 +230,20 @@ response_found (tag ∷ bytes) r e =
 -- ---- what is spelled is read
 
 -- one field after the invoke-id-and-priority
-one_again : {X : Type 0} (make : X → Response) (field : List ℕ → Read X) (P : X → List ℕ → Type 0) → Agrees X field P → (x : X) (body : List ℕ) → P x body → whole (one_at make field body) ≡ Ok (make x)
+one_again : {X : Type 0} (make : X → Response) (field : List ℕ → Read X) (P : X → List ℕ → Type 0)
+    → Agrees X field P → (x : X) (body : List ℕ) → P x body → whole (one_at make field body)
+    ≡ Ok (make x)
 one_again make field P agrees x body s = all_read Unreadable (one_at make field) (IsMade make P) (made_agrees make field P agrees) (make x) body (x, refl, s)
 
 -- two fields after the invoke-id-and-priority
-two_again : {X Y : Type 0} (make : X → Y → Response) (first : List ℕ → Read X) (second : List ℕ → Read Y) (P : X → List ℕ → Type 0) (Q : Y → List ℕ → Type 0) → Agrees X first P → Agrees Y second Q
+two_again : {X Y : Type 0} (make : X → Y → Response) (first : List ℕ → Read X) (second : List ℕ
+    → Read Y) (P : X → List ℕ → Type 0) (Q : Y → List ℕ → Type 0) → Agrees X first P
+    → Agrees Y second Q
     → (x : X) (y : Y) (body : List ℕ) → IsJoined (P x) (Q y) body → whole (two_at make first second body) ≡ Ok (make x y)
 two_again make first second P Q one two x y body s = all_read Unreadable (two_at make first second) (IsPair make P Q) (two_agrees make first second P Q one two) (make x y) body (x, y, refl, s)
 
-pub response_again : (bytes : List ℕ) (r : Response) → SpellsResponse bytes r → response_of bytes ≡ Ok r
+pub response_again : (bytes : List ℕ) (r : Response) → SpellsResponse bytes r
+    → response_of bytes ≡ Ok r
 unfolding response_of response_at get_response_at set_response_at action_response_at exception_at
 response_again bytes (response.Get id result) s = ap response_of s.parts ∙ one_again (response.Get id) result_at IsResult result_agrees result s.body s.is_body
 response_again bytes (response.GetBlock id block) s = ap response_of s.parts ∙ all_read Unreadable get_block_at IsGetBlock get_block_agrees (response.GetBlock id block) (id.0 ∷ s.body) (is_get_block id block s.body s.is_body)

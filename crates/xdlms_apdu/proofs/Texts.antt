@@ -39,7 +39,8 @@ number_spells number fit = (refl, sym (from_be_bytes-to_be_bytes_4 number fit))
 data_spells : (value : Data) → IsFitData value → IsData value (data_text value)
 data_spells value fit = text_spells (tree_of value) fit
 
-attribute_spells : (attribute : AttrRef) → IsFitAttribute attribute → IsAttribute attribute (attribute_text attribute)
+attribute_spells : (attribute : AttrRef) → IsFitAttribute attribute
+    → IsAttribute attribute (attribute_text attribute)
 attribute_spells attribute fit = join (to_be_bytes w16 attribute.class.0) _ (refl, sym (from_be_bytes-to_be_bytes_2 attribute.class.0 fit.0)) (join attribute.name.0 _ (fit.1, refl) refl)
 
 method_spells : (method : MethodRef) → IsFitMethod method → IsMethod method (method_text method)
@@ -53,10 +54,12 @@ selection_spells : (selected : Bool) → IsSelection selected (selection_text se
 selection_spells false = refl
 selection_spells true = join (1 ∷ []) (0 ∷ 0 ∷ []) (1, refl, refl) (join (0 ∷ []) (0 ∷ []) (0, refl) (Null, null_spells))
 
-target_spells : (target : AttributeSelection) → IsFitTarget target → IsTarget target (target_text target)
+target_spells : (target : AttributeSelection) → IsFitTarget target
+    → IsTarget target (target_text target)
 target_spells target fit = join (attribute_text target.attr) (selection_text target.selected) (attribute_spells target.attr fit) (selection_spells target.selected)
 
-parameter_spells : (parameter : Option Data) → IsFitParameter parameter → IsParameter parameter (parameter_text parameter)
+parameter_spells : (parameter : Option Data) → IsFitParameter parameter
+    → IsParameter parameter (parameter_text parameter)
 parameter_spells None fit = refl
 parameter_spells (Some value) fit = join (1 ∷ []) (data_text value) (1, refl, refl) (data_spells value fit)
 
@@ -68,13 +71,17 @@ result_spells (Value value) fit = join (0 ∷ []) (data_text value) refl (data_s
 result_spells (Code code) fit = join (1 ∷ []) _ refl refl
 
 -- consecutive items
-items_spell : {X : Type 0} (item_text : X → List ℕ) (IsFitItem : X → Type 0) (IsItem : X → List ℕ → Type 0) → ((x : X) → IsFitItem x → IsItem x (item_text x)) → (items : List X) → All IsFitItem items
+items_spell : {X : Type 0} (item_text : X → List ℕ) (IsFitItem : X → Type 0) (IsItem : X → List ℕ
+    → Type 0) → ((x : X) → IsFitItem x → IsItem x (item_text x)) → (items : List X)
+    → All IsFitItem items
     → AreItems IsItem items (flat_map item_text items)
 items_spell item_text IsFitItem IsItem spells [] fit = refl
 items_spell item_text IsFitItem IsItem spells (x ∷ xs) fit =
     join (item_text x) (flat_map item_text xs) (spells x (fit 0 x (omega arith))) (items_spell item_text IsFitItem IsItem spells xs (λ k d lt. fit (suc k) d (omega arith)))
 
-list_spells : {X : Type 0} (item_text : X → List ℕ) (IsFitItem : X → Type 0) (IsItem : X → List ℕ → Type 0) → ((x : X) → IsFitItem x → IsItem x (item_text x)) → (items : List X) → AreFit IsFitItem items
+list_spells : {X : Type 0} (item_text : X → List ℕ) (IsFitItem : X → Type 0) (IsItem : X → List ℕ
+    → Type 0) → ((x : X) → IsFitItem x → IsItem x (item_text x)) → (items : List X)
+    → AreFit IsFitItem items
     → IsList IsItem items (list_text item_text items)
 list_spells item_text IsFitItem IsItem spells items fit =
     join (length_text (length items)) (flat_map item_text items) (length_spells (length items) fit.0) (items_spell item_text IsFitItem IsItem spells items fit.1)

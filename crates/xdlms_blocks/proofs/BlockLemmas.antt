@@ -17,7 +17,8 @@ pub record AreRest (size number : ℕ) (pieces : List Piece) (rest : List ℕ) :
   pub whole : joined_bytes pieces ≡ rest
 
 -- the next piece and those after it, by whether the next one is the last
-rest_by : (last : Bool) (size number : ℕ) (text : List ℕ) (later : List Piece) → 0 < size → number * size < length text
+rest_by : (last : Bool) (size number : ℕ) (text : List ℕ) (later : List Piece) → 0 < size
+    → number * size < length text
     → nat_le (length text) ((number + 1) * size) ≡ last → (last ≡ false → AreRest size (number + 1) later (drop ((number + 1) * size) text))
     → AreRest size number (record { last = last; number = number + 1; raw = block_after number size text } ∷ cond last [] later) (drop (number * size) text)
 rest_by true size number text later some more is_last rest =
@@ -42,7 +43,8 @@ rest_by false size number text later some more is_last rest =
     }
 
 -- the pieces returned from a state on are the blocks of the rest of the text
-rest_in : (most : ℕ) (s : Sending) → 0 < s.size → s.number * s.size < length s.text → length s.text ≤ s.number * s.size + most
+rest_in : (most : ℕ) (s : Sending) → 0 < s.size → s.number * s.size < length s.text
+    → length s.text ≤ s.number * s.size + most
     → AreRest s.size s.number (pieces_in most s) (drop (s.number * s.size) s.text)
 unfolding pieces_in
 rest_in zero s some more enough = absurd (omega arith)
@@ -52,21 +54,25 @@ rest_in (suc most) s some more enough =
     rest_in most (after_next s) some beyond (omega arith))
 
 -- the pieces of a text are its blocks
-rest_of_all : (text : List ℕ) (size : ℕ) → 0 < length text → 0 < size → AreRest size 0 (pieces_of text size) text
+rest_of_all : (text : List ℕ) (size : ℕ) → 0 < length text → 0 < size
+    → AreRest size 0 (pieces_of text size) text
 unfolding pieces_of
 rest_of_all text size some fits =
     let none : 0 * size ≡ 0 = omega arith in
     subst (λ (n : ℕ). AreRest size 0 (pieces_in (length text) (new_sending text size)) (drop n text)) none
     (rest_in (length text) (new_sending text size) fits (omega arith) (omega arith))
 
-pub is_cut : (text : List ℕ) (size : ℕ) → 0 < length text → 0 < size → AreBlocks size 0 (pieces_of text size)
+pub is_cut : (text : List ℕ) (size : ℕ) → 0 < length text → 0 < size
+    → AreBlocks size 0 (pieces_of text size)
 is_cut text size some fits = (rest_of_all text size some fits).blocks
 
-pub is_whole : (text : List ℕ) (size : ℕ) → 0 < length text → 0 < size → joined_bytes (pieces_of text size) ≡ text
+pub is_whole : (text : List ℕ) (size : ℕ) → 0 < length text → 0 < size
+    → joined_bytes (pieces_of text size) ≡ text
 is_whole text size some fits = (rest_of_all text size some fits).whole
 
 -- blocks that arrive in order are joined
-joins_from : (size number : ℕ) (pieces : List Piece) → AreBlocks size number pieces → (bytes : List ℕ) → length bytes + length (joined_bytes pieces) ≤ max_joined
+joins_from : (size number : ℕ) (pieces : List Piece) → AreBlocks size number pieces
+    → (bytes : List ℕ) → length bytes + length (joined_bytes pieces) ≤ max_joined
     → Joins (record { number = number; bytes = bytes; is_open = true }) pieces (bytes ++ joined_bytes pieces)
 joins_from size _ _ (last_block number raw some fits) bytes short =
     let same : raw ++ [] ≡ raw = append-nil raw in
@@ -79,7 +85,8 @@ joins_from size _ _ (full_block number raw pieces full later) bytes short =
     (subst (Joins (record { number = number + 1; bytes = bytes ++ raw; is_open = true }) pieces) same
     (joins_from size (number + 1) pieces later (bytes ++ raw) (omega (arith, length-append bytes raw))))
 
-pub is_joined : (size : ℕ) (pieces : List Piece) → AreBlocks size 0 pieces → length (joined_bytes pieces) ≤ max_joined → Joins new_joining pieces (joined_bytes pieces)
+pub is_joined : (size : ℕ) (pieces : List Piece) → AreBlocks size 0 pieces
+    → length (joined_bytes pieces) ≤ max_joined → Joins new_joining pieces (joined_bytes pieces)
 is_joined size pieces blocks short = joins_from size 0 pieces blocks [] (omega arith)
 
 -- one piece with a given mark and part
@@ -87,23 +94,27 @@ piece_of : Bool → ℕ → List ℕ → Piece
 piece_of last number raw = record { last = last; number = number; raw = raw }
 
 -- pieces that end here, and pieces that do not
-ends_here : (last : Bool) (number : ℕ) (raw part : List ℕ) (later : List Piece) → last ≡ true → raw ≡ part
+ends_here : (last : Bool) (number : ℕ) (raw part : List ℕ) (later : List Piece) → last ≡ true → raw
+    ≡ part
     → piece_of last number raw ∷ cond last [] later ≡ piece_of true number part ∷ []
 ends_here true number raw part later is e = ap (λ (xs : List ℕ). piece_of true number xs ∷ []) e
 ends_here false number raw part later is e = absurd cc
 
-goes_further : (last : Bool) (number : ℕ) (raw part : List ℕ) (later pieces : List Piece) → last ≡ false → raw ≡ part → later ≡ pieces
+goes_further : (last : Bool) (number : ℕ) (raw part : List ℕ) (later pieces : List Piece) → last
+    ≡ false → raw ≡ part → later ≡ pieces
     → piece_of last number raw ∷ cond last [] later ≡ piece_of false number part ∷ pieces
 goes_further true number raw part later pieces is e same = absurd cc
 goes_further false number raw part later pieces is e same = cc
 
 -- blocks have at least one byte
-some_joined : (size number : ℕ) (pieces : List Piece) → 0 < size → AreBlocks size number pieces → 0 < length (joined_bytes pieces)
+some_joined : (size number : ℕ) (pieces : List Piece) → 0 < size → AreBlocks size number pieces
+    → 0 < length (joined_bytes pieces)
 some_joined size _ _ fits (last_block number raw some within) = omega (arith, length-append raw [])
 some_joined size _ _ fits (full_block number raw pieces full later) = omega (arith, length-append raw (joined_bytes pieces))
 
 -- the blocks of the rest of a text are the pieces that a transfer returns
-only_in : (size number : ℕ) (pieces : List Piece) → 0 < size → AreBlocks size number pieces → (most : ℕ) (text : List ℕ) (going : Bool)
+only_in : (size number : ℕ) (pieces : List Piece) → 0 < size → AreBlocks size number pieces
+    → (most : ℕ) (text : List ℕ) (going : Bool)
     → drop (number * size) text ≡ joined_bytes pieces → length text ≤ number * size + most → pieces_in most (record { text = text; number = number; size = size; is_open = going }) ≡ pieces
 unfolding pieces_in piece_of
 only_in size _ _ fits (last_block number raw some within) zero text going rest enough =
@@ -128,7 +139,8 @@ only_in size _ _ fits (full_block number raw pieces full later) (suc most) text 
     (only_in size (number + 1) pieces fits later most text _ left (omega arith))
 
 -- no other pieces are the blocks of a text
-pub is_only : (size : ℕ) (pieces : List Piece) → 0 < size → AreBlocks size 0 pieces → pieces ≡ pieces_of (joined_bytes pieces) size
+pub is_only : (size : ℕ) (pieces : List Piece) → 0 < size → AreBlocks size 0 pieces → pieces
+    ≡ pieces_of (joined_bytes pieces) size
 unfolding pieces_of
 is_only size pieces fits blocks =
     let none : 0 * size ≡ 0 = omega arith in

@@ -7,7 +7,8 @@ use Rattle.acse_ber.proofs.Aares.{aare_found, aare_again}
 use Rattle.acse_ber.proofs.aare_reading.read_aare.Goals as goal
 
 -- a result equal to the definition's has every property that holds of each value of the definition
-found_by : (P : Aare → Type 0) (r given : Result Aare AcseFault) → r ≡ given → ((a : Aare) → given ≡ Ok a → P a) → IfOk r P
+found_by : (P : Aare → Type 0) (r given : Result Aare AcseFault) → r ≡ given
+    → ((a : Aare) → given ≡ Ok a → P a) → IfOk r P
 found_by P (Ok a) given e all = all a (sym e)
 found_by P (Err fault) given e all = tt
 

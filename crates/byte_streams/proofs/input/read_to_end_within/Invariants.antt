@@ -5,7 +5,8 @@ use Rattle.byte_streams.proofs.input.read_to_end_within.Given as goal
 
 abbrev pub invariant-pieces : goal.invariant-pieces
 invariant-pieces g l = record {
-  read : Consumes (g.R.Reader.remaining l.initial.reader) (g.R.Reader.remaining l.reader) l.bytes.items;
+  read : Consumes (g.R.Reader.remaining l.initial.reader) (g.R.Reader.remaining l.reader)
+      l.bytes.items;
   enough : l.counter ≤ length l.bytes.items;
   within : length l.bytes.items ≤ l.limit;
   readable : g.R.Reader.can_read l.reader;

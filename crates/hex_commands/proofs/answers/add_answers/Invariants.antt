@@ -7,5 +7,6 @@ use Rattle.hex_commands.proofs.answers.add_answers.Given as goal
 abbrev pub invariant-requests : goal.invariant-requests
 invariant-requests l = record {
   sized : total (drop l.count-index l.lengths) ≡ length l.left;
-  on : AnswersOn l.fn.requests (pieces_of (drop l.count-index l.lengths) l.left) l.fn.core l.core l.fn.lines.items l.lines.items;
+  on : AnswersOn l.fn.requests (pieces_of (drop l.count-index l.lengths) l.left) l.fn.core l.core
+      l.fn.lines.items l.lines.items;
 }

@@ -4,7 +4,8 @@ use Rattle.lane_sampler.proofs.RunLemmas.{RunInWord, run_in_word, same_word}
 use Rattle.lane_sampler.proofs.runs.ones_in_word.Goals as goal
 
 -- the run in the word that `at` is in
-run : (c : goal.After-trailing_ones) → RunInWord (get_or c.args.words.now (c.args.at / 64) 0) (c.args.at % 64) c.trailing_ones.result
+run : (c : goal.After-trailing_ones) → RunInWord (get_or c.args.words.now (c.args.at / 64) 0)
+    (c.args.at % 64) c.trailing_ones.result
 run c =
     let word = get_or c.args.words.now (c.args.at / 64) 0 in
     let found : c.trailing_ones.result ≡ trailing_ones w64 (word / 2 ^ (c.args.at % 64)) =

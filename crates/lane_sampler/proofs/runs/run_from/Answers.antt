@@ -4,7 +4,8 @@ use Rattle.lane_sampler.proofs.RunLemmas.{run_passes, all_pass}
 use Rattle.lane_sampler.proofs.runs.run_from.Goals as goal
 
 -- the result is the run that ends where `end_of_run` says
-run : (c : goal.After-saturating_sub) → IsRun c.args.words.now c.args.len c.args.at c.saturating_sub.result
+run : (c : goal.After-saturating_sub) → IsRun c.args.words.now c.args.len c.args.at
+    c.saturating_sub.result
 run c = search rules
 
 pub returns-clause-passing : goal.returns-clause-passing

@@ -7,5 +7,6 @@ use Rattle.meter_console.proofs.lines.next_line.Given as goal
 abbrev pub invariant-bytes : goal.invariant-bytes
 invariant-bytes g l = record {
   room : 8192 ≤ vec_capacity l.line;
-  read : Partial (g.B.Read.remaining l.initial.input) (g.B.Read.remaining l.input) l.line.items l.is_long;
+  read : Partial (g.B.Read.remaining l.initial.input) (g.B.Read.remaining l.input)
+      l.line.items l.is_long;
 }

@@ -8,5 +8,6 @@ abbrev pub invariant-lines : goal.invariant-lines
 invariant-lines g l = record {
   room : 8192 ≤ vec_capacity l.line;
   few : l.lost < l.number;
-  hands : Hands (g.B.Read.remaining l.initial.input) (g.S.EventSink.taken l.initial.sink) l.lost (g.B.Read.remaining l.input) (g.S.EventSink.taken l.sink);
+  hands : Hands (g.B.Read.remaining l.initial.input) (g.S.EventSink.taken l.initial.sink) l.lost
+      (g.B.Read.remaining l.input) (g.S.EventSink.taken l.sink);
 }

@@ -7,7 +7,10 @@ use Rattle.meter_serving.proofs.heading.add_lines.Given as goal
 
 abbrev pub invariant-lines : goal.invariant-lines
 invariant-lines g l = record {
-  grows : Grows l.initial.text.items (left_in g.I.Read.remaining l.initial.input) l.text.items (left_in g.I.Read.remaining l.input);
-  ahead : (whole rest : List ℕ) (front rows : List Row) → length front ≡ l.count → Ahead whole rest (front ++ rows) l.initial.text.items (left_in g.I.Read.remaining l.initial.input)
+  grows : Grows l.initial.text.items (left_in g.I.Read.remaining l.initial.input) l.text.items
+      (left_in g.I.Read.remaining l.input);
+  ahead : (whole rest : List ℕ) (front rows : List Row) → length front ≡ l.count
+      → Ahead whole rest (front ++ rows) l.initial.text.items
+      (left_in g.I.Read.remaining l.initial.input)
       → Ahead whole rest (drop l.counter front ++ rows) l.text.items (left_in g.I.Read.remaining l.input);
 }

@@ -9,7 +9,8 @@ use Rattle.session_serving.proofs.serving.settle.Given as goal
 
 abbrev pub invariant-due : goal.invariant-due
 invariant-due g l = record {
-  reached : Reached g.M.Meter.steps g.F.Form.written_as (still_asks l.initial.session) (still_sends l.initial.session) (still_ends l.initial.session)
+  reached : Reached g.M.Meter.steps g.F.Form.written_as (still_asks l.initial.session)
+      (still_sends l.initial.session) (still_ends l.initial.session)
       l.initial.meter (g.W.Writer.contents l.initial.writer) [] l.session l.meter (g.W.Writer.contents l.writer);
   silent : is_asking l.session ≡ false;
   finished : is_finished l.session ≡ is_finished l.initial.session;

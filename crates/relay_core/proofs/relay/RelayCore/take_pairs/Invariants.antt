@@ -6,7 +6,8 @@ use Rattle.relay_core.proofs.relay.RelayCore.take_pairs.Given as goal
 
 abbrev pub invariant-samples : goal.invariant-samples
 invariant-samples l = record {
-  takes : Takes l.initial.self l.self no_firings l.firings (pairs (take l.at l.values) (take l.at l.others));
+  takes : Takes l.initial.self l.self no_firings l.firings
+      (pairs (take l.at l.values) (take l.at l.others));
   within : l.at ≤ length l.values;
   right : IsRightScan l.values l.scan;
   other_right : IsRightScan l.others l.other_scan;

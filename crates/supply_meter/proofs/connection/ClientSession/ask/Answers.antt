@@ -10,12 +10,14 @@ use Rattle.supply_meter.specs.declared.under_way.UnderWay.TheVariants.{Nothing}
 use Rattle.supply_meter.proofs.connection.ClientSession.ask.Goals as goal
 
 -- a session that is over awaits no reply
-over_silent : (s : Session) (end : SessionEnd) (b : Bool) → is_asking s ≡ b → IsOver end s → is_asking s ≡ false
+over_silent : (s : Session) (end : SessionEnd) (b : Bool) → is_asking s ≡ b → IsOver end s
+    → is_asking s ≡ false
 over_silent s end true asks over = absurd (asks_or_ends s end asks over.over)
 over_silent s end false asks over = asks
 
 -- nothing is pending
-nothing_awaited : (u : UnderWay) (d : Dialogue) (s : Session) → record { session = s; under_way = u } ≡ d → d.under_way ≡ Nothing → awaits_reply u ≡ false
+nothing_awaited : (u : UnderWay) (d : Dialogue) (s : Session)
+    → record { session = s; under_way = u } ≡ d → d.under_way ≡ Nothing → awaits_reply u ≡ false
 nothing_awaited u d s e nothing = ap (λ (x : Dialogue). awaits_reply x.under_way) e ∙ ap awaits_reply nothing
 
 pub invariant_of-self : goal.invariant_of-self
