@@ -1,4 +1,5 @@
 pub mod Conformance
+pub mod Diagnostics
 pub mod Fit
 pub mod Password
 pub mod Reading

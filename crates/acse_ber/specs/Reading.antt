@@ -5,7 +5,7 @@
 --     whole                           a reading of all the bytes
 --     byte_at .. contents_at          a byte, bytes, expected bytes, a length, contents after their
 --                                     length
---     tagged                          the contents of one tag that fill the bytes
+--     tag_contents                    the contents of one tag that fill the bytes
 --     Field, fields_of, field_of      the fields of an APDU, in any order, and the field with a tag
 --     proposal_of, info_in            the contents of the user information of an AARQ and of an
 --                                     AARE

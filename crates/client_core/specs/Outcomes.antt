@@ -1,8 +1,8 @@
 -- The outcome of a job, as a function of the bytes received on its connection.
---     heard             the payloads that came from port 1 to port 1
+--     payloads_of       the payloads that came from port 1 to port 1
 --     progress_of       the progress by the first two of them, and by a wrong header after all
 --                       whole frames
---     decided           the outcome, if the bytes settle it
+--     outcome_after     the outcome, if the bytes settle it
 --     outcome_of        the outcome if the connection is over after these bytes
 --     due               the messages to send, in order
 use Rattle.std.specs.Prelude.{ℕ, Bool, true, false, ◌&&◌, ◌==◌, if◌then◌else◌, Option, Some, None, is_none, unwrap_or, List, [], ◌∷◌}

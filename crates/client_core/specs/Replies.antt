@@ -1,8 +1,8 @@
 -- The meaning of a meter's responses for a job.
 --     Progress          a Rust struct: whether the request may be sent, and the outcome if it is
 --                       settled
---     opened            the meaning of the first response, to the AARQ
---     replied           the meaning of the second response, to the request
+--     after_aare        the meaning of the first response, to the AARQ
+--     outcome_of_response  the meaning of the second response, to the request
 use Rattle.std.specs.Prelude.{ℕ, Bool, false, true, not, ◌&&◌, ◌==◌, nat_le, if◌then◌else◌, bit_and, Some, None, List, [], ◌∷◌, Result, Ok, Err}
 use Rattle.acse_ber.specs.Reading.{aare_of}
 use Rattle.acse_ber.specs.declared.aare.Aare.{Aare}

@@ -1,6 +1,6 @@
 -- The progress payload by payload.
 --     after             the effect of one more payload;  after_frame: of one more frame
---     goes              the effect of more bytes on the progress so far
+--     after_bytes       the effect of more bytes on the progress so far
 --     Moves             frames are removed from the front of bytes and have their effect
 --     Hears             what Moves says, with no whole frame left
 use Rattle.std.specs.Prelude.{◌≡◌, ℕ, ◌&&◌, ◌==◌, if◌then◌else◌, Some, is_none, List, [], ◌∷◌, ◌++◌}

@@ -1,6 +1,6 @@
 -- A campaign may be split: its parts may run anywhere, and their reports, concatenated, are a
 -- report of the whole.
---     line_told         the line of a job whose meter's reads are predicted
+--     line_for          the line of a job whose meter's reads are predicted
 --     AreTold           the reads of all jobs' meters are predicted
 --     HaveMemory        no job ran out of memory
 --     Reports           a text is the report of jobs that were run

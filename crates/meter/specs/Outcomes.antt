@@ -1,6 +1,7 @@
 -- The numbers of `include/meter.h`.
 --     code_of                                 the number of the result of a call
---     of_fault, of_done, of_given, of_tick    the outcome of a fault, or of a result of the meter
+--     of_fault, of_tick                       the outcome of a fault, or of a moment
+--     outcome_of_call, outcome_of_session     the outcome of a call, or of a session's step
 use Rattle.std.specs.Prelude.{ℕ, Result, Ok, Err}
 use Rattle.meter.specs.declared.outcome.CallResult.{CallResult}
 use Rattle.meter.specs.declared.outcome.CallResult.TheVariants as outcome

@@ -9,7 +9,8 @@ use Rattle.acse_ber.specs.declared.aare.Info.TheVariants.{Absent, Response}
 use Rattle.acse_ber.specs.declared.aare.Info.TheVariants as info
 use Rattle.acse_ber.specs.declared.verdict.Verdict.{Verdict}
 use Rattle.acse_ber.specs.declared.verdict.Verdict.TheVariants.{Accepted, Rejected, InitiateError}
-use Rattle.session_core.specs.Standard.{least_pdu, greatest_pdu, result_accepted, result_rejected, null_diagnostic, no_reason_given}
+use Rattle.session_core.specs.Standard.{least_pdu, greatest_pdu, result_accepted, result_rejected, null_diagnostic}
+use Rattle.acse_ber.specs.Diagnostics.{no_reason_given}
 use Rattle.session_core.specs.declared.link.Link.{Link}
 use Rattle.wrapper_frame.specs.declared.parts.Frame.{Frame}
 

@@ -1,5 +1,5 @@
 -- Requests that arrive in blocks (IEC 62056-5-3, SET and ACTION with datablocks).
---     received, refused, block_code     the answers to a block, and their results
+--     block_response, refusal_response, block_code  the answers to a block, and their results
 --     fault_of                          why a block is not added
 --     whole_outcome                     the outcome of the joined bytes
 --     block_outcome_of, block_after     the outcome of a block, and the transfer after it

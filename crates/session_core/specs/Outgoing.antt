@@ -1,6 +1,6 @@
 -- Answers that are sent in blocks (IEC 62056-5-3, GET with datablocks).
---     sent                                a transfer after some of its blocks were sent
---     continued, continued_response       the transfer after a GET-next, and the answer
+--     transfer_after                      a transfer after some of its blocks were sent
+--     transfer_after_next, continued_response  the transfer after a GET-next, and the answer
 --     LongAnswer .. reply_response        the answer to the reply of an event
 --     begun_by, outgoing_by               the transfer that this answer begins
 use Rattle.std.specs.Prelude.{ℕ, ◌+◌, ◌-◌, ◌*◌, ◌==◌, ◌&&◌, nat_le, bit_and, not, true, false, if◌then◌else◌, Bool, Option, Some, None, option_and_then, List, length, drop}

@@ -2,7 +2,7 @@
 --     aarq_tag .. action_tag                    the tags of a client's requests (IEC 62056-5-3)
 --     request_forms                             the forms of requests, and the services that each
 --                                               needs (IEC 62056-5-3, conformance block)
---     accepted .. no_reason_given               the results and diagnostics of an association (IEC
+--     result_accepted .. null_diagnostic        the results and diagnostics of an association (IEC
 --                                               62056-5-3, AARE)
 --     management_client, management_device      the ports of the wrapper (IEC 62056-4-7)
 --     least_pdu, greatest_pdu, block_header     the sizes of PDUs
@@ -60,12 +60,9 @@ result_accepted = 0
 abbrev pub result_rejected : ℕ
 result_rejected = 1
 
--- the diagnostics null and no-reason-given of acse-service-user
+-- the diagnostic null of acse-service-user; the others are in acse_ber/specs/Diagnostics.antt
 abbrev pub null_diagnostic : ℕ
 null_diagnostic = 0
-
-abbrev pub no_reason_given : ℕ
-no_reason_given = 1
 
 -- ---- ports
 

@@ -23,6 +23,10 @@ use Rattle.trace_words.specs.Labels.{labelled_value}
 abbrev pub max_events : ℕ
 max_events = 65536
 
+-- the maximum number of attributes in a line
+abbrev pub max_items : ℕ
+max_items = 102
+
 -- the number of events
 abbrev pub events_from : Row → Result ℕ RowFault
 events_from row = labelled_value (codes "events") (number_in max_events) row
@@ -34,12 +38,12 @@ get_from words = do
   item ← selection_at level.1
   if_last item.1 (Get level.0 item.0.attr item.0.selected)
 
--- level, the number of attributes (up to 102), and for each of them class, name, number, selected
+-- level, the number of attributes, and for each of them class, name, number, selected
 unfoldable pub get_list_from : Row → Result Event RowFault
 get_list_from words = do
   level ← next_as level_in words
-  count ← next_as (number_in 102) level.1
-  items ← all_at selection_from 102 count.1
+  count ← next_as (number_in max_items) level.1
+  items ← all_at selection_from max_items count.1
   guard (length items == count.0) Wrong
   Ok (GetList level.0 items)
 

@@ -5,6 +5,7 @@
 --     FitsLine     an event within the limits of a line, whose line is then read back
 use Rattle.std.specs.Prelude.{◌≡◌, ℕ, ◌≤◌, List, [], ◌∷◌, length, Option, Some, None, IfSome}
 use Rattle.hex.specs.Hex.{IsBytes}
+use Rattle.trace_lines.specs.Events.{max_items}
 use Rattle.cosem_names.specs.declared.service.AttributeSelection.{AttributeSelection}
 use Rattle.relay_events.specs.declared.event.Event.{Event}
 use Rattle.relay_events.specs.declared.event.Event.TheVariants.{Get, GetList, Set, Execute, Button, Samples, Moment}
@@ -36,7 +37,7 @@ AreExports imports (Some exports) = (length imports ≡ length exports) × AreSa
 -- an event whose line is read back
 abbrev pub IsTraced : Event → Type 0
 IsTraced (Get level attr selected) = IsNamed attr.class.0 attr.name.0 attr.number
-IsTraced (GetList level items) = (length items ≤ 102) × AreNamed items
+IsTraced (GetList level items) = (length items ≤ max_items) × AreNamed items
 IsTraced (Set level attr selected value) = IsNamed attr.class.0 attr.name.0 attr.number
     × IsHeld value
 IsTraced (Execute level method parameter) = IsNamed method.class.0 method.name.0 method.number
@@ -49,7 +50,7 @@ IsTraced (Moment now) = now ≤ 4294967295
 -- an event within the limits of a line: a list has at most 102 attributes, and a value or a
 -- parameter is within the limits of a written Data
 abbrev pub FitsLine : Event → Type 0
-FitsLine (GetList level items) = length items ≤ 102
+FitsLine (GetList level items) = length items ≤ max_items
 FitsLine (Set level attr selected value) = IsHeld value
 FitsLine (Execute level method parameter) = IfSome parameter IsHeld
 FitsLine _ = Unit {0}

@@ -7,7 +7,7 @@ ghost use Rattle.trace_words.specs.Reading.{next_as, number_in};
 ghost use Rattle.trace_words.specs.Rows.{Reads, if_last};
 ghost use Rattle.trace_words.specs.declared.fault.RowFault.TheVariants.{Memory};
 
-use crate::items::{next_method, next_selection, selections};
+use crate::items::{MAX_ITEMS, next_method, next_selection, selections};
 use crate::samples::{pairs, values};
 use crate::verb::{EventWord, verb_of};
 use crate::words::level;
@@ -46,7 +46,7 @@ fn get_list(alloc: Global, words: &mut Words) -> Result<Event, RowFault>
     ensures { Gives Memory (λ event. event) result (get_list_from words.old) }
 {
     let level = next_level(words)?;
-    let count = number_in(next_word(words)?, 102)? as usize;
+    let count = number_in(next_word(words)?, MAX_ITEMS as u64)? as usize;
     let items = selections(alloc, words)?;
     if items.len() != count {
         return Err(RowFault::Wrong);

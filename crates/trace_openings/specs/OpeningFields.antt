@@ -1,5 +1,5 @@
 -- The lines of an opening, one by one: a first word, the label, and its values.
---     behind, labelled                the words after the label; a line of one value
+--     behind, labelled_value          the words after the label; a line of one value
 --     label                           the label of a limiter's line
 --     version_in .. entries_in        the value of a word
 --     version_from .. schedule_from   the value of a line of words

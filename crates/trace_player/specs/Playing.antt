@@ -1,6 +1,6 @@
 -- What a trace prints when it is played: a line for each event, counted from 1.
 --     lines_text       lines as text
---     played           the output of a trace
+--     output_of_trace  the output of a trace
 --     PlaysEvent       an event was read from the next line and applied, and its line written
 --     PlaysEvents      a number of events were, one after the other
 --     PlaysTrace       a trace was read and played

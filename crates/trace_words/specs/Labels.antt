@@ -1,6 +1,6 @@
 -- Lines that begin with a fixed word.
 --     behind          the words after the first one
---     labelled        a line of a first word and one value
+--     labelled_value  a line of a first word and one value
 --     IsWordReader    what code reads from a word, compared with a definition
 --     number_row      the line that is written of a first word and a number
 use Rattle.std.specs.Prelude.{ℕ, nat_eq, decimal, [], ◌∷◌, Result, Ok}

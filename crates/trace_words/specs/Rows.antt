@@ -1,7 +1,7 @@
 -- The words of a line, read one after the other.
 --     Read             the result of a reader of X: the value and the words after it, or a fault
 --     Reads            what code that reads words returns, compared with a definition
---     wanted, ended    a value that must be present; a value after which no word is left
+--     or_wrong, if_last  a value that must be present; a value after which no word is left
 --     word_at          the next word
 --     last_word        the next word, which must be the last
 --     all_at           values up to the end of the line, with an upper bound on their number

@@ -1,5 +1,5 @@
 -- The words that are written for values.
---     blanked                   words, each after a blank
+--     words_after_blanks        words, each after a blank
 --     flag_number, data_word    values as words
 --     all_words                 several values, one after the other
 --     IsHeld                    a Data within the limits of its text

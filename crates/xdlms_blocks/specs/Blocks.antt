@@ -1,7 +1,7 @@
 -- The blocks of a text (IEC 62056-5-3, block transfer).
 --     AreBlocks     pieces are the blocks of one text, in order: numbered from one on, each of the
 --                   full size but the last, and only the last is marked as the last
---     joined        the concatenation of their parts
+--     joined_bytes  the concatenation of their parts
 --     pieces_of     the pieces that a transfer returns if each is requested by the number of the
 --                   one before
 --     Joins         adding pieces in order returns no text before the last, and this text at the
