@@ -5,6 +5,8 @@
   blocks of code and lines with links may be longer.
 - phrase: comments, docstrings, messages and prose have no phrase of tests/prose_phrases.txt.
 - alone: the first sentence of a doc comment or a docstring does not need the one above it.
+- participle: no definition of specs/ is named by a bare participle, such as `told` or `merged`.
+- twice: no struct, enum or trait has the name of one in another crate (the tests' crates aside).
 
 tests/prose_counts.txt has the allowed counts; a folder that it does not name has none.
 
@@ -25,6 +27,11 @@ COLUMNS = 100
 SHOWN = 5
 RATTLE = (".rt", ".bench")
 COMMENTS = {".rt": "//", ".bench": "//", ".rs": "//", ".antt": "--", ".py": "#", ".sh": "#", "": "#"}
+PARTICIPLE = re.compile(
+    r"\s*(?:abbrev|unfoldable|opaque)(?: pub)? ((?!need )[a-z]+ed|told|shown|begun|sent|taken|drawn"
+    r"|drew|seen|saw|kept|held|made|given|met|found|spent|born|lost|known|done|written|heard|laid"
+    r"|ran|gone) :")
+TYPE = re.compile(r"\s*(?:pub(?:\([a-z]+\))? )?(?:struct|enum|trait) ([A-Z]\w*)")
 LEANING = re.compile(r"(The same\b|Same as\b|As (above|before)\b|See above\b|Likewise\b|Ditto\b)")
 
 
@@ -93,12 +100,40 @@ def leaning_lines(kind, lines):
         before = line
 
 
+def participle_lines(path, lines):
+    """The definitions of a file of specs/ that are named by a bare participle."""
+    for number, line in enumerate(lines, 1) if "/specs/" in path else ():
+        found = PARTICIPLE.match(line)
+        if found:
+            yield number, f"`{found[1]}`, write a noun phrase: `state_after`, `count_of`"
+
+
+def types_in(path, lines):
+    """The types that a file declares, each with its line."""
+    is_source = path.endswith(".rt") and "/src/" in path and "_tests/" not in path
+    for number, line in enumerate(lines, 1) if is_source else ():
+        found = TYPE.match(line)
+        if found:
+            yield found[1], number
+
+
+def twice_declared(texts):
+    """The types that two crates declare, at each place after the first."""
+    first = {}
+    for path, text in sorted(texts.items()):
+        for name, number in types_in(path, text.split("\n")):
+            before = first.setdefault(name, path)
+            if folder_of(before) != folder_of(path):
+                yield path, f"{path}:{number}: `{name}` is also in {before}"
+
+
 def places_in(path, text, patterns):
     """The places of a file, each as rule, line and description."""
     kind, lines = Path(path).suffix, text.split("\n")
     yield from (("length", *it) for it in long_lines(kind, lines))
     yield from (("phrase", *it) for it in phrase_lines(kind, lines, patterns))
     yield from (("alone", *it) for it in leaning_lines(kind, lines))
+    yield from (("participle", *it) for it in participle_lines(path, lines))
 
 
 def folder_of(path):
@@ -108,14 +143,16 @@ def folder_of(path):
 
 def places_of(top, paths):
     """The places of all files, by rule and folder."""
-    found, patterns = collections.defaultdict(list), phrases()
+    found, patterns, texts = collections.defaultdict(list), phrases(), {}
     for path in paths:
         try:
-            text = (top / path).read_text(encoding="utf-8")
+            texts[path] = (top / path).read_text(encoding="utf-8")
         except (OSError, UnicodeDecodeError):
             continue
-        for rule, number, what in places_in(path, text, patterns):
+        for rule, number, what in places_in(path, texts[path], patterns):
             found[rule, folder_of(path)].append(f"{path}:{number}: {what}")
+    for path, what in twice_declared(texts):
+        found["twice", folder_of(path)].append(what)
     return found
 
 
@@ -138,9 +175,11 @@ PLANTED = {
     "length": ("crates/one/src/long.rt", "// " + "a" * COLUMNS),
     "phrase": ("docs/PAGE.md", "A call that finds no memory is " + "told."),
     "alone": ("crates/one/src/alone.rt", "/// The same for a list.\nfn list() {}"),
+    "participle": ("crates/one/specs/Participle.antt", "abbrev pub " + "told : ℕ"),
+    "twice": ("crates/two/src/twice.rt", "pub struct Clean;"),
 }
 CLEAN = {
-    "crates/one/src/clean.rt": "/// The number of lists.\nfn count() {}",
+    "crates/one/src/clean.rt": "/// The number of lists.\npub struct Clean {}",
     "docs/CLEAN.md": "| " + "a" * 120 + " |\n\n    " + "b" * 120 + "\n\nA call returns a number.",
 }
 
