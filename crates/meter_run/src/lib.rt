@@ -6,4 +6,5 @@
 
 mod running;
 
-pub use running::{MeterRun, Sources, run_meter};
+pub use meter_server::Sources;
+pub use running::{MeterRun, run_meter};

@@ -10,7 +10,7 @@ ghost use Rattle.program_fault.specs.declared.Fault.TheVariants.{Memory, Turns};
 use cosem_axdr::Octets;
 use kept_meter::Kept;
 use meter_server::{
-    BlockSource, ButtonSource, Listener, MomentSource, ServeFault, Served, serve_all,
+    BlockSource, ButtonSource, Listener, MomentSource, ServeFault, Served, Sources, serve_all,
 };
 use meter_serving::{closed_meter, meter_trace};
 use program_fault::Fault;
@@ -22,15 +22,6 @@ use turn_lock::{Port, Shared};
 
 // The maximum number of calls in one run: 2^62, the largest bound of a lock.
 const MAX_CALLS: u64 = 4_611_686_018_427_387_904;
-
-/// The sources of the meter's own events: blocks of power samples, moments of the clock, presses of
-/// the button.
-#[derive(Drop)]
-pub struct Sources<B, M, U> {
-    pub blocks: B,
-    pub moments: M,
-    pub buttons: U,
-}
 
 /// How a run ended.
 #[derive(Drop)]

@@ -13,7 +13,7 @@ pub use listening::{Listener, Observer};
 pub use meter_workers::{BlockSource, ButtonSource, MomentSource};
 pub use ports::{PortMeter, calls_are_entered, serve_port, session_keeps_its_port};
 pub use relay_recorder::Recorder;
-pub use serving_all::{Served, serve_all};
+pub use serving_all::{Served, Sources, serve_all};
 pub use session_core::SessionEnd;
 pub use session_serving::{HexFault, Meter, ServeFault, answer_apdu, run_hex, serve_session};
 pub use session_threads::ListenFault;

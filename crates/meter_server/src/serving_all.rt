@@ -32,6 +32,15 @@ pub struct Served {
     pub turned_away: u64,
 }
 
+/// The sources of the meter's own events: blocks of power samples, moments of the clock, presses of
+/// the button.
+#[derive(Drop)]
+pub struct Sources<B, M, U> {
+    pub blocks: B,
+    pub moments: M,
+    pub buttons: U,
+}
+
 // Returns the first fault in this order: out of memory, the fault of the worker, the fault of the
 // clients.
 fn first_fault(
@@ -135,7 +144,8 @@ fn serve_with_button<
     join_both(rt, running, port, served)
 }
 
-// Serves the clients and passes on the presses and the moments of the clock, in parallel.
+// Serves the clients and passes on the moments of the clock and the presses, in parallel. `sources`
+// are those of the moments and of the presses.
 fn serve_with_clock<
     L: Listener,
     M: MomentSource + Send + 'static,
@@ -145,8 +155,7 @@ fn serve_with_clock<
     rt: &R,
     alloc: Global,
     listener: &mut L,
-    moments: M,
-    buttons: U,
+    sources: (M, U),
     port: &mut Port<Kept>,
     password: &Octets,
     limit: u64,
@@ -162,12 +171,13 @@ fn serve_with_clock<
     ensures served { IfOk result (IsServed (port.old.known.splits + 2) port.new.known.splits) }
     ensures moments { OnEnded result
         (Acted port.new (child port.old.known.number port.old.known.splits)
-        (AllMoments (M.forecast moments))) }
+        (AllMoments (M.forecast sources.0))) }
     ensures presses { OnEnded result
         (Acted port.new (child port.old.known.number (port.old.known.splits + 1))
-        (AllPresses (U.forecast buttons))) }
+        (AllPresses (U.forecast sources.1))) }
     ensures fault { IfErr result (StopsFor (IsSpent port.new) (L.has_failed listener.new)) }
 {
+    let (moments, buttons) = sources;
     let Some(running) = start_worker(rt, alloc, Clock { source: moments }, port) else {
         return Err(ServeFault::Memory);
     };
@@ -186,9 +196,7 @@ fn serve_with_sampler<
     rt: &R,
     alloc: Global,
     listener: &mut L,
-    blocks: B,
-    moments: M,
-    buttons: U,
+    sources: Sources<B, M, U>,
     port: &mut Port<Kept>,
     password: &Octets,
     limit: u64,
@@ -204,19 +212,24 @@ fn serve_with_sampler<
     ensures served { IfOk result (IsServed (port.old.known.splits + 3) port.new.known.splits) }
     ensures blocks { OnEnded result
         (Acted port.new (child port.old.known.number port.old.known.splits)
-        (AllBlocks (B.forecast blocks))) }
+        (AllBlocks (B.forecast sources.blocks))) }
     ensures moments { OnEnded result
         (Acted port.new (child port.old.known.number (port.old.known.splits + 1))
-        (AllMoments (M.forecast moments))) }
+        (AllMoments (M.forecast sources.moments))) }
     ensures presses { OnEnded result
         (Acted port.new (child port.old.known.number (port.old.known.splits + 2))
-        (AllPresses (U.forecast buttons))) }
+        (AllPresses (U.forecast sources.buttons))) }
     ensures fault { IfErr result (StopsFor (IsSpent port.new) (L.has_failed listener.new)) }
 {
+    let Sources {
+        blocks,
+        moments,
+        buttons,
+    } = sources;
     let Some(running) = start_worker(rt, alloc, Sampler { source: blocks }, port) else {
         return Err(ServeFault::Memory);
     };
-    let served = serve_with_clock(rt, alloc, listener, moments, buttons, port, password, limit);
+    let served = serve_with_clock(rt, alloc, listener, (moments, buttons), port, password, limit);
     join_both(rt, running, port, served)
 }
 
@@ -294,9 +307,12 @@ pub fn serve_all<
         (Acted r.0 (child port.known.number (port.known.splits + 2))
         (AllPresses (U.forecast buttons)))) }
 {
-    let served = serve_with_sampler(
-        rt, alloc, listener, blocks, moments, buttons, &mut port, password, limit,
-    );
+    let sources = Sources {
+        blocks,
+        moments,
+        buttons,
+    };
+    let served = serve_with_sampler(rt, alloc, listener, sources, &mut port, password, limit);
     port.has_a_legal_history();
     match served {
         Ok(served) => Ok((port, served)),

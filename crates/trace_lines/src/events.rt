@@ -46,7 +46,7 @@ fn get_list(alloc: Global, words: &mut Words) -> Result<Event, RowFault>
     ensures { Gives Memory (λ event. event) result (get_list_from words.old) }
 {
     let level = next_level(words)?;
-    let count = number_in(next_word(words)?, MAX_ITEMS as u64)? as usize;
+    let count = number_in(next_word(words)?, MAX_ITEMS as u32)? as usize;
     let items = selections(alloc, words)?;
     if items.len() != count {
         return Err(RowFault::Wrong);
