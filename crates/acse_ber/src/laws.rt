@@ -14,15 +14,15 @@ ghost use Rattle.cosem_names.specs.declared.level.Level.TheVariants.{Public, Man
 
 use crate::release::{RELEASE_REQUEST, RELEASE_RESPONSE};
 
-/// The written text of an AARQ that fits spells it and is read back. An AARQ fits if its fields
-/// have at most 65,535 bytes.
+/// Proves that the written text of an AARQ that fits spells it and is read back. An AARQ fits if
+/// its fields have at most 65,535 bytes.
 pub fn text_of_fit_aarq_spells()
     ensures fit { (aarq : Aarq) → IsFitAarq aarq → SpellsAarq (aarq_text aarq) aarq }
     ensures read_back { (aarq : Aarq) → IsFitAarq aarq → aarq_of (aarq_text aarq) ≡ Ok aarq }
 {}
 
-/// Every AARQ spelled by at most 65,535 bytes fits, so its written text spells it. A frame's header
-/// can announce no more bytes.
+/// Proves that every AARQ spelled by at most 65,535 bytes fits, so that its written text spells it.
+/// A frame's header can announce no more bytes.
 ///
 /// If a longer AARQ names a mechanism without the ACSE requirements, its written text may be too
 /// long by the four bytes of these requirements.
@@ -33,14 +33,14 @@ pub fn spelled_aarq_is_fit()
         → SpellsAarq bytes aarq → SpellsAarq (aarq_text aarq) aarq }
 {}
 
-/// The written text of an AARE that fits spells it and is read back. An AARE fits if its numbers
-/// are in the ranges of their fields and, if it accepts, it has an InitiateResponse.
+/// Proves that the written text of an AARE that fits spells it and is read back. An AARE fits if
+/// its numbers are in the ranges of their fields and, if it accepts, it has an InitiateResponse.
 pub fn text_of_fit_aare_spells()
     ensures fit { (aare : Aare) → IsFitAare aare → SpellsAare (aare_text aare) aare }
     ensures read_back { (aare : Aare) → IsFitAare aare → aare_of (aare_text aare) ≡ Ok aare }
 {}
 
-/// Every AARE spelled by bytes fits, so its written text spells it.
+/// Proves that every AARE spelled by bytes fits, so that its written text spells it.
 pub fn spelled_aare_is_fit()
     ensures fit { (bytes : List ℕ) (aare : Aare) → IsBytes bytes → SpellsAare bytes aare
         → IsFitAare aare }
@@ -48,7 +48,7 @@ pub fn spelled_aare_is_fit()
         → SpellsAare (aare_text aare) aare }
 {}
 
-/// No spelling is a proper prefix of another, and no bytes spell two values.
+/// Proves that no spelling is a proper prefix of another, and that no bytes spell two values.
 pub fn no_spelling_begins_another()
     ensures aarq { (bytes rest : List ℕ) (one other : Aarq) → SpellsAarq bytes one
         → SpellsAarq (bytes ++ rest) other → (rest ≡ []) × (one ≡ other) }
@@ -58,14 +58,14 @@ pub fn no_spelling_begins_another()
         → rest ≡ [] }
 {}
 
-/// No form of a length is shorter than the written one.
+/// Proves that no form of a length is shorter than the written one.
 pub fn written_length_is_shortest()
     ensures { (bytes : List ℕ) (n : ℕ) → IsBytes bytes → IsLength bytes n
         → length (length_text n) ≤ length bytes }
 {}
 
-/// A management association is opened only from port 1, with low-level security and the password; a
-/// public client's association only from port 16.
+/// Proves that a management association is opened only from port 1, with low-level security and the
+/// password, and a public client's association only from port 16.
 ///
 /// The AARQ of a management client with the password is accepted if it proposes a service that the
 /// meter offers and a size that is large enough or unlimited.
@@ -81,8 +81,8 @@ pub fn management_needs_the_password()
         ≡ Accepted Management (bit_and offered_services bits) limit }
 {}
 
-/// The RLRQ that a client sends and the RLRE that answers it have the reason normal, and the former
-/// is a valid RLRQ.
+/// Proves that the RLRQ that a client sends and the RLRE that answers it have the reason normal,
+/// and that the former is a valid RLRQ.
 pub fn release_is_normal()
     ensures request { RELEASE_REQUEST ≡ release_request }
     ensures response { RELEASE_RESPONSE ≡ release_response }

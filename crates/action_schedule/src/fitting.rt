@@ -5,24 +5,24 @@ ghost use Rattle.action_schedule.specs.Fitting.{is_same_time, have_one_time, hav
 use crate::kind::ScheduleType;
 use cosem_datetime::{EntryPattern, TimePattern};
 
-/// How many seconds before a moment entries are searched for: a day.
+/// The greatest number of seconds that are searched before a moment: a day.
 pub const SECONDS_LOOKED_BACK: u32 = 86_400;
 
-// Whether two times are written in the same way.
+// Returns whether two times are written in the same way.
 fn is_same_time(one: &TimePattern, other: &TimePattern) -> bool
     ensures { result ≡ is_same_time one.now other.now }
 {
     one.same_time(other)
 }
 
-// Whether all entries have this time.
+// Returns whether all entries have this time.
 fn have_time(time: &TimePattern, entries: &[EntryPattern]) -> bool
     ensures { result ≡ list_all (λ entry. is_same_time time.now entry.time) entries.now }
 {
     entries.iter().all(|entry| is_same_time(time, &entry.time))
 }
 
-// Whether all entries have the same time.
+// Returns whether all entries have the same time.
 fn have_one_time(entries: &[EntryPattern]) -> bool
     ensures { result ≡ have_one_time entries.now }
 {
@@ -32,14 +32,14 @@ fn have_one_time(entries: &[EntryPattern]) -> bool
     }
 }
 
-// Whether no date has a wildcard.
+// Returns whether no date has a wildcard.
 fn have_plain_dates(entries: &[EntryPattern]) -> bool
     ensures { result ≡ have_plain_dates entries.now }
 {
     entries.iter().all(|entry| entry.date_is_plain())
 }
 
-// Whether entries are allowed for a type of schedule.
+// Returns whether entries are allowed for a type of schedule.
 pub(crate) fn fits_type(kind: ScheduleType, entries: &[EntryPattern]) -> bool
     ensures { result ≡ fits_type kind entries.now }
 {
@@ -60,7 +60,7 @@ pub(crate) fn window_start(previous: u32, now: u32) -> u32
     previous.max(now.saturating_sub(SECONDS_LOOKED_BACK))
 }
 
-// Whether some second after `after` and up to `upto` matches one of the entries.
+// Returns whether a second after `after` and up to and including `upto` matches one of the entries.
 pub(crate) fn has_match(entries: &[EntryPattern], after: u32, upto: u32) -> bool
     ensures { result ≡ has_match entries.now after upto }
 {

@@ -157,7 +157,7 @@ impl ActionSchedule {
         self.entries.as_slice()
     }
 
-    /// Whether the entries are allowed for the schedule's type.
+    /// Returns whether the entries are allowed for the schedule's type.
     #[tactic(auto, unfolding(crate::specs::Fitting::fits))]
     pub fn fits(&self) -> bool
         ensures { result ≡ fits self.now }
@@ -165,7 +165,8 @@ impl ActionSchedule {
         fits_type(self.kind, self.entries.as_slice())
     }
 
-    // Whether the schedule fits its type and some second of the window matches one of its entries.
+    // Returns whether the schedule fits its type and a second of the window matches one of its
+    // entries.
     #[tactic(auto, unfolding(crate::specs::Fitting::is_due, crate::specs::Fitting::fits))]
     fn falls_due(&self, previous: u32, now: u32) -> bool
         ensures { result ≡ is_due self.now previous now }
@@ -173,8 +174,8 @@ impl ActionSchedule {
         self.fits() && has_match(self.entries.as_slice(), window_start(previous, now), now)
     }
 
-    /// Whether the schedule is due at the moment `now`; `previous` is the moment before (both in
-    /// seconds since 1 January 2000).
+    /// Returns whether the schedule is due at the moment `now`; `previous` is the moment before
+    /// (both in seconds since 1 January 2000).
     ///
     /// The schedule is due if it fits its type and some second after `previous` and up to `now`
     /// matches one of its entries. Seconds a day or more before `now` do not count.

@@ -34,7 +34,7 @@ impl<'a> Cursor<'a> {
         rest
     }
 
-    /// Whether all bytes are read.
+    /// Returns whether all bytes are read.
     pub fn is_empty(&self) -> bool
         ensures { IsTrue result ↔ (self.now ≡ []) }
     {

@@ -11,7 +11,7 @@ use std::io::{ErrorKind, Read, Write};
 // The number of tries of a read that a signal interrupts.
 const MOST_TRIES: u32 = 1_000;
 
-// Whether a read that failed with this error is retried: only if a signal interrupted it.
+// Returns whether a read that failed with this error is retried: only if a signal interrupted it.
 fn is_tried_again(kind: ErrorKind) -> bool
     ensures { IsTrue result ↔ (kind ≡ ErrorKind.Interrupted) }
 {
@@ -56,7 +56,7 @@ impl<T> Counted<T> {
         self.reads
     }
 
-    /// Whether a read or a write has failed.
+    /// Returns whether a read or a write has failed.
     pub fn has_failed(&self) -> bool
         ensures { result ≡ has_failed self.now }
     {

@@ -27,7 +27,7 @@ impl<T> Monitored<T> {
         }
     }
 
-    /// Whether a read has failed.
+    /// Returns whether a read has failed.
     pub fn has_failed(&self) -> bool
         ensures { result ≡ has_failed self.now }
     {

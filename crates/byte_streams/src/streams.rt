@@ -6,7 +6,7 @@ use crate::fault::StreamFault;
 
 /// A source of bytes.
 pub trait Reader {
-    // The bytes that further reads will return, if they are known.
+    // Ghost value: the bytes that further reads will return, if they are known.
     ghost remaining: { Self → Option (List ℕ) } = { λ _. None };
 
     // The number of successful reads.
@@ -15,7 +15,7 @@ pub trait Reader {
     // The number of failed reads.
     ghost failures: { Self → ℕ };
 
-    // Whether it can be read. After its first failure a reader may be unusable.
+    // Ghost predicate: the reader can be read. It may become false at the first failure.
     ghost can_read: { Self → Type 0 } = { λ _. ⊤ };
 
     /// Reads into the buffer and returns the number of bytes read: 0 at the end of the bytes, or if
@@ -33,13 +33,13 @@ pub trait Reader {
 
 /// A destination of bytes.
 pub trait Writer {
-    // The bytes written so far, if they are known.
+    // Ghost value: the bytes written so far, if they are known.
     ghost contents: { Self → Option (List ℕ) } = { λ _. None };
 
     // The number of failed writes.
     ghost failures: { Self → ℕ };
 
-    // Whether it can be written. After its first failure a writer may be unusable.
+    // Ghost predicate: the writer can be written. It may become false at the first failure.
     ghost can_write: { Self → Type 0 } = { λ _. ⊤ };
 
     /// Writes all the bytes. If it fails, some of them may have been written.

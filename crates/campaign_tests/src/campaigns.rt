@@ -20,7 +20,7 @@ const REPORT: &[u8] = b"m1 done 0\nm2 rejected 13\nm3 unknown\nm4 refused 2\nm5 
 /// The four meters, and a name at whose address there is none.
 pub(crate) const FIVE: &[&[u8]] = &[b"m1", b"m2", b"m3", b"m4", b"m5"];
 
-/// Whether this is the text of a report.
+/// Returns whether this is the text of a report.
 fn reported(alloc: Global, lines: &Report, text: &[u8]) -> Result<bool, AllocError> {
     let told = report(alloc, lines)?;
     let same = told.as_slice() == text;
@@ -115,7 +115,7 @@ fn none_is_told<R: Threads + Sync>(rt: &R, alloc: Global) -> Result<bool, AllocE
     told
 }
 
-/// Whether a report of five lines is the same once its lines were taken out and put back.
+/// Returns whether a report of five lines is the same once its lines were taken out and put back.
 fn is_put_back(alloc: Global, report: Report) -> Result<bool, AllocError> {
     let has_five = report.len() == 5 && !report.is_empty();
     let lines = report.into_vec();
@@ -126,7 +126,8 @@ fn is_put_back(alloc: Global, report: Report) -> Result<bool, AllocError> {
     Ok(has_five && has_all && same?)
 }
 
-/// Whether that holds of the report of the five jobs.
+/// Returns whether the report of the five jobs is the same once its lines were taken out and put
+/// back.
 fn five_are_put_back<R: Threads + Sync>(rt: &R, alloc: Global) -> Result<bool, AllocError> {
     let jobs = jobs_named(alloc, FIVE)?;
     let lines = lines_of(rt, alloc, &jobs, 2, 7);

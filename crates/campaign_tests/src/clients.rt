@@ -63,7 +63,7 @@ const REFUSED: [u8; 12] = [
     0x00, 0x01, 0x00, 0x01, 0x00, 0x01, 0x00, 0x04, 0xC7, 0x01, 0xC1, 0x02,
 ];
 
-/// What happens to a client, or what must hold of it.
+/// An action on a client, or a check of its state.
 #[derive(Clone, Copy)]
 enum Step {
     /// A payload arrives from one port to port 1.

@@ -113,7 +113,7 @@ fn a_thousand_are_read(alloc: Global) -> Result<bool, AllocError> {
     read
 }
 
-/// Whether the two jobs of the text are the same as a list, and as jobs again.
+/// Returns whether the two jobs of the text are the same as a list, and as jobs again.
 fn are_listed(jobs: Jobs) -> bool {
     let has_two = jobs.len() == 2 && !jobs.is_empty();
     let list = jobs.into_listed();
@@ -140,7 +140,7 @@ fn jobs_are_a_list(rt: HostRuntime) -> Result<(), Fail> {
     Ok(())
 }
 
-/// How many jobs 1,048,577 empty lines have.
+/// Returns the number of jobs in 1,048,577 empty lines.
 fn count_of_a_long_text(alloc: Global) -> Result<Option<usize>, AllocError> {
     let long = vec![in alloc; b'\n'; 1_048_577]?;
     let count = count_of(alloc, long.as_slice());

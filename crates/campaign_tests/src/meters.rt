@@ -1,4 +1,4 @@
-//! What the meters of the tests answer, and what they must receive.
+//! The answers of the tests' meters, and the bytes that they must receive.
 ghost use Rattle.std.specs.Prelude.{IfOk};
 ghost use Rattle.acse_ber.specs.Password.{IsPassword};
 
@@ -86,7 +86,7 @@ fn add_jobs(alloc: Global, names: &[&[u8]], jobs: &mut Listed<Job>) -> Result<()
     Ok(())
 }
 
-/// Disconnect jobs of these names, each at the address of its name.
+/// Returns disconnect jobs with these names, each at the address of its name.
 pub(crate) fn jobs_named(alloc: Global, names: &[&[u8]]) -> Result<Jobs, AllocError> {
     let mut jobs = Listed::new(alloc);
     match add_jobs(alloc, names, &mut jobs) {
@@ -98,7 +98,7 @@ pub(crate) fn jobs_named(alloc: Global, names: &[&[u8]]) -> Result<Jobs, AllocEr
     }
 }
 
-/// The password 12345678.
+/// Returns the password 12345678.
 pub(crate) fn password(alloc: Global) -> Result<Octets, AllocError>
     ensures { IfOk result IsPassword }
 {

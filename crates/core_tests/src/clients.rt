@@ -28,7 +28,7 @@ const RECONNECT: &str = "000100010001000FC301C10046000060030AFF02010F00";
 
 const ACTION_DONE: &str = "0001000100010005C701C10000";
 
-/// What a client sends, the answer, and the meter's state after it.
+/// A frame of a client, the answer, and the meter's state after it.
 static TALK: [(&str, &str, Standing); 5] = [
     (AARQ, AARE, (1, 0, true)),
     (SET_MODE_1, SET_DONE, (1, 1, true)),
@@ -37,7 +37,7 @@ static TALK: [(&str, &str, Standing); 5] = [
     (RECONNECT, ACTION_DONE, (2, 1, false)),
 ];
 
-/// Whether the bytes fed to a session have exactly this frame as their answer.
+/// Returns whether the bytes fed to a session have exactly this frame as their answer.
 fn is_answered(
     alloc: Global,
     meter: &mut SupplyMeter,
@@ -52,7 +52,8 @@ fn is_answered(
     Ok(given == Given::Frame(answer.len()) && buffer.starts_with(answer) && rest == Given::Wait)
 }
 
-/// Whether the bytes fed to a session have exactly this frame as their answer, both in hexadecimal.
+/// Returns whether the bytes fed to a session have exactly this frame as their answer, both in
+/// hexadecimal.
 fn is_text_answered(
     alloc: Global,
     meter: &mut SupplyMeter,
@@ -68,8 +69,8 @@ fn is_text_answered(
     Ok(is_so?)
 }
 
-/// A client disconnects the supply and then makes it ready for reconnection; the button restores
-/// it.
+/// Disconnects the supply as a client and makes it ready for reconnection; then the button
+/// reconnects it.
 fn talk(rt: &impl Abort, alloc: Global, meter: &mut SupplyMeter) -> Result<(), Fail> {
     meter.open_session(alloc, 3)?;
     for (asked, answer, stands) in &TALK {
@@ -117,7 +118,7 @@ fn a_frame_without_room_stays_due(rt: HostRuntime) -> Result<(), Fail> {
     done
 }
 
-/// Whether each call on a session returns that it is not open.
+/// Returns whether each call on a session returns that it is not open.
 fn is_none(alloc: Global, meter: &mut SupplyMeter, session: u8) -> bool {
     meter.feed(session, b"\x00") == Err(MeterFault::NoSession)
         && meter.next(alloc, session, &mut []) == Err(MeterFault::NoSession)

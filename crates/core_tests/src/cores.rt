@@ -99,7 +99,7 @@ fn code_of(core: &mut RelayCore, alloc: Global, event: &Event) -> Result<u8, All
     Ok(told)
 }
 
-/// Whether a core's reply to a write of encoded Data is Success.
+/// Returns whether a core's reply to a write of encoded Data is Success.
 fn takes(
     core: &mut RelayCore,
     alloc: Global,
@@ -112,7 +112,7 @@ fn takes(
     Ok(told? == 0)
 }
 
-/// Whether a core's replies to all these writes are Success.
+/// Returns whether a core's replies to all these writes are Success.
 fn takes_all(
     core: &mut RelayCore,
     alloc: Global,
@@ -143,7 +143,7 @@ enum Scenario {
     Firing(&'static scan::Firing, Option<u32>),
 }
 
-/// Whether a core behaves as the scenario expects.
+/// Returns whether a core behaves as the scenario expects.
 fn does(core: &mut RelayCore, alloc: Global, scenario: Scenario) -> Result<bool, AllocError> {
     match scenario {
         Scenario::Advancing => advance::advances(core, alloc),
@@ -155,8 +155,8 @@ fn does(core: &mut RelayCore, alloc: Global, scenario: Scenario) -> Result<bool,
     }
 }
 
-/// Whether a new core behaves as the scenario expects. Cores are dropped only here, because proving
-/// that a core may be dropped takes long.
+/// Returns whether a new core behaves as the scenario expects. Cores are dropped only here, because
+/// proving that a core may be dropped takes long.
 fn is_done(alloc: Global, scenario: Scenario) -> Result<bool, AllocError> {
     let mut core = new_core(alloc)?;
     let done = does(&mut core, alloc, scenario);

@@ -99,7 +99,7 @@ fn take(rt: &impl Abort, alloc: Global, meter: &mut SupplyMeter) -> Result<(), F
     Ok(())
 }
 
-/// Whether the meter's trace ends with those samples and moments.
+/// Returns whether the meter's trace ends with those samples and moments.
 fn is_told(alloc: Global, meter: &SupplyMeter) -> Result<bool, AllocError> {
     let text = meter.export(alloc)?;
     let is_so = text.as_slice().ends_with(OWN_EVENTS);

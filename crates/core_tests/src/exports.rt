@@ -79,7 +79,7 @@ fn played_codes(alloc: Global, trace: &Trace) -> Result<Vec<u8>, AllocError> {
     }
 }
 
-/// Whether a trace has `count` events and plays to the last of these codes.
+/// Returns whether a trace has `count` events and plays to the last of these codes.
 fn trace_plays_to(
     alloc: Global,
     trace: &Trace,
@@ -90,7 +90,8 @@ fn trace_plays_to(
     Ok(last.len() == usize::from(count) && codes.ends_with(last.as_slice()))
 }
 
-/// Whether a run of a recorder's export ends with the last of these codes, one for each kept event.
+/// Returns whether a run of a recorder's export ends with the last of these codes, one for each
+/// kept event.
 fn plays_to(alloc: Global, recorder: &Recorder, codes: &[u8]) -> Result<bool, AllocError> {
     let trace = recorder.export(alloc)?;
     let plays = trace_plays_to(alloc, &trace, recorder.count(), codes);

@@ -53,7 +53,7 @@ pub(crate) fn resumed(
     meter
 }
 
-/// Whether `Debug` writes the same for two meters.
+/// Returns whether `Debug` writes the same for two meters.
 fn are_shown_alike(
     alloc: Global,
     one: &SupplyMeter,

@@ -37,7 +37,7 @@ fn prepared(alloc: Global, request: &[u8], reply: &Reply) -> Result<Octets, Allo
     }
 }
 
-/// Whether the bytes are those of a text in hexadecimal.
+/// Returns whether the bytes are those of a text in hexadecimal.
 fn is_text(alloc: Global, text: &str, bytes: &[u8]) -> Result<bool, Fail> {
     let wanted = hex::decode(alloc, text)?;
     let is_so = wanted.as_slice() == bytes;
@@ -45,7 +45,7 @@ fn is_text(alloc: Global, text: &str, bytes: &[u8]) -> Result<bool, Fail> {
     Ok(is_so)
 }
 
-/// Whether the prepared answer to a request is this answer, both in hexadecimal.
+/// Returns whether the prepared answer to a request is this answer, both in hexadecimal.
 fn is_answered(alloc: Global, request: &str, reply: &Reply, answer: &str) -> Result<bool, Fail> {
     let request = hex::decode(alloc, request)?;
     let text = prepared(alloc, request.as_slice(), reply);

@@ -20,7 +20,7 @@ const MANAGEMENT: (&str, &str) = (
     "000100010001002B6129A109060760857405080101A203020100A305A103020100BE10040E0800065F1F0400001C1904000007",
 );
 
-/// What a session needs after it was given what it needed last.
+/// The next need of a session after its last one was met.
 #[derive(Clone, Copy)]
 enum Left {
     /// Something else than input.
@@ -165,7 +165,7 @@ fn run(alloc: Global, input: &[u8], size: usize, sent: &mut Octets) -> Result<Le
     left
 }
 
-/// Whether an input in pieces of this size has these answers and this end.
+/// Returns whether an input in pieces of this size has these answers and this end.
 fn is_answered(
     alloc: Global,
     input: &[u8],
@@ -183,7 +183,7 @@ fn is_answered(
     }
 }
 
-/// Whether an input has these answers and this end, in one piece and byte by byte.
+/// Returns whether an input has these answers and this end, in one piece and byte by byte.
 fn is_answered_so(
     alloc: Global,
     input: &[u8],
@@ -224,7 +224,7 @@ fn add_frames(
     Ok(())
 }
 
-/// Whether these frames have these answers and this end, in one piece and byte by byte.
+/// Returns whether these frames have these answers and this end, in one piece and byte by byte.
 fn are_answered(alloc: Global, frames: Frames, end: SessionEnd) -> Result<bool, AllocError> {
     let mut input = Octets::new(alloc);
     let mut expected = Octets::new(alloc);
@@ -329,7 +329,7 @@ fn add_long_opening(alloc: Global, input: &mut Octets) -> Result<(), AllocError>
     add_hex(alloc, input, "BE10040E01000000065F1F0400007E1F04B0")
 }
 
-/// Whether a long AARQ has the usual AARE, and a read of the state after it is answered.
+/// Returns whether a long AARQ has the usual AARE, and a read of the state after it is answered.
 fn is_long_opening_answered(alloc: Global) -> Result<bool, AllocError> {
     let mut input = Octets::new(alloc);
     let mut expected = Octets::new(alloc);
@@ -521,7 +521,7 @@ fn wrong_headers_and_cuts_end_the_session(rt: HostRuntime) {
     assert!(rt; matches!(all_end(rt.alloc(), UNANSWERED), Ok(true)));
 }
 
-/// Whether a session waits for input, and `is_idle` returned true before.
+/// Returns whether a session waits for input, and `is_idle` returned true before.
 fn waits(alloc: Global, session: &mut Session) -> Result<bool, AllocError> {
     let is_idle = session.is_idle();
     let next = session.next(alloc)?;
@@ -530,7 +530,7 @@ fn waits(alloc: Global, session: &mut Session) -> Result<bool, AllocError> {
     Ok(is_idle && waits && !session.asking())
 }
 
-/// Whether a session is over because of a header of another version, and is not idle.
+/// Returns whether a session is over because of a header of another version, and is not idle.
 fn is_over(alloc: Global, session: &mut Session) -> Result<bool, AllocError> {
     let is_idle = session.is_idle();
     let next = session.next(alloc)?;
@@ -539,7 +539,7 @@ fn is_over(alloc: Global, session: &mut Session) -> Result<bool, AllocError> {
     Ok(is_over && !is_idle)
 }
 
-/// Whether a frame of another version ends a session that waits, and the session stays over
+/// Returns whether a frame of another version ends a session that waits, and the session stays over
 /// whatever it is fed.
 fn says_so_again(alloc: Global, session: &mut Session) -> Result<bool, AllocError> {
     let waits = waits(alloc, session)?;
@@ -549,7 +549,8 @@ fn says_so_again(alloc: Global, session: &mut Session) -> Result<bool, AllocErro
     Ok(waits && ends && is_over(alloc, session)?)
 }
 
-/// Whether a frame of another version ends a new session that waits, and the session stays over.
+/// Returns whether a frame of another version ends a new session that waits, and the session stays
+/// over.
 fn a_new_one_says_so_again(alloc: Global) -> Result<bool, AllocError> {
     let mut session = new_session(alloc)?;
     let says_so = says_so_again(alloc, &mut session);
@@ -562,7 +563,8 @@ fn a_session_that_is_over_says_so_again(rt: HostRuntime) {
     assert!(rt; matches!(a_new_one_says_so_again(rt.alloc()), Ok(true)));
 }
 
-/// Whether `Debug` writes only the name of a session's type, because the session has a password.
+/// Returns whether `Debug` writes only the name of a session's type, because the session has a
+/// password.
 fn is_shown_by_name(alloc: Global, session: &Session) -> Result<bool, AllocError> {
     let text = format!(in alloc; "{session:?}")?;
     let is_same = text.as_str() == "Session { .. }";
@@ -636,7 +638,7 @@ fn answer_public(
     answer_shortly(alloc, core, session)
 }
 
-/// Whether a frame of the public client has this answer from a new meter, by `next_get` and
+/// Returns whether a frame of the public client has this answer from a new meter, by `next_get` and
 /// `answer_get`.
 fn is_answered_shortly(alloc: Global, request: &str, answer: &str) -> Result<bool, AllocError> {
     let mut session = new_session(alloc)?;

@@ -18,7 +18,7 @@ impl EntryPattern {
     ghost use Rattle.cosem_datetime.specs.Matching.{matches, matches_in, is_plain};
     ghost use Rattle.cosem_datetime.specs.First.{TellsPassing};
 
-    /// Whether the entry matches a second of the meter's time.
+    /// Returns whether the entry matches a second of the meter's time.
     #[tactic(auto, using(crate::proofs::Jiff::first_day_is), unfolding(crate::specs::Matching::matches))]
     pub fn matches(&self, second: u32) -> bool
         ensures { result ≡ matches self.now second }
@@ -27,8 +27,8 @@ impl EntryPattern {
             && self.time.matches_second(second % SECONDS_OF_DAY)
     }
 
-    /// Whether the entry matches some second of `(after, upto]`: after `after`, up to and including
-    /// `upto`.
+    /// Returns whether the entry matches some second of `(after, upto]`: after `after`, up to and
+    /// including `upto`.
     pub fn matches_in(&self, after: u32, upto: u32) -> bool
         ensures value { result ≡ matches_in self.now after upto }
         ensures seconds { IsTrue result
@@ -37,14 +37,15 @@ impl EntryPattern {
         after < upto && self.matches_within(after + 1, upto)
     }
 
-    /// Whether year, month and day of the month are plain numbers. The weekday does not count.
+    /// Returns whether year, month and day of the month are plain numbers. The weekday does not
+    /// count.
     pub fn date_is_plain(&self) -> bool
         ensures { result ≡ is_plain self.now.date }
     {
         self.date.is_plain()
     }
 
-    // Whether the entry matches some second from `first` to `last`, both included.
+    // Returns whether the entry matches some second from `first` to `last`, both included.
     fn matches_within(&self, first: u32, last: u32) -> bool
         ensures { TellsPassing (matches self.now) first last result }
     {
@@ -59,8 +60,8 @@ impl EntryPattern {
         false
     }
 
-    // Whether the entry matches some second of a day from `from` to `to`, both included. Day 0 is
-    // 1 January 2000.
+    // Returns whether the entry matches some second of a day from `from` to `to`, both included.
+    // Day 0 is 1 January 2000.
     fn matches_on(&self, day: u32, from: u32, to: u32) -> bool
         requires day { day ≤ 49710 }
         requires from { from < 86400 }

@@ -28,7 +28,7 @@ pub(crate) fn byte_of(field: Option<u8>) -> u8
     field.unwrap_or(NOT_SPECIFIED)
 }
 
-// Whether a field is the number, or not specified.
+// Returns whether a field is the number, or not specified.
 pub(crate) fn field_holds(field: Option<u8>, number: u32) -> bool
     ensures { result ≡ holds field number }
 {

@@ -157,8 +157,8 @@ impl TimePattern {
         ]
     }
 
-    /// Whether both have the same hour, minute and second as written. An unspecified field equals
-    /// only an unspecified field; hundredths do not count.
+    /// Returns whether both have the same hour, minute and second as written. An unspecified field
+    /// equals only an unspecified field; hundredths do not count.
     pub fn same_time(&self, other: &TimePattern) -> bool
         ensures { IsTrue result
             ↔ (((self.now.hour ≡ other.now.hour) × (self.now.minute ≡ other.now.minute))
@@ -167,7 +167,7 @@ impl TimePattern {
         self.hour == other.hour && self.minute == other.minute && self.second == other.second
     }
 
-    // Whether the time matches a second of the day.
+    // Returns whether the time matches a second of the day.
     #[tactic(auto, unfolding(crate::specs::Matching::time_matches))]
     pub(crate) fn matches_second(&self, second: u32) -> bool
         ensures { result ≡ time_matches self.now second }
@@ -204,7 +204,7 @@ impl TimePattern {
         Some(3600 * hour + second)
     }
 
-    // Whether the time matches some second of the day from `from` to `to`, both included.
+    // Returns whether the time matches some second of the day from `from` to `to`, both included.
     pub(crate) fn matches_between(&self, from: u32, to: u32) -> bool
         requires from { from < 86400 }
         requires to { to < 86400 }

@@ -100,7 +100,7 @@ pub fn rights(level: Level, reference: &AttrRef) -> Rights
     }
 }
 
-/// Whether a client of this level may execute a method. False if there is no such method.
+/// Returns whether a client of this level may execute a method. False if there is no such method.
 #[tactic(auto, unfolding(crate::specs::Objects::may_execute_of))]
 pub fn may_execute(level: Level, reference: &MethodRef) -> bool
     ensures { result ≡ may_execute_of level reference.now }

@@ -5,7 +5,7 @@ ghost use Rattle.cosem_names.specs.WriteFault.{is_unmatched, fault_of_items};
 use crate::write_fault::WriteFault;
 use cosem_axdr::Data;
 
-// Whether reading failed because of a wrong type.
+// Returns whether reading failed because of a wrong type.
 fn is_unmatched<X>(given: &Result<X, WriteFault>) -> bool
     ensures { result ≡ is_unmatched given.now }
 {

@@ -3,8 +3,8 @@ ghost use Rattle.cosem_names.specs.Table.{objects, attributes, methods};
 
 use crate::objects::{ATTRIBUTES, METHODS, OBJECTS};
 
-/// The tables are those of the definitions: the same objects, attributes and methods in the same
-/// order, with the same classes, versions, names, numbers and rights.
+/// Proves that the tables are those of the definitions: the same objects, attributes and methods in
+/// the same order, with the same classes, versions, names, numbers and rights.
 pub fn tables_are_told()
     ensures objects { OBJECTS ≡ objects }
     ensures attributes { ATTRIBUTES ≡ attributes }

@@ -7,7 +7,7 @@ pub enum Level {
     Management,
 }
 
-/// What a client may do with an attribute.
+/// The rights of a client to an attribute.
 #[derive(Clone, Copy, Debug, PartialEq, Eq)]
 pub struct Rights {
     /// Whether it may read the attribute.

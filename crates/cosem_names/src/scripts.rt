@@ -44,7 +44,7 @@ impl NamedScript {
         })
     }
 
-    /// Whether the script is of the meter's script table.
+    /// Returns whether the script is of the meter's script table.
     pub fn is_of_the_table(&self) -> bool
         ensures { result ≡ is_of_the_table self.now }
     {

@@ -86,7 +86,7 @@ fn next(mode: ControlMode, trigger: Trigger, state: ControlState) -> Option<Cont
     }
 }
 
-// Whether the state is already what the trigger asks for.
+// Returns whether the state is already what the trigger asks for.
 fn is_done(mode: ControlMode, trigger: Trigger, state: ControlState) -> bool
     ensures { result ≡ is_target mode trigger state }
 {

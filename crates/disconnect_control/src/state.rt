@@ -1,4 +1,4 @@
-/// What the switch is and may become: control_state, attribute 3 (IEC 62056-6-2, class 70).
+/// The state of the switch: control_state, attribute 3 (IEC 62056-6-2, class 70).
 #[derive(Clone, Copy, Debug, PartialEq, Eq)]
 pub enum ControlState {
     /// 0, Disconnected: the supply is off, and only a remote reconnection changes the state.
@@ -36,8 +36,8 @@ pub enum ControlMode {
     Mode6 = 6,
 }
 
-/// What asks the switch to change: a client or a schedule (remote), a person at the meter's button
-/// (manual), or a limiter (local).
+/// A request to disconnect or reconnect the supply: from a client or a schedule (remote), from a
+/// person at the meter's button (manual), or from a limiter (local).
 #[derive(Clone, Copy, Debug, PartialEq, Eq)]
 pub enum Trigger {
     /// A client disconnects: method 1, remote_disconnect, or a script that a client executes or a

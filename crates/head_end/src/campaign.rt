@@ -1,4 +1,4 @@
-//! Many jobs at many meters, side by side.
+//! Runs many jobs at many meters in parallel, on 1 to 16 workers.
 ghost use Rattle.std.specs.Prelude.{◌≡◌, ◌+◌, ◌*◌, ◌^◌, ◌<◌, ◌≤◌, ℕ, List, Option, length, map, slice_index_or, IfOk, OnOk, OnErr};
 ghost use Rattle.std.specs.List.{All};
 ghost use Rattle.acse_ber.specs.Password.{IsPassword};
@@ -98,7 +98,7 @@ pub fn run_watched_campaign<R: Threads + Sync, C: Connector, W: Watcher>(
     Ok(Report::from_vec(lines))
 }
 
-// What all workers of a campaign share: `turns` is the number of places of each worker.
+// The values that all workers of a campaign share: `turns` is the number of places of each worker.
 #[derive(Drop)]
 struct Campaign<'a, W: Watcher> {
     jobs: &'a [Job],

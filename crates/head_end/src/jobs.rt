@@ -1,4 +1,4 @@
-//! A text of jobs: a line `NAME ADDRESS VERB` for each.
+//! Reads a list of jobs from its text, one line `NAME ADDRESS VERB` for each job.
 ghost use Rattle.std.specs.Prelude.{◌≡◌, IfOk};
 ghost use Rattle.head_end.specs.Jobs.{verb_of, is_name, is_visible, job_with, job_of, jobs_in, job_lines, jobs_of, ReadsJobs, ReadsLines, AddsJob};
 ghost use Rattle.std.specs.List.{list_all};
@@ -23,7 +23,7 @@ pub const MAX_ADDRESS: usize = 64;
 /// skipped.
 ///
 /// Errors: `Line` with the number of the first wrong line, counted from 1, even if there are too
-/// many jobs; `TooMany` if there are more than 1,000 jobs; `Memory` if it runs out.
+/// many jobs; `TooMany` if there are more than 1,000 jobs; `Memory` if out of memory.
 #[tactic(auto, unfolding(crate::specs::Jobs::jobs_of))]
 pub fn read_jobs(alloc: Global, text: &[u8]) -> Result<Jobs, JobsFault>
     ensures { ReadsJobs text.now result }
@@ -68,7 +68,7 @@ fn add_job(alloc: Global, number: u64, line: &[u8], jobs: &mut Listed<Job>) -> R
     }
 }
 
-// The job of a line, or none where the line is wrong.
+// Reads the job of a line. Returns `None` if the line is not `NAME ADDRESS VERB` with valid words.
 #[tactic(auto, unfolding(crate::specs::Jobs::job_of))]
 fn read_job(alloc: Global, line: &[u8]) -> Result<Option<Job>, AllocError>
     ensures { IfOk result (λ job. job ≡ job_of line.now) }
@@ -89,7 +89,8 @@ fn read_job(alloc: Global, line: &[u8]) -> Result<Option<Job>, AllocError>
     job_with(alloc, id, address, verb_of(verb))
 }
 
-// The job of a name, an address and a verb, or none where one of them is wrong.
+// Makes a job of a name, an address and a verb. Returns `None` if there is no verb, or if the name
+// or the address is not valid.
 fn job_with(
     alloc: Global,
     id: &[u8],
@@ -111,7 +112,7 @@ fn job_with(
     }))
 }
 
-// What a word asks for.
+// Returns the verb that a word names: `disconnect`, `reconnect` or `state`, else `None`.
 fn verb_of(word: &[u8]) -> Option<Verb>
     ensures { result ≡ verb_of word.now }
 {
@@ -126,14 +127,14 @@ fn verb_of(word: &[u8]) -> Option<Verb>
     }
 }
 
-// Whether a word has a byte, no more than so many, and none that is not seen.
+// Returns whether a word has 1 to `most` bytes, all of them visible ASCII.
 fn is_name(word: &[u8], most: usize) -> bool
     ensures { result ≡ is_name most word.now }
 {
     !word.is_empty() && word.len() <= most && all_visible(word)
 }
 
-// Whether each byte is one from 21 to 7E.
+// Returns whether each byte is visible ASCII, 21 to 7E hex.
 fn all_visible(word: &[u8]) -> bool
     ensures { result ≡ list_all is_visible word.now }
 {

@@ -1,4 +1,5 @@
-//! From a list of jobs to the text that a program prints.
+//! Returns the texts that the program prints: the number of jobs of a list, and the report of a
+//! campaign.
 ghost use Rattle.std.specs.Prelude.{◌≡◌, ◌++◌, ◌≤◌, codes, length, map, decimal, IfOk, OnErr};
 ghost use Rattle.std.specs.List.{All};
 ghost use Rattle.acse_ber.specs.Password.{IsPassword};
@@ -22,8 +23,8 @@ use std::thread::Threads;
 // A line of a report has at most 46 bytes: a name of 32, and ` rejected 255` with its end.
 const LONGEST_LINE: usize = 46;
 
-/// Returns the line `jobs N` with the number of jobs of a text, ended by the byte 0A. Errors as
-/// those of `read_jobs`.
+/// Returns the line `jobs N` with the number of jobs of a text, ended by the byte 0A. Its errors
+/// are those of `read_jobs`.
 pub fn count_jobs(alloc: Global, text: &[u8]) -> Result<Octets, JobsFault>
     ensures { CountsJobs text.now result }
 {
@@ -33,7 +34,7 @@ pub fn count_jobs(alloc: Global, text: &[u8]) -> Result<Octets, JobsFault>
     Ok(count_line(alloc, count)?)
 }
 
-// The line of a number of jobs.
+// Returns the line `jobs N` for a number of jobs, ended by the byte 0A.
 fn count_line(alloc: Global, count: usize) -> Result<Octets, AllocError>
     ensures { IfOk result (λ out. out ≡ count_text count) }
 {

@@ -39,7 +39,7 @@ fn put_line(line: &ReportLine, out: &mut Octets) -> Result<(), AllocError>
     out.push(b'\n')
 }
 
-// Appends what came of a job.
+// Appends the result of a job.
 fn put_row(row: Row, out: &mut Octets) -> Result<(), AllocError>
     ensures { OnOk result (out.new ≡ out.old ++ row_text row) }
 {

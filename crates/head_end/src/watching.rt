@@ -1,8 +1,8 @@
 use crate::row::Row;
 use client_core::Job;
 
-/// Is notified of the result of each job when it is known, by the worker that ran the job. Does not
-/// influence the results.
+/// An observer that is called with the result of each job when it is known, by the worker that ran
+/// the job. It does not influence the results.
 pub trait Watcher: Sync {
     /// Is called with a job and its result.
     fn done(&self, job: &Job, row: Row);

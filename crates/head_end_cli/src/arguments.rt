@@ -23,7 +23,7 @@ N is the diagnostic of its AARE
   NAME unknown       no valid answer came; the meter may have carried out the request
   NAME memory        out of memory; the request may have been sent";
 
-// The option `--verbose`.
+// Returns the option `--verbose`.
 fn verbose<'a>(alloc: Global) -> Arg<'a> {
     Arg::new(alloc, "verbose")
         .long("verbose")
@@ -31,7 +31,7 @@ fn verbose<'a>(alloc: Global) -> Arg<'a> {
         .action(ArgAction::SetTrue)
 }
 
-// The option `--password`.
+// Returns the option `--password`.
 fn password<'a>(alloc: Global, is_required: bool) -> Arg<'a> {
     Arg::new(alloc, "password")
         .long("password")
@@ -41,7 +41,7 @@ fn password<'a>(alloc: Global, is_required: bool) -> Arg<'a> {
         .action(ArgAction::Set)
 }
 
-// The option `--workers`.
+// Returns the option `--workers`.
 fn workers<'a>(alloc: Global) -> Arg<'a> {
     Arg::new(alloc, "workers")
         .long("workers")
@@ -51,7 +51,7 @@ fn workers<'a>(alloc: Global) -> Arg<'a> {
         .default_value("4")
 }
 
-// The option `--timeout`.
+// Returns the option `--timeout`.
 fn timeout<'a>(alloc: Global) -> Arg<'a> {
     Arg::new(alloc, "timeout")
         .long("timeout")
@@ -61,7 +61,7 @@ fn timeout<'a>(alloc: Global) -> Arg<'a> {
         .default_value("60")
 }
 
-// The option `--connect-timeout`.
+// Returns the option `--connect-timeout`.
 fn connect_timeout<'a>(alloc: Global) -> Arg<'a> {
     Arg::new(alloc, "connect-timeout")
         .long("connect-timeout")
@@ -71,7 +71,7 @@ fn connect_timeout<'a>(alloc: Global) -> Arg<'a> {
         .default_value("10")
 }
 
-// The option `--progress`.
+// Returns the option `--progress`.
 fn progress<'a>(alloc: Global) -> Arg<'a> {
     Arg::new(alloc, "progress")
         .long("progress")
@@ -79,7 +79,7 @@ fn progress<'a>(alloc: Global) -> Arg<'a> {
         .action(ArgAction::SetTrue)
 }
 
-// The command `run`. The password is required if the environment has none.
+// Returns the command `run`. Its option `--password` is required unless `has_password`.
 fn run_command<'a>(alloc: Global, has_password: bool) -> Result<Command<'a>, AllocError> {
     let made = Ok(
         Command::new(alloc, "run")
@@ -96,7 +96,7 @@ fn run_command<'a>(alloc: Global, has_password: bool) -> Result<Command<'a>, All
     with_argument(made, verbose(alloc))
 }
 
-// The command `check`.
+// Returns the command `check`.
 fn check_command<'a>(alloc: Global) -> Result<Command<'a>, AllocError> {
     Command::new(alloc, "check")
         .about(
@@ -105,7 +105,7 @@ fn check_command<'a>(alloc: Global) -> Result<Command<'a>, AllocError> {
         .arg(verbose(alloc))
 }
 
-// The program, without its commands.
+// Returns the program without its commands.
 fn program<'a>(alloc: Global) -> Result<Command<'a>, AllocError> {
     let program = Command::new(alloc, "head_end")
         .bin_name("head_end")?
@@ -116,7 +116,8 @@ fn program<'a>(alloc: Global) -> Result<Command<'a>, AllocError> {
     Ok(program)
 }
 
-/// The program with its commands. `has_password`: the environment has the password of `run`.
+/// Returns the program with its commands. `has_password` says whether the environment has the
+/// password of `run`.
 pub fn command_line<'a>(alloc: Global, has_password: bool) -> Result<Command<'a>, AllocError> {
     let program = with_subcommand(program(alloc), check_command(alloc));
     with_subcommand(program, run_command(alloc, has_password))

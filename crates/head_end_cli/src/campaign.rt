@@ -1,4 +1,4 @@
-//! `head_end run`.
+//! The command `head_end run`: its options, its jobs from standard input, and its report.
 ghost use Rattle.std.specs.Prelude.{◌≤◌, codes, IfOk, OnOk};
 ghost use Rattle.acse_ber.specs.Password.{IsPassword};
 ghost use Rattle.clap.specs.Matches.{found_of};
@@ -19,10 +19,10 @@ use std::io::{IsTerminal, Write};
 use std::thread::Threads;
 use std::time::Duration;
 
-// The variable of the environment that may have the password.
+// The environment variable that can hold the password.
 pub(crate) const PASSWORD_VARIABLE: &str = "METER_PASSWORD";
 
-// What the command line asks for.
+// The jobs and options of a campaign, all valid.
 #[derive(Drop)]
 pub(crate) struct CampaignPlan {
     pub(crate) jobs: Jobs,
@@ -35,15 +35,15 @@ pub(crate) struct CampaignPlan {
     ghost within_max: { workers ≤ 16 },
 }
 
-// The seconds of an option.
+// Returns the seconds of an option, or 0 if it has no value.
 fn seconds_of(matches: &ArgMatches<'_>, name: &str) -> u32
     ensures { IsNumber 32 (found_of matches.now) name.now result }
 {
     matches.get_one::<u32>(name).unwrap_or(0)
 }
 
-// The limit of time of an option; 0 seconds stand for none, which is as long as 32 bits of seconds
-// are.
+// Returns the time limit of an option. 0 seconds mean no limit, which is the greatest time:
+// 4,294,967,295 s.
 fn limit(matches: &ArgMatches<'_>, name: &str) -> Duration
     ensures { IsLimit (found_of matches.now) name.now result }
 {
@@ -51,7 +51,7 @@ fn limit(matches: &ArgMatches<'_>, name: &str) -> Duration
     Duration::from_secs(u64::from(if seconds == 0 { u32::MAX } else { seconds }))
 }
 
-// The limit of a connect, and that of a connection as a whole.
+// Returns the time limits of a connect and of a whole connection.
 fn limits_of(matches: &ArgMatches<'_>) -> TcpLimits
     ensures { AreLimits (found_of matches.now) result }
 {
@@ -61,21 +61,21 @@ fn limits_of(matches: &ArgMatches<'_>) -> TcpLimits
     }
 }
 
-// The number of the option `--workers`.
+// Returns the number of the option `--workers`, or 4 if it has no value.
 fn number_of_workers(matches: &ArgMatches<'_>) -> u8
     ensures { IsNumber 8 (found_of matches.now) (codes "workers") result }
 {
     matches.get_one::<u8>("workers").unwrap_or(4)
 }
 
-// How many workers there are to be, 1 to 16.
+// Returns the number of workers, 1 to 16.
 fn workers(matches: &ArgMatches<'_>) -> u8
     ensures { AreWorkers (found_of matches.now) result }
 {
     number_of_workers(matches).clamp(1, 16)
 }
 
-// A password of 1 to 32 bytes.
+// Returns the bytes of a password. Errors: `Input` if they are not 1 to 32, `Memory`.
 fn parse_password(alloc: Global, text: &str) -> Result<Octets, Fault>
     ensures { IfOk result IsPassword }
 {
@@ -89,7 +89,8 @@ fn parse_password(alloc: Global, text: &str) -> Result<Octets, Fault>
     }
 }
 
-// The password of the command line, or else of the environment.
+// Returns the password of the command line or, if it has none, of the environment. Errors: `Input`
+// if neither has one of 1 to 32 bytes, `Memory`.
 fn password(rt: &HostRuntime, matches: &ArgMatches<'_>) -> Result<Octets, Fault>
     ensures { IfOk result IsPassword }
 {
@@ -102,7 +103,8 @@ fn password(rt: &HostRuntime, matches: &ArgMatches<'_>) -> Result<Octets, Fault>
     }
 }
 
-// What the command line asks for, with the jobs on standard input.
+// Validates the options and reads the jobs on standard input. If `--verbose` is given, a line on
+// standard error describes the fault.
 pub(crate) fn plan_campaign(
     rt: &HostRuntime,
     matches: &ArgMatches<'_>,

@@ -25,11 +25,11 @@ use std::env::VarError;
 use std::io::Read;
 use std::process::ExitCode;
 
-// The greatest number of bytes of a list of jobs.
+// The maximum number of bytes of a list of jobs.
 const MAX_INPUT: usize = 1_048_576;
 
-// Returns the text on standard input. On an error, if `is_verbose`, a line on standard error says
-// where and why.
+// Reads the text on standard input. On an error, if `is_verbose`, writes a line on standard error
+// that says where and why.
 fn text_of<I: Read + Drop>(rt: &HostRuntime, input: I, is_verbose: bool) -> Result<Vec<u8>, Fault> {
     let mut reader = Counted::new(input);
     match read_to_end_within(rt.alloc(), &mut reader, MAX_INPUT) {
@@ -43,8 +43,8 @@ fn text_of<I: Read + Drop>(rt: &HostRuntime, input: I, is_verbose: bool) -> Resu
     }
 }
 
-// Returns the fault of a text that is no list of jobs. If `is_verbose`, a line on standard error
-// says where and why.
+// Returns the fault of a text that is not a list of jobs. If `is_verbose`, writes a line on
+// standard error that says where and why.
 fn report_list_fault(rt: &HostRuntime, text: &[u8], fault: JobsFault, is_verbose: bool) -> Fault {
     if is_verbose {
         let _ = eprintln!(rt; "{}", ListFault::from_jobs(text, fault));
@@ -52,7 +52,7 @@ fn report_list_fault(rt: &HostRuntime, text: &[u8], fault: JobsFault, is_verbose
     jobs_fault(fault)
 }
 
-// Returns the jobs on standard input.
+// Reads the jobs on standard input, and writes the warnings about them.
 pub(crate) fn jobs_of<I: Read + Drop>(
     rt: &HostRuntime,
     input: I,
@@ -76,7 +76,7 @@ fn warn_of_text(rt: &HostRuntime, text: &[u8]) {
     }
 }
 
-// Counts the jobs on standard input.
+// Runs `check`: prints the number of jobs on standard input, and writes the warnings about them.
 fn check(rt: &HostRuntime, is_verbose: bool) -> Result<(), Fault> {
     let text = text_of(rt, rt.stdin(), is_verbose)?;
     warn_of_text(rt, text.as_slice());
@@ -86,16 +86,16 @@ fn check(rt: &HostRuntime, is_verbose: bool) -> Result<(), Fault> {
     }
 }
 
-// What is to be done once the command line is read.
+// The next step after the command line is read.
 #[derive(Drop)]
 enum HeadEndCommand {
-    // Nothing more: the exit status.
+    // Nothing more to do; exit with this status.
     Ended(u8),
-    // A campaign.
+    // Run a campaign.
     Campaign(CampaignPlan),
 }
 
-// Does what was chosen, up to a campaign.
+// Runs `check`, or prepares the campaign of `run`.
 fn begin_command(rt: &HostRuntime, matches: &ArgMatches<'_>) -> Result<HeadEndCommand, Fault> {
     match matches.subcommand() {
         Some(("check", matches)) => {
@@ -109,8 +109,8 @@ fn begin_command(rt: &HostRuntime, matches: &ArgMatches<'_>) -> Result<HeadEndCo
     }
 }
 
-// Reads the command line and does what it asks for, up to a campaign. The exit status is 2 for a
-// command line that is wrong.
+// Reads the command line and runs its command, except that a campaign is only prepared. The exit
+// status is 2 if the command line is not valid.
 fn begin(rt: &HostRuntime) -> Result<HeadEndCommand, Fault> {
     let alloc = rt.alloc();
     let words = words(rt)?;

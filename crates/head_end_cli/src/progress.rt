@@ -14,7 +14,7 @@ pub(crate) struct CampaignProgress {
 }
 
 impl CampaignProgress {
-    // Progress of `all` jobs: none is done, and the clock starts now.
+    // Starts the count of `all` jobs, none of which is done, and notes the time.
     pub(crate) fn new(rt: &HostRuntime, all: usize) -> CampaignProgress {
         CampaignProgress {
             all,
@@ -24,8 +24,8 @@ impl CampaignProgress {
         }
     }
 
-    // An estimate of the seconds that remain, from the mean of the `done` jobs; `None` without a
-    // clock.
+    // Estimates the remaining seconds from the mean time of the `done` jobs. Returns `None` if the
+    // clock cannot be read or no job is done.
     fn seconds_to_go(&self, rt: &HostRuntime, done: usize) -> Option<u64> {
         let began = self.began?;
         let Ok(passed) = began.elapsed(rt) else {

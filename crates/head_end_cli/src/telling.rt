@@ -1,4 +1,4 @@
-//! Why standard input is not a list of jobs.
+//! The messages that `--verbose` writes if standard input is not a list of jobs.
 ghost use Rattle.std.specs.Prelude.{◌≡◌};
 ghost use Rattle.head_end_cli.specs.Faults.{input_fault, jobs_fault};
 
@@ -8,7 +8,7 @@ use program_fault::Fault;
 use thiserror::Error;
 use trace_text::{TextLines, Words};
 
-// The fault of the program if standard input cannot be read.
+// Returns the program's fault if standard input cannot be read.
 pub(crate) fn input_fault(fault: InputFault) -> Fault
     ensures { result ≡ input_fault fault }
 {
@@ -19,7 +19,7 @@ pub(crate) fn input_fault(fault: InputFault) -> Fault
     }
 }
 
-// The fault of the program if a text is not a list of jobs.
+// Returns the program's fault if a text is not a list of jobs.
 pub(crate) fn jobs_fault(fault: JobsFault) -> Fault
     ensures { result ≡ jobs_fault fault }
 {
@@ -31,7 +31,7 @@ pub(crate) fn jobs_fault(fault: JobsFault) -> Fault
 
 // Why standard input is not a list of jobs. Its message is the line that `--verbose` writes.
 //
-// Lines, bytes and jobs count from 1.
+// Lines, bytes and jobs are counted from 1.
 #[derive(Clone, Copy, Debug, PartialEq, Eq, Error)]
 pub(crate) enum ListFault {
     #[error("byte 1048577: the list has more than 1,048,576 bytes")]
@@ -139,7 +139,7 @@ fn check_word<'a>(
     }
 }
 
-// Whether a word is a verb.
+// Returns whether a word is a verb.
 fn is_verb(word: &[u8]) -> bool {
     word == b"disconnect".as_slice()
         || word == b"reconnect".as_slice()

@@ -1,4 +1,4 @@
-//! Warnings about jobs that their writer may not mean. A warning does not change what is run.
+//! Warnings about jobs that are valid but may be mistakes. A warning does not change what is run.
 use client_core::Job;
 use head_end::Jobs;
 use memchr::{memchr, memrchr};
@@ -35,8 +35,8 @@ fn warn_of_job(rt: &HostRuntime, number: u64, job: &Job) {
     }
 }
 
-// Writes the warnings about a name or an address that an earlier line has too. The job is at this
-// place in the list.
+// Writes the warnings about a name or an address that an earlier line has too. `place` is the index
+// of the job in the list.
 fn warn_of_earlier(
     rt: &HostRuntime,
     number: u64,
@@ -57,7 +57,7 @@ fn warn_of_earlier(
     }
 }
 
-// The place of the first job before `end` with this name.
+// Returns the index of the first job before `end` with this name, or `None` if there is none.
 fn first_named(jobs: &[Job], end: usize, name: &[u8]) -> Option<usize> {
     for (place, job) in jobs.iter().enumerate() {
         if place >= end {
@@ -70,7 +70,7 @@ fn first_named(jobs: &[Job], end: usize, name: &[u8]) -> Option<usize> {
     None
 }
 
-// The place of the first job before `end` with this address.
+// Returns the index of the first job before `end` with this address, or `None` if there is none.
 fn first_at(jobs: &[Job], end: usize, address: &[u8]) -> Option<usize> {
     for (place, job) in jobs.iter().enumerate() {
         if place >= end {
@@ -83,7 +83,7 @@ fn first_at(jobs: &[Job], end: usize, address: &[u8]) -> Option<usize> {
     None
 }
 
-// The number of the line of the job at a place. Empty lines have no job.
+// Returns the number of the line of the job at an index. Empty lines are skipped.
 fn line_of(text: &[u8], place: usize) -> u64 {
     let mut number: u64 = 0;
     let mut before = place;
@@ -100,8 +100,8 @@ fn line_of(text: &[u8], place: usize) -> u64 {
     number
 }
 
-// Why a text cannot be the address of a meter; `None` if it can. An address is an IP address or the
-// name of a host, a colon, and a port from 1 to 65535.
+// Returns why a text cannot be the address of a meter, or `None` if it can. An address is an IP
+// address or a host name, a colon, and a port from 1 to 65535.
 fn why_no_address(text: &[u8]) -> Option<&'static str> {
     if let Ok(address) = SocketAddr::parse_ascii(text) {
         return why_no_port(address.port() != 0);
@@ -118,7 +118,7 @@ fn why_no_address(text: &[u8]) -> Option<&'static str> {
     None
 }
 
-// What is wrong with the port of an address, if it is not valid.
+// Returns the message about the port of an address, or `None` if the port is valid.
 fn why_no_port(is_valid: bool) -> Option<&'static str> {
     if is_valid {
         None
@@ -127,7 +127,8 @@ fn why_no_port(is_valid: bool) -> Option<&'static str> {
     }
 }
 
-// Whether a text can be the name of a host: it has no colon, and a byte that no IPv4 address has.
+// Returns whether a text can be a host name: it has no colon, and at least one byte other than
+// digits and dots.
 fn is_name(host: &[u8]) -> bool {
     memchr(b':', host).is_none()
         && host
@@ -135,7 +136,7 @@ fn is_name(host: &[u8]) -> bool {
             .any(|byte| !byte.is_ascii_digit() && *byte != b'.')
 }
 
-// Whether a text is a number from 1 to 65535.
+// Returns whether a text is a number from 1 to 65535.
 fn is_port(text: &[u8]) -> bool {
     matches!(read_number(text, 65_535), Some(port) if port != 0)
 }

@@ -23,7 +23,7 @@ fn write_digits(bytes: &[u8], digits: &mut [u8])
     digits.make_ascii_uppercase();
 }
 
-// Appends bytes, a line of hexadecimal in capitals. `digits` is memory that is used again.
+// Appends bytes as a line of hexadecimal in capitals. `digits` is a buffer that calls reuse.
 fn add_line(bytes: &[u8], digits: &mut Vec<u8>, lines: &mut Vec<u8>) -> Result<(), AllocError>
     ensures { OnOk result (lines.new.items ≡ lines.old.items ++ hex_line bytes.now) }
 {
@@ -35,7 +35,7 @@ fn add_line(bytes: &[u8], digits: &mut Vec<u8>, lines: &mut Vec<u8>) -> Result<(
     Ok(())
 }
 
-// Appends a core's answer to a request, a line of hexadecimal.
+// Appends a core's answer to a request as a line of hexadecimal.
 fn add_answer(
     alloc: Global,
     core: &mut RelayCore,
@@ -71,7 +71,7 @@ fn add_answers(
     Ok(())
 }
 
-// The answers of a new meter to requests, a line of hexadecimal each.
+// Returns the answers of a new meter to requests, a line of hexadecimal each.
 pub(crate) fn answers(alloc: Global, requests: &Requests) -> Result<Vec<u8>, AllocError>
     ensures { IfOk result (λ lines. lines.items ≡ new_answers requests.now) }
 {

@@ -1,4 +1,4 @@
-//! The command `apdu`.
+//! The command `apdu`: answers each request of a text on a new meter.
 ghost use Rattle.hex_commands.specs.Apdu.{AnswersText};
 
 use crate::answers::answers;
@@ -8,13 +8,13 @@ use crate::telling::CommandFault;
 use byte_streams::{Reader, Writer};
 use std::alloc::Global;
 
-/// Answers the requests of a text, one of each line, by a new meter, whose device name is RELAY1:
-/// an answer is a line of hexadecimal in capitals. The digits of requests have either case; an
-/// empty line is none; the last line may lack its end.
+/// Answers the requests of a text, one on each line, with a new meter of the device name RELAY1.
+/// Each answer is a line of hexadecimal in capitals. Requests may have digits in either case; empty
+/// lines are skipped; the last line need not be ended.
 ///
-/// The whole text is read and all requests are judged before anything is written. Errors: `TooLong`
-/// of more than 1,048,576 bytes and `Read` while the text is read; `Odd` or `Character` of the
-/// first line that is wrong; `Write`; `Memory`. After any of them but `Write` nothing is written.
+/// The whole text is read and all requests are decoded before anything is written. Errors:
+/// `TooLong` if there are more than 1,048,576 bytes, `Read` if a read fails, `Odd` or `Character`
+/// for the first invalid line, `Write`, `Memory`. After any error but `Write` nothing is written.
 pub fn answer_text<R: Reader, W: Writer>(
     alloc: Global,
     reader: &mut R,

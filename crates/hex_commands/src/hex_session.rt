@@ -1,4 +1,4 @@
-//! The command `hex`.
+//! The command `hex`: runs the session of one client on a new meter.
 ghost use Rattle.std.specs.Prelude.{◌≡◌, ◌≤◌, length, IfOk, IfErr};
 ghost use Rattle.acse_ber.specs.Password.{IsPassword};
 ghost use Rattle.relay_core.specs.World.{IsDeviceName};
@@ -14,8 +14,8 @@ use server_options::octets_of;
 use session_serving::{HexFault, play_session, read_hex};
 use std::alloc::Global;
 
-// The bytes of an option's text. `wrong` is the fault of a text of no byte or of more than
-// `longest`.
+// Returns the bytes of an option's text. Errors: `wrong` if there are none or more than `longest`,
+// `Memory`.
 fn option_bytes(
     alloc: Global,
     text: &str,
@@ -33,7 +33,7 @@ fn option_bytes(
     }
 }
 
-// Plays the session of a client whose bytes are these.
+// Runs the session of a client that sends these bytes.
 fn play<W: Writer>(
     alloc: Global,
     input: &[u8],
@@ -55,15 +55,15 @@ fn play<W: Writer>(
     }
 }
 
-/// Plays the session of a client with a new meter of this device name, 1 to 16 bytes, in which the
-/// management client has this password, 1 to 32 bytes. The text is the client's stream in
+/// Runs the session of a client on a new meter with this device name, 1 to 16 bytes, and this
+/// password of the management client, 1 to 32 bytes. The text is the client's stream in
 /// hexadecimal, in either case, with blanks and line ends skipped; each frame that the meter sends
 /// is written as a line of hexadecimal in capitals.
 ///
-/// Errors, in this order: `Password` and `Device` of texts of another length, before anything is
-/// read; `TooLong` of more than 1,048,576 characters and `Read`; `Digit` or `OddDigits` of a text
-/// that is no pairs of digits; `Write`; `Memory` on the way. Nothing is written before the whole
-/// text is read and is pairs of digits.
+/// Errors, in this order: `Password` and `Device` if that text has another length, before anything
+/// is read; `TooLong` if there are more than 1,048,576 characters, or `Read`; `Digit` or
+/// `OddDigits` if the text is not pairs of digits; `Write`. `Memory` can occur at any point.
+/// Nothing is written before the whole text is read and decoded.
 pub fn play_text<R: Reader, W: Writer>(
     alloc: Global,
     reader: &mut R,

@@ -1,4 +1,4 @@
-//! Standard input, as `apdu` reads it.
+//! Reads the input of the command `apdu`.
 ghost use Rattle.std.specs.Prelude.{◌≤◌, length, IfOk, IfErr};
 ghost use Rattle.std.specs.Io.KnownBytes.{Consumes, IsAtEnd};
 ghost use Rattle.hex_commands.specs.Input.{StopsReading};
@@ -7,10 +7,11 @@ use crate::telling::CommandFault;
 use byte_streams::{Reader, read_to_end_within};
 use std::alloc::Global;
 
-// Standard input has at most this many bytes.
+// The maximum number of bytes of the input.
 const MAX_BYTES: usize = 1_048_576;
 
-// All bytes of an input. Errors: `TooLong` of more than 1,048,576 bytes, `Read`, `Memory`.
+// Reads all bytes of an input. Errors: `TooLong` if there are more than 1,048,576, `Read`,
+// `Memory`.
 pub(crate) fn read_all<R: Reader>(alloc: Global, reader: &mut R) -> Result<Vec<u8>, CommandFault>
     requires { R.can_read reader.now }
     ensures read { IfOk result

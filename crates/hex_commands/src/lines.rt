@@ -1,11 +1,11 @@
-//! The lines of a text.
+//! Splits a text into its lines.
 ghost use Rattle.std.specs.Prelude.{◌≡◌, ◌∷◌, [], MatchOption};
 ghost use Rattle.trace_text.specs.Parts.{parts_at};
 
 use memchr::memchr;
 
-// The first line of a text, without the byte 0A that ends it, and the text after it. `None` of a
-// text without that byte.
+// Returns the first line of a text, without the byte 0A that ends it, and the text after it.
+// Returns `None` if the text has no such byte.
 #[tactic(auto, using(trace_text::proofs::Cuts::parts_whole, trace_text::proofs::Cuts::parts_cut))]
 pub(crate) fn cut_line(text: &[u8]) -> Option<(&[u8], &[u8])>
     ensures { MatchOption result (parts_at 10 text.now ≡ text.now ∷ [])

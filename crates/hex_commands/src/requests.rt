@@ -1,4 +1,4 @@
-//! The requests of a text: a line of hexadecimal for each.
+//! Reads the requests of the command `apdu`, one line of hexadecimal for each.
 ghost use Rattle.std.specs.Prelude.{◌≡◌, ◌≤◌, ◌++◌, ◌∷◌, [], length, ◌⊎◌, Ok, Err, IfErr, OnOk, OnErr};
 ghost use Rattle.hex.specs.declared.error.FromHexError.TheVariants.{OutOfMemory};
 ghost use Rattle.hex.specs.Hex.{decode_of};
@@ -30,7 +30,7 @@ impl Model for Requests {
 }
 
 impl Requests {
-    // No requests.
+    // Returns an empty list.
     pub(crate) fn new(alloc: Global) -> Requests
         ensures { result ≡ [] }
     {
@@ -40,7 +40,7 @@ impl Requests {
         }
     }
 
-    // Appends a request. Out of memory: the requests are as before.
+    // Appends a request. If out of memory, nothing changes.
     fn push(&mut self, request: &[u8]) -> Result<(), AllocError>
         ensures ok { OnOk result (self.new ≡ self.old ++ request.now ∷ []) }
         ensures err { OnErr result (self.new ≡ self.old) }
@@ -56,7 +56,7 @@ impl Requests {
         }
     }
 
-    // The bytes of all requests, and the length of each.
+    // Returns the bytes of all requests, concatenated, and the length of each.
     pub(crate) fn parts(&self) -> (&[u8], &[usize])
         ensures pieces { self.now ≡ pieces_of result.1.now result.0.now }
         ensures lengths { total result.1.now ≡ length result.0.now }
@@ -65,7 +65,7 @@ impl Requests {
     }
 }
 
-// What is wrong with the line of this number, by the error of its decoding.
+// Returns the fault of a line with this number whose decoding failed with this error.
 #[tactic(auto, using(crate::proofs::Decoded::place_within))]
 fn line_fault(number: usize, line: &[u8], error: FromHexError) -> CommandFault
     requires { decode_of line.now ≡ Err error }
@@ -80,7 +80,7 @@ fn line_fault(number: usize, line: &[u8], error: FromHexError) -> CommandFault
     }
 }
 
-// Decodes a line: the bytes of its pairs of digits.
+// Decodes the pairs of digits of a line into `bytes`.
 #[tactic(auto, using(crate::proofs::Decoded::line_decoded, crate::proofs::Decoded::line_undecoded))]
 fn decode_line(line: &[u8], bytes: &mut Vec<u8>) -> Result<(), FromHexError>
     ensures ok { OnOk result (decode_of line.now ≡ Ok bytes.new.items) }
@@ -92,7 +92,7 @@ fn decode_line(line: &[u8], bytes: &mut Vec<u8>) -> Result<(), FromHexError>
     }
 }
 
-// Appends the request of a line, the line of this number. `bytes` is memory that is used again.
+// Appends the request of the line with this number. `bytes` is a buffer that calls reuse.
 #[tactic(auto, using(crate::proofs::Decoded::request_added, crate::proofs::Decoded::request_wrong))]
 fn add_request(
     number: usize,
@@ -113,7 +113,7 @@ fn add_request(
     }
 }
 
-// Appends the request of a line, the line of this number, unless the line is empty.
+// Appends the request of the line with this number, unless the line is empty.
 fn add_line(
     number: usize,
     line: &[u8],
@@ -128,10 +128,11 @@ fn add_line(
     add_request(number, line, bytes, requests)
 }
 
-// The requests of a text, one of each line that is not empty. The last line may lack the byte 0A.
+// Reads the requests of a text, one on each line that is not empty. The last line need not end with
+// the byte 0A.
 //
-// Errors: `Odd` or `Character` of the first line that is no pairs of hexadecimal digits; `Memory`
-// on the way.
+// Errors: `Odd` or `Character` for the first line that is not pairs of hexadecimal digits;
+// `Memory`, which can occur at any line.
 pub(crate) fn read_requests(alloc: Global, text: &[u8]) -> Result<Requests, CommandFault>
     requires { length text.now ≤ 1048576 }
     ensures { ReadsRequests text.now result }

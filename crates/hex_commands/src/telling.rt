@@ -1,4 +1,4 @@
-//! Why the commands `apdu` and `hex` have no input or output, and how that is reported.
+//! The errors of the commands `apdu` and `hex`, their messages, and the program's fault for each.
 ghost use Rattle.std.specs.Prelude.{◌≡◌};
 ghost use Rattle.hex_commands.specs.Faults.{fault_of, input_fault_of};
 
@@ -6,24 +6,26 @@ use program_fault::Fault;
 use session_serving::TextFault;
 use thiserror::Error;
 
-/// Why the commands `apdu` and `hex` have no input, or no output.
+/// An error of the commands `apdu` and `hex`.
 ///
-/// Lines, bytes and characters count from 1. Its message is the line that `--verbose` writes.
+/// Lines, bytes and characters are counted from 1. The message is the line that `--verbose` writes.
 #[derive(Clone, Copy, Debug, PartialEq, Eq, Error)]
 pub enum CommandFault {
     /// There are more than 1,048,576 bytes.
     #[error("byte 1048577: the input has more than 1,048,576 bytes")]
     TooLong,
-    /// The line of this number has an odd number of characters.
+    /// The line with this number has an odd number of characters.
     #[error("line {0}: expected pairs of hexadecimal digits, found an odd number of characters")]
     Odd(usize),
-    /// In the line of the first number the byte of the second one is not a hexadecimal digit.
+    /// On the line with the first number, the byte with the second number is not a hexadecimal
+    /// digit.
     #[error("line {0}: byte {1}: expected a hexadecimal digit")]
     Character(usize, usize),
-    /// In a stream the character of this number is not a hexadecimal digit.
+    /// In the input of `hex`, the character with this number is neither a hexadecimal digit nor
+    /// skipped.
     #[error("byte {0}: expected a hexadecimal digit, a blank or a line end")]
     Digit(usize),
-    /// A stream has an odd number of digits.
+    /// The input of `hex` has an odd number of digits.
     #[error("standard input: expected pairs of hexadecimal digits, found an odd number of digits")]
     OddDigits,
     /// The password does not have 1 to 32 bytes.
@@ -43,7 +45,7 @@ pub enum CommandFault {
     Memory,
 }
 
-/// The fault of a stream that gave no bytes.
+/// Converts the fault of the input of `hex`.
 impl From<TextFault> for CommandFault {
     ghost from_gives = { λ text fault. fault ≡ input_fault_of text };
 

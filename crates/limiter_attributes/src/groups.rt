@@ -10,7 +10,7 @@ use cosem_names::WriteFault;
 use limiter_core::{Limiter, MAX_GROUPS};
 use std::alloc::{AllocError, Global};
 
-// Whether each item is a long-unsigned.
+// Returns whether each item is a long-unsigned.
 fn are_ids(items: &[Data]) -> bool
     ensures { result ≡ are_ids items.now }
 {

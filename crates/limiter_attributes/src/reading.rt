@@ -59,9 +59,9 @@ fn read_actions(value: &Data) -> Result<Actions, WriteFault>
     })
 }
 
-/// Reads what a write of an attribute sets. Returns `None` for an attribute that is not written,
-/// and for emergency_profile_group_id_list, which `read_groups` reads because it allocates. This
-/// function does not allocate.
+/// Reads the value that a client writes to an attribute. Returns `None` if the attribute cannot be
+/// written, and for emergency_profile_group_id_list, which `read_groups` reads because it
+/// allocates. This function does not allocate.
 ///
 /// Thresholds and durations are double-long-unsigned. An emergency profile is a structure of a
 /// long-unsigned id, an octet-string or date-time start, and a double-long-unsigned duration.

@@ -3,7 +3,7 @@ ghost use Rattle.limiter_attributes.specs.Settings.{with_setting};
 
 use limiter_core::{Actions, Limiter, Profile};
 
-/// What a write of an attribute sets, if that does not allocate.
+/// The new value of one attribute, for the attributes whose write does not allocate.
 #[derive(Clone, Copy, Debug)]
 pub enum Setting {
     /// `threshold_normal` (attribute 4), in watts.

@@ -61,7 +61,8 @@ impl Count {
         self.run = self.run.saturating_add(samples).min(RUN_LIMIT);
     }
 
-    // Whether samples can give this count: an empty run has not fired, and a run at the cap has.
+    // Returns whether samples can give this count: an empty run has not fired, and a run at the cap
+    // has.
     fn is_fit(&self) -> bool
         ensures test { result ≡ is_fit_count self.now }
         ensures meaning { IsTrue result ↔ IsFitCount self.now }
@@ -74,8 +75,8 @@ impl Count {
     }
 }
 
-/// Whether samples, of which the last is `last`, can give both counts. At most one run is not
-/// empty, a run over the threshold needs `last` above 0, and one under it needs `last` below
+/// Returns whether samples, of which the last is `last`, can give both counts. At most one run is
+/// not empty, a run over the threshold needs `last` above 0, and one under it needs `last` below
 /// `u32::MAX`.
 #[tactic(auto, unfolding(crate::specs::State::are_fit))]
 pub fn are_fit(last: u32, over: Count, under: Count) -> bool

@@ -1,4 +1,4 @@
-/// What a sample fires.
+/// The action that a sample fires, if any.
 #[derive(Clone, Copy, Debug, PartialEq, Eq)]
 pub enum Fire {
     /// No action: no run reaches its need with this sample, or it has fired already.

@@ -4,13 +4,14 @@ ghost use Rattle.limiter_core.specs.declared.count.Count.{Count};
 ghost use Rattle.limiter_core.specs.State.{IsFit, are_fit};
 ghost use Rattle.limiter_core.specs.Rows.{Row, Entry, Side, OverThreshold, UnderThreshold, is_past, run, reaches, has_fired, fires};
 
-/// A run has fired exactly if one of its rows reached the need.
+/// Proves that a run has fired exactly if one of its rows reached the need.
 pub fn fired_means()
     ensures { (side : Side) (rows : List Row) → IsTrue (has_fired side rows)
         ↔ ((k : ℕ) × (k < run side rows) × IsTrue (reaches side (drop k rows))) }
 {}
 
-/// A run is the longest sequence of samples past their thresholds that ends with the newest row.
+/// Proves that a run is the longest sequence of samples past their thresholds that ends with the
+/// newest row.
 pub fn run_means()
     ensures within { (side : Side) (rows : List Row) → run side rows ≤ length rows }
     ensures past { (side : Side) (rows : List Row) (k : ℕ) → k < run side rows
@@ -22,13 +23,13 @@ pub fn run_means()
         → run side (reverse rows) ≡ suffix_len (is_past side) rows }
 {}
 
-/// No sample fires on both sides.
+/// Proves that no sample fires on both sides.
 pub fn one_side()
     ensures { (rows : List Row) → IsTrue (fires OverThreshold rows)
         → ¬ IsTrue (fires UnderThreshold rows) }
 {}
 
-/// Runs pass the test exactly if samples can give them.
+/// Proves that runs pass the test `are_fit` exactly if samples can give them.
 #[tactic(auto, using(crate::proofs::FitRuns::test_means, crate::proofs::FitRuns::means_test))]
 pub fn fit_runs_mean()
     ensures { (last : ℕ) (over under : Count) → IsTrue (are_fit last over under)

@@ -52,8 +52,8 @@ pub struct Settings {
     pub actions: Actions,
 }
 
-// Whether a moment is from `start` to `start + duration`, the end excluded. False before the first
-// moment of the clock and if `start` names no second.
+// Returns whether a moment is from `start` to `start + duration`, the end excluded. Returns false
+// before the first moment of the clock, and if `start` names no second.
 fn is_in_time(moment: Option<u32>, start: Option<u32>, duration: u32) -> bool
     ensures { result ≡ is_within moment start duration }
 {
@@ -109,8 +109,8 @@ impl Settings {
         })
     }
 
-    // Whether the emergency profile is active at a moment of the clock, in seconds since 1 January
-    // 2000.
+    // Returns whether the emergency profile is active at a moment of the clock, in seconds since 1
+    // January 2000.
     #[tactic(auto, unfolding(crate::specs::Settings::is_active))]
     pub(crate) fn is_active(&self, moment: Option<u32>) -> bool
         ensures { result ≡ is_active self.now moment }

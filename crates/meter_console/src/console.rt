@@ -6,7 +6,7 @@ use std::alloc::{AllocError, Global};
 use std::io::BufRead;
 use std::sync::Wait;
 
-/// What the console's thread needs apart from its input.
+/// The memory and the channels of the console's thread; its input is passed later.
 #[derive(Drop)]
 pub struct Console<R> {
     buffer: LineBuffer,

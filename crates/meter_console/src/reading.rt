@@ -7,18 +7,19 @@ use std::sync::Wait;
 use std::thread;
 use std::thread::{JoinHandle, Threads};
 
-/// Is notified once the console has ended.
+/// An observer that is called once the console has ended.
 pub trait Ended {
     /// Is called when the console has ended: no further line is read.
     fn console_ended(&self, end: ConsoleEnd);
 }
 
-/// What the console's thread reads, where it passes the events, and whom it notifies at its end.
+/// The input of the console's thread, the destinations of events and messages, and the observer of
+/// its end.
 #[derive(Drop)]
 pub struct Reading<R, B, E, N> {
     pub input: B,
     pub console: Console<R>,
-    /// Where lost lines and a failed read are reported.
+    /// The output on which lost lines and a failed read are reported.
     pub errors: E,
     pub ended: N,
 }

@@ -72,16 +72,17 @@ impl<'a, W: Wait> Meter for PortMeter<'a, W> {
     }
 }
 
-/// Consecutive events that a port passed on are in the history that the port then knows, with their
-/// replies and in this order; the history has no other new calls with the port's number.
+/// Proves that consecutive events that a port passed on are in the history that the port then
+/// knows, with their replies and in this order; the history has no other new calls with the port's
+/// number.
 pub fn calls_are_entered()
     ensures { (p : MeterPort) (events : List Event) (replies : List Reply) (q : MeterPort)
         → Replied PortSteps p events replies q → Enters p events replies q }
 {}
 
-/// A session that [`serve_session`] served over a [`PortMeter`] leaves the same port, with the same
-/// lock and the same number. In the history that the port then knows, its new calls are the events
-/// of the session.
+/// Proves that a session that [`serve_session`] served over a [`PortMeter`] leaves the same port,
+/// with the same lock and the same number. In the history that the port then knows, its new calls
+/// are the events of the session.
 pub fn session_keeps_its_port<R: Reader, O: Writer>()
     ensures { (password : _) (reader : _) (writer : _) (p : MeterPort) (end : _) (read : _)
         (written : _) (q : MeterPort)

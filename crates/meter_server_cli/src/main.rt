@@ -28,7 +28,7 @@ enum ServerCommand {
     Serve(Server),
 }
 
-// `apdu`: responds to the requests of standard input on standard output.
+// Runs `apdu`: responds to the requests of standard input on standard output.
 fn run_apdu(rt: &HostRuntime, is_verbose: bool) -> Result<(), Fault> {
     let mut input = Counted::new(rt.stdin());
     let mut output = Counted::new(rt.stdout());
@@ -38,7 +38,7 @@ fn run_apdu(rt: &HostRuntime, is_verbose: bool) -> Result<(), Fault> {
     }
 }
 
-// `hex`: runs the session of standard input on standard output.
+// Runs `hex`: serves the session of standard input on standard output.
 fn run_hex(rt: &HostRuntime, options: &HexOptions) -> Result<(), Fault> {
     let mut input = Counted::new(rt.stdin());
     let mut output = Counted::new(rt.stdout());

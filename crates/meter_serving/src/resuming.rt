@@ -24,8 +24,8 @@ fn take_events(alloc: Global, core: &mut RelayCore, events: &[Event]) -> Result<
     Ok(())
 }
 
-/// Returns the recorder of a meter that resumes where the run of a trace ended. It has no events
-/// yet, and keeps at most `capacity` events, 1 to 1,024.
+/// Returns the recorder of a meter that resumes at the end of a trace's run. It has no events yet,
+/// and keeps at most `capacity` events, 1 to 1,024.
 ///
 /// Whatever event comes next, the reply is the one that the meter that wrote the trace would have
 /// given. Fails only if out of memory.
@@ -49,7 +49,7 @@ pub fn resumed_recorder(alloc: Global, trace: &Trace, capacity: u16) -> Result<R
     }
 }
 
-// The durations of a limiter's saved state are numbers of 32 bits.
+// Proves that the durations of a limiter's saved state are numbers of 32 bits.
 fn limiter_has_range(opening: &LimiterOpening)
     ensures { AreInRange opening.now.settings }
 {
@@ -57,7 +57,8 @@ fn limiter_has_range(opening: &LimiterOpening)
     let _under = opening.settings.min_under_threshold_duration;
 }
 
-// The durations of a core's saved state are numbers of 32 bits, those in its scripts' steps too.
+// Proves that the durations of a core's saved state are numbers of 32 bits, including those in the
+// steps of its scripts.
 #[tactic(auto, using(crate::proofs::Ranges::scripts_in_range))]
 fn has_range(opening: &Opening)
     ensures { IsWorld (world_of_opening opening.now) }

@@ -96,7 +96,7 @@ fn the_local_reconnection_is_of_modes_5_and_6(rt: HostRuntime) {
     check_local(&rt, ControlMode::Mode6, ResultCode::Success, CONNECTED);
 }
 
-/// Whether a number is that of a mode, and the mode returns it.
+/// Returns whether a number is that of a mode, and the mode returns it.
 fn has_its_mode(number: u8) -> bool {
     match ControlMode::of_number(number) {
         Some(mode) => mode.number() == number,

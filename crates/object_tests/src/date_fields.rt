@@ -17,7 +17,8 @@ fn expected_fault(at: usize, byte: u8) -> Option<PatternFault> {
     }
 }
 
-/// Whether reading a date-time fails with this fault or, without one, is written as it was read.
+/// Returns whether reading a date-time fails with this fault or, without one, is written as it was
+/// read.
 fn is_read(text: &[u8; 12], fault: Option<PatternFault>) -> bool {
     match read_date_time(text) {
         Ok(field) => fault.is_none() && field.bytes() == *text,
@@ -46,7 +47,7 @@ fn every_value_of_each_byte(rt: HostRuntime) {
     }
 }
 
-/// Whether a deviation of these bits is written as it was read, or `None` if it is refused.
+/// Returns whether a deviation of these bits is written as it was read, or `None` if it is refused.
 fn is_written_back(bits: u16) -> Option<bool> {
     let [high, low] = bits.to_be_bytes();
     let mut text = DATE_TIME;

@@ -20,7 +20,7 @@ fn entry(time: [u8; 4], date: [u8; 5]) -> Result<EntryPattern, PatternFault> {
     })
 }
 
-/// Whether a date matches the day that begins at that second.
+/// Returns whether a date matches the day that begins at that second.
 fn matches_day(date: [u8; 5], midnight: u32) -> Result<bool, PatternFault> {
     Ok(entry(ANY_TIME, date)?.matches(midnight))
 }

@@ -57,7 +57,8 @@ fn a_run_goes_on_over_the_words_to_the_last_value(rt: HostRuntime) {
     assert!(rt; run_from(&ALL, 100, 40) == 60);
 }
 
-// Whether both classifiers find the same masks, of as many values as there are.
+// Returns whether both classifiers return the same masks, with the number of the values as their
+// length.
 fn do_agree(values: &[u32]) -> bool {
     if values.len() > 256 {
         return false;
@@ -88,7 +89,7 @@ fn scan_of(values: &[u32; 256], threshold: u32) -> Scans {
     }
 }
 
-// Whether a block has this scan.
+// Returns whether a block has this scan.
 fn is_scanned(block: &Block, expected: &Scans) -> bool {
     match block.scanned() {
         Some(scans) => *scans == *expected,
@@ -149,7 +150,7 @@ fn to_one_side() -> Scans {
     scan_of_pairs(3, (4, 0, 7), (2, 7, 0))
 }
 
-// Whether a block has these pairs.
+// Returns whether a block has these pairs.
 fn has_pairs(block: &Block, import: &[u32], export: &[u32]) -> bool {
     match block.export() {
         Some(values) => block.values() == import && values == export,
@@ -157,7 +158,7 @@ fn has_pairs(block: &Block, import: &[u32], export: &[u32]) -> bool {
     }
 }
 
-// Whether a copy of a block has the pairs and the scan.
+// Returns whether a copy of a block has the pairs and the scan.
 fn is_copied(alloc: Global, block: &Block) -> Result<bool, Fail> {
     let same = block.try_clone(alloc)?;
     let found = has_pairs(&same, &IMPORTED, &EXPORTED) && is_scanned(&same, &in_the_middle());
@@ -165,7 +166,7 @@ fn is_copied(alloc: Global, block: &Block) -> Result<bool, Fail> {
     Ok(found)
 }
 
-// Whether a block of pairs, and a copy of it, have the scans that are made of it.
+// Returns whether a block of pairs, and a copy of it, have the scans that are made of it.
 fn are_kept(alloc: Global, block: &mut Block) -> Result<[bool; 4], Fail> {
     let has_pairs = has_pairs(block, &IMPORTED, &EXPORTED);
     block.scan(2, 10);
@@ -240,7 +241,7 @@ fn a_block_is_refused_by_its_lengths(rt: HostRuntime) {
     }
 }
 
-// Whether a block of no pairs is scanned at both thresholds.
+// Returns whether a block of no pairs is scanned at both thresholds.
 fn is_of_pairs(block: &mut Block) -> bool {
     let has_pairs = has_pairs(block, &[], &[]);
     block.scan(1, 2);
@@ -248,7 +249,7 @@ fn is_of_pairs(block: &mut Block) -> bool {
     has_pairs && is_scanned(block, &expected)
 }
 
-// Whether an empty block of import values has no export values.
+// Returns whether an empty block of import values has no export values.
 fn is_of_values_alone(alloc: Global) -> Result<bool, BlockMade> {
     let block = Block::from_slice(alloc, &[])?;
     let has_none = block.export().is_none();

@@ -18,8 +18,8 @@ const ACTIONS: &str = "020202020906\
     00000A006AFF12000102020906\
     00000A006AFF120102";
 
-// The calls under test, without their contracts. A test checks what no clause states, and without
-// them it is proved faster.
+// Calls the function under test, as do those below. They have no contracts: a test checks what no
+// clause states, and is proved faster without them.
 fn shown(
     alloc: Global,
     which: Which,
@@ -45,7 +45,7 @@ fn swap_groups(one: &mut Limiter, other: &mut Limiter) {
     one.swap_groups(other);
 }
 
-/// Whether an attribute is read as the bytes of this text.
+/// Returns whether an attribute is read as the bytes of this text.
 fn is_read(
     alloc: Global,
     which: Which,

@@ -185,7 +185,7 @@ fn profile() -> Result<Profile, PatternFault> {
     })
 }
 
-/// Whether a limiter of 5000 W keeps an emergency threshold of 3000 W and a profile.
+/// Returns whether a limiter of 5000 W keeps an emergency threshold of 3000 W and a profile.
 fn is_prepared(limiter: &mut Limiter, profile: Profile) -> bool {
     limiter.set_threshold_emergency(3000);
     limiter.set_profile(profile);
@@ -252,7 +252,8 @@ fn runs_are_written_down_and_read_back(rt: HostRuntime) {
     assert!(rt; next_fire(rt.alloc(), 5001, over, over).is_none());
 }
 
-/// Whether a new limiter has the greatest threshold and no actions, and keeps those that are set.
+/// Returns whether a new limiter has the greatest threshold and no actions, and keeps those that
+/// are set.
 fn keeps_actions(limiter: &mut Limiter) -> [bool; 3] {
     let is_new = limiter.threshold() == 4_294_967_295 && limiter.value() == 0;
     let has_none = limiter.actions() == Actions { over: 0, under: 0 };
@@ -292,7 +293,7 @@ fn limiter_like(alloc: Global, other: &Limiter, moment: u32) -> Result<Limiter, 
     Ok(Limiter::from_parts(settings, Some(moment)))
 }
 
-/// Whether a limiter begins with these settings, at this moment, without a sample.
+/// Returns whether a limiter begins with these settings, at this moment, without a sample.
 fn begins(
     limiter: &Limiter,
     threshold_normal: u32,

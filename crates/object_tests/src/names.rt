@@ -166,7 +166,7 @@ fn the_management_client_alone_executes(rt: HostRuntime) {
     }
 }
 
-/// Whether a number is that of a result, and the result returns it.
+/// Returns whether a number is that of a result, and the result returns it.
 fn has_its_result(number: u8) -> bool {
     match ResultCode::of_code(number) {
         Some(code) => code.code() == number,
@@ -240,7 +240,7 @@ fn a_script_is_named_by_its_table_and_its_selector(rt: HostRuntime) {
     }
 }
 
-/// Whether a script of the meter's table is written as this text.
+/// Returns whether a script of the meter's table is written as this text.
 fn is_script_written(alloc: Global, selector: u16, text: &str) -> bool {
     match NamedScript::in_the_table(selector).to_data(alloc) {
         Ok(value) => {
@@ -441,7 +441,7 @@ static MANAGEMENT_LIST: [&[u8]; 29] = [
     MANAGEMENT_LIMITER_REST,
 ];
 
-/// Whether a text is the concatenation of these parts.
+/// Returns whether a text is the concatenation of these parts.
 fn is_made_of(text: &[u8], parts: &[&[u8]]) -> bool {
     let mut rest = text;
     for part in parts {

@@ -21,7 +21,7 @@ type Write = (ScheduleAttribute, &'static str, Option<ScheduleFault>);
 /// An attribute, and the text that it is read as.
 type Written = (ScheduleAttribute, &'static str);
 
-/// Whether an attribute is read as the bytes of this text.
+/// Returns whether an attribute is read as the bytes of this text.
 fn is_written(
     alloc: Global,
     schedule: &ActionSchedule,
@@ -113,7 +113,8 @@ static DUE: [(u8, u32, u32, bool); 10] = [
     (2, MARCH - 1, MARCH, false),
 ];
 
-/// Whether a schedule of the last second of each month is due. `None` if it cannot be created.
+/// Returns whether a schedule of the last second of each month is due. `None` if it cannot be
+/// created.
 fn is_due(alloc: Global, kind: u8, previous: u32, now: u32) -> Option<bool> {
     let mut schedule = ActionSchedule::new(alloc);
     let is_prepared = is_prepared(alloc, &mut schedule, kind, LAST_SECOND);
@@ -189,8 +190,8 @@ static FITS: [(u8, &str, bool); 26] = [
     (2, LAST_SECOND, false),
 ];
 
-/// Whether a schedule of a type fits it with the entries of this text. `None` if it cannot be
-/// created.
+/// Returns whether a schedule of a type fits it with the entries of this text. `None` if it cannot
+/// be created.
 fn is_fit(alloc: Global, kind: u8, entries: &str) -> Option<bool> {
     let mut schedule = ActionSchedule::new(alloc);
     let is_prepared = is_prepared(alloc, &mut schedule, kind, entries);

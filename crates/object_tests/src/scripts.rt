@@ -17,8 +17,8 @@ const TABLE: &str = "010102021200030102\
 /// A table of one script with one step.
 const ONE_STEP: &str = "010102021200010101";
 
-// The calls under test, without their contracts. A test checks what no clause states, and without
-// them it is proved faster.
+// Calls the function under test, as do those below. They have no contracts: a test checks what no
+// clause states, and is proved faster without them.
 fn read(alloc: Global, value: &Data) -> Result<ScriptTable, ScriptFault> {
     ScriptTable::from_data(alloc, value)
 }
@@ -43,7 +43,7 @@ fn fault(alloc: Global, text: &str) -> Option<ScriptFault> {
     fault
 }
 
-/// Whether a table is written as the bytes of this text.
+/// Returns whether a table is written as the bytes of this text.
 fn is_written(alloc: Global, table: &ScriptTable, text: &str) -> bool {
     match written(alloc, table) {
         Ok(value) => {
@@ -127,7 +127,7 @@ const DISCONNECT: &str = "020516021200460906000060030AFF0F010F00";
 
 const EXPORT_DURATION: &str = "0205160112004709060001110000FF0F07060000000F";
 
-/// Whether a step, or `None`, is the expected one: compares what Debug writes.
+/// Returns whether a step, or `None`, is the expected one: compares what Debug writes.
 fn is_step(alloc: Global, found: Option<Step>, expected: Option<Step>) -> Result<bool, AllocError> {
     let text = format!(in alloc; "{found:?}")?;
     let is_same = is_debug(alloc, expected, text.as_str());
@@ -135,7 +135,7 @@ fn is_step(alloc: Global, found: Option<Step>, expected: Option<Step>) -> Result
     is_same
 }
 
-/// Whether Debug writes this of a step, or of `None`.
+/// Returns whether Debug writes this of a step, or of `None`.
 fn is_debug(alloc: Global, step: Option<Step>, expected: &str) -> Result<bool, AllocError> {
     let text = format!(in alloc; "{step:?}")?;
     let is_same = text.as_str() == expected;
@@ -242,7 +242,8 @@ fn a_full_table_is_read_and_written_back(rt: HostRuntime) -> Result<(), Fail> {
     Ok(())
 }
 
-/// Whether a table of that many scripts, each of that many steps, is written as it was read.
+/// Returns whether a table of that many scripts, each of that many steps, is written as it was
+/// read.
 fn is_read_back(alloc: Global, counts: (u8, u8)) -> Result<bool, AllocError> {
     let text = long_text(alloc, counts, (DISCONNECT, DISCONNECT))?;
     let is_so = match table(alloc, text.as_str()) {
@@ -485,7 +486,7 @@ const READ_STEPS: [(&str, Step); 8] = [
     ("020516021200460906000060030AFF0F020F7F", Step::Reconnect),
 ];
 
-/// Whether a text is of this step.
+/// Returns whether a text is of this step.
 fn is_step_text(alloc: Global, text: &str, step: Step) -> bool {
     is_step(alloc, one_step(alloc, text), Some(step)) == Ok(true)
 }
@@ -497,7 +498,7 @@ fn steps_are_read(rt: HostRuntime) {
     }
 }
 
-/// Whether a table is written as one with the step of this text.
+/// Returns whether a table is written as one with the step of this text.
 fn is_one_step(alloc: Global, table: &ScriptTable, step: &str) -> bool {
     match one_step_text(alloc, step) {
         Some(text) => {
@@ -509,7 +510,7 @@ fn is_one_step(alloc: Global, table: &ScriptTable, step: &str) -> bool {
     }
 }
 
-/// Whether a table with one step of the first text is written with that of the second.
+/// Returns whether a table with one step of the first text is written with that of the second.
 fn is_written_back(alloc: Global, step: &str, back: &str) -> bool {
     match one_step_table(alloc, step) {
         Some(table) => {
@@ -544,7 +545,7 @@ fn one_form_is_written_back(rt: HostRuntime) {
     }
 }
 
-/// Whether a profile is written as this Data.
+/// Returns whether a profile is written as this Data.
 fn is_profile(alloc: Global, profile: &Profile, value: &Data) -> bool {
     match write_profile(alloc, profile) {
         Ok(written) => {
@@ -556,7 +557,7 @@ fn is_profile(alloc: Global, profile: &Profile, value: &Data) -> bool {
     }
 }
 
-/// Whether Data is profile 7 of ten seconds, and the profile is written as it.
+/// Returns whether Data is profile 7 of ten seconds, and the profile is written as it.
 fn is_profile_7(alloc: Global, value: &Data) -> bool {
     match read_profile(value) {
         Ok(profile) => {

@@ -23,7 +23,7 @@ pub(crate) fn data(alloc: Global, text: &str) -> Option<Data> {
     value
 }
 
-/// Whether Data is written as these bytes.
+/// Returns whether Data is written as these bytes.
 fn is_written(alloc: Global, value: &Data, bytes: &[u8]) -> bool {
     let mut written = Octets::new(alloc);
     let is_done = cosem_axdr::write(alloc, value, &mut written).is_ok();
@@ -32,7 +32,7 @@ fn is_written(alloc: Global, value: &Data, bytes: &[u8]) -> bool {
     found
 }
 
-/// Whether Data is written as the bytes of this text.
+/// Returns whether Data is written as the bytes of this text.
 pub(crate) fn is_text(alloc: Global, value: &Data, text: &str) -> bool {
     match bytes(alloc, text) {
         Some(expected) => {

@@ -35,7 +35,7 @@ static ANSWER: [u8; 51] = [
     0x00, 0x00, 0x07,
 ];
 
-/// What two clients received. Neither waits for the other.
+/// The bytes that two clients received. Neither waits for the other.
 #[derive(Drop)]
 struct Clients {
     accepted: AtomicUsize,

@@ -107,7 +107,7 @@ impl LimiterOpening {
         })
     }
 
-    // Whether a limiter can have this state.
+    // Returns whether a limiter can have this state.
     fn is_fit(&self) -> bool
         ensures { IsTrue result ↔ IsFitLimiterOpening self.now }
     {

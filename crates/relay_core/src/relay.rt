@@ -113,7 +113,7 @@ impl RelayCore {
         self.control.mode()
     }
 
-    /// Whether the supply is on: exactly if the state is Connected.
+    /// Returns whether the supply is on: exactly if the state is Connected.
     pub fn output(&self) -> bool
         ensures { (w : World) → StandsFor self.now w → result ≡ is_state w.control.state Connected }
     {

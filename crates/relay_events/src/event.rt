@@ -57,7 +57,7 @@ fn copy_parameter(alloc: Global, parameter: &Option<Data>) -> Result<Option<Data
 }
 
 impl Event {
-    /// Whether the event only reads: a GET or a GET with list.
+    /// Returns whether the event only reads: a GET or a GET with list.
     pub fn is_read(&self) -> bool
         ensures { result ≡ is_read self.now }
     {

@@ -50,7 +50,7 @@ fn takes(lists: &[Lines; 6], taken: &mut [usize; 6], line: &str) -> bool {
     false
 }
 
-/// Whether all lines of the lists were taken.
+/// Returns whether all lines of the lists were taken.
 fn are_taken(lists: &[Lines; 6], taken: &[usize; 6]) -> bool {
     for i in 0..6 {
         if taken[i] != lists[i].len() {
@@ -60,8 +60,8 @@ fn are_taken(lists: &[Lines; 6], taken: &[usize; 6]) -> bool {
     true
 }
 
-/// Whether a text is the trace of a new meter, whose further lines are those of the lists, each
-/// list in its order.
+/// Returns whether a text is the trace of a new meter, whose further lines are those of the lists,
+/// each list in its order.
 pub(crate) fn is_merged(text: &[u8], lists: &[Lines; 6]) -> bool {
     let Ok(text) = str::from_utf8(text) else {
         return false;

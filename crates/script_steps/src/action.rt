@@ -10,7 +10,7 @@ use crate::names::{
 use crate::step::Step;
 use cosem_names::{ClassId, Obis, Which};
 
-// What a step acts on, as the script table names it: the service, and the attribute or method.
+// The target of a step as the script table names it: the service, and the attribute or method.
 #[derive(Clone, Copy, Debug, PartialEq, Eq)]
 pub(crate) struct Address {
     pub(crate) service: u8,
@@ -19,7 +19,7 @@ pub(crate) struct Address {
     pub(crate) index: i8,
 }
 
-// What a listed step does, without the value that it writes.
+// A listed step without the value that it writes.
 #[derive(Clone, Copy, Debug, PartialEq, Eq)]
 pub(crate) enum Action {
     Mode,
@@ -120,7 +120,7 @@ impl Action {
 }
 
 impl Step {
-    // Returns what the step does, without the value that it writes.
+    // Returns the step without the value that it writes.
     pub(crate) fn action(&self) -> Action
         ensures { result ≡ action_of self.now }
     {

@@ -8,7 +8,7 @@ ghost use Rattle.script_steps.specs.Reading.{table_of};
 ghost use Rattle.script_steps.specs.Table.{IsTable};
 ghost use Rattle.script_steps.specs.Writing.{data_of};
 
-/// Reading a written table returns the table: its scripts, each with its listed steps.
+/// Proves that reading a written table returns the table: its scripts, each with its listed steps.
 #[tactic(auto, using(crate::proofs::Again::table_again))]
 pub fn written_table_is_read()
     ensures { (scripts : List Script) → IsTable scripts → table_of (data_of scripts) ≡ Ok scripts }
@@ -20,10 +20,10 @@ pub fn read_table_is_in_range()
         → AreScriptsInRange scripts }
 {}
 
-/// Each step is found by its address, and that address is in the table of the meter's objects. It
-/// names the switch, or the limiter of the step's direction, by its class and logical name, and
-/// there an attribute that the management client may write or a method that it may execute. A step
-/// that writes a limiter names the attribute that it writes.
+/// Proves that each step is found by its address, and that this address is in the table of the
+/// meter's objects. It names the switch, or the limiter of the step's direction, by its class and
+/// logical name, and there an attribute that the management client may write or a method that it
+/// may execute. A step that writes a limiter names the attribute that it writes.
 pub fn each_step_is_listed()
     ensures listed { (step : Step) → IsListed step }
     ensures in_table { (step : Step) → IsInTable step }

@@ -89,14 +89,14 @@ fn script_fault(value: &Data) -> Result<(), WriteFault>
     Ok(())
 }
 
-// Whether one of the scripts has this identifier.
+// Returns whether one of the scripts has this identifier.
 fn is_identifier_of_any(items: &[Data], identifier: u16) -> bool
     ensures { result ≡ list_any (λ item. identifier_of item == identifier) items.now }
 {
     items.iter().any(|item| identifier_in(item) == identifier)
 }
 
-// Whether all scripts have different identifiers.
+// Returns whether all scripts have different identifiers.
 fn are_distinct(items: &[Data]) -> bool
     ensures { result ≡ are_distinct identifier_of items.now }
 {

@@ -3,7 +3,8 @@ use disconnect_control::ControlMode;
 use limiter_core::Profile;
 use listed::Listed;
 
-/// A step of a script: what it writes or executes (IEC 62056-6-2, class 9, scripts).
+/// A step of a script: an attribute with the value to write, or a method to execute (IEC 62056-6-2,
+/// class 9, scripts).
 #[derive(Clone, Copy, Debug)]
 pub enum Step {
     /// Writes `control_mode` of the disconnect control (class 70, attribute 4).

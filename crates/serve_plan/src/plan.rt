@@ -19,8 +19,8 @@ use server_options::{Bounds, ServeOptions, octets_of};
 use std::alloc::Global;
 use std::io::{BufReader, Read};
 
-// Returns the recorder of a meter that resumes from the trace at the head of an input. What
-// follows the trace is still to be read. Errors: `Input` if there is no trace, `Read`, `Memory`.
+// Returns the recorder of a meter that resumes from the trace at the head of an input. The input
+// after the trace is not read. Errors: `Input` if there is no trace, `Read`, `Memory`.
 fn recorder_of_head<I: Read>(
     alloc: Global,
     input: &mut BufReader<Monitored<I>>,
@@ -92,7 +92,7 @@ fn first_recorder<I: Read>(
     }
 }
 
-/// What to serve: the meter, and the lines of its console.
+/// The validated options of `meter_server serve`: the meter, and the lines of its console.
 #[derive(Drop)]
 pub struct ServePlan<I> {
     /// The limits of the run.
@@ -111,7 +111,7 @@ pub struct ServePlan<I> {
 ///
 /// Errors, in this order: `Input` if the password does not have 1 to 32 bytes, the device name does
 /// not have 1 to 16, the depth is not 1 to 1,024, or the input does not begin with a trace of at
-/// most 33,554,432 bytes; `Read`. `Memory` can come at any point.
+/// most 33,554,432 bytes; `Read`. `Memory` can occur at any point.
 #[tactic(auto, using(crate::proofs::Unused::uncounted))]
 pub fn make_plan<I: Read + Drop>(
     alloc: Global,

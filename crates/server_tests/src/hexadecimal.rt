@@ -55,7 +55,7 @@ fn run(alloc: Global, text: &str, failing: (u32, u32)) -> Result<Ran, AllocError
     Ok(ran)
 }
 
-/// Whether a text gives these lines and this result.
+/// Returns whether a text gives these lines and this result.
 fn gives(
     alloc: Global,
     text: &str,
@@ -117,7 +117,7 @@ fn opened(alloc: Global) -> Result<String, AllocError> {
     format!(in alloc; "{PUBLIC_AARQ}{PUBLIC_GET}")
 }
 
-/// Whether a text gives the lines of the answers to these two.
+/// Returns whether a text gives the lines of the answers to these two.
 fn gives_both_lines(alloc: Global, text: &str) -> Result<bool, AllocError> {
     let lines = format!(in alloc; "{PUBLIC_AARE}\n{PUBLIC_STATE}\n")?;
     let is_so = gives(alloc, text, lines.as_str(), Ok(()));
@@ -134,7 +134,7 @@ fn each_frame_is_a_line(rt: HostRuntime) -> Result<(), Fail> {
     Ok(())
 }
 
-/// Whether a text of 4,278 characters, an AARQ and 100 equal requests, gives 101 lines.
+/// Returns whether a text of 4,278 characters, an AARQ and 100 equal requests, gives 101 lines.
 fn gives_101_lines(alloc: Global) -> Result<bool, AllocError> {
     let text = repeated(alloc, PUBLIC_AARQ, PUBLIC_GET, "", 100)?;
     let lines = repeated(alloc, PUBLIC_AARE, PUBLIC_STATE, "\n", 100)?;
@@ -181,7 +181,7 @@ static FAILING: [((u32, u32), HexFault, usize); 4] = [
     ((0, 2), HexFault::Write, PUBLIC_AARE.len() + 1),
 ];
 
-/// Whether a text fails in this way after `size` bytes were written.
+/// Returns whether a text fails in this way after `size` bytes were written.
 fn fails(
     alloc: Global,
     text: &str,
@@ -212,7 +212,7 @@ fn a_read_or_a_write_fails(rt: HostRuntime) -> Result<(), Fail> {
     Ok(())
 }
 
-/// What a text gives, read byte by byte.
+/// Returns the result of decoding a text that is read byte by byte.
 fn read(alloc: Global, text: &str) -> Result<Vec<u8>, TextFault> {
     let mut reader = Counted::new(Input {
         rest: text.as_bytes(),
@@ -225,7 +225,7 @@ fn read(alloc: Global, text: &str) -> Result<Vec<u8>, TextFault> {
     bytes
 }
 
-/// Whether a text gives these bytes.
+/// Returns whether a text gives these bytes.
 fn reads(alloc: Global, text: &str, expected: &[u8]) -> bool {
     match read(alloc, text) {
         Ok(bytes) => {
@@ -237,7 +237,7 @@ fn reads(alloc: Global, text: &str, expected: &[u8]) -> bool {
     }
 }
 
-/// Why a text gives no bytes, if it gives none.
+/// Returns the fault of decoding a text, or `None` if it is decoded.
 fn fault_of(alloc: Global, text: &str) -> Option<TextFault> {
     match read(alloc, text) {
         Ok(bytes) => {

@@ -14,7 +14,7 @@ fn new_core(rt: &impl Abort, alloc: Global) -> Result<RelayCore, AllocError> {
     core
 }
 
-/// Whether the bytes are those of a text in hexadecimal.
+/// Returns whether the bytes are those of a text in hexadecimal.
 fn are_of(alloc: Global, bytes: &[u8], text: &str) -> Result<bool, Fail> {
     let expected = hex::decode(alloc, text)?;
     let same = bytes == expected.as_slice();
@@ -22,7 +22,7 @@ fn are_of(alloc: Global, bytes: &[u8], text: &str) -> Result<bool, Fail> {
     Ok(same)
 }
 
-/// Whether a core answers a request with the bytes of a text in hexadecimal.
+/// Returns whether a core answers a request with the bytes of a text in hexadecimal.
 fn answers(
     alloc: Global,
     core: &mut RelayCore,
@@ -35,7 +35,8 @@ fn answers(
     same
 }
 
-/// Whether a core answers the request in the first text with the second. Both are in hexadecimal.
+/// Returns whether a core answers the request in the first text with the second. Both are in
+/// hexadecimal.
 fn is_answered(alloc: Global, core: &mut RelayCore, pair: &(&str, &str)) -> Result<bool, Fail> {
     let request = hex::decode(alloc, pair.0)?;
     let is_so = answers(alloc, core, request.as_slice(), pair.1);
@@ -160,7 +161,7 @@ const FORTY: (&str, &str) = ("C003C128", "C403C128");
 /// The logical name of the disconnect control as an item of the request, and as a result with data.
 const NAME: (&str, &str) = ("0046000060030AFF0100", "000906000060030AFF");
 
-/// Whether a core answers a request of 404 bytes with a response of 364.
+/// Returns whether a core answers a request of 404 bytes with a response of 364.
 fn is_long_answered(alloc: Global, core: &mut RelayCore) -> Result<bool, Fail> {
     let request = repeated(alloc, FORTY.0, NAME.0, "", 40)?;
     let answer = repeated(alloc, FORTY.1, NAME.1, "", 40)?;

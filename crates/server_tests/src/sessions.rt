@@ -193,7 +193,7 @@ pub(crate) fn run(alloc: Global, plan: &Plan, input: &[u8]) -> Result<Ran, Alloc
     ran
 }
 
-/// Whether a session with the input gives this output and this end.
+/// Returns whether a session with the input gives this output and this end.
 pub(crate) fn gives(
     alloc: Global,
     plan: &Plan,
@@ -207,7 +207,8 @@ pub(crate) fn gives(
     Ok(is_so)
 }
 
-/// Whether a session gives this output and this end, with the input in one piece and byte by byte.
+/// Returns whether a session gives this output and this end, with the input in one piece and byte
+/// by byte.
 pub(crate) fn gives_both(
     alloc: Global,
     password: &'static str,
@@ -436,7 +437,7 @@ static SESSIONS: [Session; 14] = [
     ),
 ];
 
-/// Whether a session has its answers and its end, in one piece and byte by byte.
+/// Returns whether a session has its answers and its end, in one piece and byte by byte.
 fn is_answered(alloc: Global, session: &Session) -> Result<bool, Fail> {
     let (_, password, pair, end) = session;
     let talk = Talk {
@@ -447,7 +448,7 @@ fn is_answered(alloc: Global, session: &Session) -> Result<bool, Fail> {
     is_talked(alloc, &talk, password, *end)
 }
 
-/// Whether a talk has its answers, in one piece and byte by byte.
+/// Returns whether a talk has its answers, in one piece and byte by byte.
 fn is_talked(
     alloc: Global,
     talk: &Talk,
@@ -600,8 +601,8 @@ fn talks_go_on_until_the_input_ends(rt: HostRuntime) -> Result<(), Fail> {
     talk_all(&rt, rt.alloc(), &TALKS)
 }
 
-/// Whether a session that gets only the first `size` bytes of an AARQ ends there and answers
-/// nothing.
+/// Returns whether a session that gets only the first `size` bytes of an AARQ ends there and
+/// answers nothing.
 fn is_cut(alloc: Global, opening: &[u8], size: usize) -> Result<bool, AllocError> {
     let end = if size == 0 {
         SessionEnd::Closed
@@ -652,7 +653,7 @@ fn short_texts(alloc: Global) -> Result<Texts, Fail> {
     texts_of(alloc, &SHORT_TALK)
 }
 
-/// Whether a session of a talk fails in this way after `size` bytes were written.
+/// Returns whether a session of a talk fails in this way after `size` bytes were written.
 fn fails_after(
     alloc: Global,
     plan: &Plan,

@@ -203,13 +203,13 @@ impl Talk {
         Ok(())
     }
 
-    /// Whether the talk has its answers, in one piece and byte by byte.
+    /// Returns whether the talk has its answers, in one piece and byte by byte.
     fn goes(&self, alloc: Global) -> Result<bool, AllocError> {
         self.goes_so_far(alloc, self.input.len())
     }
 
-    /// Whether the first `size` bytes have the answers to the whole requests in them, in one piece
-    /// and byte by byte.
+    /// Returns whether the first `size` bytes have the answers to the whole requests in them, in
+    /// one piece and byte by byte.
     fn goes_so_far(&self, alloc: Global, size: usize) -> Result<bool, AllocError> {
         let (sent, answered) = last_end(self.ends.as_slice(), size);
         let end = if sent == size {
@@ -226,7 +226,7 @@ impl Talk {
         )
     }
 
-    /// Whether the last answers end with the bytes of this text.
+    /// Returns whether the last answers end with the bytes of this text.
     fn ends_in(&self, alloc: Global, text: &str) -> Result<bool, Fail> {
         let last = hex::decode(alloc, text)?;
         let is_so = self.output.as_slice().ends_with(last.as_slice());
@@ -234,8 +234,8 @@ impl Talk {
         Ok(is_so)
     }
 
-    /// Whether the talk has its answers, once `done` has succeeded with this number of answers, of
-    /// which the last ends with this text.
+    /// Returns whether the talk has its answers, once `done` has succeeded with this number of
+    /// answers, of which the last ends with this text.
     fn goes_after(
         &self,
         alloc: Global,
@@ -434,7 +434,7 @@ static WITHOUT_BLOCKS: [(&str, &str); 4] = [
     GET_STATE,
 ];
 
-/// Whether these requests have these answers, after an AARQ from a port.
+/// Returns whether these requests have these answers, after an AARQ from a port.
 fn is_asked(
     alloc: Global,
     (opening, port): ((&str, &str), u8),
@@ -540,8 +540,8 @@ fn joined_bytes_that_are_no_value_are_refused(rt: HostRuntime) -> Result<(), Fai
     Ok(())
 }
 
-/// Whether a text has the same answers in one piece and byte by byte: at least one, and the session
-/// ends with its input.
+/// Returns whether a text has the same answers in one piece and byte by byte: at least one, and the
+/// session ends with its input.
 fn is_alike(alloc: Global, text: &[u8]) -> Result<bool, AllocError> {
     let end = Ok(SessionEnd::Closed);
     let whole = run(alloc, &AMPLE, text)?;
@@ -551,7 +551,8 @@ fn is_alike(alloc: Global, text: &[u8]) -> Result<bool, AllocError> {
     Ok(is_same? && is_answered)
 }
 
-/// Whether an AARQ with one byte changed has the same answers in one piece and byte by byte.
+/// Returns whether an AARQ with one byte changed has the same answers in one piece and byte by
+/// byte.
 fn is_alike_changed(
     alloc: Global,
     opening: &[u8],
@@ -638,8 +639,8 @@ fn write_and_read(alloc: Global, talk: &mut Talk, table: &[u8], size: usize) -> 
     talk.read(alloc, "C001C1000900000A006AFF0200", table, 1_012)
 }
 
-/// Whether the full table is written in blocks of `size` bytes, `blocks` in number, and read in
-/// four.
+/// Returns whether the full table is written in blocks of `size` bytes, `blocks` in number, and
+/// read in four.
 fn goes_in_blocks(alloc: Global, table: &[u8], size: usize, blocks: usize) -> Result<bool, Fail> {
     let mut talk = Talk::new(alloc, MANAGEMENT, 1)?;
     let done = write_and_read(alloc, &mut talk, table, size);

@@ -131,7 +131,7 @@ impl<R> Listing<R> {
     }
 }
 
-/// Passes the events of a text to a sink that lists them: each event, in order, if none is lost.
+/// Passes the events of a text to a sink that lists them: each event in order, if no line is lost.
 fn handed<R: Wait + Eprint + Copy>(
     alloc: Global,
     text: &[u8],

@@ -1,5 +1,5 @@
-//! A meter behind its lock: what one port wrote another reads, no call is taken once all turns are
-//! drawn, and the button that four threads press.
+//! A meter behind its lock: a port reads what another wrote, calls are refused once all turns are
+//! drawn, and four threads press the button.
 ghost use Rattle.std.specs.Prelude.{◌≡◌, IfSome};
 
 use crate::ports::new_lock;
@@ -27,7 +27,7 @@ const MODE: AttrRef = AttrRef {
     number: 4,
 };
 
-/// What a meter has left when its lock is closed: its core, and the events of its export.
+/// The state of a meter when its lock is closed: its core, and the events of its export.
 #[derive(Clone, Copy, Debug, PartialEq, Eq)]
 struct Left {
     state: ControlState,
@@ -37,7 +37,7 @@ struct Left {
     are_presses: bool,
 }
 
-/// Whether an event writes 7,000 as the threshold.
+/// Returns whether an event writes 7,000 as the threshold.
 fn is_write(event: &Event) -> bool {
     match event {
         Event::Set {
@@ -49,7 +49,7 @@ fn is_write(event: &Event) -> bool {
     }
 }
 
-/// Whether an event reads the threshold.
+/// Returns whether an event reads the threshold.
 fn is_read(event: &Event) -> bool {
     match event {
         Event::Get { attr, .. } => *attr == THRESHOLD,
@@ -57,7 +57,7 @@ fn is_read(event: &Event) -> bool {
     }
 }
 
-/// Whether the first event writes the threshold and the second one reads it.
+/// Returns whether the first event writes the threshold and the second one reads it.
 fn are_write_and_read(events: &[Event]) -> bool {
     match (events.get(0), events.get(1)) {
         (Some(first), Some(second)) => is_write(first) && is_read(second),
@@ -65,7 +65,7 @@ fn are_write_and_read(events: &[Event]) -> bool {
     }
 }
 
-/// Whether each event is a press of the button.
+/// Returns whether each event is a press of the button.
 fn are_presses(events: &[Event]) -> bool {
     for event in events {
         if !matches!(event, Event::Button) {
@@ -75,7 +75,7 @@ fn are_presses(events: &[Event]) -> bool {
     true
 }
 
-/// The core of a recorder, and the events of its export.
+/// Returns the state of a recorder's core and the events of its export.
 fn left_of(alloc: Global, recorder: &Recorder) -> Result<Left, AllocError> {
     let trace = recorder.export(alloc)?;
     let events = trace.events.as_slice();
@@ -90,7 +90,7 @@ fn left_of(alloc: Global, recorder: &Recorder) -> Result<Left, AllocError> {
     Ok(left)
 }
 
-/// The recorder behind a lock, which is closed, or None if it is busy.
+/// Closes a lock and returns its recorder, or `None` if the lock is busy.
 fn recorder_of(shared: Shared<Kept>, port: Port<Kept>) -> Option<Recorder>
     requires { port.lock ≡ shared }
 {
@@ -104,7 +104,8 @@ fn recorder_of(shared: Shared<Kept>, port: Port<Kept>) -> Option<Recorder>
     }
 }
 
-/// What a meter has left whose lock is closed, or None if it is busy or out of memory.
+/// Closes a lock and returns the state of its meter, or `None` if the lock is busy or out of
+/// memory.
 fn closed(alloc: Global, shared: Shared<Kept>, port: Port<Kept>) -> Option<Left>
     requires { port.lock ≡ shared }
 {
@@ -118,7 +119,7 @@ fn closed(alloc: Global, shared: Shared<Kept>, port: Port<Kept>) -> Option<Left>
     }
 }
 
-/// The code of a reply, or 255 where it has none.
+/// Returns the code of a reply, or 255 if it has none.
 fn code(reply: &Reply) -> u8 {
     match reply {
         Reply::Code(code) => code.code(),
@@ -126,7 +127,7 @@ fn code(reply: &Reply) -> u8 {
     }
 }
 
-/// The number that a reply tells, or 0.
+/// Returns the number in a reply, or 0 if it has none.
 fn number(reply: &Reply) -> u32 {
     match reply {
         Reply::Value(Data::DoubleLongUnsigned(number)) => *number,
@@ -149,7 +150,7 @@ fn ask<W: Wait>(
     Ok(told)
 }
 
-/// A management client's write of the threshold.
+/// Returns a management client's write of the threshold.
 fn write(value: u32) -> Event {
     Event::Set {
         level: Level::Management,
@@ -159,7 +160,7 @@ fn write(value: u32) -> Event {
     }
 }
 
-/// A management client's read of it.
+/// Returns a management client's read of the threshold.
 fn read() -> Event {
     Event::Get {
         level: Level::Management,
@@ -168,7 +169,7 @@ fn read() -> Event {
     }
 }
 
-/// Shows one port what another has seen.
+/// Passes what port `one` knows of the history to port `two`.
 fn tell(one: &mut Port<Kept>, two: &mut Port<Kept>)
     requires { two.old.lock ≡ one.old.lock }
     ensures { (one.new.lock ≡ one.old.lock) × (two.new.lock ≡ two.old.lock) }
@@ -176,10 +177,10 @@ fn tell(one: &mut Port<Kept>, two: &mut Port<Kept>)
     two.meet(one.tell());
 }
 
-/// The code and the number that came of a call, or why none came.
+/// The code and the number of a call's reply, or why the call was refused.
 type Told = Result<(u8, u32), CallFault>;
 
-/// One port writes the threshold, and another that was shown the write reads it.
+/// Writes the threshold through one port, and reads it through another that knows of the write.
 fn write_and_read<W: Wait>(
     rt: &W,
     alloc: Global,
@@ -230,7 +231,8 @@ fn two_turns_exhaust_a_port(rt: HostRuntime) -> Result<(), Fail> {
     Ok(())
 }
 
-/// A new meter after this number of presses in mode 0, in which the button does nothing.
+/// Returns the state of a new meter after this number of presses in mode 0, in which the button
+/// does nothing.
 fn presses(count: usize) -> Left {
     Left {
         state: ControlState::Connected,
@@ -241,7 +243,7 @@ fn presses(count: usize) -> Left {
     }
 }
 
-/// Each of three ports presses the button once.
+/// Presses the button once through each of three ports.
 fn press_each<W: Wait>(
     rt: &W,
     alloc: Global,
@@ -260,7 +262,7 @@ fn press_each<W: Wait>(
     ]
 }
 
-/// Each of three ports presses the button twice, in turn.
+/// Presses the button twice through each of three ports, in turn.
 fn press_twice_each<W: Wait>(
     rt: &W,
     alloc: Global,
@@ -297,7 +299,8 @@ fn three_turns_exhaust_three_ports(rt: HostRuntime) -> Result<(), Fail> {
     Ok(())
 }
 
-/// A management client's write of mode 1, in which the button cuts the supply and restores it.
+/// Returns a management client's write of mode 1, in which the button disconnects and reconnects
+/// the supply.
 fn write_mode() -> Event {
     Event::Set {
         level: Level::Management,
@@ -319,7 +322,7 @@ fn press_often<W: Wait>(rt: &W, alloc: Global, port: Port<Kept>) -> (Port<Kept>,
     (port, are_all)
 }
 
-/// The same through two ports on two threads, one of which is split off.
+/// Presses the button through two ports on two threads, one of them split off from the other.
 fn press_on_two<R: Threads + Wait + Sync>(
     rt: &R,
     alloc: Global,
@@ -343,7 +346,7 @@ fn press_on_two<R: Threads + Wait + Sync>(
     (port, are_all && are_others)
 }
 
-/// The same through four ports on four threads.
+/// Presses the button through four ports on four threads.
 fn press_on_four<R: Threads + Wait + Sync>(
     rt: &R,
     alloc: Global,

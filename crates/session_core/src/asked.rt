@@ -1,7 +1,8 @@
 use crate::link::Link;
 use xdlms_apdu::InvokeId;
 
-/// What the answer to an event's reply needs to know about the request.
+/// The part of a request that its answer needs once the meter has replied: the association and the
+/// form of the answer.
 #[derive(Clone, Copy, Debug)]
 pub struct Asked {
     pub(crate) link: Link,

@@ -23,7 +23,7 @@ pub(crate) enum Call {
     Refused(Exception),
 }
 
-// Whether the payload begins with this tag.
+// Returns whether the payload begins with this tag.
 pub(crate) fn has_tag(tag: u8, payload: &[u8]) -> bool
     ensures { result ≡ tag_is tag payload.now }
 {
@@ -33,7 +33,7 @@ pub(crate) fn has_tag(tag: u8, payload: &[u8]) -> bool
     }
 }
 
-// Whether the payload begins with the tag of a release or of a service.
+// Returns whether the payload begins with the tag of a release or of a service.
 pub(crate) fn is_call(payload: &[u8]) -> bool
     ensures { result ≡ is_call payload.now }
 {

@@ -50,7 +50,7 @@ pub(crate) const REQUEST_FORMS: [RequestForm; 9] = [
     ),
 ];
 
-// The form of this tag and number, or None where the server knows no such form.
+// Returns the request form with this tag and number, or `None` if the server does not know it.
 #[tactic(auto, unfolding(crate::specs::Calls::request_form))]
 fn request_form(tag: u8, number: u8) -> Option<RequestForm>
     ensures { result ≡ request_form tag number }
@@ -61,7 +61,7 @@ fn request_form(tag: u8, number: u8) -> Option<RequestForm>
         .find(|form| form.tag == tag && form.number == number)
 }
 
-// Whether a form is known and all its bits are negotiated.
+// Returns whether a form is known and all its bits are negotiated.
 #[tactic(auto, unfolding(crate::specs::Calls::is_negotiated))]
 pub(crate) fn is_negotiated(conformance: Conformance, tag: u8, number: u8) -> bool
     ensures { result ≡ is_negotiated conformance.0 tag number }

@@ -86,7 +86,7 @@ impl Purpose {
 }
 
 impl Purpose {
-    // Whether the purpose is one of this service.
+    // Returns whether the purpose is one of this service.
     pub(crate) fn is_of(self, service: LongService) -> bool
         ensures { result ≡ is_of service self }
     {
@@ -117,7 +117,7 @@ pub(crate) enum Added {
 }
 
 impl Added {
-    // Whether the transfer has ended.
+    // Returns whether the transfer has ended.
     pub(crate) fn is_over(&self) -> bool
         ensures { result ≡ is_over self.now }
     {

@@ -2,7 +2,7 @@ use crate::end::SessionEnd;
 use cosem_axdr::Octets;
 use relay_events::Event;
 
-/// What a session needs from its caller.
+/// The next thing that a session needs from its caller.
 #[derive(Debug, Drop)]
 pub enum Next {
     /// The meter's reply to this event.

@@ -308,8 +308,8 @@ fn answer_in_blocks(
     answer_code(alloc, asked, way, ResultCode::OtherReason)
 }
 
-// Whether bytes can be sent to the client in blocks: block transfer was negotiated, and the block
-// numbers suffice.
+// Returns whether bytes can be sent to the client in blocks: block transfer was negotiated, and the
+// block numbers suffice.
 fn can_go_in_blocks(link: Link, raw: &[u8]) -> bool
     ensures { result ≡ can_go_in_blocks link raw.now }
 {

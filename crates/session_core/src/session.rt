@@ -91,7 +91,7 @@ impl Session {
         self.is_finished = true;
     }
 
-    /// Whether the session awaits the reply to an event.
+    /// Returns whether the session awaits the reply to an event.
     #[tactic(auto, unfolding(crate::specs::Remaining::is_asking))]
     pub fn asking(&self) -> bool
         ensures { result ≡ is_asking self.now }
@@ -212,7 +212,7 @@ impl Session {
         }
     }
 
-    /// Whether `next` would only ask for more input.
+    /// Returns whether `next` would only ask for more input.
     #[tactic(auto, unfolding(crate::specs::Remaining::is_idle))]
     pub fn is_idle(&self) -> bool
         ensures idle { result ≡ is_idle self.now }

@@ -1,4 +1,5 @@
-//! The request that comes most: a GET of one attribute, of which no part is selected.
+//! Reads the most frequent request without allocating: a GET of one attribute without selective
+//! access (IEC 62056-5-3).
 ghost use Rattle.std.specs.Prelude.{IfSome};
 ghost use Rattle.session_core.specs.Calls.{IsSingleGet};
 
@@ -10,18 +11,19 @@ use xdlms_apdu::InvokeId;
 use xdlms_apdu::form::NORMAL;
 use xdlms_apdu::tag::GET_REQUEST;
 
-// The byte of an access selection that is not there.
+// The byte that says that a request has no access selection.
 const ABSENT: u8 = 0;
 
-// A GET of one attribute, of which no part is selected.
+// A GET of one attribute without selective access.
 #[derive(Clone, Copy)]
 pub(crate) struct SingleGet {
     pub(crate) id: InvokeId,
     pub(crate) attr: AttrRef,
 }
 
-// The single GET that a payload is, where GET was negotiated. It reads what `read_call` reads, with
-// no memory and no large value on the way; all other payloads are left to that one.
+// Reads a GET of one attribute without selective access. Returns `None` for any other payload and
+// if GET was not negotiated. `read_call` reads the same request, but this function does not
+// allocate and builds no large value.
 #[inline(always)]
 pub(crate) fn read_single_get(conformance: Conformance, payload: &[u8]) -> Option<SingleGet>
     ensures { IfSome result (λ get. IsSingleGet conformance.0 payload.now get.id get.attr) }

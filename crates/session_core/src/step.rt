@@ -4,7 +4,7 @@ use crate::incoming::Added;
 use crate::joined::Joined;
 use relay_events::Event;
 
-// The outcome of a frame.
+// The result of a frame.
 #[derive(Drop)]
 pub(crate) enum TurnStep {
     // An event, whose reply is then awaited.

@@ -4,7 +4,7 @@ use crate::end::SessionEnd;
 use crate::joined::Joined;
 use cosem_axdr::Octets;
 
-// What a session does next.
+// The next task of a session.
 #[derive(Drop)]
 pub(crate) enum SessionTask {
     // Takes the next frame.

@@ -101,7 +101,7 @@ fn say(alloc: Global, due: Due) -> Result<Unframed, AllocError>
     Ok(Unframed::Say(due.into_text(alloc, Way::Bare)?))
 }
 
-// Whether a payload is a service's tag alone, or a form of a service that needs no session.
+// Returns whether a payload is a service's tag alone, or a form of a service that needs no session.
 fn is_unframed(payload: &[u8]) -> bool
     ensures { result ≡ is_unframed payload.now }
 {

@@ -11,14 +11,14 @@ use relay_events::Event;
 use session_core::{Asked, PreparedAnswer, Unframed, answer_unframed, ask_unframed};
 use std::alloc::{AllocError, Global};
 
-/// Answers one xDLMS request that comes without a frame and without an association: a GET, also
-/// with a list, a SET or an ACTION in one piece, at management level, with all of the meter's
-/// conformance bits and PDUs of 1,024 bytes. A longer answer is the first block of a transfer that
-/// can't be gone on with. A payload that is no such request has an ExceptionResponse:
-/// service-unknown for another tag or form, service-not-allowed with other-reason where its bytes
-/// can't be read (IEC 62056-5-3).
+/// Answers one xDLMS request that has no frame and no association: a GET, a GET with list, or a SET
+/// or an ACTION in one piece. It is answered as a request of the management client with all of the
+/// meter's conformance bits and PDUs of 1,024 bytes. A longer answer is the first block of a
+/// transfer that cannot be continued. The answer to any other payload is an ExceptionResponse:
+/// service-unknown if the tag or form is another, service-not-allowed with other-reason if its
+/// bytes cannot be read (IEC 62056-5-3).
 ///
-/// Where memory runs out the core is as it was, as though the request had not come.
+/// If out of memory, the core is unchanged, as if the request had not arrived.
 #[tactic(auto, unfolding(crate::specs::Answering::answer_to_payload))]
 pub fn answer_apdu(
     alloc: Global,
@@ -43,7 +43,8 @@ pub fn answer_apdu(
     }
 }
 
-// The answer to an event. Want of memory may come after it.
+// Applies an event and returns the answer. The program can run out of memory after the event was
+// applied, so this is used only for events that read.
 fn answer(
     alloc: Global,
     core: &mut RelayCore,
@@ -60,8 +61,8 @@ fn answer(
     answer_unframed(alloc, asked, reply)
 }
 
-// The same for an event whose reply has no value: the memory for its answer is taken first, so want
-// of memory changes nothing.
+// Applies an event whose reply has no value and returns the answer, which is allocated before the
+// event. If out of memory, nothing has changed.
 #[tactic(auto, using(crate::proofs::Valueless::prepared_answer))]
 fn answer_or_stay(
     alloc: Global,

@@ -13,7 +13,7 @@ use relay_core::RelayCore;
 use session_core::Session;
 use std::alloc::Global;
 
-// Serves the session of an input on a meter, and writes each frame as a line.
+// Serves a session whose bytes are `input` on a meter, and writes each frame as a line.
 fn play_on<W: Writer>(
     alloc: Global,
     input: &[u8],
@@ -51,11 +51,11 @@ fn play_on<W: Writer>(
     }
 }
 
-/// Serves the session of an input on a new meter of this device name, and writes each frame as a
-/// line of hexadecimal in capitals. The management client has this password. The session ends
-/// where the input does, or at a wrong header.
+/// Serves a session whose bytes are `input` on a new meter with this device name and this password
+/// of the management client. Writes each frame as a line of hexadecimal in capitals. The session
+/// ends at the end of the input or at an invalid header.
 ///
-/// Errors: `Write`; `Memory`. Never `Digits`, `TooLong` or `Read`.
+/// Errors: `Write`, `Memory`. It never returns `Digits`, `TooLong` or `Read`.
 #[tactic(auto, using(crate::proofs::HexSessions::played_new))]
 pub fn play_session<W: Writer>(
     alloc: Global,
@@ -76,14 +76,14 @@ pub fn play_session<W: Writer>(
     played
 }
 
-/// Serves a session whose bytes a text has in hexadecimal: pairs of digits in either case, with
-/// blanks and line ends passed over, at most 1,048,576 characters. It has a new meter of this
-/// device name, 1 to 16 bytes, and the management client this password, 1 to 32 bytes. Each frame
-/// that is sent is written as a line of hexadecimal in capitals. A session that a wrong header or
-/// the end of the text cuts is no fault.
+/// Serves a session whose bytes are read from a text of hexadecimal: pairs of digits in either
+/// case, with blanks and line ends skipped, at most 1,048,576 characters. The meter is new and has
+/// this device name, 1 to 16 bytes, and this password of the management client, 1 to 32 bytes. Each
+/// frame is written as a line of hexadecimal in capitals. A session that ends at an invalid header,
+/// or within a frame, is not an error.
 ///
-/// Nothing is written before the whole text is read and is pairs of digits. A text that is too long
-/// is told before what its characters are.
+/// Nothing is written before the whole text is read and decoded. `TooLong` is reported before any
+/// fault of the characters.
 pub fn run_hex<R: Reader, W: Writer>(
     alloc: Global,
     reader: &mut R,

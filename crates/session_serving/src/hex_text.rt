@@ -7,10 +7,10 @@ use byte_streams::{InputFault, Reader, read_to_end_within};
 use hex::FromHexError;
 use std::alloc::{AllocError, Global};
 
-// The most characters of a text.
+// The maximum number of characters of a text.
 const MAX_CHARACTERS: usize = 1_048_576;
 
-// All characters of a text.
+// Reads all characters of a text.
 fn read_text<R: Reader>(alloc: Global, reader: &mut R) -> Result<Vec<u8>, TextFault>
     requires { R.can_read reader.now }
     ensures read { IfOk result
@@ -29,7 +29,7 @@ fn read_text<R: Reader>(alloc: Global, reader: &mut R) -> Result<Vec<u8>, TextFa
     }
 }
 
-// Whether a character is skipped: a blank or part of a line end.
+// Returns whether a character is skipped: a blank or part of a line end.
 #[tactic(auto, unfolding(crate::specs::Hexadecimal::is_blank))]
 fn is_blank(character: u8) -> bool
     ensures { result ≡ is_blank character }
@@ -37,21 +37,21 @@ fn is_blank(character: u8) -> bool
     matches!(character, b' ' | b'\n' | b'\r')
 }
 
-// Whether a character is a hexadecimal digit, or is skipped.
+// Returns whether a character is a hexadecimal digit, or is skipped.
 fn is_taken(character: u8) -> bool
     ensures { result ≡ is_taken character }
 {
     character.is_ascii_hexdigit() || is_blank(character)
 }
 
-// The index of the first character that is neither a digit nor skipped.
+// Returns the index of the first character that is neither a digit nor skipped, if there is one.
 fn first_wrong(text: &[u8]) -> Option<usize>
     ensures { result ≡ position (λ character. not (is_taken character)) text.now }
 {
     text.iter().position(|character| !is_taken(*character))
 }
 
-// The characters of a text that are not skipped.
+// Returns the characters of a text that are not skipped.
 #[tactic(auto, unfolding(crate::specs::Hexadecimal::is_blank))]
 fn digits_of(alloc: Global, text: &[u8]) -> Result<Vec<u8>, AllocError>
     ensures { IfOk result (λ digits. digits.items
@@ -63,7 +63,7 @@ fn digits_of(alloc: Global, text: &[u8]) -> Result<Vec<u8>, AllocError>
         .collect(alloc)
 }
 
-// The bytes whose digits a text has that has no wrong character.
+// Decodes a text in which every character is a digit or skipped. Errors: `OddDigits`, `Memory`.
 #[tactic(auto, using(crate::proofs::HexTexts::undecoded_odd))]
 fn decode_digits(alloc: Global, text: &[u8]) -> Result<Vec<u8>, TextFault>
     requires { position (λ character. not (is_taken character)) text.now ≡ None }
@@ -78,7 +78,8 @@ fn decode_digits(alloc: Global, text: &[u8]) -> Result<Vec<u8>, TextFault>
     }
 }
 
-// The bytes whose digits a text has.
+// Decodes a text. Errors: `Digit` of the first character that is neither a digit nor skipped, else
+// `OddDigits`; `Memory`.
 #[tactic(auto, using(crate::proofs::HexTexts::place_within, crate::proofs::HexTexts::undecoded_at))]
 fn decode(alloc: Global, text: &[u8]) -> Result<Vec<u8>, TextFault>
     ensures ok { IfOk result (λ input. IsHex text.now input.items) }
@@ -94,7 +95,7 @@ fn decode(alloc: Global, text: &[u8]) -> Result<Vec<u8>, TextFault>
 /// and line ends skipped, at most 1,048,576 characters.
 ///
 /// Errors, in this order: `TooLong` or `Read`; `Digit` of the first character that is neither a
-/// digit nor skipped, else `OddDigits`; `Memory` on the way.
+/// digit nor skipped, else `OddDigits`. `Memory` can occur at any point.
 #[tactic(auto, using(crate::proofs::HexTexts::undecoded))]
 pub fn read_hex<R: Reader>(alloc: Global, reader: &mut R) -> Result<Vec<u8>, TextFault>
     requires { R.can_read reader.now }

@@ -11,7 +11,7 @@ use std::alloc::{AllocError, Global};
 use std::marker::Model;
 use std::mem::replace;
 
-// What a session needs from its caller once the meter has applied its requests.
+// What a session needs from its caller after the meter has applied its requests.
 #[derive(Clone, Copy)]
 pub(crate) enum Rest {
     // A frame must be sent.

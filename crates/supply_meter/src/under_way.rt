@@ -1,7 +1,7 @@
 use cosem_axdr::Octets;
 use relay_events::{Event, Reply};
 
-// What is pending between a session and the meter, or between a session and its client.
+// The pending item between a session and the meter, or between a session and its client.
 #[derive(Drop)]
 pub(crate) enum UnderWay {
     // Nothing.

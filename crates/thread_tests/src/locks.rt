@@ -513,7 +513,7 @@ fn make_ring(port: Port<Counter>) -> Result<Ring, AllocError>
     Ok((one, two, three, four))
 }
 
-// Whether the replies are 1 to `count`, each once.
+// Returns whether the replies are 1 to `count`, each once.
 fn are_one_to(alloc: Global, mut replies: Vec<u64>, count: u64) -> Result<bool, AllocError> {
     let sorted = replies.sort();
     let mut want = 1;

@@ -13,8 +13,8 @@ ghost use Rattle.trace_lines.specs.Writing.{event_row};
 ghost use Rattle.trace_words.specs.declared.version.Version.{Version};
 ghost use Rattle.trace_words.specs.declared.version.Version.TheVariants.{Two};
 
-/// An event that is written is read back, from its words and from its line. Its words are words
-/// that a line can hold.
+/// Proves that an event that is written is read back, from its words and from its line. Its words
+/// are words that a line can hold.
 #[tactic(auto, using(crate::proofs::EventLaws::event_again, crate::proofs::EventRows::line_again, crate::proofs::EventRows::event_is_row))]
 pub fn written_event_is_read()
     ensures read_back { (event : Event) → IsTraced event → event_of Two (event_row event)
@@ -24,8 +24,8 @@ pub fn written_event_is_read()
     ensures row { (event : Event) → IsTraced event → IsTrue (is_row (event_row event)) }
 {}
 
-/// An event that is read from a line, of either version, is written as that line. So each event has
-/// one line only, in one spelling.
+/// Proves that an event that is read from a line, of either version, is written as that line. Each
+/// event therefore has exactly one line, in one spelling.
 #[tactic(auto, using(crate::proofs::EventsBack::event_back, crate::proofs::EventsBack::event_line_back))]
 pub fn read_event_is_written()
     ensures row { (version : Version) (row : Row) (event : Event) → event_of version row ≡ Ok event
@@ -34,14 +34,15 @@ pub fn read_event_is_written()
         → event_of version (words_of line) ≡ Ok event → line_of (event_row event) ≡ line }
 {}
 
-/// The line that a number of events is read from is the line that is written for it.
+/// Proves that the line that a number of events is read from is the line that is written for it.
 #[tactic(auto, using(crate::proofs::EventsBack::event_count_back))]
 pub fn read_event_count_is_written()
     ensures { (row : Row) (count : ℕ) → events_from row ≡ Ok count
         → number_row (codes "events") count ≡ row }
 {}
 
-/// A number of events is read back from the line that is written for it, which is a line of words.
+/// Proves that a number of events is read back from the line that is written for it, which is a
+/// line of words.
 #[tactic(auto, using(crate::proofs::EventLaws::event_count_again, crate::proofs::EventRows::event_count_is_row))]
 pub fn written_event_count_is_read()
     ensures read_back { (count number : ℕ) (rows : List Row) (unended : List ℕ) → count ≤ 65536

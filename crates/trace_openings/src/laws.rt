@@ -14,9 +14,9 @@ ghost use Rattle.trace_words.specs.declared.version.Version.TheVariants.{Two};
 
 use limiter_core::fit_runs_mean;
 
-/// An opening that a core can have, with numbers in the ranges of their types, is read back from
-/// the 30 lines that are written for it, whatever follows them. Every one of these is a line of
-/// words.
+/// Proves that an opening that a core can have, with numbers in the ranges of their types, is read
+/// back from the 30 lines that are written for it, whatever follows them. Every one of these is a
+/// line of words.
 pub fn written_opening_is_read()
     ensures read_back { (opening : Opening) (rows : List Row) (unended : List ℕ)
         → IsWritable opening
@@ -32,10 +32,10 @@ pub fn written_opening_is_read()
     fit_runs_mean();
 }
 
-/// The lines of version 2 that an opening is read from are the 30 lines that are written for it,
-/// except that the script table and the entries of a schedule may be other Datas that are read as
-/// the same table or entries. With the Datas that are written, the lines are those that are
-/// written.
+/// Proves that the lines of version 2 that an opening is read from are the 30 lines that are
+/// written for it, except that the script table and the entries of a schedule may be other Datas
+/// that are read as the same table or entries. With the Datas that are written, the lines are those
+/// that are written.
 #[tactic(auto, using(crate::proofs::OpeningBack::opening_back, crate::proofs::OpeningBack::opening_lines, crate::proofs::OpeningBack::written_rows))]
 pub fn read_opening_is_written()
     ensures lines { (place behind : Place) (opening : Opening)

@@ -13,17 +13,17 @@ ghost use Rattle.trace_player.specs.Written.{IsWritableTrace};
 
 use trace_openings::written_opening_is_read;
 
-/// A trace that a core can start from, with numbers in the ranges of their types, is read back from
-/// the text that is written for it.
+/// Proves that a trace that a core can start from, with numbers in the ranges of their types, is
+/// read back from the text that is written for it.
 pub fn written_trace_is_read()
     ensures { (trace : Trace) → IsWritableTrace trace → trace_of (trace_text trace) ≡ Ok trace }
 {
     written_opening_is_read();
 }
 
-/// The text of version 2 that a trace is read from is the text that is written for it, except that
-/// the script table and the entries of the schedules may be other Datas that are read as the same
-/// table or entries. With the Datas that are written, it is the text that is written.
+/// Proves that the text of version 2 that a trace is read from is the text that is written for it,
+/// except that the script table and the entries of the schedules may be other Datas that are read
+/// as the same table or entries. With the Datas that are written, it is the text that is written.
 #[tactic(auto, using(crate::proofs::TraceBack::trace_back, crate::proofs::TraceBack::written_text))]
 pub fn read_trace_is_written()
     ensures text { (text : List ℕ) (trace : Trace) → IsOfVersionTwo text → trace_of text ≡ Ok trace
@@ -32,9 +32,9 @@ pub fn read_trace_is_written()
         → text_with trace (written_forms trace.opening) ≡ trace_text trace }
 {}
 
-/// The trace that a recorder exports prints, when played, the lines of the kept events in every
-/// history that the recorder represents. So a trace that was exported, written and played shows the
-/// replies that were given.
+/// Proves that the trace that a recorder exports prints, when played, the lines of the kept events
+/// in every history that the recorder represents. So a trace that was exported, written and played
+/// shows the replies that were given.
 pub fn exported_run_is_played()
     ensures { (r : Recording) (trace : Trace) → trace.events ≡ r.events
         → Replays r (world_of_opening trace.opening) → PrintsTheEnd r trace }

@@ -18,7 +18,7 @@ use std::alloc::{AllocError, Global};
 use std::process::ExitCode;
 use trace_player::{MAX_BYTES, PlayFault, play};
 
-// The end of `--help`.
+// The last lines of `--help`.
 const LIMITS_AND_STATUSES: &str = "\
 Limits: a trace has at most 33,554,432 bytes and 65,536 events.
 A fault is the line `fault: WORD` on standard error. \
@@ -27,7 +27,7 @@ Exit status: 0 success; 2 the command line or the input is wrong; \
 3 reading or writing failed; 4 out of memory.
 Example: trace_player < run.trace";
 
-// The command line and its help.
+// Returns the command line with its help.
 fn command_line<'a>(alloc: Global) -> Result<Command<'a>, AllocError> {
     let verbose = Arg::new(alloc, "verbose")
         .long("verbose")
@@ -41,7 +41,7 @@ fn command_line<'a>(alloc: Global) -> Result<Command<'a>, AllocError> {
         .arg(verbose)
 }
 
-// The fault of the program for a trace that was not played.
+// Returns the program's fault for a trace that was not played.
 fn fault_of(fault: PlayFault) -> Fault
     ensures { result ≡ fault_of fault }
 {
@@ -63,8 +63,8 @@ fn play_input(rt: &HostRuntime) -> Result<(), Fault> {
     }
 }
 
-// Plays the trace of standard input. On a fault, says on standard error what was expected and what
-// was found; the whole text is kept in memory for that.
+// Plays the trace of standard input. On a fault, writes to standard error what was expected and
+// what was found, for which it holds the whole text in memory.
 fn play_and_tell(rt: &HostRuntime) -> Result<(), Fault> {
     let mut input = Counted::new(rt.stdin());
     let text = match read_to_end_within(rt.alloc(), &mut input, MAX_BYTES) {

@@ -1,4 +1,4 @@
-//! Why a text is not a trace, as a line for people.
+//! The message that `--verbose` writes if a text is not a trace.
 use thiserror::Error;
 use trace_player::{MAX_BYTES, PlayFault};
 use trace_text::{TextLines, Words, read_number};
@@ -57,10 +57,10 @@ const LINES_BEFORE_EXPORT: u64 = 15;
 // The number of lines of the export limiter.
 const EXPORT_LINES: u64 = 10;
 
-// The greatest number of events of a trace.
+// The maximum number of events of a trace.
 const MAX_EVENTS: u64 = 65_536;
 
-// The greatest length of a word that is shown in a message.
+// The maximum length in bytes of a word that is shown in a message.
 const MAX_SHOWN: usize = 32;
 
 // Why a line is wrong. Its message follows the line's number.
@@ -121,7 +121,8 @@ fn tell_line(rt: &HostRuntime, text: &[u8], number: u64) {
     };
 }
 
-// The first word of a line, if it has 1 to `MAX_SHOWN` bytes of visible ASCII.
+// Returns the first word of the line with this number, if it has 1 to `MAX_SHOWN` bytes of visible
+// ASCII.
 fn shown_word(text: &[u8], number: u64) -> Option<&str> {
     let word = Words::new(line_of(text, number)?).next()?;
     if word.is_empty() || word.len() > MAX_SHOWN || !word.iter().all(u8::is_ascii_graphic) {
@@ -147,7 +148,8 @@ fn why_wrong(text: &[u8], number: u64) -> Why {
     }
 }
 
-// The number of the last line, by the line `events COUNT`. `None` without that line.
+// Returns the number of the last line that the line `events COUNT` announces, or `None` if that
+// line is missing.
 fn last_line(text: &[u8]) -> Option<u64> {
     let export = if is_version_1(text) { EXPORT_LINES } else { 0 };
     let head = (OPENING.len() as u64).saturating_sub(export);
@@ -159,19 +161,19 @@ fn last_line(text: &[u8]) -> Option<u64> {
     Some(head.saturating_add(count))
 }
 
-// Whether the first line is that of version 1.
+// Returns whether the first line is that of version 1.
 fn is_version_1(text: &[u8]) -> bool {
     line_of(text, 1) == Some(b"RELAYTRACE 1".as_slice())
 }
 
-// Returns the line of a text with that number, counted from 1. `None` if the text ends before the
-// end of that line.
+// Returns the line of a text with that number, counted from 1, or `None` if the text ends before
+// the end of that line.
 fn line_of(text: &[u8], number: u64) -> Option<&[u8]> {
     TextLines::new(text).nth(number.checked_sub(1)? as usize)
 }
 
-// The form of the line with this number: that of a line of the opening, or of the event that its
-// first word names.
+// Returns the form of the line with this number: that of a line of the opening, or of the event
+// that its first word names. Returns `None` if the first word names no event.
 fn form_of(text: &[u8], number: u64, line: &[u8]) -> Option<&'static str> {
     let place = if is_version_1(text) && number > LINES_BEFORE_EXPORT {
         number.saturating_add(EXPORT_LINES)
@@ -184,7 +186,7 @@ fn form_of(text: &[u8], number: u64, line: &[u8]) -> Option<&'static str> {
     }
 }
 
-// The form of the event that a line's first word names.
+// Returns the form of the event that a line's first word names, if it names one.
 fn event_form(line: &[u8]) -> Option<&'static str> {
     let verb = Words::new(line).next()?;
     'forms: for form in EVENTS.iter() {
@@ -215,7 +217,7 @@ fn why_not(form: &'static str, line: &[u8]) -> Why {
     }
 }
 
-// Returns why a word cannot be the word `name` of a form; `None` if it can. A name in capitals
+// Returns why a word cannot be the word `name` of a form, or `None` if it can. A name in capitals
 // stands for a number or for bytes, or `-` for no value; any other name is the word itself.
 fn why_not_word(form: &'static str, name: &'static str, word: &[u8]) -> Option<Why> {
     let is_none = word == b"-".as_slice();
@@ -232,17 +234,17 @@ fn why_not_word(form: &'static str, name: &'static str, word: &[u8]) -> Option<W
     }
 }
 
-// Whether a name of a form is a placeholder.
+// Returns whether a name of a form is a placeholder.
 fn is_placeholder(name: &str) -> bool {
     name.as_bytes().iter().all(u8::is_ascii_uppercase) && name != "RELAYTRACE"
 }
 
-// Whether a word has the digits of a decimal number.
+// Returns whether a word has the digits of a decimal number.
 fn is_number(word: &[u8]) -> bool {
     !word.is_empty() && word.iter().all(u8::is_ascii_digit)
 }
 
-// Whether a word has two hexadecimal digits in capitals for each of its bytes.
+// Returns whether a word has two hexadecimal digits in capitals for each of its bytes.
 fn is_bytes(word: &[u8]) -> bool {
     word.len() % 2 == 0
         && !word.is_empty()

@@ -1,4 +1,4 @@
-//! What a recorder exports, written as text and played.
+//! Traces that a recorder exports, written as text and played.
 use byte_streams::Counted;
 use cosem_axdr::Octets;
 use relay_core::{Event, Opening, RelayCore, Reply};

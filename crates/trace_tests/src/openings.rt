@@ -94,7 +94,7 @@ fn add_without_line(changed: &mut Vec<u8>, text: &[u8], number: u64) -> Result<(
     Ok(())
 }
 
-// What to check of an opening that is read.
+// A check of an opening that is read.
 #[derive(Clone, Copy)]
 enum Asked {
     Nothing,
@@ -189,7 +189,7 @@ fn are_missed(alloc: Global, text: &[u8], count: u64) -> Result<bool, AllocError
     Ok(true)
 }
 
-// What holds of an opening one of whose lines is replaced.
+// The expected result of reading an opening of which one line is replaced.
 #[derive(Clone, Copy)]
 enum Other {
     // With this line, the opening is refused at its number.
@@ -707,7 +707,7 @@ const ENDS: &[(&[u8], Result<(), TraceFault>)] = &[
     (b"button\n", Err(TraceFault::Line(1))),
 ];
 
-// Returns whether each text has this result where a trace is to end.
+// Returns whether each text has this result if no further line of a trace is expected.
 fn are_ends(texts: &[(&[u8], Result<(), TraceFault>)]) -> bool {
     for (text, wanted) in texts {
         if TraceLines::new(text).end() != *wanted {

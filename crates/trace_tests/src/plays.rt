@@ -134,7 +134,7 @@ impl Scripted {
         Scripted { calls: 0, failing }
     }
 
-    // Counts a call, and says whether it is the one that fails.
+    // Counts a call, and returns whether it is the one that fails.
     fn fails(&mut self) -> bool {
         self.calls = self.calls.saturating_add(1);
         self.calls == self.failing
@@ -180,7 +180,7 @@ impl Read for Endless {
     }
 }
 
-// What comes of the text of a reader that is played, and what is written.
+// Plays the text of a reader, and returns the result and the bytes that were written.
 fn played<R: Read + Drop>(alloc: Global, from: R) -> (Result<u64, PlayFault>, Vec<u8>) {
     let mut reader = Counted::new(from);
     let mut writer = Counted::new(Vec::new(alloc));
@@ -189,7 +189,7 @@ fn played<R: Read + Drop>(alloc: Global, from: R) -> (Result<u64, PlayFault>, Ve
     (count, writer.into_inner())
 }
 
-// Whether a text plays to this output, of so many lines.
+// Returns whether a text plays to this output, which has `lines` lines.
 fn prints(alloc: Global, text: &[u8], lines: u64, output: &[u8]) -> bool {
     let (count, written) = played(alloc, text);
     let same = written.as_slice() == output;
@@ -197,7 +197,7 @@ fn prints(alloc: Global, text: &[u8], lines: u64, output: &[u8]) -> bool {
     same && count == Ok(lines)
 }
 
-// What comes of what is played, if nothing is written.
+// Returns the fault of playing the text of a reader, or `None` if it plays or anything is written.
 fn fault_of<R: Read + Drop>(alloc: Global, from: R) -> Option<PlayFault> {
     let (count, written) = played(alloc, from);
     let is_silent = written.is_empty();
@@ -208,12 +208,12 @@ fn fault_of<R: Read + Drop>(alloc: Global, from: R) -> Option<PlayFault> {
     }
 }
 
-// Whether a text is refused at this line, and nothing is written.
+// Returns whether a text is refused at this line, and nothing is written.
 fn is_wrong_at(alloc: Global, text: &[u8], line: u64) -> bool {
     fault_of(alloc, text) == Some(PlayFault::Line(line))
 }
 
-// Adds a text with another line in place of one, counted from 1.
+// Appends a text with line `at`, counted from 1, replaced by another.
 fn add_with_line(out: &mut Vec<u8>, text: &[u8], at: u64, other: &[u8]) -> Result<(), AllocError> {
     let mut number: u64 = 0;
     for line in TextLines::new(text) {
@@ -224,7 +224,7 @@ fn add_with_line(out: &mut Vec<u8>, text: &[u8], at: u64, other: &[u8]) -> Resul
     Ok(())
 }
 
-// Adds a text without one of its lines, counted from 1.
+// Appends a text without line `at`, counted from 1.
 fn add_without_line(out: &mut Vec<u8>, text: &[u8], at: u64) -> Result<(), AllocError> {
     let mut number: u64 = 0;
     for line in TextLines::new(text) {
@@ -237,7 +237,7 @@ fn add_without_line(out: &mut Vec<u8>, text: &[u8], at: u64) -> Result<(), Alloc
     Ok(())
 }
 
-// What is asked of a text.
+// The expected result of playing a text.
 #[derive(Clone, Copy)]
 enum Asked {
     // It is refused at this line.
@@ -253,7 +253,7 @@ fn is_as_asked(alloc: Global, text: &[u8], asked: Asked) -> bool {
     }
 }
 
-// Whether a text is as asked once its line `at` is another.
+// Returns whether a text has the expected result once its line `at` is replaced.
 fn is_so_with(alloc: Global, text: &[u8], at: u64, other: &[u8], asked: Asked) -> bool {
     let mut changed = Vec::new(alloc);
     let added = add_with_line(&mut changed, text, at, other);
@@ -262,8 +262,8 @@ fn is_so_with(alloc: Global, text: &[u8], at: u64, other: &[u8], asked: Asked) -
     added.is_ok() && is_so
 }
 
-// A text, the number of a line of it, another line in its place, and the line at which the trace is
-// refused then.
+// A text, the number of one of its lines, the line that replaces it, and the line at which the
+// trace is then refused.
 type Wrong = (&'static [u8], u64, &'static [u8], u64);
 
 fn are_wrong(alloc: Global, rows: &[Wrong]) -> bool {
@@ -275,7 +275,7 @@ fn are_wrong(alloc: Global, rows: &[Wrong]) -> bool {
     true
 }
 
-// Whether the trace is refused at this line once its line `at` is missing.
+// Returns whether the trace is refused at line `line` once its line `at` is missing.
 fn is_wrong_without(alloc: Global, at: u64, line: u64) -> bool {
     let mut changed = Vec::new(alloc);
     let added = add_without_line(&mut changed, TRACE, at);
@@ -284,7 +284,7 @@ fn is_wrong_without(alloc: Global, at: u64, line: u64) -> bool {
     added.is_ok() && is_so
 }
 
-// Whether the trace is refused at each line of its opening that is missing.
+// Returns whether the trace without a line of its opening is refused at that line, for each line.
 fn is_wrong_without_each(alloc: Global) -> bool {
     for at in 1..22 {
         if !is_wrong_without(alloc, at, at) {
@@ -294,7 +294,7 @@ fn is_wrong_without_each(alloc: Global) -> bool {
     true
 }
 
-// Whether the trace is refused at line 30, after its last, without any one of its nine events.
+// Returns whether the trace without one of its nine events is refused at line 30, for each event.
 fn is_wrong_without_each_event(alloc: Global) -> bool {
     for at in 22..31 {
         if !is_wrong_without(alloc, at, 30) {
@@ -304,7 +304,7 @@ fn is_wrong_without_each_event(alloc: Global) -> bool {
     true
 }
 
-// A text that was read as a trace and written again.
+// Reads a text as a trace and writes it again. Returns `None` if either fails.
 fn written_again(alloc: Global, text: &[u8]) -> Option<Octets> {
     match read_trace(alloc, text) {
         Ok(trace) => {
@@ -316,7 +316,8 @@ fn written_again(alloc: Global, text: &[u8]) -> Option<Octets> {
     }
 }
 
-// Whether it is of version 2, and plays to this output, of so many lines.
+// Returns whether a text that is read and written again is of version 2 and plays to this output,
+// which has `lines` lines.
 fn prints_again(alloc: Global, text: &[u8], lines: u64, output: &[u8]) -> bool {
     match written_again(alloc, text) {
         Some(again) => {
@@ -329,7 +330,7 @@ fn prints_again(alloc: Global, text: &[u8], lines: u64, output: &[u8]) -> bool {
     }
 }
 
-// Whether it is the same text.
+// Returns whether a text that is read and written again is the same.
 fn is_the_same_again(alloc: Global, text: &[u8]) -> bool {
     match written_again(alloc, text) {
         Some(again) => {
@@ -341,7 +342,8 @@ fn is_the_same_again(alloc: Global, text: &[u8]) -> bool {
     }
 }
 
-// Whether the long run is as asked with another line for the run, and a block of one sample.
+// Returns whether the long run has the expected result with this line for the run and a block of
+// one sample.
 fn is_so_with_run(alloc: Global, run: &[u8], asked: Asked) -> bool {
     let mut changed = Vec::new(alloc);
     let added = add_with_line(&mut changed, LONG_RUN, 14, run);
@@ -350,7 +352,7 @@ fn is_so_with_run(alloc: Global, run: &[u8], asked: Asked) -> bool {
     added.is_ok() && is_so
 }
 
-// What comes of a write that fails.
+// Returns the fault of playing a trace whose write with the number `failing` fails.
 fn fault_of_writer(alloc: Global, failing: u32) -> Option<PlayFault> {
     let mut reader = Counted::new(TRACE);
     let mut writer = Counted::new(Scripted::new(failing));

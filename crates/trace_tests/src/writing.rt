@@ -157,7 +157,7 @@ fn set_busy(alloc: Global, opening: &mut Opening) -> Result<(), AllocError> {
     Ok(())
 }
 
-// What to check of the lines of an opening.
+// A check of the lines of an opening.
 #[derive(Clone, Copy)]
 enum Written {
     // The lines of a new meter, alone.

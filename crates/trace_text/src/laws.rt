@@ -8,7 +8,8 @@ ghost use Rattle.trace_text.specs.Numbers.{number_of};
 ghost use Rattle.trace_text.specs.Words.{words_of, line_of, is_word};
 ghost use Rattle.trace_text.specs.Lines.{is_row, lines_of, rows_of, rows_text, unended_of};
 
-/// A number that is written is a word and is read back, and no other word is read as that number.
+/// Proves that a number that is written is a word and is read back, and that no other word is read
+/// as that number.
 #[tactic(auto, using(crate::proofs::Known::numbers))]
 pub fn written_number_is_read()
     ensures word { (n : ℕ) → n < 2 ^ 64 → IsTrue (is_word (decimal n)) }
@@ -20,7 +21,8 @@ pub fn written_number_is_read()
         → n ≤ limit }
 {}
 
-/// Bytes that are written are a word and are read back, and no other word is read as these bytes.
+/// Proves that bytes that are written are a word and are read back, and that no other word is read
+/// as these bytes.
 #[tactic(auto, using(crate::proofs::Known::hexes))]
 pub fn written_bytes_are_read()
     ensures word { (bytes : List ℕ) → 0 < length bytes → IsBytes bytes
@@ -34,8 +36,8 @@ pub fn written_bytes_are_read()
         → length word ≡ 2 * length bytes }
 {}
 
-/// The words of a line that is written are read back, each line is the line of its words, and one
-/// more word follows a blank.
+/// Proves that the words of a line that is written are read back, that each line is the line of its
+/// words, and that one more word follows a blank.
 #[tactic(auto, using(crate::proofs::Known::words))]
 pub fn written_words_are_read()
     ensures read_back { (words : List (List ℕ)) → IsTrue (is_row words)
@@ -45,9 +47,9 @@ pub fn written_words_are_read()
         → line_of (words ++ word ∷ []) ≡ line_of words ++ 32 ∷ word }
 {}
 
-/// Lines of words that are written are read back, whatever text follows them. Each text is the text
-/// of its lines followed by the text after its last byte 0A. Texts are written and read line by
-/// line.
+/// Proves that lines of words that are written are read back, whatever text follows them. Each text
+/// is the text of its lines followed by the text after its last byte 0A. Texts are written and read
+/// line by line.
 #[tactic(auto, using(crate::proofs::Known::rows))]
 pub fn written_lines_are_read()
     ensures read_back { (rows : List (List (List ℕ))) → IsTrue (list_all is_row rows)
@@ -67,8 +69,8 @@ pub fn written_lines_are_read()
     ensures none { (text : List ℕ) → lines_of text ≡ [] → rows_of text ≡ [] }
 {}
 
-/// A text whose last line is ended can be cut off from the text that follows: the lines of the
-/// whole are those of both parts, in order.
+/// Proves that a text whose last line is ended can be split from the text that follows: the lines
+/// of the whole are those of both parts, in order.
 #[tactic(auto, using(crate::proofs::JoinedTexts::lines_joined, crate::proofs::JoinedTexts::unended_joined))]
 pub fn text_may_be_cut_behind_a_line()
     ensures lines { (text rest : List ℕ) → unended_of text ≡ []

@@ -1,4 +1,5 @@
-//! What a seat at the table knows. Values of these types exist only in contracts and proofs.
+//! The knowledge of each seat at the table. Values of these types exist only in contracts and
+//! proofs.
 use crate::turned::Entry;
 use std::collections::LinkedList;
 
@@ -19,7 +20,7 @@ pub struct Known<E, R, O> {
     pub served: u64,
 }
 
-/// What a seat does next.
+/// The next action of a seat.
 pub enum Stage<E, R, O> {
     /// The first seat before its first step: the slot has the value that the table was made with.
     New,

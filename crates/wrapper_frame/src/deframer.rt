@@ -78,7 +78,7 @@ impl Deframer {
         Ok(())
     }
 
-    /// Returns what the pending bytes begin with.
+    /// Judges the front of the pending bytes.
     #[tactic(auto, using(crate::proofs::CutLemmas::fronts))]
     pub fn front(&self) -> Head
         ensures head { result ≡ head_of self.now }

@@ -16,7 +16,7 @@ pub const LENGTH_AT: usize = 6;
 /// The maximum length of a payload in bytes.
 pub const MAX_PAYLOAD: usize = 1024;
 
-/// What bytes begin with.
+/// The state of the bytes at the front of a stream: part of a frame, an invalid header, or a frame.
 #[derive(Clone, Copy, Debug, PartialEq, Eq)]
 pub enum Head {
     /// Part of a frame, valid so far.
@@ -29,7 +29,7 @@ pub enum Head {
     Whole(usize),
 }
 
-/// Returns what bytes begin with. A header is checked once its eight bytes are there, its version
+/// Judges the front of some bytes. A header is checked once its eight bytes are there, its version
 /// before its length.
 #[tactic(auto, unfolding(crate::specs::Header::head_of))]
 pub fn judge(bytes: &[u8]) -> Head

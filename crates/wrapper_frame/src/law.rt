@@ -1,7 +1,7 @@
 ghost use Rattle.wrapper_frame.specs.Law.{IsFound, IsOnly, HasEnd, IsReadBack};
 
-/// Any bytes are the texts of certain frames, followed by a rest that does not begin with a frame,
-/// and of no other frames and rest.
+/// Proves that any bytes are the texts of certain frames, followed by a rest that does not begin
+/// with a frame, and of no other frames and rest.
 pub fn one_reading()
     ensures found { IsFound }
     ensures only { IsOnly }

@@ -10,7 +10,7 @@ ghost use Rattle.xdlms_apdu.specs.declared.fault.ApduFault.{ApduFault};
 ghost use Rattle.xdlms_apdu.specs.declared.request.Request.{Request};
 ghost use Rattle.xdlms_apdu.specs.declared.response.Response.{Response};
 
-/// If any bytes spell a request, its written text spells it.
+/// Proves that the written text of a request spells it, if any bytes do.
 pub fn text_of_request_spells()
     ensures spelled { (bytes : List ℕ) (request : Request) → IsBytes bytes
         → SpellsRequest bytes request → SpellsRequest (request_text request) request }
@@ -23,7 +23,7 @@ pub fn text_of_request_spells()
         → request_of (request_text request) ≡ Ok request }
 {}
 
-/// If any bytes spell a response, its written text spells it.
+/// Proves that the written text of a response spells it, if any bytes do.
 pub fn text_of_response_spells()
     ensures spelled { (bytes : List ℕ) (response : Response) → IsBytes bytes
         → SpellsResponse bytes response → SpellsResponse (response_text response) response }
@@ -36,8 +36,8 @@ pub fn text_of_response_spells()
         → response_of (response_text response) ≡ Ok response }
 {}
 
-/// No spelling of a request is a proper prefix of another, and no bytes spell two requests. The
-/// same holds for responses.
+/// Proves that no spelling of a request is a proper prefix of another, and that no bytes spell two
+/// requests. The same holds for responses.
 pub fn no_spelling_begins_another()
     ensures request { (bytes rest : List ℕ) (one other : Request) → SpellsRequest bytes one
         → SpellsRequest (bytes ++ rest) other → (rest ≡ []) × (one ≡ other) }

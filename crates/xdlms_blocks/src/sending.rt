@@ -36,7 +36,7 @@ impl Model for GetBlocks {
 }
 
 impl GetBlocks {
-    /// Whether there are numbers for all blocks of `size` bytes of `raw`.
+    /// Returns whether there are numbers for all blocks of `size` bytes of `raw`.
     pub fn has_numbers_for(raw: &[u8], size: u16) -> bool
         ensures { result ≡ nat_le (length raw.now) (max_blocks * size) }
     {

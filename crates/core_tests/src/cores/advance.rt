@@ -13,7 +13,7 @@ fn steps_of(parts: &Parts, identifier: u16) -> Option<u8> {
     }
 }
 
-/// Whether script 3 in the parts of the event has two steps, and there is no script 1.
+/// Returns whether script 3 in the parts of the event has two steps, and there is no script 1.
 fn moves_script_3(alloc: Global, event: &Event) -> Result<bool, AllocError> {
     let parts = RelayCore::parts(alloc, event)?;
     let moves = steps_of(&parts, 3) == Some(2) && steps_of(&parts, 1) == None;
@@ -63,7 +63,7 @@ fn advance_write(core: &mut RelayCore, alloc: Global, bytes: &[u8]) -> Result<()
     taken
 }
 
-/// In mode 1, applies a moment and disconnects the supply.
+/// Sets mode 1, applies a moment and disconnects the supply.
 fn advance_to_disconnected(core: &mut RelayCore, alloc: Global) -> Result<(), AllocError> {
     advance_write(core, alloc, &[0x16, 1])?;
     advance(core, alloc, &Event::Moment(5))?;
@@ -77,7 +77,7 @@ fn is_disconnected(core: &RelayCore) -> bool {
         && core.last_moment() == Some(5)
 }
 
-/// Whether a copy of the core is in the same state.
+/// Returns whether a copy of the core is in the same state.
 fn is_copied(core: &RelayCore, alloc: Global) -> Result<bool, AllocError> {
     let copy = core.try_copy(alloc)?;
     let same = is_disconnected(&copy);
@@ -85,7 +85,7 @@ fn is_copied(core: &RelayCore, alloc: Global) -> Result<bool, AllocError> {
     Ok(same)
 }
 
-/// Whether a core reaches that state, and a copy of it has it too.
+/// Returns whether a core reaches that state, and a copy of the core is in the same state.
 pub(super) fn advances(core: &mut RelayCore, alloc: Global) -> Result<bool, AllocError> {
     advance_to_disconnected(core, alloc)?;
     Ok(is_disconnected(core) && is_copied(core, alloc)?)

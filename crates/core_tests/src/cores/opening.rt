@@ -63,12 +63,12 @@ fn tells(core: &RelayCore, alloc: Global) -> Result<bool, AllocError> {
     Ok(told)
 }
 
-/// Whether a core has these last samples, and saves them.
+/// Returns whether a core has these last samples, and saves them.
 fn is_the_same(core: &RelayCore, alloc: Global) -> Result<bool, AllocError> {
     Ok(core.value() == 5001 && core.value_of(Which::Export) == 9001 && tells(core, alloc)?)
 }
 
-/// Whether a core restored from an opening is the same.
+/// Returns whether a core restored from an opening is the same.
 fn is_opened_again(alloc: Global, opening: &Opening) -> Result<bool, AllocError> {
     match RelayCore::from_opening(alloc, opening) {
         Ok(core) => {

@@ -33,7 +33,7 @@ fn events_in_mode_1(alloc: Global) -> Result<Events, AllocError> {
     }
 }
 
-/// Whether the lines have these states and supply outputs, and the code 0.
+/// Returns whether the lines have these states and supply outputs, and the code 0.
 fn are_lines(lines: &Lines, expected: &[(u8, bool)]) -> bool {
     lines.len() == expected.len()
         && lines.as_slice().iter().zip(expected).all(|(line, (state, output))| {
@@ -41,8 +41,8 @@ fn are_lines(lines: &Lines, expected: &[(u8, bool)]) -> bool {
         })
 }
 
-/// Whether a core that takes these events without running out of memory gives the lines of the
-/// tables.
+/// Returns whether a core that takes these events without running out of memory gives the lines of
+/// the tables.
 fn runs_by_the_tables(
     core: &mut RelayCore,
     alloc: Global,
@@ -89,7 +89,7 @@ fn state_and_unknown(alloc: Global) -> Result<Event, AllocError> {
     })
 }
 
-/// Whether a reply is a list of the state Connected and the refusal of an unknown object.
+/// Returns whether a reply is a list of the state Connected and the refusal of an unknown object.
 fn is_state_and_unknown(reply: &Reply) -> bool {
     let Reply::Values(results) = reply else {
         return false;
@@ -103,7 +103,7 @@ fn is_state_and_unknown(reply: &Reply) -> bool {
     }
 }
 
-/// Whether a core gives this reply to the event.
+/// Returns whether a core gives this reply to the event.
 fn replies_to(core: &mut RelayCore, alloc: Global, event: &Event) -> Result<bool, AllocError> {
     let reply = core.step(alloc, event)?;
     let so = is_state_and_unknown(&reply);

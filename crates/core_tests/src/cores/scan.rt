@@ -11,8 +11,9 @@ struct Samples {
     under: u16,
 }
 
-/// What is written to a new core, the blocks that it takes, and what it has after them: the state
-/// of the switch, the active threshold of the import limiter, and the length of its run under that.
+/// The settings written to a new core, the blocks that it takes, and its state after them: the
+/// state of the switch, the active threshold of the import limiter, and the length of its run under
+/// that threshold.
 pub(super) struct Firing {
     settings: &'static [(Place, &'static [u8])],
     blocks: &'static [Samples],
@@ -120,7 +121,7 @@ static SWITCHES: Firing = Firing {
     under_run: 10,
 };
 
-/// The values of stretches, in order.
+/// Returns the values of stretches, in order.
 fn values_of(alloc: Global, stretches: &[(u16, u32)]) -> Result<Vec<u32>, AllocError> {
     let mut values = Vec::new(alloc);
     for (count, value) in stretches {
@@ -130,8 +131,8 @@ fn values_of(alloc: Global, stretches: &[(u16, u32)]) -> Result<Vec<u32>, AllocE
     Ok(values)
 }
 
-/// The block, scanned at this threshold if there is one. A block without export values ignores the
-/// second threshold.
+/// Returns the block, scanned at this threshold if there is one. A block without export values
+/// ignores the second threshold.
 fn scanned(mut block: Block, scan: Option<u32>) -> Block {
     if let Some(threshold) = scan {
         block.scan(threshold, 5000);
@@ -139,7 +140,7 @@ fn scanned(mut block: Block, scan: Option<u32>) -> Block {
     block
 }
 
-/// A block of these values, scanned at this threshold if there is one.
+/// Returns a block of these values, scanned at this threshold if there is one.
 fn block_of(
     alloc: Global,
     stretches: &[(u16, u32)],
@@ -154,7 +155,8 @@ fn block_of(
     }
 }
 
-/// The scan of values at a threshold. `None`: more values than a block has.
+/// Returns the scan of values at a threshold, or `None` if there are more values than fit in a
+/// block.
 fn scans_of(values: &[u32], threshold: u32) -> Option<Scans> {
     if values.len() > 256 {
         return None;
@@ -168,7 +170,7 @@ fn scans_of(values: &[u32], threshold: u32) -> Option<Scans> {
     })
 }
 
-/// Whether these are the scans of the values at a threshold.
+/// Returns whether these are the scans of the values at a threshold.
 fn are_scans(scans: &Scans, values: &[u32], threshold: u32) -> bool {
     match scans_of(values, threshold) {
         Some(expected) => *scans == expected,
@@ -176,7 +178,7 @@ fn are_scans(scans: &Scans, values: &[u32], threshold: u32) -> bool {
     }
 }
 
-/// Whether a block has the scan at this threshold, or has none if there is no threshold.
+/// Returns whether a block has the scan at this threshold, or has none if there is no threshold.
 fn is_scanned(block: &Block, scan: Option<u32>) -> bool {
     match scan {
         Some(threshold) => match block.scanned() {
@@ -187,7 +189,7 @@ fn is_scanned(block: &Block, scan: Option<u32>) -> bool {
     }
 }
 
-/// Whether a core that takes this event replies that each side fired this often.
+/// Returns whether a core that takes this event replies that each side fired this number of times.
 fn replies(
     core: &mut RelayCore,
     alloc: Global,
@@ -203,7 +205,7 @@ fn replies(
     Ok(is_so)
 }
 
-/// Whether each side fires over these samples as often as is expected.
+/// Returns whether each side fires over these samples the expected number of times.
 fn fires(
     core: &mut RelayCore,
     alloc: Global,
@@ -218,7 +220,7 @@ fn fires(
     Ok(fired? && is_scanned)
 }
 
-/// Whether it does so over each of these blocks.
+/// Returns whether each side fires over each of these blocks the expected number of times.
 fn fires_over_all(
     core: &mut RelayCore,
     alloc: Global,
@@ -233,7 +235,7 @@ fn fires_over_all(
     Ok(true)
 }
 
-/// Whether threshold_active of the import limiter reads as this many watts.
+/// Returns whether threshold_active of the import limiter reads as this many watts.
 fn reads_threshold(core: &mut RelayCore, alloc: Global, watts: u32) -> Result<bool, AllocError> {
     let event = Event::Get {
         level: Level::Management,
@@ -251,7 +253,7 @@ fn reads_threshold(core: &mut RelayCore, alloc: Global, watts: u32) -> Result<bo
     Ok(is_so)
 }
 
-/// The length of the import limiter's run under its threshold.
+/// Returns the length of the import limiter's run under its threshold.
 fn under_run(core: &RelayCore, alloc: Global) -> Result<u64, AllocError> {
     let opening = core.to_opening(alloc)?;
     let run = opening.import.under.run;
@@ -259,8 +261,8 @@ fn under_run(core: &RelayCore, alloc: Global) -> Result<u64, AllocError> {
     Ok(run)
 }
 
-/// Whether a new core with the settings of a plan fires as the plan says, each block scanned at
-/// this threshold if there is one.
+/// Returns whether a new core with the settings of a plan fires as planned, with each block scanned
+/// at this threshold if there is one.
 pub(super) fn fires_with(
     core: &mut RelayCore,
     alloc: Global,
@@ -276,7 +278,7 @@ pub(super) fn fires_with(
     )
 }
 
-/// Whether a plan goes alike with no scan, and with scans at 5000 and at 4000 W.
+/// Returns whether a plan has its result without a scan, and with scans at 5000 and at 4000 W.
 fn goes_with_each_scan(alloc: Global, plan: &'static Firing) -> bool {
     [None, Some(5000), Some(4000)].iter().all(|scan| is_done(alloc, Scenario::Firing(plan, *scan))
         == Ok(true))

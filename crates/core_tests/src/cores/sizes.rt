@@ -8,7 +8,7 @@ use std::alloc::{AllocError, Global};
 
 const NAME: &[u8] = b"ABCDEFGHIJKLMNOP";
 
-/// Whether a meter can have the first `length` bytes of a name, 1 to 16.
+/// Returns whether a meter can have the first `length` bytes of a name, 1 to 16.
 fn is_name(alloc: Global, length: usize) -> Result<bool, AllocError> {
     if length < 1 || length > NAME.len() {
         return Ok(false);
@@ -44,7 +44,7 @@ fn states(alloc: Global, count: u8) -> Result<Event, AllocError> {
     })
 }
 
-/// Whether a reply is `count` times the state Connected.
+/// Returns whether a reply is `count` times the state Connected.
 fn are_connected(reply: &Reply, count: u8) -> bool {
     let Reply::Values(results) = reply else {
         return false;
@@ -53,7 +53,7 @@ fn are_connected(reply: &Reply, count: u8) -> bool {
     results.as_slice().len() == usize::from(count) && results.as_slice().iter().all(is_connected)
 }
 
-/// Whether a core reads a list of `count` attributes.
+/// Returns whether a core reads a list of `count` attributes.
 fn reads_list(core: &mut RelayCore, alloc: Global, count: u8) -> Result<bool, AllocError> {
     let event = states(alloc, count)?;
     let taken = core.step(alloc, &event);
@@ -64,7 +64,8 @@ fn reads_list(core: &mut RelayCore, alloc: Global, count: u8) -> Result<bool, Al
     Ok(is_so)
 }
 
-/// Whether a core reads lists of 0 to 102 attributes, the largest number that a request can have.
+/// Returns whether a core reads lists of 0 to 102 attributes, the largest number that a request can
+/// have.
 pub(super) fn reads_each_list(core: &mut RelayCore, alloc: Global) -> Result<bool, AllocError> {
     for count in 0..103 {
         if !reads_list(core, alloc, count)? {

@@ -38,7 +38,7 @@ impl Hall {
         self.content.load(Ordering::SeqCst)
     }
 
-    // Whether a guest was closed.
+    // Returns whether a guest was closed.
     fn has_closed(&self) -> bool {
         self.closed.load(Ordering::SeqCst)
     }
@@ -77,7 +77,7 @@ impl Hall {
         false
     }
 
-    // A guest arrives and waits.
+    // Records the arrival of a guest, and waits.
     fn stay(&self, patience: Patience) {
         self.arrived.fetch_add(1, Ordering::SeqCst);
         let is_content = match patience {
