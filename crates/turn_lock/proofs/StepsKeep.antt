@@ -1,12 +1,11 @@
 -- Each step on the table preserves the invariant, and changes the seat's view as its play says.
-use Rattle.std.proofs.Common.{◌≡◌, ◌≢◌, ◌⊎◌, ℕ, zero, suc, ◌+◌, ◌%◌, ◌^◌, ◌<◌, ◌≤◌, eqb, ◌==◌, Bool, true, false, if◌then◌else◌, List, [], ◌∷◌, ◌++◌, length, get_or, set, sym, refl, ap, ◌∙◌, subst, inl, inr, ⊎_elim, arith, le_refl, eq-eqb, ne_eqb, length-append, Option, Some, None}
+use Rattle.std.proofs.Common.{◌≡◌, ◌≢◌, ◌⊎◌, ℕ, zero, suc, ◌+◌, ◌%◌, ◌^◌, ◌<◌, ◌≤◌, eqb, ◌==◌, Bool, true, false, if◌then◌else◌, List, [], ◌∷◌, ◌++◌, length, get_or, set, sym, refl, ap, ◌∙◌, subst, inl, inr, ⊎_elim, arith, le_refl, eq-eqb, ne_eqb, length-append, Some, None}
 use mathlib.Core.Logic.{dite}
 use mathlib.Core.Option.{none, some, some-injective, some-ne-none}
 use native.Mathlib.Decide.{ℕ_discrete}
 use lib.ListN.{get_elem?}
 use lib.Seq.{set-get_or}
 use prog.Atomic.{either}
-use Rattle.std.specs.declared.snapshot.Snapshot.{Snapshot}
 use Rattle.std.proofs.lemmas.List.{append-nil}
 use Rattle.std.proofs.Math.Nat.{mod-eq_of_lt}
 use Rattle.atomic_table.specs.Table.{State, Me, step, Act, keeps, takes, gives, Valid, carried_after, homes_after, stepped, Allows, Splits, Joins, opening, Final, Seen}
@@ -18,9 +17,9 @@ use Rattle.turn_lock.specs.declared.known.Stage.{Stage}
 use Rattle.turn_lock.specs.declared.known.Stage.TheVariants.{New, Young, Idle, Waiting, Turn, SawServing, Met}
 use Rattle.turn_lock.specs.declared.board.Slot.{Slot}
 use Rattle.turn_lock.specs.History.{StartsWith, calls_by}
-use Rattle.turn_lock.specs.Rule.{most_turns, newcomer, full, IsOwn, Moment, IsHome, Staged, IsPort, Fits, Facts, Keeps}
+use Rattle.turn_lock.specs.Rule.{most_turns, LastCall, first_view, full_slot, IsOwn, Moment, IsHome, Staged, IsPort, Fits, Facts, Keeps}
 use Rattle.turn_lock.specs.Calls.{Watches}
-use Rattle.turn_lock.specs.Plays.{added, posed, spent_view, divided_view, born_view, noted_view, counted_view, met_view, settled, drew, saw, Watched, looked, Ended, ended, Merged, merged, Takes, reached, closed}
+use Rattle.turn_lock.specs.Plays.{Carried, new_entries, with_stage, spent_view, parent_view, child_view, note_view, view_with_served, view_after_turn, view_with, joined_with, seat_with, seat_state, play, Settles, Draws, SeesServing, MovesTo, Looks, AddsCall, Ends, KnowsBoth, Merges, TakesValue, TakesTurn, Reaches, Closes}
 use Rattle.turn_lock.proofs.Lists.{starts_refl, starts_more, starts_length, calls_by-own, calls_by-other, calls_none, has_front, has_front-append, future-not-self, future_sooner, front_is_future, future-not-front, apart-not-front, among-append}
 
 -- the function f, with the value v at k
@@ -65,21 +64,21 @@ at_end (x ∷ xs) a b zero e = inl e
 at_end (x ∷ xs) a b (suc j) e = ⊎_elim inl (λ t. inr (omega (arith, t.0), t.1)) (at_end xs a b j e)
 
 module _ {E R : Type 0} where
-  added_own : (p : List ℕ) (xs : List (Entry E R)) (l : Option (Snapshot E × Snapshot R))
-      → calls_by p (xs ++ added p l) ≡ calls_by p xs ++ added p l
-  added_own p xs None = ap (calls_by p) (append-nil xs) ∙ sym (append-nil (calls_by p xs))
-  added_own p xs (Some l) = calls_by-own p xs l.0.value l.1.value
+  entries-own : (p : List ℕ) (xs : List (Entry E R)) (l : LastCall E R)
+      → calls_by p (xs ++ new_entries p l) ≡ calls_by p xs ++ new_entries p l
+  entries-own p xs None = ap (calls_by p) (append-nil xs) ∙ sym (append-nil (calls_by p xs))
+  entries-own p xs (Some (e, r)) = calls_by-own p xs e.value r.value
 
-  added_other : (q p : List ℕ) (xs : List (Entry E R)) (l : Option (Snapshot E × Snapshot R))
-      → q ≢ p → calls_by q (xs ++ added p l) ≡ calls_by q xs
-  added_other q p xs None n = ap (calls_by q) (append-nil xs)
-  added_other q p xs (Some l) n = calls_by-other q p xs l.0.value l.1.value n
+  entries-other : (q p : List ℕ) (xs : List (Entry E R)) (l : LastCall E R) → q ≢ p
+      → calls_by q (xs ++ new_entries p l) ≡ calls_by q xs
+  entries-other q p xs None n = ap (calls_by q) (append-nil xs)
+  entries-other q p xs (Some (e, r)) n = calls_by-other q p xs e.value r.value n
 
   -- a turn adds at most one call
-  added_few : (p : List ℕ) (xs : List (Entry E R)) (l : Option (Snapshot E × Snapshot R))
-      → length (xs ++ added p l) ≤ length xs + 1
-  added_few p xs None = omega (arith, length-append xs (added p None))
-  added_few p xs (Some l) = omega (arith, length-append xs (added p (Some l)))
+  entries_few : (p : List ℕ) (xs : List (Entry E R)) (l : LastCall E R)
+      → length (xs ++ new_entries p l) ≤ length xs + 1
+  entries_few p xs None = omega (arith, length-append xs (new_entries p None))
+  entries_few p xs (Some l) = omega (arith, length-append xs (new_entries p (Some l)))
 
 module _ {E R O : Type 0} where
   -- what a Met stage knows about the seat that was taken in, or d for any other stage
@@ -159,9 +158,9 @@ module _ {T E R O : Type 0} (origin : T → O) (stands : T → List (Entry E R) 
   stays : (m : Mo) (vs : List V) (i : ℕ) (w : V) → F m vs → Fit m i w → F m (set vs i w)
   stays m vs i w f mine = moves m m vs i w f f.range f.few f.once f.lawful f.counted f.held mine (λ _ _ _ x. x)
 
-  at_stage : (m : Mo) (i : ℕ) (v : V) (stage : Stage E R O) → Fit m i v → Stand m i v.known stage
-      → Fit m i (posed v stage)
-  at_stage m i v stage f st = record { named = f.named; seen = f.seen; drawn = f.drawn; served = f.served; lone = f.lone; staged = st; port = f.port }
+  fit_at_stage : (m : Mo) (i : ℕ) (v : V) (stage : Stage E R O) → Fit m i v
+      → Stand m i v.known stage → Fit m i (with_stage v stage)
+  fit_at_stage m i v stage f st = record { named = f.named; seen = f.seen; drawn = f.drawn; served = f.served; lone = f.lone; staged = st; port = f.port }
 
   -- a port's knowledge after it has seen the longest history
   abbrev informed : Mo → Known E R O → Known E R O
@@ -201,10 +200,25 @@ module _ {T E R O : Type 0} (origin : T → O) (stands : T → List (Entry E R) 
   abbrev M : Type 0
   M = Me Sl V
 
-  watched : (m : Mo) (i : ℕ) (me : M) (stage : Stage E R O) (cs : List (ℕ × Sl)) → Fit m i me.0
+  -- a port that has seen the longest history has only watched
+  moves_to : (m : Mo) (i : ℕ) (me : M) (stage : Stage E R O) (cs : Carried T E R) → Fit m i me.0
       → me.0.is_port ≡ true → legal m.start m.whole
-      → Watched legal stage me (informed_view m me.0 stage, cs)
-  watched m i me stage cs f port lawful = record { port = port; staged = refl; watches = watches m i me.0 f port lawful }
+      → MovesTo legal stage (seat_state me) (seat_with (informed_view m me.0 stage) cs)
+  moves_to m i me stage cs f port lawful = record { port = port; stage_is = refl; watches = watches m i me.0 f port lawful }
+
+  -- such a port has taken the slot, which was at home
+  takes_value : (m : Mo) (i : ℕ) (me : M) (stage : Stage E R O) (x : T) (l : LastCall E R)
+      → Fit m i me.0 → me.0.is_port ≡ true → legal m.start m.whole → stands x m.whole
+      → origin x ≡ m.start
+      → TakesValue origin stands legal stage (seat_state me) (seat_with (informed_view m me.0 stage) ((0, full_slot x l) ∷ me.1))
+  takes_value m i me stage x l f port lawful stood same = record {
+    moves = moves_to m i me stage ((0, full_slot x l) ∷ me.1) f port lawful;
+    value = x;
+    last = l;
+    carried = refl;
+    results = stood;
+    origin_is = (f.port port).begun ∙ ap (λ (o : O). Some o) (sym same);
+  }
 
   -- a load that takes no slot
   loads : (slots id : ℕ) (me : M) (i : ℕ) (told : ℕ → M → Type 0)
@@ -216,17 +230,17 @@ module _ {T E R O : Type 0} (origin : T → O) (stands : T → List (Entry E R) 
       (t.0, keeps, tt, subst (λ (ws : List ℕ). Rule record { words = ws; homes = m.home ∷ []; views = set vs id t.0 }) (sym same) (kept m (set vs id t.0) (stays m vs id t.0 f t.1)), t.2))
 
   pub settles : (slots id : ℕ) (me : M) → Allows Rule slots id me 1 (λ n. n)
-      (settled (step slots 1 0 0 none) me)
-  settles slots id me = loads slots id me 1 (settled (step slots 1 0 0 none) me) (λ m vs f fit.
-      (posed me.0 Idle, at_stage m id me.0 Idle fit tt, (refl, λ e. subst (Stand m id me.0.known) e fit.staged)))
+      (play Settles (step slots 1 0 0 none) me)
+  settles slots id me = loads slots id me 1 (play Settles (step slots 1 0 0 none) me) (λ m vs f fit.
+      (with_stage me.0 Idle, fit_at_stage m id me.0 Idle fit tt, record { after_is = refl; no_calls = λ e. subst (Stand m id me.0.known) e fit.staged }))
 
   pub looks : (slots id : ℕ) (me : M) → me.0.is_port ≡ true
-      → Allows Rule slots id me 0 (λ n. n) (looked legal (step slots 0 0 0 none) me)
-  looks slots id me port = loads slots id me 0 (looked legal (step slots 0 0 0 none) me) (λ m vs f fit.
-      (informed_view m me.0 Idle, informs m id me.0 Idle fit tt, (watched m id me Idle me.1 fit port f.lawful, refl, refl)))
+      → Allows Rule slots id me 0 (λ n. n) (play (Looks legal) (step slots 0 0 0 none) me)
+  looks slots id me port = loads slots id me 0 (play (Looks legal) (step slots 0 0 0 none) me) (λ m vs f fit.
+      (informed_view m me.0 Idle, informs m id me.0 Idle fit tt, record { moves = moves_to m id me Idle me.1 fit port f.lawful; carried = refl; drawn = refl }))
 
   -- the view of a seat that has read the count of ended turns
-  counts : (m : Mo) (i : ℕ) (v : V) → Fit m i v → Fit m i (counted_view v m.serving)
+  counts : (m : Mo) (i : ℕ) (v : V) → Fit m i v → Fit m i (view_with_served v m.serving)
   counts m i v f = record {
     named = f.named;
     seen = f.seen;
@@ -238,11 +252,11 @@ module _ {T E R O : Type 0} (origin : T → O) (stands : T → List (Entry E R) 
   }
 
   pub sees : (slots id : ℕ) (me : M) → Allows Rule slots id me 1 (λ n. n)
-      (saw (step slots 1 0 0 none) me)
-  sees slots id me = loads slots id me 1 (saw (step slots 1 0 0 none) me) (λ m vs f fit.
+      (play SeesServing (step slots 1 0 0 none) me)
+  sees slots id me = loads slots id me 1 (play SeesServing (step slots 1 0 0 none) me) (λ m vs f fit.
       let a : m.serving ≤ m.ticket = f.range in let b : m.ticket ≤ most_turns + m.closed = f.few in let c : m.closed ≤ 1 = f.once in
       let d : length m.whole ≤ m.serving = f.counted in let e : length me.0.known.seen ≤ length m.whole = starts_length m.whole me.0.known.seen fit.seen in
-      (counted_view me.0 m.serving, counts m id me.0 fit, (refl, fit.served, omega arith, omega arith)))
+      (view_with_served me.0 m.serving, counts m id me.0 fit, record { view = refl; carried = refl; no_less = fit.served; counted = omega arith; within = omega arith }))
 
   -- the moment after seat i has drawn a turn
   abbrev after_draw : Mo → ℕ → ℕ → Mo
@@ -269,23 +283,23 @@ module _ {T E R O : Type 0} (origin : T → O) (stands : T → List (Entry E R) 
 
   draws_at : (id : ℕ) (me : M) (old new : ℕ) (m : Mo) (vs : List V) → F m vs → Fit m id me.0 → new
       ≡ old + 1 → old < most_turns → m.ticket ≡ old
-      → F (after_draw m id new) (set vs id (posed me.0 (Waiting m.ticket)))
+      → F (after_draw m id new) (set vs id (with_stage me.0 (Waiting m.ticket)))
   draws_at id me old new m vs f fit up few hit = let low : m.serving ≤ m.ticket = f.range in let more : new ≡ m.ticket + 1 = omega arith in
-      moves m (after_draw m id new) vs id (posed me.0 (Waiting m.ticket)) f (omega arith) (omega arith) f.once f.lawful f.counted (⊎_elim inl (λ (l : m.serving < m.ticket). inr (omega arith)) f.held)
-      (at_stage (after_draw m id new) id me.0 (Waiting m.ticket) (draw_fit m id new id me.0 more fit) ((low, omega arith, put_here m.owner m.ticket id), at_home m f.held))
+      moves m (after_draw m id new) vs id (with_stage me.0 (Waiting m.ticket)) f (omega arith) (omega arith) f.once f.lawful f.counted (⊎_elim inl (λ (l : m.serving < m.ticket). inr (omega arith)) f.held)
+      (fit_at_stage (after_draw m id new) id me.0 (Waiting m.ticket) (draw_fit m id new id me.0 more fit) ((low, omega arith, put_here m.owner m.ticket id), at_home m f.held))
       (λ j d _ x. draw_fit m id new j d more x)
 
   pub draws : (slots id : ℕ) (me : M) (old new : ℕ) → new ≡ old + 1 → old < most_turns
       → Allows Rule slots id me 0 (λ n. either (eqb n old) new n)
-      (drew (step slots 0 old new none) me)
+      (play Draws (step slots 0 old new none) me)
   draws slots id me old new up few = by_moment
       (λ s. length s.homes ≡ slots → get_elem? s.views id ≡ some me.0 → get_or s.words 0 0 < 18446744073709551616
-      → (w : V) × (a : Act Sl) × Valid s.homes me.1 a × Rule (stepped s 0 (either (eqb (get_or s.words 0 0) old) new (get_or s.words 0 0)) id me.1 w a) × drew (step slots 0 old new none) me (get_or s.words 0 0) (w, carried_after me.1 a))
+      → (w : V) × (a : Act Sl) × Valid s.homes me.1 a × Rule (stepped s 0 (either (eqb (get_or s.words 0 0) old) new (get_or s.words 0 0)) id me.1 w a) × play Draws (step slots 0 old new none) me (get_or s.words 0 0) (w, carried_after me.1 a))
       (λ m vs f _ at _. exchanged m.ticket old new
-      (λ x. (w : V) × (a : Act Sl) × Valid (m.home ∷ []) me.1 a × Rule record { words = x ∷ m.serving ∷ []; homes = homes_after (m.home ∷ []) me.1 a; views = set vs id w } × drew (step slots 0 old new none) me m.ticket (w, carried_after me.1 a))
-      (λ hit. let w : V = posed me.0 (Waiting m.ticket) in
-      (w, keeps, tt, kept (after_draw m id new) (set vs id w) (draws_at id me old new m vs f (f.fits id me.0 at) up few hit), ((λ _. refl), λ miss. absurd (miss hit))))
-      (λ miss. (me.0, keeps, tt, kept m (set vs id me.0) (stays m vs id me.0 f (f.fits id me.0 at)), ((λ hit. absurd (miss hit)), λ _. refl))))
+      (λ x. (w : V) × (a : Act Sl) × Valid (m.home ∷ []) me.1 a × Rule record { words = x ∷ m.serving ∷ []; homes = homes_after (m.home ∷ []) me.1 a; views = set vs id w } × play Draws (step slots 0 old new none) me m.ticket (w, carried_after me.1 a))
+      (λ hit. let w : V = with_stage me.0 (Waiting m.ticket) in
+      (w, keeps, tt, kept (after_draw m id new) (set vs id w) (draws_at id me old new m vs f (f.fits id me.0 at) up few hit), record { if_expected = λ _. refl; if_other = λ miss. absurd (miss hit) }))
+      (λ miss. (me.0, keeps, tt, kept m (set vs id me.0) (stays m vs id me.0 f (f.fits id me.0 at)), record { if_expected = λ hit. absurd (miss hit); if_other = λ _. refl })))
 
   -- the moment after the seat whose turn has come has taken the slot
   abbrev after_take : Mo → Mo
@@ -327,42 +341,37 @@ module _ {T E R O : Type 0} (origin : T → O) (stands : T → List (Entry E R) 
       (λ j d other g. restaged m (after_take m) j d refl refl (le_refl m.ticket) (le_refl m.serving) (λ e. e) refl g (take_staged m id n j d.known other st.0.2 (sym hit) (not_lone m id j v d other fit g) d.stage g.staged))
 
   pub reaches : (slots id n : ℕ) (me : M) → me.0.is_port ≡ true → me.0.stage ≡ Waiting n
-      → Allows Rule slots id me 1 (λ x. x) (reached origin stands legal (step slots 1 0 0 none) me)
+      → Allows Rule slots id me 1 (λ x. x) (play (Reaches origin stands legal)
+      (step slots 1 0 0 none) me)
   reaches slots id n me port is = by_moment
       (λ s. length s.homes ≡ slots → get_elem? s.views id ≡ some me.0 → get_or s.words 1 0 < 18446744073709551616
-      → (w : V) × (a : Act Sl) × Valid s.homes me.1 a × Rule (stepped s 1 (get_or s.words 1 0) id me.1 w a) × reached origin stands legal (step slots 1 0 0 none) me (get_or s.words 1 0) (w, carried_after me.1 a))
+      → (w : V) × (a : Act Sl) × Valid s.homes me.1 a × Rule (stepped s 1 (get_or s.words 1 0) id me.1 w a) × play (Reaches origin stands legal) (step slots 1 0 0 none) me (get_or s.words 1 0) (w, carried_after me.1 a))
       (λ m vs f _ at _. let fit = f.fits id me.0 at in dite (ℕ_discrete m.serving n)
       (λ hit. let st = subst (Stand m id me.0.known) is fit.staged in let home = st.1 (sym hit) in let w : V = informed_view m me.0 (Turn n) in
-      let met : Takes origin stands legal (Turn n) me (w, (0, full home.0 home.1) ∷ me.1) = record {
-        watched = watched m id me (Turn n) ((0, full home.0 home.1) ∷ me.1) fit port f.lawful;
-        value = home.0;
-        last = home.1;
-        taken = refl;
-        stood = home.3;
-        begun = (fit.port port).begun ∙ ap (λ (o : O). Some o) (sym home.4);
-      } in (
+      let met : TakesTurn origin stands legal n (seat_state me) (seat_with w ((0, full_slot home.0 home.1) ∷ me.1)) = record { takes = takes_value m id me (Turn n) home.0 home.1 fit port f.lawful home.3 home.4; drawn = st.0.1 } in (
         w,
-        takes 0 (full home.0 home.1),
+        takes 0 (full_slot home.0 home.1),
         ap (λ h. some h) home.2,
         kept (after_take m) (set vs id w) (takes_at id n me.0 m vs f fit is hit),
-        λ k is'. let same : n ≡ k = ap (turn_of n) (sym is ∙ is') in
-            ((λ _. subst (λ (z : ℕ). Takes origin stands legal (Turn z) me (w, (0, full home.0 home.1) ∷ me.1) × (z < m.ticket)) same (met, st.0.1)), λ miss. absurd (miss (hit ∙ same))),
+        λ k is'. let same : n ≡ k = ap (turn_of n) (sym is ∙ is') in record {
+          if_served = λ _. subst (λ (z : ℕ). TakesTurn origin stands legal z (seat_state me) (seat_with w ((0, full_slot home.0 home.1) ∷ me.1))) same met;
+          if_not = λ miss. absurd (miss (hit ∙ same));
+        },
       ))
       (λ miss. (
         me.0,
         keeps,
         tt,
         kept m (set vs id me.0) (stays m vs id me.0 f fit),
-        λ k is'. let same : n ≡ k = ap (turn_of n) (sym is ∙ is') in ((λ hit. absurd (miss (hit ∙ sym same))), λ _. refl),
+        λ k is'. let same : n ≡ k = ap (turn_of n) (sym is ∙ is') in record { if_served = λ hit. absurd (miss (hit ∙ sym same)); if_not = λ _. refl },
       )))
 
   -- the moment after port p's turn has ended and the slot has x again
-  abbrev after_end : Mo → List ℕ → T → Option (Snapshot E × Snapshot R) → Mo
-  after_end m p x l = record m { serving = m.serving + 1; whole = m.whole ++ added p l; home = some (full x l) }
+  abbrev after_end : Mo → List ℕ → T → LastCall E R → Mo
+  after_end m p x l = record m { serving = m.serving + 1; whole = m.whole ++ new_entries p l; home = some (full_slot x l) }
 
-  end_staged : (m : Mo) (i n j : ℕ) (p : List ℕ) (x : T) (l : Option (Snapshot E × Snapshot R))
-      (k : Known E R O) → j ≢ i → m.owner n ≡ i → n ≡ m.serving → m.holder p ≡ i
-      → (m.lone ≡ true → ⊥)
+  end_staged : (m : Mo) (i n j : ℕ) (p : List ℕ) (x : T) (l : LastCall E R) (k : Known E R O)
+      → j ≢ i → m.owner n ≡ i → n ≡ m.serving → m.holder p ≡ i → (m.lone ≡ true → ⊥)
       → IsHome origin stands (after_end m p x l) → (st : Stage E R O) → Stand m j k st → Stand (after_end m p x l) j k st
   end_staged m i n j p x l k other mine here holds pair home New h = absurd (pair h.0)
   end_staged m i n j p x l k other mine here holds pair home Young h = h
@@ -371,39 +380,35 @@ module _ {T E R O : Type 0} (origin : T → O) (stands : T → List (Entry E R) 
   end_staged m i n j p x l k other mine here holds pair home (Turn q) h = absurd (other (sym h.0.2 ∙ (ap m.owner (h.1 ∙ sym here) ∙ mine)))
   end_staged m i n j p x l k other mine here holds pair home (SawServing q) h = let low : q ≤ m.serving = h in (omega arith)
   end_staged m i n j p x l k other mine here holds pair home (Met b u) h = (
-    starts_more m.whole u.seen (added p l) h.0,
+    starts_more m.whole u.seen (new_entries p l) h.0,
     h.1,
     h.2,
-    λ yes q one. let a = h.3 yes q one in (a.0, added_other q p m.whole l (λ e. other (sym a.0 ∙ (ap m.holder e ∙ holds))) ∙ a.1, a.2, a.3),
+    λ yes q one. let a = h.3 yes q one in (a.0, entries-other q p m.whole l (λ e. other (sym a.0 ∙ (ap m.holder e ∙ holds))) ∙ a.1, a.2, a.3),
   )
 
-  end_others : (m : Mo) (i n j : ℕ) (p : List ℕ) (x : T) (l : Option (Snapshot E × Snapshot R))
-      (d : V) → j ≢ i → m.owner n ≡ i → n ≡ m.serving → m.holder p ≡ i → (m.lone ≡ true → ⊥)
+  end_others : (m : Mo) (i n j : ℕ) (p : List ℕ) (x : T) (l : LastCall E R) (d : V) → j ≢ i
+      → m.owner n ≡ i → n ≡ m.serving → m.holder p ≡ i → (m.lone ≡ true → ⊥)
       → IsHome origin stands (after_end m p x l) → Fit m j d → Fit (after_end m p x l) j d
   end_others m i n j p x l d other mine here holds pair home f = let few : d.known.served ≤ m.serving = f.served in record {
     named = f.named;
-    seen = starts_more m.whole d.known.seen (added p l) f.seen;
+    seen = starts_more m.whole d.known.seen (new_entries p l) f.seen;
     drawn = f.drawn;
     served = omega arith;
     lone = f.lone;
     staged = end_staged m i n j p x l d.known other mine here holds pair home d.stage f.staged;
     port = λ e. let t = f.port e in record {
       begun = t.begun;
-      own = λ q o. let a = t.own q o in (a.0, added_other q p m.whole l (λ same. other (sym a.0 ∙ (ap m.holder same ∙ holds))) ∙ a.1);
-      future = λ q o. let a = t.future q o in (a.0, added_other q p m.whole l (λ same. other (sym a.0 ∙ (ap m.holder same ∙ holds))) ∙ a.1);
+      own = λ q o. let a = t.own q o in (a.0, entries-other q p m.whole l (λ same. other (sym a.0 ∙ (ap m.holder same ∙ holds))) ∙ a.1);
+      future = λ q o. let a = t.future q o in (a.0, entries-other q p m.whole l (λ same. other (sym a.0 ∙ (ap m.holder same ∙ holds))) ∙ a.1);
       apart = t.apart;
     };
   }
 
-  -- a port's view after its turn
-  abbrev ended_view : V → Option (Snapshot E × Snapshot R) → V
-  ended_view v l = record v { stage = Idle; known = record v.known { seen = v.known.seen ++ added v.known.number l } }
-
-  end_mine : (m : Mo) (i : ℕ) (x : T) (l : Option (Snapshot E × Snapshot R)) (v : V) → v.known.seen
-      ≡ m.whole → Fit m i v → Fit (after_end m v.known.number x l) i (ended_view v l)
-  end_mine m i x l v all f = let p : List ℕ = v.known.number in let same : m.whole ++ added p l ≡ v.known.seen ++ added p l = ap (λ h. h ++ added p l) (sym all) in let few : v.known.served ≤ m.serving = f.served in record {
+  end_mine : (m : Mo) (i : ℕ) (x : T) (l : LastCall E R) (v : V) → v.known.seen ≡ m.whole
+      → Fit m i v → Fit (after_end m v.known.number x l) i (view_after_turn v l)
+  end_mine m i x l v all f = let p : List ℕ = v.known.number in let same : m.whole ++ new_entries p l ≡ v.known.seen ++ new_entries p l = ap (λ h. h ++ new_entries p l) (sym all) in let few : v.known.served ≤ m.serving = f.served in record {
     named = f.named;
-    seen = subst (λ h. StartsWith h (v.known.seen ++ added p l)) (sym same) (starts_refl (v.known.seen ++ added p l));
+    seen = subst (λ h. StartsWith h (v.known.seen ++ new_entries p l)) (sym same) (starts_refl (v.known.seen ++ new_entries p l));
     drawn = f.drawn;
     served = omega arith;
     lone = f.lone;
@@ -411,62 +416,60 @@ module _ {T E R O : Type 0} (origin : T → O) (stands : T → List (Entry E R) 
     port = λ e. let t = f.port e in record {
       begun = t.begun;
       own = λ q o. ((t.own q o).0, ap (calls_by q) same);
-      future = λ q o. let a = t.future q o in (a.0, added_other q p m.whole l (future-not-self p v.known.splits q o) ∙ a.1);
+      future = λ q o. let a = t.future q o in (a.0, entries-other q p m.whole l (future-not-self p v.known.splits q o) ∙ a.1);
       apart = t.apart;
     };
   }
 
   module _ (law : (x : T) (h : List (Entry E R)) → stands x h → legal (origin x) h) where
-    ends_at : (id n : ℕ) (v : V) (x : T) (l : Option (Snapshot E × Snapshot R)) (m : Mo)
-        (vs : List V) → F m vs → Fit m id v → v.is_port ≡ true → v.stage ≡ Turn n
-        → v.known.origin ≡ Some (origin x)
-        → stands x (v.known.seen ++ added v.known.number l) → F (after_end m v.known.number x l) (set vs id (ended_view v l)) × Ended legal l v (ended_view v l)
+    ends_at : (id n : ℕ) (v : V) (x : T) (l : LastCall E R) (m : Mo) (vs : List V) → F m vs
+        → Fit m id v → v.is_port ≡ true → v.stage ≡ Turn n → v.known.origin ≡ Some (origin x)
+        → stands x (v.known.seen ++ new_entries v.known.number l) → F (after_end m v.known.number x l) (set vs id (view_after_turn v l)) × AddsCall legal l v (view_after_turn v l)
     ends_at id n v x l m vs f fit port is begun stood = let p : List ℕ = v.known.number in let st = subst (Stand m id v.known) is fit.staged in let all = st.2 in let mine = fit.port port in
-        let start : origin x ≡ m.start = fit.named (origin x) begun in let whole : v.known.seen ++ added p l ≡ m.whole ++ added p l = ap (λ h. h ++ added p l) all in
-        let stood' : stands x (m.whole ++ added p l) = subst (stands x) whole stood in let home : IsHome origin stands (after_end m p x l) = (x, l, refl, stood', start, st.3) in
-        let lawful : legal m.start (m.whole ++ added p l) = subst (λ o. legal o (m.whole ++ added p l)) start (law x (m.whole ++ added p l) stood') in
-        let low : n < m.ticket = st.0.1 in let here : n ≡ m.serving = st.1 in let were : length m.whole ≤ m.serving = f.counted in let more = added_few p m.whole l in (
-          moves m (after_end m p x l) vs id (ended_view v l) f (omega arith) f.few f.once lawful (omega (arith, were, more)) (inl home) (end_mine m id x l v all fit)
+        let start : origin x ≡ m.start = fit.named (origin x) begun in let whole : v.known.seen ++ new_entries p l ≡ m.whole ++ new_entries p l = ap (λ h. h ++ new_entries p l) all in
+        let stood' : stands x (m.whole ++ new_entries p l) = subst (stands x) whole stood in let home : IsHome origin stands (after_end m p x l) = (x, l, refl, stood', start, st.3) in
+        let lawful : legal m.start (m.whole ++ new_entries p l) = subst (λ o. legal o (m.whole ++ new_entries p l)) start (law x (m.whole ++ new_entries p l) stood') in
+        let low : n < m.ticket = st.0.1 in let here : n ≡ m.serving = st.1 in let were : length m.whole ≤ m.serving = f.counted in let more = entries_few p m.whole l in (
+          moves m (after_end m p x l) vs id (view_after_turn v l) f (omega arith) f.few f.once lawful (omega (arith, were, more)) (inl home) (end_mine m id x l v all fit)
               (λ j d other g. end_others m id n j p x l d other st.0.2 here (mine.own p (inl refl)).0 (not_lone m id j v d other fit g) home g),
           record {
             view = refl;
             lawful = (m.start, mine.begun, subst (legal m.start) (sym whole) lawful);
-            own = added_own p v.known.seen l;
-            others = λ q a. added_other q p v.known.seen l (mine.apart q a).0;
-            within = λ turn at. let same : n ≡ turn = ap (held_of n) (sym is ∙ at) in let long : length (v.known.seen ++ added p l) ≡ length (m.whole ++ added p l) = ap (λ h. length h) whole in omega (arith, were, more, here, same, long);
+            own_calls = entries-own p v.known.seen l;
+            joined_calls = λ q a. entries-other q p v.known.seen l (mine.apart q a).0;
+            within = λ turn at. let same : n ≡ turn = ap (held_of n) (sym is ∙ at) in let long : length (v.known.seen ++ new_entries p l) ≡ length (m.whole ++ new_entries p l) = ap (λ h. length h) whole in omega (arith, were, more, here, same, long);
           },
         )
 
-    ends_with : (slots id n : ℕ) (v : V) (x : T) (l : Option (Snapshot E × Snapshot R)) → v.is_port
-        ≡ true → v.stage ≡ Turn n → v.known.origin ≡ Some (origin x)
-        → stands x (v.known.seen ++ added v.known.number l)
-        → Allows Rule slots id (v, (0, full x l) ∷ []) 1 (λ q. (q + 1) % 2 ^ 64) (ended legal (step slots 1 1 0 none) (v, (0, full x l) ∷ []))
-    ends_with slots id n v x l port is begun stood = let me : M = (v, (0, full x l) ∷ []) in by_moment
+    ends_with : (slots id n : ℕ) (v : V) (x : T) (l : LastCall E R) → v.is_port ≡ true → v.stage
+        ≡ Turn n → v.known.origin ≡ Some (origin x)
+        → stands x (v.known.seen ++ new_entries v.known.number l)
+        → Allows Rule slots id (v, (0, full_slot x l) ∷ []) 1 (λ q. (q + 1) % 2 ^ 64) (play (Ends legal) (step slots 1 1 0 none) (v, (0, full_slot x l) ∷ []))
+    ends_with slots id n v x l port is begun stood = let me : M = (v, (0, full_slot x l) ∷ []) in by_moment
         (λ s. length s.homes ≡ slots → get_elem? s.views id ≡ some v → get_or s.words 1 0 < 18446744073709551616
-        → (w : V) × (a : Act Sl) × Valid s.homes me.1 a × Rule (stepped s 1 ((get_or s.words 1 0 + 1) % 2 ^ 64) id me.1 w a) × ended legal (step slots 1 1 0 none) me (get_or s.words 1 0) (w, carried_after me.1 a))
-        (λ m vs f _ at _. let t = ends_at id n v x l m vs f (f.fits id v at) port is begun stood in let w : V = ended_view v l in
+        → (w : V) × (a : Act Sl) × Valid s.homes me.1 a × Rule (stepped s 1 ((get_or s.words 1 0 + 1) % 2 ^ 64) id me.1 w a) × play (Ends legal) (step slots 1 1 0 none) me (get_or s.words 1 0) (w, carried_after me.1 a))
+        (λ m vs f _ at _. let t = ends_at id n v x l m vs f (f.fits id v at) port is begun stood in let w : V = view_after_turn v l in
         let a : m.serving ≤ m.ticket = f.range in let b : m.ticket ≤ most_turns + m.closed = f.few in let c : m.closed ≤ 1 = f.once in let small : m.serving + 1 < 2 ^ 64 = omega arith in
-        (w, gives, tt, subst (λ (z : ℕ). Rule record { words = m.ticket ∷ z ∷ []; homes = some (full x l) ∷ []; views = set vs id w }) (sym (mod-eq_of_lt small)) (kept (after_end m v.known.number x l) (set vs id w) t.0), (refl, t.1)))
+        (w, gives, tt, subst (λ (z : ℕ). Rule record { words = m.ticket ∷ z ∷ []; homes = some (full_slot x l) ∷ []; views = set vs id w }) (sym (mod-eq_of_lt small)) (kept (after_end m v.known.number x l) (set vs id w) t.0), record { carried = refl; adds = t.1 }))
 
-    pub ends : (slots id n : ℕ) (me : M) (x : T) (l : Option (Snapshot E × Snapshot R))
-        → me.0.is_port ≡ true → me.0.stage ≡ Turn n → me.1 ≡ (0, full x l) ∷ []
-        → me.0.known.origin ≡ Some (origin x)
-        → stands x (me.0.known.seen ++ added me.0.known.number l) → Allows Rule slots id me 1 (λ q. (q + 1) % 2 ^ 64) (ended legal (step slots 1 1 0 none) me)
-    ends slots id n me x l port is carried begun stood = subst (λ (cs : List (ℕ × Sl)). Allows Rule slots id (me.0, cs) 1 (λ q. (q + 1) % 2 ^ 64) (ended legal (step slots 1 1 0 none) (me.0, cs))) (sym carried)
+    pub ends : (slots id n : ℕ) (me : M) (x : T) (l : LastCall E R) → me.0.is_port ≡ true
+        → me.0.stage ≡ Turn n → me.1 ≡ (0, full_slot x l) ∷ [] → me.0.known.origin ≡ Some (origin x)
+        → stands x (me.0.known.seen ++ new_entries me.0.known.number l) → Allows Rule slots id me 1 (λ q. (q + 1) % 2 ^ 64) (play (Ends legal) (step slots 1 1 0 none) me)
+    ends slots id n me x l port is carried begun stood = subst (λ (cs : List (ℕ × Sl)). Allows Rule slots id (me.0, cs) 1 (λ q. (q + 1) % 2 ^ 64) (play (Ends legal) (step slots 1 1 0 none) (me.0, cs))) (sym carried)
         (ends_with slots id n me.0 x l port is begun stood)
 
     -- the moment at which the table is made
     abbrev first_moment : T → Mo
-    first_moment x = record { ticket = 0; serving = 0; start = origin x; whole = []; home = some (full x None); holder = λ _. 0; owner = λ _. 0; lone = true; closed = 0 }
+    first_moment x = record { ticket = 0; serving = 0; start = origin x; whole = []; home = some (full_slot x None); holder = λ _. 0; owner = λ _. 0; lone = true; closed = 0 }
 
-    first_fit : (x : T) → x ≡ first → Fit (first_moment x) 0 (newcomer (origin x))
+    first_fit : (x : T) → x ≡ first → Fit (first_moment x) 0 (first_view (origin x))
     first_fit x same = record {
       named = λ o e. sym (the_value e);
       seen = starts_refl [];
       drawn = le_refl 0;
       served = le_refl 0;
       lone = λ _. refl;
-      staged = (refl, ap (λ (y : T). some (full y None)) same);
+      staged = (refl, ap (λ (y : T). some (full_slot y None)) same);
       port = λ _. record { begun = refl; own = λ q _. (refl, refl); future = λ q _. (refl, refl); apart = λ q a. absurd a };
     }
       where
@@ -474,8 +477,8 @@ module _ {T E R O : Type 0} (origin : T → O) (stands : T → List (Entry E R) 
         the_value e = cc
 
     pub made : (x : T) → stands x [] → x ≡ first
-        → Rule (opening (0 ∷ 0 ∷ []) (full x None ∷ []) (newcomer (origin x)))
-    made x empty same = let m : Mo = first_moment x in let w : V = newcomer (origin x) in let mine = first_fit x same in let home : IsHome origin stands m = (x, None, refl, empty, refl, refl) in
+        → Rule (opening (0 ∷ 0 ∷ []) (full_slot x None ∷ []) (first_view (origin x)))
+    made x empty same = let m : Mo = first_moment x in let w : V = first_view (origin x) in let mine = first_fit x same in let home : IsHome origin stands m = (x, None, refl, empty, refl, refl) in
         kept m (w ∷ []) (moves m m (w ∷ []) 0 w (record {
           range = le_refl 0;
           few = omega arith;
@@ -509,47 +512,41 @@ module _ {T E R O : Type 0} (origin : T → O) (stands : T → List (Entry E R) 
 
   pub closes : (slots id old new : ℕ) (me : M) → new ≡ old + 1 → me.0.is_port ≡ true → me.0.stage
       ≡ SawServing old
-      → Allows Rule slots id me 0 (λ n. either (eqb n old) new n) (closed origin stands legal (step slots 0 old new none) me)
+      → Allows Rule slots id me 0 (λ n. either (eqb n old) new n) (play (Closes origin stands legal) (step slots 0 old new none) me)
   closes slots id old new me up port is = by_moment
       (λ s. length s.homes ≡ slots → get_elem? s.views id ≡ some me.0 → get_or s.words 0 0 < 18446744073709551616
       → (w : V) × (a : Act Sl) × Valid s.homes me.1 a × Rule (stepped s 0 (either (eqb (get_or s.words 0 0) old) new (get_or s.words 0 0)) id me.1 w a)
-      × closed origin stands legal (step slots 0 old new none) me (get_or s.words 0 0) (w, carried_after me.1 a))
+      × play (Closes origin stands legal) (step slots 0 old new none) me (get_or s.words 0 0) (w, carried_after me.1 a))
       (λ m vs f _ at _. let fit = f.fits id me.0 at in let st : old ≤ m.serving = subst (Stand m id me.0.known) is fit.staged in let range : m.serving ≤ m.ticket = f.range in let w : V = informed_view m me.0 Idle in
       exchanged m.ticket old new
       (λ x. (w : V) × (a : Act Sl) × Valid (m.home ∷ []) me.1 a × Rule record { words = x ∷ m.serving ∷ []; homes = homes_after (m.home ∷ []) me.1 a; views = set vs id w }
-      × closed origin stands legal (step slots 0 old new none) me m.ticket (w, carried_after me.1 a))
+      × play (Closes origin stands legal) (step slots 0 old new none) me m.ticket (w, carried_after me.1 a))
       (λ hit. let done : m.ticket ≡ m.serving = omega arith in let home = at_home m f.held done in let more : m.ticket + 1 ≡ new = omega arith in (
         w,
-        takes 0 (full home.0 home.1),
+        takes 0 (full_slot home.0 home.1),
         ap (λ h. some h) home.2,
         subst (λ (z : ℕ). Rule record { words = z ∷ m.serving ∷ []; homes = none ∷ []; views = set vs id w }) more (kept (after_close m) (set vs id w) (closes_at id me.0 m vs f fit done home.5)),
-        (
-          (λ _. record {
-            watched = watched m id me Idle ((0, full home.0 home.1) ∷ me.1) fit port f.lawful;
-            value = home.0;
-            last = home.1;
-            taken = refl;
-            stood = home.3;
-            begun = (fit.port port).begun ∙ ap (λ (o : O). Some o) (sym home.4);
-          }),
-          λ miss. absurd (miss hit),
-        ),
+        record { if_expected = λ _. takes_value m id me Idle home.0 home.1 fit port f.lawful home.3 home.4; if_other = λ miss. absurd (miss hit) },
       ))
       (λ miss. (
         w,
         keeps,
         tt,
         kept m (set vs id w) (stays m vs id w f (informs m id me.0 Idle fit tt)),
-        ((λ hit. absurd (miss hit)), λ _. (watched m id me Idle me.1 fit port f.lawful, refl, omega arith, refl, refl)),
+        record { if_expected = λ hit. absurd (miss hit); if_other = λ _. record { moves = moves_to m id me Idle me.1 fit port f.lawful; carried = refl; more = omega arith; drawn = refl; served = refl } },
       )))
 
   -- a port's knowledge after it has merged what the other seat knew
-  abbrev merged_known : Mo → Known E R O → Bool → Known E R O → Known E R O
-  merged_known m k b u = record k { joined = (if b then k.joined ++ u.number ∷ u.joined else k.joined); seen = m.whole; drawn = m.ticket }
+  abbrev merged_known : Mo → Known E R O → V → Known E R O
+  merged_known m k other = record k { joined = joined_with k other; seen = m.whole; drawn = m.ticket }
+
+  -- the seat that a stage `Met` has taken in
+  abbrev other_view : Bool → Known E R O → V
+  other_view b u = record { known = u; is_port = b; stage = Idle }
 
   merge_port : (m : Mo) (i : ℕ) (k : Known E R O) (b : Bool) (u : Known E R O)
       → Stand m i k (Met b u) → IsPort m.start m.holder i m.whole k
-      → IsPort m.start m.holder i m.whole (merged_known m k b u)
+      → IsPort m.start m.holder i m.whole (merged_known m k (other_view b u))
   merge_port m i k false u st t = record { begun = t.begun; own = λ q o. ((t.own q o).0, refl); future = t.future; apart = t.apart }
   merge_port m i k true u st t = record {
     begun = t.begun;
@@ -558,21 +555,31 @@ module _ {T E R O : Type 0} (origin : T → O) (stands : T → List (Entry E R) 
     apart = λ q a. ⊎_elim (t.apart q) (λ x. let y = st.3 refl q x in (y.2, y.3)) (among-append q u.number k.joined u.joined a);
   }
 
+  -- a stage names the seat that it has taken in
+  same_other : (b : Bool) (u : Known E R O) (stage : Stage E R O) (other : V) → stage ≡ Met b u
+      → stage ≡ Met other.is_port other.known
+      → record { known = u; is_port = b; stage = other.stage } ≡ other
+  same_other b u stage other is now = let same : (b, u) ≡ (other.is_port, other.known) = ap (met_of (b, u)) (sym is ∙ now) in λ i. record { known = (same i).1; is_port = (same i).0; stage = other.stage }
+
+  knows_both : (m : Mo) (i : ℕ) (v : V) (b : Bool) (u : Known E R O) (stage : Stage E R O)
+      → Fit m i v → v.is_port ≡ true → legal m.start m.whole → Stand m i v.known (Met b u)
+      → KnowsBoth legal v.known (record { known = u; is_port = b; stage = stage }) (record { known = merged_known m v.known (other_view b u); is_port = v.is_port; stage = Idle })
+  knows_both m i v b u stage fit port lawful st = let see = (watches m i v fit port lawful).sees in record {
+    port = port;
+    stage_is = refl;
+    sees = record { origin = refl; number = refl; splits = refl; drawn = see.drawn; served = see.served; seen = see.seen; lawful = see.lawful; own = see.own };
+    joined = refl;
+    drawn = st.2;
+    seen = st.0;
+    same_origin = λ o e. (fit.port port).begun ∙ ap (λ (z : O). Some z) (sym (st.1 o e));
+    calls = λ yes q x. (st.3 yes q x).1;
+  }
+
   pub merges : (slots id : ℕ) (me : M) (b : Bool) (u : Known E R O) → me.0.is_port ≡ true
       → me.0.stage ≡ Met b u
-      → Allows Rule slots id me 1 (λ n. n) (merged legal (step slots 1 0 0 none) me)
-  merges slots id me b u port is = loads slots id me 1 (merged legal (step slots 1 0 0 none) me) (λ m vs f fit. let st = subst (Stand m id me.0.known) is fit.staged in let k : Known E R O = me.0.known in
-      let w : V = record { known = merged_known m k b u; is_port = me.0.is_port; stage = Idle } in let see = (watches m id me.0 fit port f.lawful).sees in
-      let met : Merged legal b u me.0.known w = record {
-        port = port;
-        staged = refl;
-        sees = record { origin = refl; number = refl; splits = refl; drawn = see.drawn; served = see.served; seen = see.seen; lawful = see.lawful; own = see.own };
-        joined = refl;
-        drawn = st.2;
-        told = st.0;
-        same = λ o e. (fit.port port).begun ∙ ap (λ (z : O). Some z) (sym (st.1 o e));
-        theirs = λ yes q x. (st.3 yes q x).1;
-      } in (
+      → Allows Rule slots id me 1 (λ n. n) (play (Merges legal) (step slots 1 0 0 none) me)
+  merges slots id me b u port is = loads slots id me 1 (play (Merges legal) (step slots 1 0 0 none) me) (λ m vs f fit. let st = subst (Stand m id me.0.known) is fit.staged in let k : Known E R O = me.0.known in
+      let w : V = record { known = merged_known m k (other_view b u); is_port = me.0.is_port; stage = Idle } in (
         w,
         record {
           named = fit.named;
@@ -583,7 +590,10 @@ module _ {T E R O : Type 0} (origin : T → O) (stands : T → List (Entry E R) 
           staged = tt;
           port = λ e. merge_port m id k b u st (fit.port e);
         },
-        (refl, λ b' u' is'. subst (λ (z : Bool × Known E R O). Merged legal z.0 z.1 me.0.known w) (ap (met_of (b, u)) (sym is ∙ is')) met),
+        record {
+          carried = refl;
+          knows_both = λ other now. subst (λ (z : V). KnowsBoth legal me.0.known z w) (same_other b u me.0.stage other is now) (knows_both m id me.0 b u other.stage fit port f.lawful st);
+        },
       ))
 
   -- the moment after a seat was split
@@ -688,7 +698,7 @@ module _ {T E R O : Type 0} (origin : T → O) (stands : T → List (Entry E R) 
     front_of_child q a = (forked_here m.holder (next_number k) new q (ap (has_front (next_number k)) a.1 ∙ has_front-append (next_number k) a.0), (mine.future q (front_is_future k.number k.splits q a)).1)
 
     split_born : (v : V) → v.known ≡ k → Fit m i v
-        → Fit Forked new (born_view (record v { known = k }))
+        → Fit Forked new (child_view (record v { known = k }))
     split_born v same f = let g : Fit m i (record v { known = k }) = subst (λ (z : Known E R O). Fit m i (record v { known = z })) same f in let c : List ℕ = next_number k in
         let self = front_of_child c (starts_refl c) in let none_seen : calls_by c k.seen ≡ [] = calls_none c m.whole k.seen g.seen self.1 in record {
           named = g.named;
@@ -706,20 +716,20 @@ module _ {T E R O : Type 0} (origin : T → O) (stands : T → List (Entry E R) 
         }
 
   pub splits : (id : ℕ) (v : V) → v.is_port ≡ true → v.stage ≡ Idle
-      → Splits Rule id v (divided_view v) (born_view v)
-  splits id v port idle = by_moment (λ s. get_elem? s.views id ≡ some v → Rule record { words = s.words; homes = s.homes; views = set s.views id (divided_view v) ++ born_view v ∷ [] })
-      (λ m vs f at. let fit = f.fits id v at in let mine = fit.port port in let new : ℕ = length (set vs id (divided_view v)) in let m' : Mo = after_split m (next_number v.known) new in
-      kept m' (set vs id (divided_view v) ++ born_view v ∷ []) (comes m m' vs id (divided_view v) (born_view v) f refl refl refl refl refl refl (split_mine m id new v.known mine v refl idle fit)
+      → Splits Rule id v (parent_view v) (child_view v)
+  splits id v port idle = by_moment (λ s. get_elem? s.views id ≡ some v → Rule record { words = s.words; homes = s.homes; views = set s.views id (parent_view v) ++ child_view v ∷ [] })
+      (λ m vs f at. let fit = f.fits id v at in let mine = fit.port port in let new : ℕ = length (set vs id (parent_view v)) in let m' : Mo = after_split m (next_number v.known) new in
+      kept m' (set vs id (parent_view v) ++ child_view v ∷ []) (comes m m' vs id (parent_view v) (child_view v) f refl refl refl refl refl refl (split_mine m id new v.known mine v refl idle fit)
       (split_born m id new v.known mine v refl fit) (λ j d other g. split_others m id new v.known mine v j d fit other g)))
 
   told_fit : (m : Mo) (i : ℕ) (v : V) → Fit m i v → Stand (after_tell m) i v.known v.stage
       → Fit (after_tell m) i v
   told_fit m i v f st = record { named = f.named; seen = f.seen; drawn = f.drawn; served = f.served; lone = λ e. never e; staged = st; port = f.port }
 
-  pub tells : (id : ℕ) (v : V) → v.stage ≡ Idle → Splits Rule id v v (noted_view v)
-  tells id v idle = by_moment (λ s. get_elem? s.views id ≡ some v → Rule record { words = s.words; homes = s.homes; views = set s.views id v ++ noted_view v ∷ [] })
+  pub tells : (id : ℕ) (v : V) → v.stage ≡ Idle → Splits Rule id v v (note_view v)
+  tells id v idle = by_moment (λ s. get_elem? s.views id ≡ some v → Rule record { words = s.words; homes = s.homes; views = set s.views id v ++ note_view v ∷ [] })
       (λ m vs f at. let fit = f.fits id v at in let m' : Mo = after_tell m in
-      kept m' (set vs id v ++ noted_view v ∷ []) (comes m m' vs id v (noted_view v) f refl refl refl refl refl refl (told_fit m id v fit (subst (Stand m' id v.known) (sym idle) tt))
+      kept m' (set vs id v ++ note_view v ∷ []) (comes m m' vs id v (note_view v) f refl refl refl refl refl refl (told_fit m id v fit (subst (Stand m' id v.known) (sym idle) tt))
       record { named = fit.named; seen = fit.seen; drawn = omega arith; served = omega arith; lone = λ e. never e; staged = tt; port = λ e. never e }
       (λ j d other g. told_fit m j d g (tell_staged m j d.known (not_lone m id j v d other fit g) d.stage g.staged))))
 
@@ -772,12 +782,12 @@ module _ {T E R O : Type 0} (origin : T → O) (stands : T → List (Entry E R) 
   )
 
   pub joins : (id : ℕ) (v : V) (other : ℕ) (w : V) → v.is_port ≡ true
-      → Joins Rule id v other w (met_view v w) spent_view
+      → Joins Rule id v other w (view_with v w) spent_view
   joins id v other w port = by_moment
-      (λ s. get_elem? s.views id ≡ some v → ¬ (other ≡ id) → get_elem? (set s.views id (met_view v w)) other ≡ some w → Rule record { words = s.words; homes = s.homes; views = set (set s.views id (met_view v w)) other spent_view })
-      (λ m vs f at apart there. let n : id ≢ other = λ e. apart (sym e) in let fit = f.fits id v at in let m' : Mo = after_join m other id in let both : V = met_view v w in
+      (λ s. get_elem? s.views id ≡ some v → ¬ (other ≡ id) → get_elem? (set s.views id (view_with v w)) other ≡ some w → Rule record { words = s.words; homes = s.homes; views = set (set s.views id (view_with v w)) other spent_view })
+      (λ m vs f at apart there. let n : id ≢ other = λ e. apart (sym e) in let fit = f.fits id v at in let m' : Mo = after_join m other id in let both : V = view_with v w in
       let theirs = f.fits other w (sym (set_else vs id other both apart) ∙ there) in let st = join_met m other id v w n port fit theirs in
-      let mine : Fit m' id both = at_stage m' id v (Met w.is_port w.known) (join_fit m other id id v n fit) st in
+      let mine : Fit m' id both = fit_at_stage m' id v (Met w.is_port w.known) (join_fit m other id id v n fit) st in
       let spent : Fit m' other spent_view = record { named = λ o e. no_origin e; seen = (m.whole, refl); drawn = omega arith; served = omega arith; lone = theirs.lone; staged = tt; port = λ e. never e } in
       kept m' (set (set vs id both) other spent_view) record {
         range = f.range;
@@ -794,6 +804,6 @@ module _ {T E R O : Type 0} (origin : T → O) (stands : T → List (Entry E R) 
 
   -- while the first seat has taken no step, the slot has the value that the table was made with
   pub regained : (ws : List ℕ) (xs : List Sl) (id : ℕ) (v : V) → v.stage ≡ New
-      → Final (Seen Rule id v) ws xs → get_elem? xs 0 ≡ some (full first None)
+      → Final (Seen Rule id v) ws xs → get_elem? xs 0 ≡ some (full_slot first None)
   regained ws xs id v is (s, seen, words, count, homes) = let r = seen.0 in let fit = r.facts.fits id v seen.1 in let st = subst (Stand r.now id v.known) is fit.staged in
-      homes 0 (full first None) (ap (λ h. get_elem? h 0) r.homes_are ∙ ap (λ h. some h) st.1)
+      homes 0 (full_slot first None) (ap (λ h. get_elem? h 0) r.homes_are ∙ ap (λ h. some h) st.1)

@@ -7,7 +7,7 @@ use Rattle.turn_lock.specs.declared.known.Known.{Known}
 use Rattle.turn_lock.specs.declared.known.View.{View}
 use Rattle.turn_lock.specs.History.{IsAmong, entry, calls_by}
 use Rattle.turn_lock.specs.Calls.{IsLegal, Watches, Called}
-use Rattle.turn_lock.specs.Plays.{Ended}
+use Rattle.turn_lock.specs.Plays.{AddsCall}
 use Rattle.turn_lock.proofs.Lists.{starts_refl, starts_trans}
 
 module _ {E R O : Type 0} {legal : O → List (Entry E R) → Type 0} where
@@ -37,7 +37,7 @@ module _ {E R O : Type 0} {legal : O → List (Entry E R) → Type 0} where
 
   -- a port whose turn added nothing has watched
   pub watches_turned : (k : Known E R O) (v w : View E R O) → Watches legal k v.known
-      → Ended legal None v w → Watches legal k w.known
+      → AddsCall legal None v w → Watches legal k w.known
   watches_turned k v w a ended = let t = a.sees in let is = ended.view in record {
     sees = record {
       origin = ap (λ x. x.known.origin) is ∙ t.origin;
@@ -47,15 +47,15 @@ module _ {E R O : Type 0} {legal : O → List (Entry E R) → Type 0} where
       served = subst (λ n. k.served ≤ n) (sym (ap (λ x. x.known.served) is)) t.served;
       seen = starts_trans w.known.seen v.known.seen k.seen ([], ap (λ x. x.known.seen) is) t.seen;
       lawful = ended.lawful;
-      own = λ q o. ⊎_elim (λ e. subst (λ p. calls_by p w.known.seen ≡ calls_by p v.known.seen) (sym (e ∙ sym t.number)) (ended.own ∙ append-nil (calls_by v.known.number v.known.seen)))
-          (λ x. ended.others q (subst (IsAmong q) (sym a.joined) x)) o ∙ t.own q o;
+      own = λ q o. ⊎_elim (λ e. subst (λ p. calls_by p w.known.seen ≡ calls_by p v.known.seen) (sym (e ∙ sym t.number)) (ended.own_calls ∙ append-nil (calls_by v.known.number v.known.seen)))
+          (λ x. ended.joined_calls q (subst (IsAmong q) (sym a.joined) x)) o ∙ t.own q o;
     };
     joined = ap (λ x. x.known.joined) is ∙ a.joined;
   }
 
   -- a port whose turn added an entry has made that call
   pub called_turned : (k : Known E R O) (v w : View E R O) (e : Snapshot E) (r : Snapshot R)
-      → Watches legal k v.known → Ended legal (Some (e, r)) v w
+      → Watches legal k v.known → AddsCall legal (Some (e, r)) v w
       → Called legal k e.value r.value w.known
   called_turned k v w e r a ended = let t = a.sees in let is = ended.view in record {
     origin = ap (λ x. x.known.origin) is ∙ t.origin;
@@ -66,6 +66,6 @@ module _ {E R O : Type 0} {legal : O → List (Entry E R) → Type 0} where
     served = subst (λ n. k.served ≤ n) (sym (ap (λ x. x.known.served) is)) t.served;
     seen = (t.seen.0, ap (λ x. x.known.seen) is ∙ (ap (λ s. s ++ entry v.known.number e.value r.value ∷ []) t.seen.1 ∙ ap (λ p. (k.seen ++ t.seen.0) ++ entry p e.value r.value ∷ []) t.number));
     lawful = ended.lawful;
-    own = subst (λ p. calls_by p w.known.seen ≡ calls_by p v.known.seen ++ entry p e.value r.value ∷ []) t.number ended.own ∙ ap (λ s. s ++ entry k.number e.value r.value ∷ []) (t.own k.number (inl refl));
-    others = λ q x. ended.others q (subst (IsAmong q) (sym a.joined) x) ∙ t.own q (inr x);
+    own = subst (λ p. calls_by p w.known.seen ≡ calls_by p v.known.seen ++ entry p e.value r.value ∷ []) t.number ended.own_calls ∙ ap (λ s. s ++ entry k.number e.value r.value ∷ []) (t.own k.number (inl refl));
+    others = λ q x. ended.joined_calls q (subst (IsAmong q) (sym a.joined) x) ∙ t.own q (inr x);
   }

@@ -6,7 +6,7 @@ use Rattle.turn_lock.specs.declared.faults.Busy.{Busy}
 use Rattle.call_fault.specs.declared.fault.CallFault.{CallFault}
 use Rattle.call_fault.specs.declared.fault.CallFault.TheVariants.{Memory, Exhausted}
 use Rattle.turn_lock.specs.History.{StartsWith, IsAmong, entry, calls_by}
-use Rattle.turn_lock.specs.Rule.{IsOwn}
+use Rattle.turn_lock.specs.Rule.{fresh_known, IsOwn}
 
 -- the port has an origin, and the history it has seen is legal from that origin
 abbrev pub IsLegal : {E R O : Type 0} → (O → List (Entry E R) → Type 0) → Known E R O → Type 0
@@ -76,15 +76,7 @@ divided k = record k { splits = k.splits + 1 }
 -- the new port's knowledge after a split: its number is the parent's, followed by the parent's
 -- count of splits before
 abbrev pub born : {E R O : Type 0} → Known E R O → Known E R O
-born k = record {
-  origin = k.origin;
-  number = k.number ++ k.splits ∷ [];
-  splits = 0;
-  joined = [];
-  seen = k.seen;
-  drawn = 0;
-  served = 0;
-}
+born k = fresh_known k.origin (k.number ++ k.splits ∷ []) k.seen
 
 -- The port has seen all that the note has, and both have the same origin.
 pub record Meets {E R O : Type 0} (legal : O → List (Entry E R)

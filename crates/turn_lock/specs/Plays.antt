@@ -1,7 +1,8 @@
--- How each step on the table changes the view of the seat that takes it: `m` is the seat before,
--- `n` the number it found, `m'` the seat after.
-use Rattle.std.specs.Prelude.{◌≡◌, ◌≢◌, ℕ, ◌+◌, ◌<◌, ◌≤◌, Bool, true, false, if◌then◌else◌, List, [], ◌∷◌, ◌++◌, length, Option, Some, None}
-use Rattle.std.specs.declared.snapshot.Snapshot.{Snapshot}
+-- How each step on the table changes the seat that takes it.
+--     Move        a step: the number expected, the number found, and the seat before and after
+--     Settles ..  what each kind of step does, as a relation on moves
+--     play        such a relation in the form that the table takes
+use Rattle.std.specs.Prelude.{◌≡◌, ◌≢◌, ℕ, ◌+◌, ◌<◌, ◌≤◌, true, false, if◌then◌else◌, List, [], ◌∷◌, ◌++◌, length, Option, Some, None}
 use Rattle.atomic_table.specs.Table.{Me, Step}
 use Rattle.atomic_table.specs.Seated.{TableId}
 use Rattle.atomic_table.specs.declared.shared.Seat.{Seat}
@@ -12,159 +13,250 @@ use Rattle.turn_lock.specs.declared.known.Stage.{Stage}
 use Rattle.turn_lock.specs.declared.known.Stage.TheVariants.{Young, Idle, Waiting, Turn, SawServing, Met}
 use Rattle.turn_lock.specs.declared.board.Slot.{Slot}
 use Rattle.turn_lock.specs.History.{StartsWith, IsAmong, entry, calls_by}
-use Rattle.turn_lock.specs.Rule.{most_turns, full, IsOwn}
+use Rattle.turn_lock.specs.Rule.{most_turns, LastCall, fresh_known, full_slot, IsOwn}
 use Rattle.turn_lock.specs.Calls.{IsLegal, Sees, Watches, divided, born}
 
 -- a table of two words and one slot
 abbrev pub IsSized : TableId → Type 0
-IsSized z = (z.words ≡ 2) × (z.slots ≡ 1)
-
--- the entries that the end of a turn adds to the history: the entry of port p, or none
-abbrev pub added : {E R : Type 0} → List ℕ → Option (Snapshot E × Snapshot R) → List (Entry E R)
-added p None = []
-added p (Some l) = entry p l.0.value l.1.value ∷ []
-
--- the entry of the last turn, from the slot that the seat took last
-abbrev pub last_of : {T E R : Type 0} → List (ℕ × Slot T E R) → Option (Snapshot E × Snapshot R)
-last_of [] = None
-last_of (x ∷ xs) = x.1.last
+IsSized table = (table.words ≡ 2) × (table.slots ≡ 1)
 
 -- the slot while a turn is held
-abbrev pub hollow : {T E R : Type 0} → Slot T E R
-hollow = record { value = None; last = None }
+abbrev pub empty_slot : {T E R : Type 0} → Slot T E R
+empty_slot = record { value = None; last = None }
 
--- the seat is a port's, is at this stage and holds these slots
-abbrev pub IsReady : {T E R O : Type 0} → Seat (Slot T E R) (View E R O) → Stage E R O
-    → List (ℕ × Slot T E R) → Type 0
-IsReady s stage carried = (s.me.0.is_port ≡ true) × (s.me.0.stage ≡ stage) × (s.me.1 ≡ carried)
+-- the slots that a seat carries, each with its index
+abbrev pub Carried : Type 0 → Type 0 → Type 0 → Type 0
+Carried T E R = List (ℕ × Slot T E R)
+
+-- the call that the slot taken last records
+abbrev pub last_call : {T E R : Type 0} → Carried T E R → LastCall E R
+last_call [] = None
+last_call ((index, slot) ∷ rest) = slot.last
+
+-- the entries that the end of a turn adds to the history: the call of this port, if it made one
+abbrev pub new_entries : {E R : Type 0} → List ℕ → LastCall E R → List (Entry E R)
+new_entries port None = []
+new_entries port (Some (event, reply)) = entry port event.value reply.value ∷ []
 
 module _ {E R O : Type 0} where
   -- the view with its stage replaced
-  abbrev pub posed : View E R O → Stage E R O → View E R O
-  posed v stage = record v { stage = stage }
+  abbrev pub with_stage : View E R O → Stage E R O → View E R O
+  with_stage view stage = record view { stage = stage }
+
+  -- the view of a port that was split
+  abbrev pub parent_view : View E R O → View E R O
+  parent_view view = record view { known = divided view.known }
+
+  -- the view of the port that was split off
+  abbrev pub child_view : View E R O → View E R O
+  child_view view = record {
+    known = born view.known;
+    is_port = true;
+    stage = Young;
+  }
+
+  -- the view of a seat that has no number: it has seen a history, but makes no calls
+  abbrev pub reader_view : Option O → List (Entry E R) → View E R O
+  reader_view origin seen = record {
+    known = fresh_known origin [] seen;
+    is_port = false;
+    stage = Idle;
+  }
+
+  -- the view of a note
+  abbrev pub note_view : View E R O → View E R O
+  note_view view = reader_view view.known.origin view.known.seen
 
   -- the view of a seat after it was joined into another
   abbrev pub spent_view : View E R O
-  spent_view = record {
-    known = record {
-      origin = None;
-      number = [];
-      splits = 0;
-      joined = [];
-      seen = [];
-      drawn = 0;
-      served = 0;
-    };
-    is_port = false;
+  spent_view = reader_view None []
+
+  -- the view of a seat that another was joined into
+  abbrev pub view_with : View E R O → View E R O → View E R O
+  view_with view other = with_stage view (Met other.is_port other.known)
+
+  -- the view of a seat that has read how many turns have ended
+  abbrev pub view_with_served : View E R O → ℕ → View E R O
+  view_with_served view served = record {
+    known = record view.known { served = served };
+    is_port = view.is_port;
+    stage = SawServing served;
+  }
+
+  -- the view of a port after its turn
+  abbrev pub view_after_turn : View E R O → LastCall E R → View E R O
+  view_after_turn view last = record {
+    known = record view.known { seen = view.known.seen ++ new_entries view.known.number last };
+    is_port = view.is_port;
     stage = Idle;
   }
 
-  abbrev pub divided_view : View E R O → View E R O
-  divided_view v = record v { known = divided v.known }
+  -- the numbers joined into a port once it has taken in another seat: a port brings its own numbers
+  abbrev pub joined_with : Known E R O → View E R O → List (List ℕ)
+  joined_with known other = if other.is_port
+      then known.joined ++ other.known.number ∷ other.known.joined else known.joined
 
-  abbrev pub born_view : View E R O → View E R O
-  born_view v = record { known = born v.known; is_port = true; stage = Young }
+-- A seat: its view, and the slots that it carries.
+pub record SeatState (T E R O : Type 0) : Type 0 where
+  pub view : View E R O
+  pub carried : Carried T E R
 
-  -- the view of a note: the origin and the history, no number
-  abbrev pub noted_view : View E R O → View E R O
-  noted_view v = record {
-    known = record {
-      origin = v.known.origin;
-      number = [];
-      splits = 0;
-      joined = [];
-      seen = v.known.seen;
-      drawn = 0;
-      served = 0;
-    };
-    is_port = false;
-    stage = Idle;
-  }
-
-  -- the view of a seat that has read that `n` turns have ended
-  abbrev pub counted_view : View E R O → ℕ → View E R O
-  counted_view v n = record v { known = record v.known { served = n }; stage = SawServing n }
-
-  abbrev pub met_view : View E R O → View E R O → View E R O
-  met_view v w = posed v (Met w.is_port w.known)
-
-abbrev At : Type 0 → Type 0 → Type 0 → Type 0
-At T E R = Step (Slot T E R)
-
-abbrev Sat : Type 0 → Type 0 → Type 0 → Type 0 → Type 0
-Sat T E R O = Me (Slot T E R) (View E R O)
+-- One step of a seat. `expected` is the number that a compare-exchange replaces, and `found` the
+-- number that the step read.
+pub record Move (T E R O : Type 0) : Type 0 where
+  pub expected : ℕ
+  pub found : ℕ
+  pub before : SeatState T E R O
+  pub after : SeatState T E R O
 
 module _ {T E R O : Type 0} where
-  abbrev pub settled : At T E R → Sat T E R O → ℕ → Sat T E R O → Type 0
-  settled st m n m' = (m' ≡ (posed m.0 Idle, m.1))
-      × (m.0.stage ≡ Young → calls_by m.0.known.number m.0.known.seen ≡ [])
+  abbrev pub seat_with : View E R O → Carried T E R → SeatState T E R O
+  seat_with view carried = record { view = view; carried = carried }
 
-  abbrev pub drew : At T E R → Sat T E R O → ℕ → Sat T E R O → Type 0
-  drew st m n m' = (n ≡ st.first → m' ≡ (posed m.0 (Waiting n), m.1)) × (n ≢ st.first → m' ≡ m)
+  -- the seat from the table's form, which is a pair
+  abbrev pub seat_state : Me (Slot T E R) (View E R O) → SeatState T E R O
+  seat_state (view, carried) = seat_with view carried
 
-  abbrev pub saw : At T E R → Sat T E R O → ℕ → Sat T E R O → Type 0
-  saw st m n m' = (m' ≡ (counted_view m.0 n, m.1)) × (m.0.known.served ≤ n)
-      × (length m.0.known.seen ≤ n) × (n ≤ most_turns + 1)
+  -- a relation on moves, in the form that the table takes
+  abbrev pub play : (Move T E R O → Type 0) → Step (Slot T E R) → Me (Slot T E R) (View E R O) → ℕ
+      → Me (Slot T E R) (View E R O) → Type 0
+  play Holds step before found after = Holds record {
+    expected = step.first;
+    found = found;
+    before = seat_state before;
+    after = seat_state after;
+  }
+
+  abbrev pub state_of : Seat (Slot T E R) (View E R O) → SeatState T E R O
+  state_of seat = seat_state seat.me
+
+  abbrev pub view_of : Seat (Slot T E R) (View E R O) → View E R O
+  view_of seat = (state_of seat).view
+
+  abbrev pub known_of : Seat (Slot T E R) (View E R O) → Known E R O
+  known_of seat = (view_of seat).known
+
+  abbrev pub carried_by : Seat (Slot T E R) (View E R O) → Carried T E R
+  carried_by seat = (state_of seat).carried
+
+  -- the seat with its stage replaced
+  abbrev pub at_stage : SeatState T E R O → Stage E R O → SeatState T E R O
+  at_stage seat stage = seat_with (with_stage seat.view stage) seat.carried
+
+  -- The seat is a port's, is at this stage and carries these slots.
+  pub record IsReady (seat : Seat (Slot T E R) (View E R O)) (stage : Stage E R O)
+      (carried : Carried T E R) : Type 0 where
+    pub port : (view_of seat).is_port ≡ true
+    pub stage_is : (view_of seat).stage ≡ stage
+    pub carried_is : carried_by seat ≡ carried
+
+  -- The first step of a seat: it is idle. A seat that was split off learns that it has no calls.
+  pub record Settles (m : Move T E R O) : Type 0 where
+    pub after_is : m.after ≡ at_stage m.before Idle
+    pub no_calls : m.before.view.stage ≡ Young
+        → calls_by m.before.view.known.number m.before.view.known.seen ≡ []
+
+  -- A compare-exchange that draws a turn: the seat waits for it, or is unchanged if another seat
+  -- was first.
+  pub record Draws (m : Move T E R O) : Type 0 where
+    pub if_expected : m.found ≡ m.expected → m.after ≡ at_stage m.before (Waiting m.found)
+    pub if_other : m.found ≢ m.expected → m.after ≡ m.before
+
+  -- A load of the count of ended turns: no less than the seat had read before, at least one for
+  -- each call that it has seen, and at most one more than a lock can have.
+  pub record SeesServing (m : Move T E R O) : Type 0 where
+    pub view : m.after.view ≡ view_with_served m.before.view m.found
+    pub carried : m.after.carried ≡ m.before.carried
+    pub no_less : m.before.view.known.served ≤ m.found
+    pub counted : length m.before.view.known.seen ≤ m.found
+    pub within : m.found ≤ most_turns + 1
 
 module _ {E R O : Type 0} (legal : O → List (Entry E R) → Type 0) where
-  -- How the end of a turn changes the seat's view.
-  pub record Ended (l : Option (Snapshot E × Snapshot R)) (v w : View E R O) : Type 0 where
-    pub view : w ≡ record v {
-      stage = Idle;
-      known = record v.known { seen = v.known.seen ++ added v.known.number l };
-    }
-    pub lawful : IsLegal legal w.known
-    pub own : calls_by v.known.number w.known.seen ≡ calls_by v.known.number v.known.seen
-        ++ added v.known.number l
-    pub others : (q : List ℕ) → IsAmong q v.known.joined
-        → calls_by q w.known.seen ≡ calls_by q v.known.seen
-    pub within : (turn : ℕ) → v.stage ≡ Turn turn → length w.known.seen ≤ turn + 1
+  -- A turn has ended: its call, if it made one, is the only further entry that the port has seen.
+  pub record AddsCall (last : LastCall E R) (view_before view_after : View E R O) : Type 0 where
+    pub view : view_after ≡ view_after_turn view_before last
+    pub lawful : IsLegal legal view_after.known
+    pub own_calls : calls_by view_before.known.number view_after.known.seen
+        ≡ calls_by view_before.known.number view_before.known.seen
+        ++ new_entries view_before.known.number last
+    pub joined_calls : (q : List ℕ) → IsAmong q view_before.known.joined
+        → calls_by q view_after.known.seen ≡ calls_by q view_before.known.seen
+    pub within : (turn : ℕ) → view_before.stage ≡ Turn turn
+        → length view_after.known.seen ≤ turn + 1
 
-  -- The view after the load that follows a join. `u` is the seat taken in, and `b` whether it was a
-  -- port.
-  pub record Merged (b : Bool) (u k : Known E R O) (w : View E R O) : Type 0 where
-    pub port : w.is_port ≡ true
-    pub staged : w.stage ≡ Idle
-    pub sees : Sees legal k w.known
-    pub joined : w.known.joined ≡ (if b then k.joined ++ u.number ∷ u.joined else k.joined)
-    pub drawn : u.drawn ≤ w.known.drawn
-    pub told : StartsWith w.known.seen u.seen
-    pub same : (o : O) → u.origin ≡ Some o → k.origin ≡ Some o
-    pub theirs : b ≡ true → (q : List ℕ) → IsOwn u q → calls_by q w.known.seen ≡ calls_by q u.seen
+  -- A port that has taken in another seat has seen all that both had seen. If the other seat was a
+  -- port's, there is no further call of its numbers, which are the port's now.
+  pub record KnowsBoth (known_before : Known E R O) (other view_after : View E R O)
+      : Type 0 where
+    pub port : view_after.is_port ≡ true
+    pub stage_is : view_after.stage ≡ Idle
+    pub sees : Sees legal known_before view_after.known
+    pub joined : view_after.known.joined ≡ joined_with known_before other
+    pub drawn : other.known.drawn ≤ view_after.known.drawn
+    pub seen : StartsWith view_after.known.seen other.known.seen
+    pub same_origin : (o : O) → other.known.origin ≡ Some o → known_before.origin ≡ Some o
+    pub calls : other.is_port ≡ true → (q : List ℕ) → IsOwn other.known q
+        → calls_by q view_after.known.seen ≡ calls_by q other.known.seen
 
 module _ {T E R O : Type 0} (legal : O → List (Entry E R) → Type 0) where
   -- The seat is still a port's, is at this stage and has only watched.
-  pub record Watched (stage : Stage E R O) (m m' : Sat T E R O) : Type 0 where
-    pub port : m'.0.is_port ≡ true
-    pub staged : m'.0.stage ≡ stage
-    pub watches : Watches legal m.0.known m'.0.known
+  pub record MovesTo (stage : Stage E R O) (before after : SeatState T E R O) : Type 0 where
+    pub port : after.view.is_port ≡ true
+    pub stage_is : after.view.stage ≡ stage
+    pub watches : Watches legal before.view.known after.view.known
 
-  abbrev pub looked : At T E R → Sat T E R O → ℕ → Sat T E R O → Type 0
-  looked st m n m' = Watched Idle m m' × (m'.1 ≡ m.1) × (m'.0.known.drawn ≡ n)
+  -- A load of the count of drawn turns.
+  pub record Looks (m : Move T E R O) : Type 0 where
+    pub moves : MovesTo Idle m.before m.after
+    pub carried : m.after.carried ≡ m.before.carried
+    pub drawn : m.after.view.known.drawn ≡ m.found
 
-  abbrev pub ended : At T E R → Sat T E R O → ℕ → Sat T E R O → Type 0
-  ended st m n m' = (m'.1 ≡ []) × Ended legal (last_of m.1) m.0 m'.0
+  -- The end of a turn: the seat returns the slot, whose call is added to the history.
+  pub record Ends (m : Move T E R O) : Type 0 where
+    pub carried : m.after.carried ≡ []
+    pub adds : AddsCall legal (last_call m.before.carried) m.before.view m.after.view
 
-  abbrev pub merged : At T E R → Sat T E R O → ℕ → Sat T E R O → Type 0
-  merged st m n m' = (m'.1 ≡ m.1)
-      × ((b : Bool) (u : Known E R O) → m.0.stage ≡ Met b u → Merged legal b u m.0.known m'.0)
+  -- The load after another seat was taken in.
+  pub record Merges (m : Move T E R O) : Type 0 where
+    pub carried : m.after.carried ≡ m.before.carried
+    pub knows_both : (other : View E R O)
+        → m.before.view.stage ≡ Met other.is_port other.known
+        → KnowsBoth legal m.before.view.known other m.after.view
+
+  -- A compare-exchange that found the lock busy: more turns were drawn than had ended.
+  pub record FindsBusy (m : Move T E R O) : Type 0 where
+    pub moves : MovesTo Idle m.before m.after
+    pub carried : m.after.carried ≡ m.before.carried
+    pub more : m.expected < m.found
+    pub drawn : m.after.view.known.drawn ≡ m.found
+    pub served : m.after.view.known.served ≡ m.before.view.known.served
 
 module _ {T E R O : Type 0} (origin : T → O) (stands : T → List (Entry E R) → Type 0) (legal : O
     → List (Entry E R) → Type 0) where
   -- The seat has taken the slot, and the value in it results from all that the seat has seen.
-  pub record Takes (stage : Stage E R O) (m m' : Sat T E R O) : Type 0 where
-    pub watched : Watched legal stage m m'
+  pub record TakesValue (stage : Stage E R O) (before after : SeatState T E R O) : Type 0 where
+    pub moves : MovesTo legal stage before after
     pub value : T
-    pub last : Option (Snapshot E × Snapshot R)
-    pub taken : m'.1 ≡ (0, full value last) ∷ m.1
-    pub stood : stands value m'.0.known.seen
-    pub begun : m.0.known.origin ≡ Some (origin value)
+    pub last : LastCall E R
+    pub carried : after.carried ≡ (0, full_slot value last) ∷ before.carried
+    pub results : stands value after.view.known.seen
+    pub origin_is : before.view.known.origin ≡ Some (origin value)
 
-  abbrev pub reached : At T E R → Sat T E R O → ℕ → Sat T E R O → Type 0
-  reached st m n m' = (k : ℕ) → m.0.stage ≡ Waiting k
-      → (n ≡ k → Takes (Turn k) m m' × (k < m'.0.known.drawn)) × (n ≢ k → m' ≡ m)
+  -- The seat has taken the value at this turn, and has read that the turn was drawn.
+  pub record TakesTurn (turn : ℕ) (before after : SeatState T E R O) : Type 0 where
+    pub takes : TakesValue (Turn turn) before after
+    pub drawn : turn < after.view.known.drawn
 
-  abbrev pub closed : At T E R → Sat T E R O → ℕ → Sat T E R O → Type 0
-  closed st m n m' = (n ≡ st.first → Takes Idle m m')
-      × (n ≢ st.first → Watched legal Idle m m' × (m'.1 ≡ m.1) × (st.first < n)
-      × (m'.0.known.drawn ≡ n) × (m'.0.known.served ≡ m.0.known.served))
+  -- A load of the count of ended turns by a seat that waits for this turn: it takes the turn if all
+  -- turns before it have ended, and is unchanged otherwise.
+  pub record ReachesTurn (turn : ℕ) (m : Move T E R O) : Type 0 where
+    pub if_served : m.found ≡ turn → TakesTurn turn m.before m.after
+    pub if_not : m.found ≢ turn → m.after ≡ m.before
+
+  abbrev pub Reaches : Move T E R O → Type 0
+  Reaches m = (turn : ℕ) → m.before.view.stage ≡ Waiting turn → ReachesTurn turn m
+
+  -- A compare-exchange that draws the last turn, if all drawn turns have ended.
+  pub record Closes (m : Move T E R O) : Type 0 where
+    pub if_expected : m.found ≡ m.expected → TakesValue Idle m.before m.after
+    pub if_other : m.found ≢ m.expected → FindsBusy legal m

@@ -18,23 +18,34 @@ use Rattle.turn_lock.specs.History.{StartsWith, IsAmong, IsFuture, calls_by}
 abbrev pub most_turns : ℕ
 most_turns = 2 ^ 62
 
--- the first port's knowledge right after `Shared::new`
-abbrev pub opened : {E R O : Type 0} → O → Known E R O
-opened o = record {
-  origin = Some o;
-  number = [];
+-- the knowledge of a seat with this origin and number that has seen this history and has read no
+-- count
+abbrev pub fresh_known : {E R O : Type 0} → Option O → List ℕ → List (Entry E R) → Known E R O
+fresh_known origin number seen = record {
+  origin = origin;
+  number = number;
   splits = 0;
   joined = [];
-  seen = [];
+  seen = seen;
   drawn = 0;
   served = 0;
 }
 
-abbrev pub newcomer : {E R O : Type 0} → O → View E R O
-newcomer o = record { known = opened o; is_port = true; stage = New }
+-- the first port's knowledge right after `Shared::new`
+abbrev pub opened : {E R O : Type 0} → O → Known E R O
+opened origin = fresh_known (Some origin) [] []
 
-abbrev pub full : {T E R : Type 0} → T → Option (Snapshot E × Snapshot R) → Slot T E R
-full x l = record { value = Some x; last = l }
+-- the view of the first seat
+abbrev pub first_view : {E R O : Type 0} → O → View E R O
+first_view origin = record { known = opened origin; is_port = true; stage = New }
+
+-- the call of a turn: its event and its reply, or `None` if the turn made no call
+abbrev pub LastCall : Type 0 → Type 0 → Type 0
+LastCall E R = Option (Snapshot E × Snapshot R)
+
+-- the slot with the value in it, and the call of the last turn
+abbrev pub full_slot : {T E R : Type 0} → T → LastCall E R → Slot T E R
+full_slot value last = record { value = Some value; last = last }
 
 -- q is the port's own number or one joined into it
 abbrev pub IsOwn : {E R O : Type 0} → Known E R O → List ℕ → Type 0
@@ -57,7 +68,7 @@ pub record Moment (T E R O : Type 0) : Type 0 where
 module _ {T E R O : Type 0} (origin : T → O) (stands : T → List (Entry E R) → Type 0) where
   -- the value is in the slot and results from the history
   abbrev pub IsHome : Moment T E R O → Type 0
-  IsHome m = (x : T) × (l : Option (Snapshot E × Snapshot R)) × (m.home ≡ some (full x l))
+  IsHome m = (x : T) × (l : LastCall E R) × (m.home ≡ some (full_slot x l))
       × stands x m.whole × (origin x ≡ m.start) × (m.closed ≡ 0)
 
   -- seat i drew turn n, which has not ended
@@ -66,7 +77,7 @@ module _ {T E R O : Type 0} (origin : T → O) (stands : T → List (Entry E R) 
 
   -- What a seat knows at its stage. `first` is the value that the lock was made with.
   abbrev pub Staged : T → Moment T E R O → ℕ → Known E R O → Stage E R O → Type 0
-  Staged first m i k New = (m.lone ≡ true) × (m.home ≡ some (full first None))
+  Staged first m i k New = (m.lone ≡ true) × (m.home ≡ some (full_slot first None))
   Staged first m i k Young = calls_by k.number k.seen ≡ []
   Staged first m i k Idle = Unit {0}
   Staged first m i k (Waiting n) = Holds m i n × (n ≡ m.serving → IsHome m)

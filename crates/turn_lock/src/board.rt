@@ -41,11 +41,11 @@ impl<T: Turned> TableRule<
     View<T::Event, T::Reply, T::Origin>,
     Snapshot<T>,
 > for Turns<T> {
-    ghost use Rattle.turn_lock.specs.Rule.{Keeps, newcomer};
+    ghost use Rattle.turn_lock.specs.Rule.{Keeps, first_view};
 
     ghost holds = { λ key. Keeps T.origin T.stands T.legal key.value };
 
-    ghost first = { λ key. newcomer (T.origin key.value) };
+    ghost first = { λ key. first_view (T.origin key.value) };
 }
 
 /// The table with the memory it owns.

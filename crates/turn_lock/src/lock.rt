@@ -2,9 +2,9 @@
 ghost use Rattle.std.specs.Prelude.{◌≡◌, ◌<◌, ◌≤◌, [], ◌∷◌, Some, None, IfOk, IfErr};
 ghost use Rattle.std.specs.Arc.{arc_value};
 ghost use Rattle.turn_lock.specs.declared.known.Stage.TheVariants.{New};
-ghost use Rattle.turn_lock.specs.Rule.{most_turns, opened, newcomer};
+ghost use Rattle.turn_lock.specs.Rule.{most_turns, opened, first_view};
 ghost use Rattle.turn_lock.specs.Calls.{Watches, Yields, IsBusy};
-ghost use Rattle.turn_lock.specs.Plays.{IsSized};
+ghost use Rattle.turn_lock.specs.Plays.{IsSized, seat_with, state_of, view_of};
 
 use crate::board::{Board, Place, Slot};
 use crate::faults::Busy;
@@ -38,7 +38,7 @@ impl<T: Turned> Model for Shared<T> {
 fn regain<T: Turned>(table: Board<T>, place: Place<T>) -> T
     requires table { place.table_id ≡ table.shared.table_id }
     requires size { table.shared.table_id.slots ≡ 1 }
-    requires new { place.me.0.stage ≡ New }
+    requires new { (view_of place).stage ≡ New }
     ensures { result ≡ table.shared.key.value }
 {
     let mut closed = table.close_with(place);
@@ -51,7 +51,7 @@ fn regain<T: Turned>(table: Board<T>, place: Place<T>) -> T
 fn lay<T: Turned>(alloc: Global, value: T) -> Result<(Arc<Board<T>, Global>, Place<T>), T>
     requires { T.stands value [] }
     ensures ok { IfOk result (λ t. (t.1.table_id ≡ (arc_value t.0).shared.table_id)
-        × IsSized t.1.table_id × (t.1.me ≡ (newcomer (T.origin value), []))) }
+        × IsSized t.1.table_id × (state_of t.1 ≡ seat_with (first_view (T.origin value)) [])) }
     ensures err { IfErr result (λ x. x ≡ value) }
 {
     let key = Snapshot::of(&value);

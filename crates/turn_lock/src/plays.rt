@@ -9,9 +9,9 @@ use std::marker::PhantomData;
 pub(crate) struct Settle;
 
 impl<T, E, R, O> Play<Slot<T, E, R>, View<E, R, O>> for Settle {
-    ghost use Rattle.turn_lock.specs.Plays.{settled};
+    ghost use Rattle.turn_lock.specs.Plays.{play, Settles};
 
-    ghost then = { settled };
+    ghost then = { play Settles };
 }
 
 // A load of the count of drawn turns.
@@ -20,18 +20,18 @@ pub(crate) struct Look<T> {
 }
 
 impl<T: Turned> Play<Slot<T, T::Event, T::Reply>, View<T::Event, T::Reply, T::Origin>> for Look<T> {
-    ghost use Rattle.turn_lock.specs.Plays.{looked};
+    ghost use Rattle.turn_lock.specs.Plays.{play, Looks};
 
-    ghost then = { looked T.legal };
+    ghost then = { play (Looks T.legal) };
 }
 
 // A compare-exchange that draws a turn.
 pub(crate) struct Draw;
 
 impl<T, E, R, O> Play<Slot<T, E, R>, View<E, R, O>> for Draw {
-    ghost use Rattle.turn_lock.specs.Plays.{drew};
+    ghost use Rattle.turn_lock.specs.Plays.{play, Draws};
 
-    ghost then = { drew };
+    ghost then = { play Draws };
 }
 
 // A load of the count of ended turns, which takes the slot if the seat's turn has come.
@@ -41,9 +41,9 @@ pub(crate) struct Reach<T> {
 
 impl<T: Turned> Play<Slot<T, T::Event, T::Reply>, View<T::Event, T::Reply, T::Origin>>
     for Reach<T> {
-    ghost use Rattle.turn_lock.specs.Plays.{reached};
+    ghost use Rattle.turn_lock.specs.Plays.{play, Reaches};
 
-    ghost then = { reached T.origin T.stands T.legal };
+    ghost then = { play (Reaches T.origin T.stands T.legal) };
 }
 
 // The end of a turn, which returns the slot.
@@ -52,18 +52,18 @@ pub(crate) struct End<T> {
 }
 
 impl<T: Turned> Play<Slot<T, T::Event, T::Reply>, View<T::Event, T::Reply, T::Origin>> for End<T> {
-    ghost use Rattle.turn_lock.specs.Plays.{ended};
+    ghost use Rattle.turn_lock.specs.Plays.{play, Ends};
 
-    ghost then = { ended T.legal };
+    ghost then = { play (Ends T.legal) };
 }
 
 // A load of the count of ended turns, before a lock is closed.
 pub(crate) struct SeeServing;
 
 impl<T, E, R, O> Play<Slot<T, E, R>, View<E, R, O>> for SeeServing {
-    ghost use Rattle.turn_lock.specs.Plays.{saw};
+    ghost use Rattle.turn_lock.specs.Plays.{play, SeesServing};
 
-    ghost then = { saw };
+    ghost then = { play SeesServing };
 }
 
 // A compare-exchange that draws the last turn, which never ends.
@@ -73,9 +73,9 @@ pub(crate) struct Close<T> {
 
 impl<T: Turned> Play<Slot<T, T::Event, T::Reply>, View<T::Event, T::Reply, T::Origin>>
     for Close<T> {
-    ghost use Rattle.turn_lock.specs.Plays.{closed};
+    ghost use Rattle.turn_lock.specs.Plays.{play, Closes};
 
-    ghost then = { closed T.origin T.stands T.legal };
+    ghost then = { play (Closes T.origin T.stands T.legal) };
 }
 
 // The load after a seat was taken in.
@@ -85,40 +85,40 @@ pub(crate) struct Merge<T> {
 
 impl<T: Turned> Play<Slot<T, T::Event, T::Reply>, View<T::Event, T::Reply, T::Origin>>
     for Merge<T> {
-    ghost use Rattle.turn_lock.specs.Plays.{merged};
+    ghost use Rattle.turn_lock.specs.Plays.{play, Merges};
 
-    ghost then = { merged T.legal };
+    ghost then = { play (Merges T.legal) };
 }
 
 // The split of a seat for a new port.
 pub(crate) struct Cut;
 
 impl<E, R, O> Split<View<E, R, O>> for Cut {
-    ghost use Rattle.turn_lock.specs.Plays.{divided_view, born_view};
+    ghost use Rattle.turn_lock.specs.Plays.{parent_view, child_view};
 
-    ghost left = { divided_view };
+    ghost left = { parent_view };
 
-    ghost right = { born_view };
+    ghost right = { child_view };
 }
 
 // The split of a seat for a note.
 pub(crate) struct Tell;
 
 impl<E, R, O> Split<View<E, R, O>> for Tell {
-    ghost use Rattle.turn_lock.specs.Plays.{noted_view};
+    ghost use Rattle.turn_lock.specs.Plays.{note_view};
 
     ghost left = { λ v. v };
 
-    ghost right = { noted_view };
+    ghost right = { note_view };
 }
 
 // The join of a port's or a note's seat.
 pub(crate) struct TakeIn;
 
 impl<E, R, O> Join<View<E, R, O>> for TakeIn {
-    ghost use Rattle.turn_lock.specs.Plays.{met_view, spent_view};
+    ghost use Rattle.turn_lock.specs.Plays.{view_with, spent_view};
 
-    ghost both = { met_view };
+    ghost both = { view_with };
 
     ghost spent = { spent_view };
 }

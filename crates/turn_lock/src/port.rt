@@ -27,7 +27,7 @@ impl<T: Turned> Model for Port<T> {
     ghost use Rattle.turn_lock.specs.declared.known.Stage.TheVariants.{Idle};
     ghost use Rattle.turn_lock.specs.Rule.{most_turns};
     ghost use Rattle.turn_lock.specs.Calls.{IsLegal};
-    ghost use Rattle.turn_lock.specs.Plays.{IsSized, IsReady};
+    ghost use Rattle.turn_lock.specs.Plays.{IsSized, IsReady, known_of};
     ghost use Rattle.turn_lock.specs.Shown.{ShownPort};
 
     ghost Value = { ShownPort T.Event T.Reply T.Origin };
@@ -35,11 +35,11 @@ impl<T: Turned> Model for Port<T> {
     ghost view = { λ p. record {
       lock = p.place.table_id;
       bound = p.bound;
-      known = p.place.me.0.known;
+      known = known_of p.place;
     } };
 
     ghost invariant = { λ p. (p.place.table_id ≡ (arc_value p.table).shared.table_id)
-        × IsSized p.place.table_id × IsReady p.place Idle [] × IsLegal T.legal p.place.me.0.known
+        × IsSized p.place.table_id × IsReady p.place Idle [] × IsLegal T.legal (known_of p.place)
         × (p.bound ≤ most_turns) };
 }
 
@@ -52,18 +52,19 @@ pub struct Note<T: Turned> {
 impl<T: Turned> Model for Note<T> {
     ghost use Rattle.std.specs.Prelude.{◌≡◌, [], false};
     ghost use Rattle.turn_lock.specs.Calls.{IsLegal};
+    ghost use Rattle.turn_lock.specs.Plays.{view_of, known_of, carried_by};
     ghost use Rattle.turn_lock.specs.Shown.{ShownNote};
 
     ghost Value = { ShownNote T.Event T.Reply T.Origin };
 
     ghost view = { λ n. record {
       lock = n.place.table_id;
-      origin = n.place.me.0.known.origin;
-      seen = n.place.me.0.known.seen;
+      origin = (known_of n.place).origin;
+      seen = (known_of n.place).seen;
     } };
 
-    ghost invariant = { λ n. (n.place.me.1 ≡ []) × (n.place.me.0.is_port ≡ false)
-        × IsLegal T.legal n.place.me.0.known };
+    ghost invariant = { λ n. (carried_by n.place ≡ []) × ((view_of n.place).is_port ≡ false)
+        × IsLegal T.legal (known_of n.place) };
 }
 
 impl<T: Turned> Port<T> {

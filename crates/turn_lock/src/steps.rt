@@ -3,9 +3,9 @@ ghost use Rattle.std.specs.Prelude.{◌≡◌, ℕ, ◌+◌, ◌<◌, ◌≤◌,
 ghost use Rattle.std.specs.declared.snapshot.Snapshot.{Snapshot};
 ghost use Rattle.turn_lock.specs.declared.known.Stage.TheVariants.{Young, Idle, Waiting, Turn};
 ghost use Rattle.turn_lock.specs.History.{calls_by};
-ghost use Rattle.turn_lock.specs.Rule.{most_turns, full};
+ghost use Rattle.turn_lock.specs.Rule.{most_turns, LastCall, full_slot};
 ghost use Rattle.turn_lock.specs.Calls.{IsLegal, Watches, Called, IsCause, EndsTurn, IsBusy};
-ghost use Rattle.turn_lock.specs.Plays.{IsSized, IsReady, hollow, posed, added, divided_view, born_view, noted_view, Ended, Merged, Takes};
+ghost use Rattle.turn_lock.specs.Plays.{IsSized, IsReady, empty_slot, with_stage, new_entries, parent_view, child_view, note_view, seat_with, at_stage, state_of, view_of, known_of, carried_by, AddsCall, KnowsBoth, TakesTurn};
 
 use crate::board::{HOME, Place, SERVING, Slot, TICKET, Top};
 use crate::faults::Busy;
@@ -26,9 +26,9 @@ const NAP: u64 = 50;
 pub(crate) fn settle<T: Turned>(top: &Top<T>, place: &mut Place<T>)
     requires table { (place.old.table_id ≡ top.now.table_id) × IsSized top.now.table_id }
     ensures seat { (place.new.table_id ≡ place.old.table_id)
-        × (place.new.me ≡ (posed place.old.me.0 Idle, place.old.me.1)) }
-    ensures young { place.old.me.0.stage ≡ Young
-        → calls_by place.old.me.0.known.number place.old.me.0.known.seen ≡ [] }
+        × (state_of place.new ≡ at_stage (state_of place.old) Idle) }
+    ensures young { (view_of place.old).stage ≡ Young
+        → calls_by (known_of place.old).number (known_of place.old).seen ≡ [] }
 {
     top.load::<Settle>(place, SERVING);
 }
@@ -38,8 +38,8 @@ fn look<T: Turned>(top: &Top<T>, place: &mut Place<T>) -> u64
     requires table { (place.old.table_id ≡ top.now.table_id) × IsSized top.now.table_id }
     requires ready { IsReady place.old Idle [] }
     ensures seat { (place.new.table_id ≡ place.old.table_id) × IsReady place.new Idle [] }
-    ensures watches { Watches T.legal place.old.me.0.known place.new.me.0.known }
-    ensures drawn { place.new.me.0.known.drawn ≡ result }
+    ensures watches { Watches T.legal (known_of place.old) (known_of place.new) }
+    ensures drawn { (known_of place.new).drawn ≡ result }
 {
     top.load::<Look<T>>(place, TICKET)
 }
@@ -50,8 +50,8 @@ fn try_draw<T: Turned>(top: &Top<T>, place: &mut Place<T>, turn: u64) -> bool
     requires bound { turn < most_turns }
     ensures seat { place.new.table_id ≡ place.old.table_id }
     ensures yes { IsTrue result
-        → place.new.me ≡ (posed place.old.me.0 (Waiting turn), place.old.me.1) }
-    ensures no { IsFalse result → place.new.me ≡ place.old.me }
+        → state_of place.new ≡ at_stage (state_of place.old) (Waiting turn) }
+    ensures no { IsFalse result → state_of place.new ≡ state_of place.old }
 {
     top.compare_exchange::<Draw>(place, TICKET, turn, turn + 1) == turn
 }
@@ -83,13 +83,13 @@ pub(crate) fn draw<T: Turned, W: Wait>(
 ) -> Option<u64>
     requires table { (place.old.table_id ≡ top.now.table_id) × IsSized top.now.table_id }
     requires bound { bound ≤ most_turns }
-    requires ready { IsReady place.old Idle [] × IsLegal T.legal place.old.me.0.known }
+    requires ready { IsReady place.old Idle [] × IsLegal T.legal (known_of place.old) }
     ensures seat { place.new.table_id ≡ place.old.table_id }
-    ensures watches { Watches T.legal place.old.me.0.known place.new.me.0.known }
+    ensures watches { Watches T.legal (known_of place.old) (known_of place.new) }
     ensures some { IfSome result (λ n. IsReady place.new (Waiting n) [] × (n < bound)) }
-    ensures next { IfSome result (λ n. place.old.me.0.known.drawn ≤ n) }
+    ensures next { IfSome result (λ n. (known_of place.old).drawn ≤ n) }
     ensures none { IfNone result (IsReady place.new Idle []
-        × (bound ≤ place.new.me.0.known.drawn)) }
+        × (bound ≤ (known_of place.new).drawn)) }
 {
     let backoff = Backoff::new();
     for _ in rt.forever() {
@@ -112,9 +112,8 @@ fn try_reach<T: Turned>(top: &Top<T>, place: &mut Place<T>, turn: u64) -> bool
     requires waiting { IsReady place.old (Waiting turn) [] }
     ensures seat { place.new.table_id ≡ place.old.table_id }
     ensures yes { IsTrue result
-        → Takes T.origin T.stands T.legal (Turn turn) place.old.me place.new.me }
-    ensures drawn { IsTrue result → turn < place.new.me.0.known.drawn }
-    ensures no { IsFalse result → place.new.me ≡ place.old.me }
+        → TakesTurn T.origin T.stands T.legal turn (state_of place.old) (state_of place.new) }
+    ensures no { IsFalse result → state_of place.new ≡ state_of place.old }
 {
     top.load::<Reach<T>>(place, SERVING) == turn
 }
@@ -122,12 +121,12 @@ fn try_reach<T: Turned>(top: &Top<T>, place: &mut Place<T>, turn: u64) -> bool
 // Takes the value out of the slot, which the seat holds.
 fn take_out<T: Turned>(top: &Top<T>, place: &mut Place<T>) -> Lodged<T>
     requires table { (place.old.table_id ≡ top.now.table_id) × IsSized top.now.table_id }
-    requires holds { (x : T) × (l : Option (Snapshot T.Event × Snapshot T.Reply))
-        × (place.old.me.1 ≡ (0, full x l) ∷ []) }
+    requires holds { (x : T) × (last : LastCall T.Event T.Reply)
+        × (carried_by place.old ≡ (0, full_slot x last) ∷ []) }
     ensures seat { (place.new.table_id ≡ place.old.table_id)
-        × (place.new.me ≡ (place.old.me.0, (0, hollow) ∷ [])) }
-    ensures value { (l : Option (Snapshot T.Event × Snapshot T.Reply))
-        × (place.old.me.1 ≡ (0, full result l) ∷ []) }
+        × (state_of place.new ≡ seat_with (view_of place.old) ((0, empty_slot) ∷ [])) }
+    ensures value { (last : LastCall T.Event T.Reply)
+        × (carried_by place.old ≡ (0, full_slot result last) ∷ []) }
 {
     let empty = Slot {
         value: None,
@@ -139,9 +138,9 @@ fn take_out<T: Turned>(top: &Top<T>, place: &mut Place<T>) -> Lodged<T>
 // Puts `slot` into the slot, which the seat holds.
 fn put_back<T: Turned>(top: &Top<T>, place: &mut Place<T>, slot: Slot<T, T::Event, T::Reply>)
     requires table { (place.old.table_id ≡ top.now.table_id) × IsSized top.now.table_id }
-    requires holds { place.old.me.1 ≡ (0, hollow) ∷ [] }
+    requires holds { carried_by place.old ≡ (0, empty_slot) ∷ [] }
     ensures { (place.new.table_id ≡ place.old.table_id)
-        × (place.new.me ≡ (place.old.me.0, (0, slot) ∷ [])) }
+        × (state_of place.new ≡ seat_with (view_of place.old) ((0, slot) ∷ [])) }
 {
     drop(top.exchange(place, HOME, slot));
 }
@@ -156,11 +155,11 @@ pub(crate) fn reach<T: Turned, W: Wait>(
     requires table { (place.old.table_id ≡ top.now.table_id) × IsSized top.now.table_id }
     requires waiting { IsReady place.old (Waiting turn) [] }
     ensures seat { (place.new.table_id ≡ place.old.table_id)
-        × IsReady place.new (Turn turn) ((0, hollow) ∷ []) }
-    ensures watches { Watches T.legal place.old.me.0.known place.new.me.0.known }
-    ensures drawn { turn < place.new.me.0.known.drawn }
-    ensures value { (place.new.me.0.known.origin ≡ Some (T.origin result))
-        × T.stands result place.new.me.0.known.seen }
+        × IsReady place.new (Turn turn) ((0, empty_slot) ∷ []) }
+    ensures watches { Watches T.legal (known_of place.old) (known_of place.new) }
+    ensures drawn { turn < (known_of place.new).drawn }
+    ensures value { ((known_of place.new).origin ≡ Some (T.origin result))
+        × T.stands result (known_of place.new).seen }
 {
     let backoff = Backoff::new();
     for _ in rt.forever() {
@@ -181,12 +180,13 @@ pub(crate) fn end_turn<T: Turned>(
     last: Option<(Snapshot<T::Event>, Snapshot<T::Reply>)>,
 )
     requires table { (place.old.table_id ≡ top.now.table_id) × IsSized top.now.table_id }
-    requires taken { IsReady place.old (Turn turn) ((0, hollow) ∷ []) }
-    requires value { (place.old.me.0.known.origin ≡ Some (T.origin value))
-        × T.stands value (place.old.me.0.known.seen ++ added place.old.me.0.known.number last) }
-    ensures seat { (place.new.table_id ≡ place.old.table_id) × (place.new.me.1 ≡ []) }
-    ensures ended { Ended T.legal last place.old.me.0 place.new.me.0 }
-    ensures within { length place.new.me.0.known.seen ≤ turn + 1 }
+    requires taken { IsReady place.old (Turn turn) ((0, empty_slot) ∷ []) }
+    requires value { ((known_of place.old).origin ≡ Some (T.origin value))
+        × T.stands value ((known_of place.old).seen
+        ++ new_entries (known_of place.old).number last) }
+    ensures seat { (place.new.table_id ≡ place.old.table_id) × (carried_by place.new ≡ []) }
+    ensures call { AddsCall T.legal last (view_of place.old) (view_of place.new) }
+    ensures within { length (known_of place.new).seen ≤ turn + 1 }
 {
     let slot = Slot {
         value: Some(value),
@@ -207,15 +207,15 @@ pub(crate) fn call_at<T: Turned, W: Wait>(
 ) -> Result<T::Reply, CallFault>
     requires table { (place.old.table_id ≡ top.now.table_id) × IsSized top.now.table_id }
     requires bound { bound ≤ most_turns }
-    requires ready { IsReady place.old Idle [] × IsLegal T.legal place.old.me.0.known }
+    requires ready { IsReady place.old Idle [] × IsLegal T.legal (known_of place.old) }
     ensures seat { (place.new.table_id ≡ place.old.table_id) × IsReady place.new Idle []
-        × IsLegal T.legal place.new.me.0.known }
+        × IsLegal T.legal (known_of place.new) }
     ensures ok { IfOk result
-        (λ r. Called T.legal place.old.me.0.known event r place.new.me.0.known) }
-    ensures err { IfErr result (λ f. Watches T.legal place.old.me.0.known place.new.me.0.known
-        × IsCause T.sure event bound place.new.me.0.known f) }
-    ensures within { OnOk result (length place.new.me.0.known.seen ≤ bound) }
-    ensures turn { EndsTurn place.old.me.0.known place.new.me.0.known result }
+        (λ r. Called T.legal (known_of place.old) event r (known_of place.new)) }
+    ensures err { IfErr result (λ f. Watches T.legal (known_of place.old) (known_of place.new)
+        × IsCause T.sure event bound (known_of place.new) f) }
+    ensures within { OnOk result (length (known_of place.new).seen ≤ bound) }
+    ensures turn { EndsTurn (known_of place.old) (known_of place.new) result }
 {
     let Some(turn) = draw(top, place, rt, bound) else {
         return Err(CallFault::Exhausted);
@@ -240,10 +240,10 @@ pub(crate) fn divide<T: Turned>(top: &Top<T>, place: &mut Place<T>) -> Place<T>
     requires table { (place.old.table_id ≡ top.now.table_id) × IsSized top.now.table_id }
     requires ready { IsReady place.old Idle [] }
     ensures seat { (place.new.table_id ≡ place.old.table_id)
-        × (place.new.me ≡ (divided_view place.old.me.0, [])) }
+        × (state_of place.new ≡ seat_with (parent_view (view_of place.old)) []) }
     ensures child { (result.table_id ≡ place.old.table_id)
-        × (result.me ≡ (posed (born_view place.old.me.0) Idle, [])) }
-    ensures young { calls_by result.me.0.known.number result.me.0.known.seen ≡ [] }
+        × (state_of result ≡ seat_with (with_stage (child_view (view_of place.old)) Idle) []) }
+    ensures young { calls_by (known_of result).number (known_of result).seen ≡ [] }
 {
     let mut child = top.split_seat::<Cut>(place);
     settle(top, &mut child);
@@ -254,9 +254,10 @@ pub(crate) fn divide<T: Turned>(top: &Top<T>, place: &mut Place<T>) -> Place<T>
 pub(crate) fn write_note<T: Turned>(top: &Top<T>, place: &mut Place<T>) -> Place<T>
     requires table { (place.old.table_id ≡ top.now.table_id) × IsSized top.now.table_id }
     requires ready { IsReady place.old Idle [] }
-    ensures seat { (place.new.table_id ≡ place.old.table_id) × (place.new.me ≡ place.old.me) }
+    ensures seat { (place.new.table_id ≡ place.old.table_id)
+        × (state_of place.new ≡ state_of place.old) }
     ensures note { (result.table_id ≡ place.old.table_id)
-        × (result.me ≡ (noted_view place.old.me.0, [])) }
+        × (state_of result ≡ seat_with (note_view (view_of place.old)) []) }
 {
     top.split_seat::<Tell>(place)
 }
@@ -265,10 +266,9 @@ pub(crate) fn write_note<T: Turned>(top: &Top<T>, place: &mut Place<T>) -> Place
 pub(crate) fn take_in<T: Turned>(top: &Top<T>, place: &mut Place<T>, other: Place<T>)
     requires table { (place.old.table_id ≡ top.now.table_id) × (other.table_id ≡ top.now.table_id)
         × IsSized top.now.table_id }
-    requires ready { IsReady place.old Idle [] × (other.me.1 ≡ []) }
-    ensures seat { (place.new.table_id ≡ place.old.table_id) × (place.new.me.1 ≡ []) }
-    ensures merged { Merged T.legal other.me.0.is_port other.me.0.known place.old.me.0.known
-        place.new.me.0 }
+    requires ready { IsReady place.old Idle [] × (carried_by other ≡ []) }
+    ensures seat { (place.new.table_id ≡ place.old.table_id) × (carried_by place.new ≡ []) }
+    ensures both { KnowsBoth T.legal (known_of place.old) (view_of other) (view_of place.new) }
 {
     top.join_seat::<TakeIn>(place, other);
     top.load::<Merge<T>>(place, SERVING);
@@ -279,11 +279,11 @@ pub(crate) fn draw_last<T: Turned>(top: &Top<T>, place: &mut Place<T>) -> Result
     requires table { (place.old.table_id ≡ top.now.table_id) × IsSized top.now.table_id }
     requires ready { IsReady place.old Idle [] }
     ensures seat { place.new.table_id ≡ place.old.table_id }
-    ensures watches { Watches T.legal place.old.me.0.known place.new.me.0.known }
-    ensures ok { IfOk result (λ x. (place.new.me.0.known.origin ≡ Some (T.origin x))
-        × T.stands x place.new.me.0.known.seen) }
+    ensures watches { Watches T.legal (known_of place.old) (known_of place.new) }
+    ensures ok { IfOk result (λ x. ((known_of place.new).origin ≡ Some (T.origin x))
+        × T.stands x (known_of place.new).seen) }
     ensures err { IfErr result (λ b. IsReady place.new Idle []
-        × IsBusy place.old.me.0.known place.new.me.0.known b) }
+        × IsBusy (known_of place.old) (known_of place.new) b) }
 {
     let served = top.load::<SeeServing>(place, SERVING);
     let drawn = top.compare_exchange::<Close<T>>(place, TICKET, served, served + 1);

@@ -1,10 +1,10 @@
 use Rattle.std.proofs.Common.{◌≡◌, []}
 use Rattle.turn_lock.specs.declared.known.Stage.TheVariants.{Idle}
 use Rattle.turn_lock.specs.Calls.{Watches}
-use Rattle.turn_lock.specs.Plays.{IsReady}
+use Rattle.turn_lock.specs.Plays.{IsReady, known_of}
 use Rattle.turn_lock.proofs.steps.draw.Given as goal
 
 abbrev pub invariant-loop : goal.invariant-loop
 invariant-loop g l =
     (goal.iterator-loop g).can_next l.iterator' × (goal.iterator-loop g).is_finite l.iterator' × (l.place.table_id ≡ l.fn.place.table_id) × IsReady l.place Idle []
-    × Watches g.T.Turned.legal l.fn.place.me.0.known l.place.me.0.known
+    × Watches g.T.Turned.legal (known_of l.fn.place) (known_of l.place)

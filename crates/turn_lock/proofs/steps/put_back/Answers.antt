@@ -1,7 +1,7 @@
 use Rattle.std.proofs.Common.{rules, ◌≡◌, ◌∷◌, sym, refl, subst}
 use Rattle.atomic_table.specs.Table.{rest}
-use Rattle.turn_lock.specs.Plays.{hollow}
+use Rattle.turn_lock.specs.Plays.{empty_slot}
 use Rattle.turn_lock.proofs.steps.put_back.Goals as goal
 
 pub exchange-requires : goal.exchange-requires
-exchange-requires g c = (search rules, (hollow, subst (λ cs. cs ≡ (0, hollow) ∷ rest cs) (sym c.requires.holds) refl))
+exchange-requires g c = (search rules, (empty_slot, subst (λ cs. cs ≡ (0, empty_slot) ∷ rest cs) (sym c.requires.holds) refl))
