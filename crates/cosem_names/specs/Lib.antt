@@ -5,5 +5,6 @@ pub mod Objects
 pub mod ResultCode
 pub mod Scripts
 pub mod Table
+pub mod UnknownNumber
 pub mod WriteFault
 pub mod Numbers

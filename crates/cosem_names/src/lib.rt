@@ -15,6 +15,7 @@ mod objects;
 mod result_code;
 mod scripts;
 mod service;
+mod unknown_number;
 mod write_fault;
 
 pub use access::{attribute, find, may_execute, object, rights};
@@ -31,4 +32,5 @@ pub use objects::{
 pub use result_code::ResultCode;
 pub use scripts::NamedScript;
 pub use service::{AttributeSelection, GetResult};
+pub use unknown_number::UnknownNumber;
 pub use write_fault::WriteFault;

@@ -1,5 +1,8 @@
 ghost use Rattle.std.specs.Prelude.{◌≡◌};
 ghost use Rattle.cosem_names.specs.ResultCode.{code_of, result_of};
+ghost use Rattle.cosem_names.specs.UnknownNumber.{Finds};
+
+use crate::unknown_number::UnknownNumber;
 
 /// The result of a service: Data-Access-Result and Action-Result (IEC 62056-5-3).
 #[derive(Clone, Copy, Debug, PartialEq, Eq)]
@@ -53,13 +56,17 @@ impl ResultCode {
             ResultCode::OtherReason => 250,
         }
     }
+}
 
-    /// Returns the result of a number, or `None` if no result of this meter has it.
+/// Returns the result of a number. Fails if no result of this meter has it.
+impl TryFrom<u8> for ResultCode {
+    type Error = UnknownNumber;
+
+    ghost try_from_gives = { Finds result_of };
+
     #[tactic(auto, unfolding(crate::specs::ResultCode::result_of))]
-    pub fn of_code(code: u8) -> Option<ResultCode>
-        ensures { result ≡ result_of code }
-    {
-        Some(match code {
+    fn try_from(code: u8) -> Result<ResultCode, UnknownNumber> {
+        Ok(match code {
             0 => ResultCode::Success,
             1 => ResultCode::HardwareFault,
             2 => ResultCode::TemporaryFailure,
@@ -72,7 +79,7 @@ impl ResultCode {
             18 => ResultCode::NoLongSetInProgress,
             19 => ResultCode::DataBlockNumberInvalid,
             250 => ResultCode::OtherReason,
-            _ => return None,
+            _ => return Err(UnknownNumber(code)),
         })
     }
 }

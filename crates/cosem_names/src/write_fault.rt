@@ -1,9 +1,10 @@
 ghost use Rattle.std.specs.Prelude.{◌≡◌};
 ghost use Rattle.cosem_names.specs.Numbers.{fault_number};
 ghost use Rattle.cosem_names.specs.WriteFault.{fault_code};
-ghost use Rattle.cosem_names.specs.declared.write_fault.WriteFault.TheVariants.{Memory};
+ghost use Rattle.cosem_names.specs.declared.write_fault.WriteFault.TheVariants.{Memory, Value};
 
 use crate::result_code::ResultCode;
+use crate::unknown_number::UnknownNumber;
 use std::alloc::{AllocError, AllocFailed};
 use thiserror::Error;
 
@@ -41,6 +42,14 @@ impl WriteFault {
             WriteFault::Unmatched => ResultCode::TypeUnmatched,
             WriteFault::Value | WriteFault::Memory => ResultCode::OtherReason,
         }
+    }
+}
+
+impl From<UnknownNumber> for WriteFault {
+    ghost from_gives = { λ _ fault. fault ≡ Value };
+
+    fn from(_error: UnknownNumber) -> WriteFault {
+        WriteFault::Value
     }
 }
 

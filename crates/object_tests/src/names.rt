@@ -1,9 +1,9 @@
 use crate::texts::{data, is_text};
 use cosem_axdr::{Octets, write};
 use cosem_names::{
-    AttrRef, ClassId, Instance, Level, MethodRef, NamedScript, Obis, ResultCode, Rights, attribute,
-    date_bytes, date_time_bytes, find, may_execute, name_in, object, object_list, rights,
-    tables_are_told, time_bytes,
+    AttrRef, ClassId, Instance, Level, MethodRef, NamedScript, Obis, ResultCode, Rights,
+    UnknownNumber, attribute, date_bytes, date_time_bytes, find, may_execute, name_in, object,
+    object_list, rights, tables_are_told, time_bytes,
 };
 use std::alloc::{AllocError, Global};
 use std::test::Fail;
@@ -168,9 +168,9 @@ fn the_management_client_alone_executes(rt: HostRuntime) {
 
 /// Returns whether a number is that of a result, and the result returns it.
 fn has_its_result(number: u8) -> bool {
-    match ResultCode::of_code(number) {
-        Some(code) => code.code() == number,
-        None => false,
+    match ResultCode::try_from(number) {
+        Ok(code) => code.code() == number,
+        Err(_) => false,
     }
 }
 
@@ -180,7 +180,10 @@ fn results_have_their_numbers(rt: HostRuntime) {
         assert!(rt; has_its_result(number), "{number}");
     }
     for number in [5u8, 11, 14, 17, 249, 251, 255] {
-        assert!(rt; ResultCode::of_code(number).is_none(), "{number}");
+        assert!(rt;
+            ResultCode::try_from(number) == Err(UnknownNumber(number)),
+            "{number}"
+        );
     }
 }
 

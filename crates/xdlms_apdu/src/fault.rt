@@ -1,7 +1,8 @@
 ghost use Rattle.std.specs.Prelude.{◌≡◌};
 ghost use Rattle.xdlms_apdu.specs.Numbers.{fault_number};
-ghost use Rattle.xdlms_apdu.specs.declared.fault.ApduFault.TheVariants.{Memory};
+ghost use Rattle.xdlms_apdu.specs.declared.fault.ApduFault.TheVariants.{Memory, Unreadable};
 
+use cosem_names::UnknownNumber;
 use std::alloc::{AllocError, AllocFailed};
 use thiserror::Error;
 
@@ -28,6 +29,14 @@ impl From<ApduFault> for u8 {
 
     fn from(fault: ApduFault) -> u8 {
         fault as u8
+    }
+}
+
+impl From<UnknownNumber> for ApduFault {
+    ghost from_gives = { λ _ fault. fault ≡ Unreadable };
+
+    fn from(_error: UnknownNumber) -> ApduFault {
+        ApduFault::Unreadable
     }
 }
 

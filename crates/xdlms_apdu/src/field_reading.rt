@@ -76,7 +76,7 @@ pub(crate) fn read_invoke_id(reader: &mut Cursor) -> Result<InvokeId, ApduFault>
 pub(crate) fn read_code(reader: &mut Cursor) -> Result<ResultCode, ApduFault>
     ensures { Reads (λ code. code) result reader.new (code_at reader.old) }
 {
-    ResultCode::of_code(reader.byte(ApduFault::Unreadable)?).ok_or(ApduFault::Unreadable)
+    Ok(ResultCode::try_from(reader.byte(ApduFault::Unreadable)?)?)
 }
 
 fn read_class(reader: &mut Cursor) -> Result<ClassId, ApduFault>

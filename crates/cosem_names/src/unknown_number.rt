@@ -1,0 +1,6 @@
+use thiserror::Error;
+
+/// The number that no value of the type has.
+#[derive(Clone, Copy, Debug, PartialEq, Eq, Error)]
+#[error("no value has the number {0}")]
+pub struct UnknownNumber(pub u8);
