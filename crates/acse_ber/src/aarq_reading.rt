@@ -25,7 +25,7 @@ pub fn read_aarq(alloc: Global, bytes: &[u8]) -> Result<Aarq, AcseFault>
     ensures only { (aarq : Aarq) → SpellsAarq bytes.now aarq
         → MatchResult result (λ read. read ≡ aarq) (λ fault. fault ≡ AcseFault.Memory) }
 
-    // The fault is the one that the definition gives, or out of memory.
+    // The fault is that of the definition, or out of memory.
     ensures exact { Gives AcseFault.Memory (λ aarq. aarq) result (aarq_of bytes.now) }
 {
     read_whole(alloc, bytes)

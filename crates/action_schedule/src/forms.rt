@@ -4,7 +4,7 @@ ghost use Rattle.action_schedule.specs.Forms.{entry_parts_of};
 use cosem_axdr::Data;
 use cosem_names::{date_bytes, time_bytes};
 
-// Returns the bytes of an entry's time and date: {time, date}. `None` if a type differs.
+// Returns the bytes of an entry's time and date: {time, date}. Returns `None` if a type differs.
 pub(crate) fn entry_parts(value: &Data) -> Option<(&[u8], &[u8])>
     ensures { option_map (λ parts. (parts.0.now, parts.1.now)) result ≡ entry_parts_of value.now }
 {

@@ -548,7 +548,7 @@ fn spells_response(alloc: Global, text: &[u8], response: &Response) -> bool {
     is_read_as_response(alloc, text, response) && is_text_of_response(alloc, response, text)
 }
 
-// Returns why bytes are not a request, or not a response; `None` if they are one.
+// Returns why bytes are not a request, or not a response, or `None` if they are one.
 pub(crate) fn request_fault(alloc: Global, bytes: &[u8]) -> Option<ApduFault> {
     request_of(alloc, bytes).err()
 }
@@ -567,7 +567,8 @@ fn with_a_byte_behind(alloc: Global, text: &[u8]) -> Option<Vec<u8>> {
     }
 }
 
-// Returns why a text followed by a byte is not a request, or not a response; `None` if it is one.
+// Returns why a text followed by a byte is not a request, or not a response, or `None` if it is
+// one.
 fn late_request_fault(alloc: Global, text: &[u8]) -> Option<ApduFault> {
     let longer = with_a_byte_behind(alloc, text)?;
     let fault = request_fault(alloc, longer.as_slice());
@@ -591,7 +592,7 @@ enum Trial {
     EndsLate,
 }
 
-// The number of bytes of a text for which a check fails; `None` if it succeeds.
+// The number of bytes of a text for which a check fails, or `None` if it succeeds.
 type Wrong = Option<usize>;
 
 // Returns the length of the text unless the check succeeded.

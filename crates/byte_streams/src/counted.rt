@@ -8,7 +8,7 @@ use crate::streams::{Reader, Writer};
 use std::io;
 use std::io::{ErrorKind, Read, Write};
 
-// The number of tries of a read that a signal interrupts.
+// The maximum number of attempts of a read that signals interrupt.
 const MOST_TRIES: u32 = 1_000;
 
 // Returns whether a read that failed with this error is retried: only if a signal interrupted it.

@@ -6,7 +6,7 @@ use crate::fault::InputFault;
 use crate::streams::Reader;
 use std::alloc::Global;
 
-// The largest number of bytes that one read asks for.
+// The maximum number of bytes of one read.
 const MAX_PIECE: usize = 16_384;
 
 /// Reads all bytes up to the end, at most `limit`. Errors: `TooLong` as soon as more than `limit`

@@ -28,7 +28,7 @@ pub fn read(alloc: Global, bytes: &[u8]) -> Result<(Data, usize), DataFault>
         → IsSpelling (take n bytes.now) (tree_of d)
         → MatchResult result (λ read. (read.0 ≡ d)
         × (read.1 ≡ n)) (λ fault. fault ≡ DataFault.Memory) }
-    // The fault is the one that the definition gives, or out of memory.
+    // The fault is that of the definition, or out of memory.
     ensures exact { Gives DataFault.Memory (λ read. read) result (first_data bytes.now) }
 {
     read_first(alloc, bytes)

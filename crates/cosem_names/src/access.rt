@@ -68,7 +68,7 @@ fn method(reference: &MethodRef) -> Option<Method>
     class_method(row.class, reference.number)
 }
 
-/// Returns what a client of this level may do with an attribute. If there is no such attribute, it
+/// Returns the rights of a client of this level to an attribute. If there is no such attribute, it
 /// may neither read nor write.
 #[tactic(auto, unfolding(crate::specs::Objects::rights_of))]
 pub fn rights(level: Level, reference: &AttrRef) -> Rights

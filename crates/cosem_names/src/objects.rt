@@ -194,7 +194,7 @@ macro_rules! attribute {
     };
 }
 
-/// The attributes of the classes, with what each level may do with them.
+/// The attributes of the classes, with the access mode of each level.
 pub const ATTRIBUTES: [Attribute; 28] = [
     attribute!(ASSOCIATION_LN 1: ReadOnly, ReadOnly),
     attribute!(ASSOCIATION_LN 2: ReadOnly, ReadOnly),

@@ -9,7 +9,7 @@ use cosem_axdr::Data;
 pub struct AttributeSelection {
     /// The attribute.
     pub attr: AttrRef,
-    /// Whether the request has an access selection, so asks for a part.
+    /// Whether the request has an access selection, which selects a part of the attribute.
     pub selected: bool,
 }
 

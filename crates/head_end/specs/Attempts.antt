@@ -63,7 +63,7 @@ abbrev pub HasRow : Verb → List ℕ → Row → Option (List Happening) → Ty
 HasRow verb password row None = ⊤
 HasRow verb password row (Some log) = HasConversed verb password (row_outcome row) (Some log)
 
--- unused, if memory ran out before the connect; a refused connect to the job's address; or one
+-- unused, if out of memory before the connect; a refused connect to the job's address; or one
 -- connection to this address, closed after a conversation with the job's verb and this password,
 -- whose outcome is the row
 abbrev pub IsTried : Job → List ℕ → Row → State → Type 0

@@ -131,7 +131,7 @@ pub record TakesTurn {E : Type 0} (old : Client) (before : Option (List Happenin
       → TurnAfter result verb password (suc reads) new after
   pub unknown : before ≡ None → after ≡ None
 
--- the outcome, unless memory ran out
+-- the outcome, unless out of memory
 abbrev pub outcome_in : {E : Type 0} → Result Outcome E → Option Outcome
 outcome_in (Ok outcome) = Some outcome
 outcome_in (Err error) = None

@@ -1,4 +1,4 @@
-//! The jobs of a campaign.
+//! The list of a campaign's jobs, at most 1,000.
 ghost use Rattle.std.specs.Prelude.{◌≡◌, ◌↔◌, ◌≤◌, [], length, IsTrue, Ok};
 ghost use Rattle.head_end.specs.Jobs.{limited_jobs};
 

@@ -1,4 +1,4 @@
-//! The attempts of a campaign.
+//! The places of a campaign: for each worker, the attempts and the results of its jobs.
 ghost use Rattle.std.specs.Prelude.{◌≡◌, ◌+◌, ◌*◌, ◌/◌, ◌^◌, ◌<◌, ◌≤◌, length, IfOk, IfSome, IfNone};
 ghost use Rattle.std.specs.List.{All};
 ghost use Rattle.head_end.specs.Attempts.{unused};

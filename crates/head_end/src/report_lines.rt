@@ -1,4 +1,4 @@
-//! The report of a campaign.
+//! The report of a campaign as the list of its lines, one for each job.
 ghost use Rattle.std.specs.Prelude.{◌≡◌, ◌↔◌, [], length, IsTrue};
 
 use crate::row::ReportLine;

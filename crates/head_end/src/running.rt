@@ -1,4 +1,4 @@
-//! One job at one meter.
+//! Runs one job at one meter, on a connection of its own.
 ghost use Rattle.std.specs.Prelude.{◌≡◌, IfOk};
 ghost use Rattle.acse_ber.specs.Password.{IsPassword};
 ghost use Rattle.head_end.specs.Attempts.{unused, row_in, IsTried};

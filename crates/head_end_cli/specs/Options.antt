@@ -1,7 +1,7 @@
--- What the options of `run` say.
+-- The values of the options of `run`.
 --     IsNumber     the number of an option
---     IsLimit      the limit of time of an option
---     AreLimits    both limits of time
+--     IsLimit      the time limit of an option
+--     AreLimits    both time limits
 --     AreWorkers   the number of workers
 use Rattle.std.specs.Prelude.{◌≡◌, ◌<◌, ◌≤◌, ◌^◌, ◌*◌, ◌==◌, ℕ, codes, List, Some, if◌then◌else◌}
 use Rattle.std.specs.Duration.{as_nanos}
@@ -18,17 +18,17 @@ IsNumber bits found name number = (text : List ℕ) → one_text found name ≡ 
     → digits_value 10 (without_leading_plus text) < 2 ^ bits
     → number ≡ digits_value 10 (without_leading_plus text)
 
--- the seconds of a limit; 0 stands for the most that there are, 2^32 - 1
+-- the seconds of a limit; 0 means no limit, which is 2^32 - 1 seconds
 abbrev pub limit_seconds : ℕ → ℕ
 limit_seconds number = if number == 0 then 4_294_967_295 else number
 
--- the limit of time of the option of this name, in seconds
+-- the time limit of the option of this name, in seconds
 pub record IsLimit (found : Found) (name : List ℕ) (limit : Duration) : Type 0 where
   pub number : ℕ
   pub number_is : IsNumber 32 found name number
   pub limit_is : as_nanos limit ≡ limit_seconds number * 1_000_000_000
 
--- the limit of a connect, and that of a connection as a whole
+-- the time limits of a connect and of a whole connection
 pub record AreLimits (found : Found) (limits : TcpLimits) : Type 0 where
   pub connect : IsLimit found (codes "connect-timeout") limits.connect
   pub answer : IsLimit found (codes "timeout") limits.answer

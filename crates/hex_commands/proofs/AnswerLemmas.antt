@@ -59,7 +59,7 @@ next_sized lengths left after i count lt here rest sized =
     let whole = rw cons at sized in
     rw rest (omega (arith, whole, length-drop count left))
 
--- it has so many bytes
+-- the next piece is not longer than the rest of the bytes
 pub next_within : (lengths left : List ℕ) (i count : ℕ) → i < length lengths
     → get_or lengths i 0 ≡ count
     → total (drop i lengths) ≡ length left → count ≤ length left

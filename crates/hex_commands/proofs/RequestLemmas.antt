@@ -9,7 +9,7 @@ use Rattle.hex_commands.specs.Requests.{AddsLine, ReadsLines, before_others, lin
 use Rattle.hex_commands.specs.declared.telling.CommandFault.{CommandFault}
 use Rattle.hex_commands.specs.declared.telling.CommandFault.TheVariants as fault
 
--- requests and then others; what is wrong in the others stands
+-- requests followed by others; a fault of the others is kept
 abbrev pub joined : List (List ℕ) → Result (List (List ℕ)) CommandFault → Result (List (List ℕ)) CommandFault
 joined requests (Ok others) = Ok (requests ++ others)
 joined requests (Err wrong) = Err wrong
@@ -19,7 +19,7 @@ abbrev pub line_requests : ℕ → List ℕ → Result (List (List ℕ)) Command
 line_requests number [] = Ok []
 line_requests number (byte ∷ bytes) = before_others (line_request number (byte ∷ bytes)) (Ok [])
 
--- requests that were read, and what is left to read
+-- requests that were read, and the rest of the text
 pub record Left (text : List ℕ) (requests : List (List ℕ)) (number : ℕ) (rest : List ℕ) : Type 0 where
   pub all : requests_from 1 (parts_at 10 text)
       ≡ joined requests (requests_from number (parts_at 10 rest))

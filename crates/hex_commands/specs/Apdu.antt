@@ -1,8 +1,8 @@
--- What `meter_server apdu` makes of its input.
+-- The output of `meter_server apdu` for its input.
 --     answer_lines    the answers of a meter to requests, a line each
 --     AddsAnswer      a request was answered
---     AnswersOn       requests were answered, all but the last ones
---     AnswersText     a text was answered, and this came of it
+--     AnswersOn       all requests but the last ones were answered
+--     AnswersText     the effect of answering a text, by the result
 use Rattle.std.specs.Prelude.{◌≡◌, ◌≤◌, ◌<◌, ℕ, codes, Option, List, [], ◌∷◌, ◌++◌, length, Result, Ok, Err}
 use Rattle.std.specs.Io.KnownBytes.{Appends, Consumes, IsAtEnd}
 use Rattle.session_serving.specs.Answering.{answer_to_payload}
@@ -21,7 +21,7 @@ answer_lines world (request ∷ requests) =
     hex_line (answer_to_payload request world).text
         ++ answer_lines (answer_to_payload request world).world requests
 
--- the answers of a new meter, whose device name is RELAY1
+-- the answers of a new meter with the device name RELAY1
 abbrev pub new_answers : List (List ℕ) → List ℕ
 new_answers requests = answer_lines (new_world (codes "RELAY1")) requests
 
@@ -32,14 +32,14 @@ pub record AddsAnswer (request : List ℕ) (old new : RelayCore) (before after :
     pub text : (w : World) → StandsFor old w → after ≡ before
         ++ hex_line (answer_to_payload request w).text
 
--- of these requests a core answered all but the last, and its answers were appended as lines
+-- a core answered all of these requests but the last, and its answers were appended as lines
 pub record AnswersOn (requests last : List (List ℕ)) (old new : RelayCore) (before after : List ℕ)
     : Type 0 where
   pub on : (w : World) → StandsFor old w
       → (w' : World) × StandsFor new w'
       × (before ++ answer_lines w requests ≡ after ++ answer_lines w' last)
 
--- standard input has at most this many bytes
+-- the maximum number of bytes of standard input
 abbrev pub most_bytes : ℕ
 most_bytes = 1048576
 

@@ -6,7 +6,8 @@ use Rattle.hex_commands.specs.declared.telling.CommandFault.TheVariants as fault
 use Rattle.session_serving.specs.declared.fault.TextFault.{TextFault}
 use Rattle.session_serving.specs.declared.fault.TextFault.TheVariants as text
 
--- input that is wrong, and what is not: a failed read, a failed write, memory that ran out
+-- `Input` if the input or an option is not valid; a failed read, a failed write or out of memory
+-- keep their own faults
 abbrev pub fault_of : CommandFault → Fault
 fault_of fault.TooLong = program.Input
 fault_of (fault.Odd line) = program.Input
@@ -19,7 +20,7 @@ fault_of fault.Read = program.Read
 fault_of fault.Write = program.Write
 fault_of fault.Memory = program.Memory
 
--- the fault of a stream that gave no bytes
+-- the fault of a text that was not decoded
 abbrev pub input_fault_of : TextFault → CommandFault
 input_fault_of (text.Digit character) = fault.Digit character
 input_fault_of text.OddDigits = fault.OddDigits

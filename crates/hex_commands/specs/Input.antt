@@ -4,7 +4,7 @@ use Rattle.std.specs.Io.KnownBytes.{Consumes}
 use Rattle.hex_commands.specs.declared.telling.CommandFault.{CommandFault}
 use Rattle.hex_commands.specs.declared.telling.CommandFault.TheVariants as fault
 
--- reading failed after these bytes; the numbers are those of the reads that failed before and after
+-- reading failed after these bytes; the two numbers count the failed reads before and after
 abbrev pub FailsToRead : List ℕ → ℕ → CommandFault → ℕ → Type 0
 FailsToRead bytes failed fault.TooLong failed' = 1048576 < length bytes
 FailsToRead bytes failed fault.Read failed' = (length bytes ≤ 1048576) × (failed < failed')

@@ -1,8 +1,8 @@
--- What `meter_server hex` makes of its input.
---     digit_fault    what is wrong with a text that is no bytes in hexadecimal
---     PlaysInput     the bytes of a session were played, and this came of it
---     PlaysBytes     a text that was read was played, and this came of it
---     PlaysText      options were judged and a text was played, and this came of it
+-- The output of `meter_server hex` for its input.
+--     digit_fault    the fault of a text that is not pairs of hexadecimal digits
+--     PlaysInput     the effect of serving the bytes of a session, by the result
+--     PlaysBytes     the effect of serving a text that was read, by the result
+--     PlaysText      the effect of judging the options and serving a text, by the result
 use Rattle.std.specs.Prelude.{◌≡◌, ◌⊎◌, ◌≤◌, ◌<◌, ◌+◌, ℕ, not, position, Option, Some, None, List, [], length, Result, Ok, Err}
 use Rattle.std.specs.Io.KnownBytes.{Appends, Consumes, IsAtEnd}
 use Rattle.acse_ber.specs.Password.{IsPassword}
@@ -12,8 +12,8 @@ use Rattle.hex_commands.specs.Apdu.{most_bytes}
 use Rattle.hex_commands.specs.declared.telling.CommandFault.{CommandFault}
 use Rattle.hex_commands.specs.declared.telling.CommandFault.TheVariants as fault
 
--- the fault of an option's text of this length: that of a text of no byte or of too many, or memory
--- ran out
+-- the fault of an option's text of this length: the option's own fault if the text is empty or too
+-- long, or out of memory
 abbrev pub IsOptionFault : CommandFault → ℕ → ℕ → CommandFault → Type 0
 IsOptionFault wrong count longest given = (given ≡ fault.Memory)
     ⊎ ((given ≡ wrong) × ((count ≡ 0) ⊎ (longest < count)))
@@ -22,18 +22,18 @@ abbrev pub fault_at : Option ℕ → CommandFault
 fault_at (Some index) = fault.Digit (index + 1)
 fault_at None = fault.OddDigits
 
--- what is wrong with a text that is no bytes in hexadecimal: its first character that is not taken,
--- counted from 1, else the number of its digits
+-- the fault of a text that is not pairs of hexadecimal digits: its first character that is neither
+-- a digit nor skipped, counted from 1, else its odd number of digits
 abbrev pub digit_fault : List ℕ → CommandFault
 digit_fault text = fault_at (position (λ character. not (is_taken character)) text)
 
--- a text is no pairs of digits: this is what is wrong with it, and nothing was written
+-- a text is not pairs of digits and has this fault, and nothing was written
 abbrev pub IsNoHex : List ℕ → CommandFault → Option (List ℕ) → Option (List ℕ) → Type 0
 IsNoHex text given written written' = (given ≡ digit_fault text)
     × ((input : List ℕ) → ¬ (IsHex text input)) × Appends written written' []
 
--- what came of the bytes of a session; the numbers are those of the writes that failed before and
--- after
+-- the effect of serving the bytes of a session, by the result; the two numbers count the failed
+-- writes before and after
 abbrev pub PlaysInput : List ℕ → List ℕ → List ℕ → Option (List ℕ) → ℕ
     → Result (Unit {0}) CommandFault → Option (List ℕ) → ℕ → Type 0
 PlaysInput device password input written failed (Ok done) written' failed' =
@@ -44,8 +44,8 @@ PlaysInput device password input written failed (Err fault.Memory) written' fail
     Appends written written' [] ⊎ RunsShort device password input written written'
 PlaysInput device password input written failed (Err other) written' failed' = ⊥
 
--- what came of a text that was read; the numbers are those of the writes that failed before and
--- after
+-- the effect of serving a text that was read, by the result; the two numbers count the failed
+-- writes before and after
 abbrev pub PlaysBytes : List ℕ → List ℕ → List ℕ → Option (List ℕ) → ℕ
     → Result (Unit {0}) CommandFault → Option (List ℕ) → ℕ → Type 0
 PlaysBytes device password text written failed (Ok done) written' failed' =

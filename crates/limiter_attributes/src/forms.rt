@@ -5,7 +5,8 @@ use cosem_axdr::Data;
 use cosem_names::{NamedScript, date_time_bytes};
 
 // Returns the id, the bytes of the start and the duration of an emergency profile:
-// {emergency_profile_id, emergency_activation_time, emergency_duration}. `None` if a type differs.
+// {emergency_profile_id, emergency_activation_time, emergency_duration}. Returns `None` if a type
+// differs.
 pub(crate) fn profile_parts(value: &Data) -> Option<(u16, &[u8], u32)>
     ensures { option_map (λ parts. (parts.0, parts.1.now, parts.2)) result
         ≡ profile_parts_of value.now }
@@ -20,8 +21,8 @@ pub(crate) fn profile_parts(value: &Data) -> Option<(u16, &[u8], u32)>
     ))
 }
 
-// Returns the scripts of both actions: {action_over_threshold, action_under_threshold}. `None` if
-// a type differs.
+// Returns the scripts of both actions: {action_over_threshold, action_under_threshold}. Returns
+// `None` if a type differs.
 pub(crate) fn scripts_in(value: &Data) -> Option<(NamedScript, NamedScript)>
     ensures { result ≡ scripts_of value.now }
 {

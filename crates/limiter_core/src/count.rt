@@ -6,7 +6,8 @@ ghost use Rattle.limiter_core.specs.State.{IsFit, IsFitCount, is_fit_count, are_
 /// seconds.
 pub const RUN_LIMIT: u64 = 42_949_672_950;
 
-/// How long the value has been on one side of the threshold.
+/// The length of the present run of samples past the threshold on one side, and whether it has
+/// fired.
 #[derive(Clone, Copy, Debug, PartialEq, Eq)]
 pub struct Count {
     /// The number of consecutive samples past the threshold, at most `RUN_LIMIT`.

@@ -87,7 +87,7 @@ impl Limiter {
         }
     }
 
-    /// Takes a sample, in watts, and returns what it fires.
+    /// Takes a sample, in watts, and returns the action that it fires, if any.
     #[tactic(auto, using(crate::proofs::Firing::fire_counted, crate::proofs::Firing::counted))]
     pub fn sample(&mut self, value: u32) -> Fire
         ensures rows { (rows : List Row) → Keeps self.old rows
@@ -355,7 +355,7 @@ impl Limiter {
         self.settings.groups.as_slice()
     }
 
-    /// Sets `emergency_profile_group_id_list` (attribute 9) to a copy of `ids`. Out of memory,
+    /// Sets `emergency_profile_group_id_list` (attribute 9) to a copy of `ids`. If out of memory,
     /// nothing changes.
     pub fn set_groups(&mut self, alloc: Global, ids: &[u16]) -> Result<(), AllocError>
         requires { length ids.now ≤ MAX_GROUPS }

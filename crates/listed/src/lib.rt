@@ -66,7 +66,7 @@ impl<T> Listed<T> {
         self.items.is_empty()
     }
 
-    /// Appends an item. Out of memory, nothing changes and the error returns the item.
+    /// Appends an item. If out of memory, nothing changes and the error returns the item.
     pub fn push(&mut self, item: T) -> Result<(), AllocFailed<T>>
         ensures ok { OnOk result (self.new ≡ self.old ++ item ∷ []) }
         ensures err { OnErr result (self.new ≡ self.old) }

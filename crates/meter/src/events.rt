@@ -136,7 +136,7 @@ fn sampled_outcome(sampled: Result<Fired, MeterFault>) -> CallResult
     }
 }
 
-// Returns the outcome of a moment.
+// Returns the result for C of a moment of the clock.
 fn tick_outcome(tick: Tick) -> CallResult
     ensures { result ≡ of_tick tick }
 {

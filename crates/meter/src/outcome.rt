@@ -40,7 +40,7 @@ pub enum CallResult {
 }
 
 impl CallResult {
-    // Returns the number of the outcome in `meter.h`.
+    // Returns the number of the result in `meter.h`.
     pub(crate) fn code(self) -> u32
         ensures { result ≡ code_of self }
     {
@@ -63,7 +63,7 @@ impl CallResult {
         }
     }
 
-    // Returns the outcome of a fault.
+    // Returns the result for C of a fault.
     pub(crate) fn from_fault(fault: MeterFault) -> CallResult
         ensures { result ≡ of_fault fault }
     {

@@ -91,7 +91,7 @@ pub extern "C" fn meter_close_session(alloc: Global, meter: &mut MeterHandle, se
     done_code(done)
 }
 
-// Returns the number of the outcome of a call without a value.
+// Returns the number in `meter.h` of the result of a call without a value.
 fn done_code(done: Result<(), MeterFault>) -> u32
     ensures { result ≡ code_of (outcome_of_call done) }
 {
@@ -101,7 +101,7 @@ fn done_code(done: Result<(), MeterFault>) -> u32
     }
 }
 
-// Returns the outcome of what a session gave.
+// Returns the result for C of a call of `SupplyMeter::next`.
 fn given_outcome(given: Result<Given, MeterFault>) -> CallResult
     ensures { result ≡ tells_next given }
 {
@@ -114,7 +114,8 @@ fn given_outcome(given: Result<Given, MeterFault>) -> CallResult
     }
 }
 
-// Returns the length that goes with that outcome: of the frame, if there is one, else 0.
+// Returns the length for C of a call of `SupplyMeter::next`: that of the frame, or 0 if there is
+// none.
 fn given_length(given: Result<Given, MeterFault>) -> usize
     ensures { result ≡ next_length given }
 {

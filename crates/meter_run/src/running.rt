@@ -48,7 +48,7 @@ fn lock(alloc: Global, recorder: Recorder) -> Result<(Shared<Kept>, Port<Kept>),
     }
 }
 
-// Serves clients and passes what the sources give to the meter. The port is returned.
+// Serves clients and passes the events of the sources to the meter. Returns the port.
 fn serve<
     L: Listener,
     B: BlockSource + Send + 'static,
@@ -116,9 +116,9 @@ fn trace_text(alloc: Global, shared: Shared<Kept>, port: Port<Kept>) -> Result<O
 }
 
 /// Runs a meter: puts its recorder, which has no event yet, into a lock for 2^62 calls, serves the
-/// clients of the listener, passes what the sources give to the meter as [`serve_all`] does, and
-/// then writes the text of the meter's trace. `password`, 1 to 32 bytes, is that of the management
-/// client; `limit` connections are served or turned away, and 0 means no limit.
+/// clients of the listener, passes the events of the sources to the meter as [`serve_all`] does,
+/// and then writes the text of the meter's trace. `password`, 1 to 32 bytes, is that of the
+/// management client; `limit` connections are served or turned away, and 0 means no limit.
 ///
 /// The two results are independent: the trace is written whatever ended the serving. If out of
 /// memory for the lock, both are `Memory`, and no connection was accepted.

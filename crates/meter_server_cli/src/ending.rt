@@ -1,4 +1,4 @@
-//! The end of `serve`: what it prints, and the fault that it reports.
+//! The end of `serve`: prints the trace, and decides which fault is reported.
 ghost use Rattle.std.specs.Prelude.{◌≡◌, false, true, Ok, Err, OnOk};
 ghost use Rattle.program_start.specs.Ends.{first_of};
 ghost use Rattle.meter_server_cli.specs.Endings.{end_of_console, Prints};

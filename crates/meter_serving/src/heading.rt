@@ -139,8 +139,8 @@ fn head_fault(fault: TraceFault) -> Fault
     }
 }
 
-/// Reads the trace at the head of an input, up to the line of its last event. What follows it is
-/// still to be read.
+/// Reads the trace at the head of an input, up to the line of its last event. The input after that
+/// line is not read.
 ///
 /// Errors: `Input` if the input does not begin with a trace of at most 33,554,432 bytes, `Read` if
 /// a read fails, `Memory`. After an error a part of the input has been read.

@@ -63,8 +63,8 @@ fn is_read(
     }
 }
 
-/// Returns what writing this text's Data to an attribute sets, or its fault. `None` if the text is
-/// not Data.
+/// Returns what writing this text's Data to an attribute sets, or its fault. Returns `None` if the
+/// text is not Data.
 fn setting(
     alloc: Global,
     attribute: LimiterAttribute,
@@ -107,8 +107,8 @@ fn write_ids(alloc: Global, limiter: &mut Limiter, text: &str) -> bool {
     }
 }
 
-/// Returns the fault of writing the group ids of this text, if it has one. `None` if the text is
-/// not Data.
+/// Returns the fault of writing the group ids of this text, if it has one. Returns `None` if the
+/// text is not Data.
 fn ids_fault(alloc: Global, text: &str) -> Option<Option<SettingFault>> {
     let value = data(alloc, text)?;
     let fault = groups_of(alloc, &value).err();
@@ -554,7 +554,8 @@ static MANY_IDS: [(u8, &str, Option<SettingFault>); 3] = [
     (33, "1105", Some(SettingFault::Unmatched)),
 ];
 
-/// Returns the fault of writing `count` ids, if they have one. `None` if the text is not Data.
+/// Returns the fault of writing `count` ids, if they have one. Returns `None` if the text is not
+/// Data.
 fn many_ids_fault(alloc: Global, count: u8, last: &str) -> Option<Option<SettingFault>> {
     let text = ids_text(alloc, count, last).ok()?;
     let found = ids_fault(alloc, text.as_str());

@@ -197,7 +197,7 @@ static NAMED: [(&str, Option<Obis>); 6] = [
     ("00", None),
 ];
 
-/// Returns the logical name in the Data of a hexadecimal text. `None` if out of memory.
+/// Returns the logical name in the Data of a hexadecimal text. Returns `None` if out of memory.
 fn name_of(alloc: Global, text: &str) -> Option<Option<Obis>> {
     let value = data(alloc, text)?;
     let name = name_in(&value);
@@ -228,7 +228,7 @@ static SCRIPTS: [(&str, Option<(Obis, u16, bool)>); 5] = [
     ("0102090600000A006AFF120007", None),
 ];
 
-/// Returns the script in the Data of a hexadecimal text. `None` if out of memory.
+/// Returns the script in the Data of a hexadecimal text. Returns `None` if out of memory.
 fn script_of(alloc: Global, text: &str) -> Option<Option<(Obis, u16, bool)>> {
     let value = data(alloc, text)?;
     let script = NamedScript::from_data(&value);
@@ -272,7 +272,7 @@ static DATES: [(&str, Option<usize>, Option<usize>, Option<usize>); 7] = [
 ];
 
 /// Returns the lengths of the date-time, the date and the time in the Data of a hexadecimal text.
-/// `None` if out of memory.
+/// Returns `None` if out of memory.
 fn lengths_of(alloc: Global, text: &str) -> Option<[Option<usize>; 3]> {
     let value = data(alloc, text)?;
     let count = |bytes: Option<&[u8]>| bytes.map(|it| it.len());

@@ -59,7 +59,7 @@ fn set(
     }
 }
 
-/// Returns the fault of writing this text, if it has one. `None` if the text is not Data.
+/// Returns the fault of writing this text, if it has one. Returns `None` if the text is not Data.
 fn fault_of(
     alloc: Global,
     schedule: &mut ActionSchedule,
@@ -113,8 +113,8 @@ static DUE: [(u8, u32, u32, bool); 10] = [
     (2, MARCH - 1, MARCH, false),
 ];
 
-/// Returns whether a schedule of the last second of each month is due. `None` if it cannot be
-/// created.
+/// Returns whether a schedule of the last second of each month is due. Returns `None` if it cannot
+/// be created.
 fn is_due(alloc: Global, kind: u8, previous: u32, now: u32) -> Option<bool> {
     let mut schedule = ActionSchedule::new(alloc);
     let is_prepared = is_prepared(alloc, &mut schedule, kind, LAST_SECOND);
@@ -190,8 +190,8 @@ static FITS: [(u8, &str, bool); 26] = [
     (2, LAST_SECOND, false),
 ];
 
-/// Returns whether a schedule of a type fits it with the entries of this text. `None` if it cannot
-/// be created.
+/// Returns whether a schedule of a type fits it with the entries of this text. Returns `None` if it
+/// cannot be created.
 fn is_fit(alloc: Global, kind: u8, entries: &str) -> Option<bool> {
     let mut schedule = ActionSchedule::new(alloc);
     let is_prepared = is_prepared(alloc, &mut schedule, kind, entries);
@@ -438,7 +438,8 @@ static WRITES: [Write; 26] = [
     ),
 ];
 
-/// Returns the fault of a write to a new schedule, if it has one. `None` if the text is not Data.
+/// Returns the fault of a write to a new schedule, if it has one. Returns `None` if the text is not
+/// Data.
 fn new_fault(
     alloc: Global,
     attribute: ScheduleAttribute,

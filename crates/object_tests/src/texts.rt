@@ -15,7 +15,7 @@ fn bytes(alloc: Global, text: &str) -> Option<Vec<u8>> {
     hex::decode(alloc, text).ok()
 }
 
-/// Returns the Data of a hexadecimal text. `None` if it is not Data, or if out of memory.
+/// Returns the Data of a hexadecimal text. Returns `None` if it is not Data, or if out of memory.
 pub(crate) fn data(alloc: Global, text: &str) -> Option<Data> {
     let bytes = bytes(alloc, text)?;
     let value = read(alloc, bytes.as_slice());

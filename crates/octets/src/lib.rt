@@ -75,7 +75,7 @@ impl Octets {
         self.bytes.is_empty()
     }
 
-    /// Appends a byte. Out of memory, nothing changes.
+    /// Appends a byte. If out of memory, nothing changes.
     pub fn push(&mut self, byte: u8) -> Result<(), AllocError>
         ensures ok { OnOk result (self.new ≡ self.old ++ byte ∷ []) }
         ensures err { OnErr result (self.new ≡ self.old) }
@@ -84,7 +84,7 @@ impl Octets {
         Ok(())
     }
 
-    /// Appends all of `bytes`. Out of memory, nothing changes.
+    /// Appends all of `bytes`. If out of memory, nothing changes.
     pub fn extend_from_slice(&mut self, bytes: &[u8]) -> Result<(), AllocError>
         ensures ok { OnOk result (self.new ≡ self.old ++ bytes.now) }
         ensures err { OnErr result (self.new ≡ self.old) }

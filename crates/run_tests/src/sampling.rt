@@ -249,7 +249,7 @@ fn sample<W: Wait>(
     }
 }
 
-/// Runs the worker with a new meter. `None` if out of memory.
+/// Runs the worker with a new meter. Returns `None` if out of memory.
 fn sample_new<R: Wait + Abort>(rt: &R, alloc: Global) -> Option<Found> {
     let recorder = new_recorder(rt, alloc).ok()?;
     let (shared, port) = lock_over(alloc, Kept::new(recorder)).ok()?;

@@ -6,7 +6,7 @@ use cosem_axdr::Data;
 use cosem_names::{ClassId, name_in};
 
 // Returns a step's address and its parameter: {service_id, class_id, logical_name, index,
-// parameter}. `None` if a type differs.
+// parameter}. Returns `None` if a type differs.
 pub(crate) fn step_parts(value: &Data) -> Option<(Address, &Data)>
     ensures { option_map (λ parts. (parts.0, parts.1.now)) result ≡ step_parts_of value.now }
 {
@@ -22,8 +22,8 @@ pub(crate) fn step_parts(value: &Data) -> Option<(Address, &Data)>
     Some((address, parameter))
 }
 
-// Returns a script's identifier and its steps: {script_identifier, actions}. `None` if a type
-// differs.
+// Returns a script's identifier and its steps: {script_identifier, actions}. Returns `None` if a
+// type differs.
 pub(crate) fn script_parts(value: &Data) -> Option<(u16, &[Data])>
     ensures { option_map (λ parts. (parts.0, parts.1.now)) result ≡ script_parts_of value.now }
 {

@@ -80,7 +80,7 @@ fn judge_script(value: &Data) -> Result<(u16, &[Data]), WriteFault>
     Ok((identifier, steps))
 }
 
-// Judges a script without keeping it.
+// Judges a script, and returns its fault if it has one.
 #[tactic(auto, unfolding(crate::specs::Reading::script_of))]
 fn script_fault(value: &Data) -> Result<(), WriteFault>
     ensures { result ≡ result_map_both (λ script. tt) (λ fault. fault) (script_of value.now) }

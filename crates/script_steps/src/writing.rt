@@ -23,7 +23,8 @@ fn parameter(alloc: Global, step: &Step) -> Result<Data, AllocError>
     })
 }
 
-// Writes a step with this address and parameter.
+// Writes a step with this address and parameter: a structure of service_id, class_id, logical_name,
+// index and parameter.
 fn write_address(alloc: Global, address: Address, parameter: Data) -> Result<Data, AllocError>
     ensures { IfOk result (λ value. value ≡ addressed_step address parameter) }
 {

@@ -1,4 +1,4 @@
-//! The work that a command line asks for.
+//! Parses the command line of `meter_server` into the work that it requests.
 ghost use Rattle.std.specs.Prelude.{◌≡◌, true, IfErr};
 ghost use Rattle.server_options.specs.Asking.{is_of_asking};
 
@@ -12,7 +12,7 @@ use std::env;
 use std::env::VarError;
 use std::rt::Env;
 
-/// The work that a command line asks for.
+/// The work that a command line requests.
 #[derive(Drop)]
 pub enum Work {
     /// No work: help, the version or the reason why the command line is wrong was printed. Holds

@@ -55,7 +55,7 @@ fn run(alloc: Global, text: &str, failing: (u32, u32)) -> Result<Ran, AllocError
     Ok(ran)
 }
 
-/// Returns whether a text gives these lines and this result.
+/// Returns whether a text has these lines as its output and this result.
 fn gives(
     alloc: Global,
     text: &str,
@@ -117,7 +117,7 @@ fn opened(alloc: Global) -> Result<String, AllocError> {
     format!(in alloc; "{PUBLIC_AARQ}{PUBLIC_GET}")
 }
 
-/// Returns whether a text gives the lines of the answers to these two.
+/// Returns whether the output for a text is the lines of both answers.
 fn gives_both_lines(alloc: Global, text: &str) -> Result<bool, AllocError> {
     let lines = format!(in alloc; "{PUBLIC_AARE}\n{PUBLIC_STATE}\n")?;
     let is_so = gives(alloc, text, lines.as_str(), Ok(()));
@@ -134,7 +134,8 @@ fn each_frame_is_a_line(rt: HostRuntime) -> Result<(), Fail> {
     Ok(())
 }
 
-/// Returns whether a text of 4,278 characters, an AARQ and 100 equal requests, gives 101 lines.
+/// Returns whether the output for a text of 4,278 characters, an AARQ and 100 equal requests, has
+/// 101 lines.
 fn gives_101_lines(alloc: Global) -> Result<bool, AllocError> {
     let text = repeated(alloc, PUBLIC_AARQ, PUBLIC_GET, "", 100)?;
     let lines = repeated(alloc, PUBLIC_AARE, PUBLIC_STATE, "\n", 100)?;
@@ -181,7 +182,7 @@ static FAILING: [((u32, u32), HexFault, usize); 4] = [
     ((0, 2), HexFault::Write, PUBLIC_AARE.len() + 1),
 ];
 
-/// Returns whether a text fails in this way after `size` bytes were written.
+/// Returns whether a text fails with this fault after `size` bytes were written.
 fn fails(
     alloc: Global,
     text: &str,
@@ -225,7 +226,7 @@ fn read(alloc: Global, text: &str) -> Result<Vec<u8>, TextFault> {
     bytes
 }
 
-/// Returns whether a text gives these bytes.
+/// Returns whether a text is decoded to these bytes.
 fn reads(alloc: Global, text: &str, expected: &[u8]) -> bool {
     match read(alloc, text) {
         Ok(bytes) => {
@@ -248,7 +249,8 @@ fn fault_of(alloc: Global, text: &str) -> Option<TextFault> {
     }
 }
 
-/// Texts that give no bytes, and why. A wrong character comes before an odd number of digits.
+/// Texts that are not decoded, and why. A wrong character is reported before an odd number of
+/// digits.
 static WRONG_TEXTS: [(&str, TextFault); 5] = [
     ("0", TextFault::OddDigits),
     ("00 0\r\n", TextFault::OddDigits),

@@ -653,7 +653,7 @@ fn short_texts(alloc: Global) -> Result<Texts, Fail> {
     texts_of(alloc, &SHORT_TALK)
 }
 
-/// Returns whether a session of a talk fails in this way after `size` bytes were written.
+/// Returns whether a session of a talk fails with this fault after `size` bytes were written.
 fn fails_after(
     alloc: Global,
     plan: &Plan,

@@ -31,7 +31,7 @@ use Rattle.xdlms_blocks.specs.declared.fault.BlockFault.TheVariants.{NoTransfer,
 
 -- ---- a GET-next
 
--- a transfer after `number` blocks were transfer_after, or none if that is the whole text
+-- a transfer after `number` blocks were sent, or none if that is the whole text
 abbrev pub transfer_after : ℕ → Sending → Option Sending
 transfer_after number s = if nat_le (length s.text) (number * s.size) then None
     else Some (record { text = s.text; number = number; size = s.size; is_open = true })
@@ -184,7 +184,7 @@ abbrev pub text_in_blocks : Link → List ℕ → Option Sending
 text_in_blocks link raw = if can_go_in_blocks link raw then Some (unsent_by link.limit raw)
     else None
 
--- an answer whose first `header` bytes are not transfer_after in blocks
+-- an answer whose first `header` bytes are not sent in blocks
 abbrev pub answer_with_header : InvokeId → Response → ℕ → LongAnswer
 answer_with_header id normal header =
     record { id = id; normal = normal; raw = drop header (response_text normal) }

@@ -87,7 +87,7 @@ impl Joined {
     }
 }
 
-// Decodes bytes that are exactly one Data; `None` if they are not.
+// Decodes bytes that are exactly one Data, or `None` if they are not.
 #[tactic(auto, unfolding(crate::specs::Incoming::whole_data))]
 fn read_whole(alloc: Global, bytes: &[u8]) -> Result<Option<Data>, AllocError>
     ensures { IfOk result (λ value. value ≡ whole_data bytes.now) }

@@ -6,7 +6,7 @@ use acse_ber::{Aare, Conformance, Info, Verdict};
 use bitflags::Flags;
 use cosem_names::Level;
 
-// An open association: what the client and the server agreed on.
+// An open association: the client, its rights, and the values that were negotiated.
 #[derive(Clone, Copy, Debug)]
 pub(crate) struct Link {
     // The client's wrapper port.

@@ -228,7 +228,7 @@ impl Session {
         }
     }
 
-    // Performs the next task. `None` if another task must follow.
+    // Performs the next task. Returns `None` if another task must follow.
     #[tactic(auto, unfolding(crate::specs::Remaining::is_asking))]
     fn work(&mut self, alloc: Global) -> Result<Option<Next>, AllocError>
         ensures works { WorksBy self.old result self.new }
@@ -306,7 +306,7 @@ impl Session {
         Some(Next::End(end))
     }
 
-    // Turns to the task of a step, and returns what it needs from the caller, if anything.
+    // Sets the task of a step, and returns what the session needs from its caller, if anything.
     fn take(&mut self, step: TurnStep) -> Option<Next>
         ensures after { self.new ≡ record self.old { task = task_by step } }
         ensures next { result ≡ next_by step }

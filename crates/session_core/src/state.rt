@@ -77,8 +77,8 @@ impl State {
     }
 
     // Handles a frame for the server that is a GET of one attribute from the client of the
-    // association. Returns the attribute, and what its answer needs to know. For any other frame
-    // returns `None` and changes nothing.
+    // association. Returns the attribute, and what its answer needs from the request. For any other
+    // frame returns `None` and changes nothing.
     #[inline(always)]
     pub(crate) fn hear_get(&mut self, src: u16, payload: &[u8]) -> Option<(Asked, AttrRef)>
         ensures heard { IfSome result
@@ -201,7 +201,7 @@ impl State {
         }
     }
 
-    // Returns the step that asks the meter an event. This ends the transfers.
+    // Returns the step that passes an event to the meter. This ends the transfers.
     fn ask(&mut self, event: Event, link: Link, form: ReplyForm) -> TurnStep
         ensures step { step_outcome result ≡ asks event (record { link = link; form = form }) }
         ensures after { self.new

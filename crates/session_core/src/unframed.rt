@@ -28,10 +28,10 @@ use xdlms_apdu::tag::{ACTION_REQUEST, GET_REQUEST, SET_REQUEST};
 // The wrapper port of the management client.
 const MANAGEMENT_PORT: u16 = 1;
 
-/// The outcome of a request without a frame.
+/// The result of a request without a frame: an event for the meter, or the answer.
 #[derive(Debug, Drop)]
 pub enum Unframed {
-    /// An event for the meter, and what the answer to its reply needs to know.
+    /// An event for the meter, and what the answer to its reply needs from the request.
     Ask(Event, Asked),
     /// An answer.
     Say(Octets),
@@ -82,7 +82,7 @@ fn read_joined(alloc: Global, joined: Joined) -> Result<TurnStep, AllocError>
     step
 }
 
-// Returns the outcome of a step.
+// Returns the result of a step.
 fn unframed_outcome(alloc: Global, step: TurnStep) -> Result<Unframed, AllocError>
     requires { IsTrue (is_settled step) }
     ensures { IfOk result (λ unframed. unframed ≡ unframed_of (step_outcome step)) }

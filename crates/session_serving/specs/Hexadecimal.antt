@@ -5,7 +5,7 @@
 --     PlayedOn      the effect of a session's bytes on a meter, by the result
 --     Played        that effect on a new meter
 --     ReadsHex      a text was read to its end and decoded
---     StopsReading  a text gave no bytes, by the fault
+--     StopsReading  a text was not decoded, by the fault
 --     Hexed         the effect of reading and playing a text, by the result
 use Rattle.std.specs.Prelude.{◌≡◌, ◌⊎◌, ◌<◌, ◌≤◌, ℕ, Bool, ◌+◌, ◌==◌, ◌||◌, not, Option, Some, None, List, [], ◌∷◌, ◌++◌, length, map, filter, position, ⊤, Result, Ok, Err}
 use Rattle.std.specs.List.{flat_map}
@@ -26,7 +26,7 @@ use Rattle.relay_core.specs.Stands.{StandsFor}
 use Rattle.relay_core.specs.World.{World, new_world}
 use Rattle.session_core.specs.Backwards.{Asks, Answers}
 
--- the largest number of characters in a text
+-- the maximum number of characters of a text
 abbrev pub most_characters : ℕ
 most_characters = 1048576
 
@@ -56,7 +56,7 @@ abbrev pub hex_output : List ℕ → List ℕ → List ℕ → List ℕ
 hex_output device password input =
     flat_map hex_line (Answers password input (replies_of (Asks password input) (new_world device)))
 
--- a character is a digit, or is skipped
+-- whether a character is a digit, or is skipped
 abbrev pub is_taken : ℕ → Bool
 is_taken character = is_hex_digit character || is_blank character
 
@@ -64,16 +64,16 @@ abbrev pub fault_at : Option ℕ → TextFault
 fault_at (Some index) = text_fault.Digit (index + 1)
 fault_at None = text_fault.OddDigits
 
--- what is wrong with a text that has no digits of bytes: its first character that is not taken,
--- counted from 1, else the number of its digits
+-- the fault of a text that is not pairs of hexadecimal digits: its first character that is neither
+-- a digit nor skipped, counted from 1, else its odd number of digits
 abbrev pub digit_fault : List ℕ → TextFault
 digit_fault text = fault_at (position (λ character. not (is_taken character)) text)
 
--- a text has no digits of bytes, and this is what is wrong with it
+-- a text is not pairs of hexadecimal digits, and has this fault
 abbrev pub IsNoHex : List ℕ → TextFault → Type 0
 IsNoHex text given = (given ≡ digit_fault text) × ((input : List ℕ) → ¬ (IsHex text input))
 
--- a text has no digits of bytes, or memory ran out
+-- a text is not pairs of hexadecimal digits, or out of memory
 abbrev pub IsUndecoded : List ℕ → TextFault → Type 0
 IsUndecoded text (text_fault.Digit character) = IsNoHex text (text_fault.Digit character)
 IsUndecoded text text_fault.OddDigits = IsNoHex text text_fault.OddDigits
@@ -81,7 +81,7 @@ IsUndecoded text text_fault.TooLong = ⊥
 IsUndecoded text text_fault.Read = ⊥
 IsUndecoded text text_fault.Memory = ⊤
 
--- a text was read to its end, and has the digits of these bytes
+-- a text was read to its end, and its digits encode these bytes
 pub record ReadsHex (left left' : Option (List ℕ)) (input : List ℕ) : Type 0 where
   pub text : List ℕ
   pub read : Consumes left left' text
@@ -89,12 +89,12 @@ pub record ReadsHex (left left' : Option (List ℕ)) (input : List ℕ) : Type 0
   pub within : length text ≤ most_characters
   pub is_hex : IsHex text input
 
--- a whole text has no digits of bytes
+-- a whole text is not pairs of hexadecimal digits
 abbrev pub IsWrongWhole : List ℕ → TextFault → Option (List ℕ) → Type 0
 IsWrongWhole text given left' = IsNoHex text given × (length text ≤ most_characters) × IsAtEnd left'
 
--- why a text gave no bytes, after these characters; the numbers are those of the reads that failed
--- before and after
+-- why a text was not decoded, after these characters; the two numbers count the failed reads before
+-- and after
 abbrev pub FailsToRead : List ℕ → ℕ → TextFault → Option (List ℕ) → ℕ → Type 0
 FailsToRead text failed (text_fault.Digit character) left' failed' =
     IsWrongWhole text (text_fault.Digit character) left'
@@ -105,14 +105,14 @@ FailsToRead text failed text_fault.Read left' failed' = (length text ≤ most_ch
     × (failed < failed')
 FailsToRead text failed text_fault.Memory left' failed' = ⊤
 
--- a text gave no bytes
+-- a text was not decoded
 pub record StopsReading (left : Option (List ℕ)) (failed : ℕ) (f : TextFault)
     (left' : Option (List ℕ)) (failed' : ℕ) : Type 0 where
   pub text : List ℕ
   pub read : Consumes left left' text
   pub cause : FailsToRead text failed f left' failed'
 
--- the fault of a session whose text gave no bytes
+-- the fault of a session whose text was not decoded
 abbrev pub hex_fault_of : TextFault → HexFault
 hex_fault_of (text_fault.Digit character) = fault.Digits
 hex_fault_of text_fault.OddDigits = fault.Digits

@@ -58,7 +58,7 @@ impl From<ServeFault> for u8 {
     }
 }
 
-/// Why a text of hexadecimal was not played to its end.
+/// Why the session of a text of hexadecimal was not served to its end.
 #[derive(Clone, Copy, Debug, PartialEq, Eq, Error)]
 pub enum HexFault {
     /// The text isn't pairs of hexadecimal digits.
@@ -95,10 +95,10 @@ impl From<HexFault> for u8 {
     }
 }
 
-/// Why a text gave no bytes. Characters count from 1.
+/// Why a text of hexadecimal was not decoded. Characters are counted from 1.
 #[derive(Clone, Copy, Debug, PartialEq, Eq, Error)]
 pub enum TextFault {
-    /// The character of this number is not a hexadecimal digit, a blank or part of a line end.
+    /// The character with this number is not a hexadecimal digit, a blank or part of a line end.
     #[error("character {0} is not a hexadecimal digit")]
     Digit(usize),
     /// The number of digits is odd.
@@ -123,7 +123,7 @@ impl From<AllocError> for TextFault {
     }
 }
 
-/// `Digits` of both faults of the digits.
+/// Converts a fault; `Digit` and `OddDigits` both become `Digits`.
 impl From<TextFault> for HexFault {
     ghost from_gives = { λ text fault. fault ≡ hex_fault_of text };
 

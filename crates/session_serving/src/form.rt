@@ -12,7 +12,7 @@ use std::alloc::{AllocError, Global};
 
 // A form in which frames are written.
 pub(crate) trait Form {
-    // The bytes that are written for a frame.
+    // Ghost value: the bytes that are written for a frame.
     ghost written_as: { List ℕ → List ℕ };
 
     // Writes a frame.

@@ -12,7 +12,7 @@ use std::alloc::Global;
 
 /// The meter of a session: its core, or a port to one that is shared.
 pub trait Meter {
-    // The relation of a call: the meter before it, the event, the result, and the meter after it.
+    // Ghost relation of a call: the meter before it, the event, the result, and the meter after it.
     ghost steps: { Self → Event → Result Reply CallFault → Self → Type 0 };
 
     /// Applies an event and returns the reply.
@@ -21,7 +21,7 @@ pub trait Meter {
         ensures fits { IfOk result (Fits event) };
 }
 
-/// A core of its own takes every event, unless it runs out of memory.
+/// A session's own core accepts every event, unless out of memory.
 impl Meter for RelayCore {
     ghost steps = { CoreSteps };
 

@@ -18,10 +18,10 @@ use relay_events::Event;
 use session_core::{Next, Session, SessionEnd};
 use std::alloc::Global;
 
-// The largest number of bytes that one read asks for.
+// The maximum number of bytes of one read.
 const MAX_READ: usize = 1_024;
 
-// The largest number of reads in a session.
+// The maximum number of reads in a session.
 const MOST_READS: u32 = 4_294_967_295;
 
 // Asks the meter and writes the answers until the session needs more input or is over. Returns the
@@ -82,7 +82,7 @@ fn settle<F: Form, V: SessionWatch, W: Writer, M: Meter>(
     }
 }
 
-// Feeds the session bytes, and does everything that they ask for.
+// Feeds the session bytes, and performs everything that they require.
 fn take_in<V: SessionWatch, W: Writer, M: Meter>(
     alloc: Global,
     session: &mut Session,
@@ -115,7 +115,7 @@ fn take_in<V: SessionWatch, W: Writer, M: Meter>(
     settle::<AsBytes, V, W, M>(alloc, session, watch, writer, meter)
 }
 
-// Ends the input, and does everything that is left to do.
+// Ends the input, and performs everything that the session still requires.
 pub(crate) fn end_input<F: Form, V: SessionWatch, W: Writer, M: Meter>(
     alloc: Global,
     session: &mut Session,

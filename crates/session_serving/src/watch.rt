@@ -15,7 +15,7 @@ use std::alloc::Global;
 /// Reader, writer and meter are three values without a common history. A watch has one: a list of
 /// all reads, writes and calls, so that the contract of `watch_session` can state their order.
 pub trait SessionWatch {
-    // The reads, writes and calls so far, the last one first, if they are known.
+    // Ghost value: the reads, writes and calls so far, the last one first, if they are known.
     ghost passed: { Self → Option (List Happening) };
 
     /// Reads from the reader into the buffer, and returns the reader's result.

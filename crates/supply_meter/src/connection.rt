@@ -29,7 +29,7 @@ pub(crate) struct ClientSession {
     under_way: UnderWay,
 }
 
-// Replaces what is pending.
+// Replaces the pending item, and drops the old one.
 fn put(under_way: &mut UnderWay, next: UnderWay)
     ensures { under_way.new ≡ next }
 {

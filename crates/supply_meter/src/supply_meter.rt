@@ -172,7 +172,7 @@ impl SupplyMeter {
 
     /// Applies the requests of a session to the meter, up to the next frame, and copies the frame
     /// to `buffer`. A frame that is longer than the buffer stays pending. Errors: `NoSession`;
-    /// `Memory`, after which what was done stays done, and the same call continues from there.
+    /// `Memory`, after which the effects so far remain, and the same call continues from there.
     pub fn next(
         &mut self,
         alloc: Global,

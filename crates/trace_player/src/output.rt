@@ -50,7 +50,7 @@ fn play_behind(
 }
 
 // Plays the events in the last `left` bytes of a text; the first line of these has the number
-// `number`. Text that has been read is dropped on the way.
+// `number`. Text that has been read is dropped.
 fn play_held(
     alloc: Global,
     version: Version,

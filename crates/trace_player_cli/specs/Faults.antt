@@ -1,11 +1,11 @@
--- The fault of the program for each reason why a trace is not played.
+-- The program's fault for each reason why a trace was not played.
 use Rattle.program_fault.specs.declared.Fault.{Fault}
 use Rattle.program_fault.specs.declared.Fault.TheVariants as program
 use Rattle.trace_player.specs.declared.fault.PlayFault.{PlayFault}
 use Rattle.trace_player.specs.declared.fault.PlayFault.TheVariants as fault
 
--- a trace that is wrong or too long, and what is not: a failed read, a failed write, memory that
--- ran out
+-- `Input` if the trace is not valid or too long; a failed read, a failed write or out of memory
+-- keep their own faults
 abbrev pub fault_of : PlayFault → Fault
 fault_of (fault.Line number) = program.Input
 fault_of fault.TooLong = program.Input

@@ -34,11 +34,11 @@ pub enum Stage<E, R, O> {
     Turn(u64),
     /// It has read that this number of turns have ended.
     SawServing(u64),
-    /// It has taken in another seat: whether that was a port, and what it knew.
+    /// It has joined another seat: whether that was a port, and the knowledge of that seat.
     Met(bool, Known<E, R, O>),
 }
 
-/// A seat's view: its knowledge, whether it is a port's or a note's, and what it does next.
+/// A seat's view: its knowledge, whether it is a port's or a note's, and its next action.
 pub struct View<E, R, O> {
     pub known: Known<E, R, O>,
     pub is_port: bool,

@@ -29,7 +29,7 @@ pub fn read_request(alloc: Global, bytes: &[u8]) -> Result<Request, ApduFault>
     ensures only { (request : Request) → SpellsRequest bytes.now request
         → MatchResult result (λ read. read ≡ request) (λ fault. fault ≡ ApduFault.Memory) }
 
-    // The fault is the one that the definition gives, or out of memory.
+    // The fault is that of the definition, or out of memory.
     ensures exact { Gives ApduFault.Memory (λ read. read) result (request_of bytes.now) }
 {
     read_whole(alloc, bytes)

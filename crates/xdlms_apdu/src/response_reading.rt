@@ -31,7 +31,7 @@ pub fn read_response(alloc: Global, bytes: &[u8]) -> Result<Response, ApduFault>
     ensures only { (response : Response) → SpellsResponse bytes.now response
         → MatchResult result (λ read. read ≡ response) (λ fault. fault ≡ ApduFault.Memory) }
 
-    // The fault is the one that the definition gives, or out of memory.
+    // The fault is that of the definition, or out of memory.
     ensures exact { Gives ApduFault.Memory (λ read. read) result (response_of bytes.now) }
 {
     read_whole(alloc, bytes)

@@ -59,7 +59,7 @@ impl JoinBlocks {
         ensures text { IfOk result (λ text. text ≡ added_text last raw.now self.old) }
         ensures ok { OnOk result (self.new ≡ joining_after_block last raw.now self.old) }
 
-        // Out of memory nothing changes; every other fault ends the transfer.
+        // If out of memory, nothing changes; every other fault ends the transfer.
         ensures err { IfErr result (λ fault. self.new ≡ joining_by fault self.old) }
     {
         let Some(mut bytes) = self.bytes.take() else {

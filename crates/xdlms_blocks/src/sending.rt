@@ -72,7 +72,7 @@ impl GetBlocks {
         ensures piece { IfOk result (λ piece. piece ≡ next_piece self.old) }
         ensures ok { OnOk result (self.new ≡ after_next self.old) }
 
-        // Out of memory nothing changes; every other fault ends the transfer.
+        // If out of memory, nothing changes; every other fault ends the transfer.
         ensures err { IfErr result (λ fault. self.new ≡ sending_by fault self.old) }
     {
         if !self.is_open {
