@@ -4,7 +4,7 @@ ghost use Rattle.meter_run.specs.Runs.{IsRun, ServesAll, Traces};
 ghost use Rattle.meter_server.specs.ServingAll.{IsLimit, StopsFor};
 ghost use Rattle.relay_core.specs.Opening.{opening_of};
 ghost use Rattle.session_threads.specs.Listening.{IsCounted};
-ghost use Rattle.turn_lock.specs.Rule.{opened};
+ghost use Rattle.turn_lock.specs.Rule.{first_known};
 ghost use Rattle.program_fault.specs.declared.Fault.TheVariants.{Memory, Turns};
 
 use cosem_axdr::Octets;
@@ -37,7 +37,7 @@ fn lock(alloc: Global, recorder: Recorder) -> Result<(Shared<Kept>, Port<Kept>),
     requires { recorder.events ≡ [] }
     ensures lock { IfOk result (λ r. r.1.lock ≡ r.0) }
     ensures bound { IfOk result (λ r. r.1.bound ≡ 4611686018427387904) }
-    ensures known { IfOk result (λ r. r.1.known ≡ opened (opening_of recorder.core)) }
+    ensures known { IfOk result (λ r. r.1.known ≡ first_known (opening_of recorder.core)) }
 {
     match Shared::new(alloc, Kept::new(recorder), MAX_CALLS) {
         Ok(meter) => Ok(meter),

@@ -36,8 +36,8 @@ last_fits w (call ∷ calls) by event reply legal = let after : World = (at_even
 called_fits : (k : Known Event Reply Opening) (event : Event) (reply : Reply)
     (l : Known Event Reply Opening) → Called IsLegal k event reply l → Fits event reply
 called_fits k event reply l called =
-    let legal : IsLegal called.lawful.0 ((k.seen ++ called.seen.0) ++ entry k.number event reply ∷ []) = subst (IsLegal called.lawful.0) called.seen.1 called.lawful.2 in
-    last_fits (world_of_opening called.lawful.0) (k.seen ++ called.seen.0) k.number event reply legal
+    let legal : IsLegal called.lawful.origin ((k.seen ++ called.seen.0) ++ entry k.number event reply ∷ []) = subst (IsLegal called.lawful.origin) called.seen.1 called.lawful.legal_history in
+    last_fits (world_of_opening called.lawful.origin) (k.seen ++ called.seen.0) k.number event reply legal
 
 -- a reply that a port returned has the kind of its event
 pub port_fits : (k : Known Event Reply Opening) (event : Event) (result : Result Reply CallFault)
@@ -117,5 +117,5 @@ entered p (event ∷ events) (reply ∷ replies) q (next, step, rest) =
     let P : List ℕ → Type 0 = λ n. calls_by n q.known.seen ≡ calls_by n next.known.seen ++ entries n events replies in
     let later : P by = subst P step.calls.number (entered next events replies q rest) in
     later
-    ∙ (ap (λ (calls : List (Entry Event Reply)). calls ++ entries by events replies) step.calls.own
+    ∙ (ap (λ (calls : List (Entry Event Reply)). calls ++ entries by events replies) step.calls.own_calls
     ∙ append_assoc (calls_by by p.known.seen) (entry by event reply ∷ []) (entries by events replies))

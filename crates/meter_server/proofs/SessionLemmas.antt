@@ -56,7 +56,7 @@ by_refused password seen p events later replies refusal q all r =
     let same = replied_on PortSteps IsSame is_same same_on step_same p r.taken replies r.before r.replied in
     let N : List ℕ → Type 0 = λ n. events_by n q ≡ events_by n r.before in
     let still : events_by p.known.number q ≡ events_by p.known.number r.before =
-    subst N same.number (ap (map event_of) (r.refused.calls.0.sees.own r.before.known.number (inl refl))) in record {
+    subst N same.number (ap (map event_of) (r.refused.calls.0.sees.own_calls r.before.known.number (inl refl))) in record {
       asked = r.taken;
       are = record {
         input = seen;

@@ -5,7 +5,7 @@ use Rattle.turn_lock.specs.declared.turned.Entry.{Entry}
 use Rattle.turn_lock.specs.declared.known.Known.{Known}
 use Rattle.turn_lock.specs.History.{StartsWith, IsAmong, calls_by}
 use Rattle.turn_lock.specs.Rule.{IsOwn}
-use Rattle.turn_lock.specs.Calls.{Joins, divided}
+use Rattle.turn_lock.specs.Calls.{Joins, parent_after_split}
 use Rattle.turn_lock.specs.Shown.{ShownPort}
 use Rattle.session_threads.specs.Ports.{GoesOn}
 
@@ -59,7 +59,7 @@ module _ {E R O : Type 0} where
 
   -- a port was split off
   pub goes_split : (p q : ShownPort E R O) → q.lock ≡ p.lock → q.bound ≡ p.bound → q.known
-      ≡ divided p.known → GoesOn p q
+      ≡ parent_after_split p.known → GoesOn p q
   goes_split p q lock bound known =
       record {
         lock = lock;
@@ -86,5 +86,5 @@ module _ {E R O : Type 0} where
         drawn = joins.sees.drawn;
         seen = joins.sees.seen;
         joined = λ n among. rw joins.joined (among_front n p.known.joined (u.number ∷ u.joined) among);
-        own = joins.sees.own;
+        own = joins.sees.own_calls;
       }

@@ -3,7 +3,7 @@ use Rattle.std.proofs.Common.{◌≡◌, ◌≢◌, ◌⊎◌, ℕ, ◌<◌, ◌
 use Rattle.std.proofs.lemmas.Bool.{cases_eq}
 use Rattle.slab.specs.Slab.{Slab, get, Updates}
 use Rattle.turn_lock.specs.declared.turned.Entry.{Entry}
-use Rattle.turn_lock.specs.Calls.{Joins, divided, born}
+use Rattle.turn_lock.specs.Calls.{Joins, parent_after_split, child_after_split}
 use Rattle.turn_lock.specs.History.{calls_by}
 use Rattle.turn_lock.specs.Shown.{ShownPort, IsSame}
 use Rattle.session_threads.specs.Ports.{GoesOn, AreJoined, AreServed, Returns, child}
@@ -96,7 +96,7 @@ module _ {H E R O : Type 0} (port_of : H → ShownPort E R O) (terms_of : H → 
       → calls_by number lent.known.seen ≡ [] → r.known.number ≡ number → Returns (did terms) lent r → Ends q number
   ended_now legal p q lent r number joins named fresh same returned = record {
     among = rw joins.joined (among_at same p.known.joined r.known.joined);
-    served = record { lent = lent; back = r; named = named; fresh = fresh; returned = returned; calls_are = joins.theirs number (inl (sym same)) };
+    served = record { lent = lent; back = r; named = named; fresh = fresh; returned = returned; calls_are = joins.other_calls number (inl (sym same)) };
   }
 
   -- the session at this place ended, and its port was joined in
@@ -126,8 +126,9 @@ module _ {H E R O : Type 0} (port_of : H → ShownPort E R O) (terms_of : H → 
 
   -- a port was split off, and a session opened with it
   pub tends_open : (p q : ShownPort E R O) (held later : Slab H) (key : ℕ) (s : H)
-      (own : ShownPort E R O) → q.lock ≡ p.lock → q.bound ≡ p.bound → q.known ≡ divided p.known
-      → port_of s ≡ own → own.lock ≡ p.lock → own.known ≡ born p.known
+      (own : ShownPort E R O) → q.lock ≡ p.lock → q.bound ≡ p.bound → q.known
+      ≡ parent_after_split p.known → port_of s ≡ own → own.lock ≡ p.lock → own.known
+      ≡ child_after_split p.known
       → calls_by own.known.number own.known.seen ≡ [] → terms_of s ≡ terms
       → get held key ≡ None → key < 8 → Updates held later key (Some s) → later.capacity ≡ held.capacity → Tends port_of terms_of did terms p held q later
   tends_open p q held later key s own lock bound divides is lent birth fresh on_terms vacant within updates capacity =
@@ -168,8 +169,8 @@ module _ {H E R O : Type 0} (port_of : H → ShownPort E R O) (terms_of : H → 
 
   -- a port was split off, no thread could be started for it, and it was joined in again
   pub tends_back : (legal : O → List (Entry E R) → Type 0) (p q r own back : ShownPort E R O)
-      (held : Slab H) → q.lock ≡ p.lock → q.bound ≡ p.bound → q.known ≡ divided p.known → own.known
-      ≡ born p.known
+      (held : Slab H) → q.lock ≡ p.lock → q.bound ≡ p.bound → q.known ≡ parent_after_split p.known
+      → own.known ≡ child_after_split p.known
       → calls_by own.known.number own.known.seen ≡ [] → Returns (did terms) own back → IsSame own back → r.lock ≡ q.lock → r.bound ≡ q.bound → Joins legal q.known back.known r.known → Tends port_of terms_of did terms p held r held
   tends_back legal p q r own back held lock bound divides birth fresh returned same relock rebound joins =
       let splits = goes_split p q lock bound divides in

@@ -3,7 +3,7 @@ use Rattle.std.proofs.Common.{◌≡◌, List, Option, Some, None, refl, sym, �
 use Rattle.std.specs.Prelude.{Result}
 use Rattle.turn_lock.specs.declared.turned.Entry.{Entry}
 use Rattle.call_fault.specs.declared.fault.CallFault.{CallFault}
-use Rattle.turn_lock.specs.Calls.{Joins, divided, born}
+use Rattle.turn_lock.specs.Calls.{Joins, parent_after_split, child_after_split}
 use Rattle.turn_lock.specs.Shown.{ShownPort, IsSame}
 use Rattle.session_threads.specs.Ports.{GoesOn, AreJoined, TakesIn, child}
 use Rattle.session_threads.specs.Workers.{Ended}
@@ -27,14 +27,14 @@ module _ {E R O : Type 0} where
         splits = joins.sees.splits;
         joined = rw joins.joined (among_at refl p.known.joined u.known.joined);
         drawn = joins.drawn;
-        told = joins.told;
-        theirs = joins.theirs u.known.number (inl refl);
+        told = joins.other_seen;
+        theirs = joins.other_calls u.known.number (inl refl);
       }
 
   -- a port was split off, was not used, and was joined in again
   pub none_lost : (legal : O → List (Entry E R) → Type 0) (p q r own back : ShownPort E R O)
-      → q.lock ≡ p.lock → q.bound ≡ p.bound → q.known ≡ divided p.known → own.known ≡ born p.known
-      → IsSame own back → r.lock ≡ q.lock → r.bound ≡ q.bound
+      → q.lock ≡ p.lock → q.bound ≡ p.bound → q.known ≡ parent_after_split p.known → own.known
+      ≡ child_after_split p.known → IsSame own back → r.lock ≡ q.lock → r.bound ≡ q.bound
       → Joins legal q.known back.known r.known → GoesOn p r × AreJoined p.known.splits r
   none_lost legal p q r own back lock bound divides birth same relock rebound joins =
       let one_more = ap (λ k. k.splits) divides in (

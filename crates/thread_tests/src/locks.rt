@@ -1,7 +1,8 @@
 //! What no contract states: that calls succeed, and what threads see of one another's calls.
 ghost use Rattle.std.specs.Prelude.{◌≡◌, ◌<◌, ◌≤◌, IfOk, IfSome};
+ghost use Rattle.turn_lock.specs.History.{entry};
 ghost use Rattle.turn_lock.specs.Rule.{most_turns};
-ghost use Rattle.turn_lock.specs.Trials.{StandsBehind};
+ghost use Rattle.turn_lock.specs.Trials.{FollowsCall};
 
 pub(crate) mod counter;
 
@@ -176,8 +177,8 @@ fn call_when_told<T: Turned, W: Wait>(
     requires { one.old.lock ≡ two.old.lock }
     ensures lock { (one.new.lock ≡ one.old.lock) × (two.new.lock ≡ two.old.lock) }
     ensures behind { IfOk result
-        (λ r. StandsBehind T.legal one.old.known.number two.old.known.number first r.0 second r.1
-        two.new.known) }
+        (λ r. FollowsCall T.legal (entry one.old.known.number first r.0)
+        (entry two.old.known.number second r.1) two.new.known) }
 {
     match one.call(rt, alloc, first) {
         Ok(a) => {

@@ -2,7 +2,7 @@
 use Rattle.std.proofs.Common.{◌≡◌, ◌≢◌, ◌⊎◌, ℕ, ◌+◌, ◌≤◌, Bool, true, false, ◌&&◌, ◌==◌, if◌then◌else◌, List, [], ◌∷◌, ◌++◌, length, sym, refl, ap, ◌∙◌, inl, inr, ⊎_elim, arith, eq-eqb, eqb-true, length-append, le_refl}
 use Rattle.std.proofs.lemmas.List.{append-nil, append_assoc, append_cancel_left}
 use Rattle.turn_lock.specs.declared.turned.Entry.{Entry}
-use Rattle.turn_lock.specs.History.{StartsWith, IsAmong, is_same, IsFuture, entry, calls_by}
+use Rattle.turn_lock.specs.History.{StartsWith, IsAmong, is_same_number, IsFuture, entry, calls_by}
 
 -- a Boolean that is not true is false
 pub not_true : (b : Bool) → (b ≡ true → ⊥) → b ≡ false
@@ -31,15 +31,15 @@ module _ {A : Type 0} where
   nil_left [] ys e = refl
   nil_left (x ∷ xs) ys e = cc
 
-pub is_same-refl : (p : List ℕ) → is_same p p ≡ true
-is_same-refl [] = refl
-is_same-refl (x ∷ xs) = ap (λ b. b && is_same xs xs) (eq-eqb x x refl) ∙ is_same-refl xs
+pub is_same_number-refl : (p : List ℕ) → is_same_number p p ≡ true
+is_same_number-refl [] = refl
+is_same_number-refl (x ∷ xs) = ap (λ b. b && is_same_number xs xs) (eq-eqb x x refl) ∙ is_same_number-refl xs
 
-pub is_same-true : (p q : List ℕ) → is_same p q ≡ true → p ≡ q
-is_same-true [] [] e = refl
-is_same-true [] (y ∷ ys) e = cc
-is_same-true (x ∷ xs) [] e = cc
-is_same-true (x ∷ xs) (y ∷ ys) e = let t = both_true (x == y) (is_same xs ys) e in let a = eqb-true x y t.0 in let b = is_same-true xs ys t.1 in λ i. a i ∷ b i
+pub is_same_number-true : (p q : List ℕ) → is_same_number p q ≡ true → p ≡ q
+is_same_number-true [] [] e = refl
+is_same_number-true [] (y ∷ ys) e = cc
+is_same_number-true (x ∷ xs) [] e = cc
+is_same_number-true (x ∷ xs) (y ∷ ys) e = let t = both_true (x == y) (is_same_number xs ys) e in let a = eqb-true x y t.0 in let b = is_same_number-true xs ys t.1 in λ i. a i ∷ b i
 
 module _ {E R : Type 0} where
   tail_calls : (b : Bool) (x : Entry E R) (u v w : List (Entry E R)) → u ≡ v ++ w
@@ -50,19 +50,19 @@ module _ {E R : Type 0} where
   pub calls_by-append : (p : List ℕ) (xs ys : List (Entry E R)) → calls_by p (xs ++ ys)
       ≡ calls_by p xs ++ calls_by p ys
   calls_by-append p [] ys = refl
-  calls_by-append p (x ∷ xs) ys = tail_calls (is_same x.by p) x (calls_by p (xs ++ ys)) (calls_by p xs) (calls_by p ys) (calls_by-append p xs ys)
+  calls_by-append p (x ∷ xs) ys = tail_calls (is_same_number x.by p) x (calls_by p (xs ++ ys)) (calls_by p xs) (calls_by p ys) (calls_by-append p xs ys)
 
   -- appending a call of port p appends it to p's calls
   pub calls_by-own : (p : List ℕ) (xs : List (Entry E R)) (e : E) (r : R)
       → calls_by p (xs ++ entry p e r ∷ []) ≡ calls_by p xs ++ entry p e r ∷ []
   calls_by-own p xs e r = let x : Entry E R = entry p e r in
-      calls_by-append p xs (x ∷ []) ∙ ap (λ (b : Bool). calls_by p xs ++ (if b then x ∷ [] else [])) (is_same-refl p)
+      calls_by-append p xs (x ∷ []) ∙ ap (λ (b : Bool). calls_by p xs ++ (if b then x ∷ [] else [])) (is_same_number-refl p)
 
   -- appending a call of another port leaves the port's calls unchanged
   pub calls_by-other : (q p : List ℕ) (xs : List (Entry E R)) (e : E) (r : R) → q ≢ p
       → calls_by q (xs ++ entry p e r ∷ []) ≡ calls_by q xs
   calls_by-other q p xs e r n = let x : Entry E R = entry p e r in
-      calls_by-append q xs (x ∷ []) ∙ (ap (λ (b : Bool). calls_by q xs ++ (if b then x ∷ [] else [])) (not_true (is_same p q) (λ t. n (sym (is_same-true p q t)))) ∙ append-nil (calls_by q xs))
+      calls_by-append q xs (x ∷ []) ∙ (ap (λ (b : Bool). calls_by q xs ++ (if b then x ∷ [] else [])) (not_true (is_same_number p q) (λ t. n (sym (is_same_number-true p q t)))) ∙ append-nil (calls_by q xs))
 
   -- if a history begins with another, its calls of p begin with the other's calls of p
   pub calls_by-starts : (p : List ℕ) (xs ys : List (Entry E R)) → StartsWith xs ys
@@ -90,21 +90,21 @@ has_front-true (x ∷ xs) (y ∷ ys) e = let t = both_true (x == y) (has_front x
 
 -- no future number is the port's own number
 pub future-not-self : (p : List ℕ) (k : ℕ) (q : List ℕ) → IsFuture p k q → q ≢ p
-future-not-self p k q f e = let l : length (p ++ f.0 ∷ f.1) ≡ length p = ap length (sym f.2 ∙ e) in absurd (omega (arith, length-append p (f.0 ∷ f.1), l))
+future-not-self p k q f e = let l : length (p ++ f.count ∷ f.rest) ≡ length p = ap length (sym f.number_is ∙ e) in absurd (omega (arith, length-append p (f.count ∷ f.rest), l))
 
 pub future_sooner : (p : List ℕ) (k : ℕ) (q : List ℕ) → IsFuture p (k + 1) q → IsFuture p k q
-future_sooner p k q f = (f.0, f.1, f.2, omega arith)
+future_sooner p k q f = let late : k + 1 ≤ f.count = f.later in record { count = f.count; rest = f.rest; number_is = f.number_is; later = omega arith }
 
 -- a number that begins with p and the next split count is a future number
 pub front_is_future : (p : List ℕ) (k : ℕ) (q : List ℕ) → StartsWith q (p ++ k ∷ [])
     → IsFuture p k q
-front_is_future p k q a = (k, a.0, a.1 ∙ append_assoc p (k ∷ []) a.0, le_refl k)
+front_is_future p k q a = record { count = k; rest = a.0; number_is = a.1 ∙ append_assoc p (k ∷ []) a.0; later = le_refl k }
 
 -- no number of a split after the next one begins with p and the next split count
 pub future-not-front : (p : List ℕ) (k : ℕ) (q : List ℕ) → IsFuture p (k + 1) q
     → has_front (p ++ k ∷ []) q ≡ false
 future-not-front p k q f = not_true _ (λ t. let a = has_front-true (p ++ k ∷ []) q t in
-    let e : f.0 ∷ f.1 ≡ k ∷ a.0 = append_cancel_left p (f.0 ∷ f.1) (k ∷ a.0) (sym f.2 ∙ (a.1 ∙ append_assoc p (k ∷ []) a.0)) in let same : f.0 ≡ k = cc in absurd (omega arith))
+    let e : f.count ∷ f.rest ≡ k ∷ a.0 = append_cancel_left p (f.count ∷ f.rest) (k ∷ a.0) (sym f.number_is ∙ (a.1 ∙ append_assoc p (k ∷ []) a.0)) in let late : k + 1 ≤ f.count = f.later in let same : f.count ≡ k = cc in absurd (omega arith))
 
 pub apart-not-front : (p : List ℕ) (k : ℕ) (q : List ℕ) → ¬ IsFuture p k q
     → has_front (p ++ k ∷ []) q ≡ false

@@ -17,9 +17,10 @@ use Rattle.turn_lock.specs.declared.known.Stage.{Stage}
 use Rattle.turn_lock.specs.declared.known.Stage.TheVariants.{New, Young, Idle, Waiting, Turn, SawServing, Met}
 use Rattle.turn_lock.specs.declared.board.Slot.{Slot}
 use Rattle.turn_lock.specs.History.{StartsWith, calls_by}
-use Rattle.turn_lock.specs.Rule.{most_turns, LastCall, first_view, full_slot, IsOwn, Moment, IsHome, Staged, IsPort, Fits, Facts, Keeps}
+use Rattle.turn_lock.specs.Rule.{most_turns, LastCall, first_view, full_slot, IsOwn, Moment, HoldsTurn, HoldsSlot, HasMet, IsHome, FitsStage, IsPort, Fits, Facts, Keeps}
 use Rattle.turn_lock.specs.Calls.{Watches}
-use Rattle.turn_lock.specs.Plays.{Carried, new_entries, with_stage, spent_view, parent_view, child_view, note_view, view_with_served, view_after_turn, view_with, joined_with, seat_with, seat_state, play, Settles, Draws, SeesServing, MovesTo, Looks, AddsCall, Ends, KnowsBoth, Merges, TakesValue, TakesTurn, Reaches, Closes}
+use Rattle.turn_lock.specs.Seats.{Carried, new_entries, with_stage, spent_view, parent_view, child_view, note_view, view_with_served, view_after_turn, view_with, joined_with, seat_with, seat_state}
+use Rattle.turn_lock.specs.Plays.{play, Settles, Draws, SeesServing, MovesTo, Looks, AddsCall, Ends, KnowsBoth, Merges, TakesValue, TakesTurn, Reaches, Closes}
 use Rattle.turn_lock.proofs.Lists.{starts_refl, starts_more, starts_length, calls_by-own, calls_by-other, calls_none, has_front, has_front-append, future-not-self, future_sooner, front_is_future, future-not-front, apart-not-front, among-append}
 
 -- the function f, with the value v at k
@@ -118,7 +119,7 @@ module _ {T E R O : Type 0} (origin : T → O) (stands : T → List (Entry E R) 
   Fit = Fits origin stands first
 
   abbrev Stand : Mo → ℕ → Known E R O → Stage E R O → Type 0
-  Stand = Staged origin stands first
+  Stand = FitsStage origin stands first
 
   -- the table's state at a moment
   abbrev canon : Mo → List V → St
@@ -141,30 +142,55 @@ module _ {T E R O : Type 0} (origin : T → O) (stands : T → List (Entry E R) 
 
   -- a step of seat i that leads from one moment to another
   moves : (m m' : Mo) (vs : List V) (i : ℕ) (w : V) → F m vs → m'.serving ≤ m'.ticket
-      → m'.ticket ≤ most_turns + m'.closed → m'.closed ≤ 1 → legal m'.start m'.whole
-      → length m'.whole ≤ m'.serving
+      → m'.ticket ≤ most_turns + m'.closed → m'.closed ≤ 1 → legal m'.start m'.history
+      → length m'.history ≤ m'.serving
       → IsHome origin stands m' ⊎ (m'.serving < m'.ticket) → Fit m' i w → ((j : ℕ) (d : V) → j ≢ i → Fit m j d → Fit m' j d) → F m' (set vs i w)
   moves m m' vs i w f range few once lawful counted held mine others = record {
     range = range;
-    few = few;
-    once = once;
+    within_most = few;
+    closed_once = once;
     lawful = lawful;
     counted = counted;
-    held = held;
+    home_or_held = held;
     fits = seats (Fit m') vs i w mine (λ j d n at. others j d n (f.fits j d at));
   }
 
   -- a step that changes only the view of seat i
   stays : (m : Mo) (vs : List V) (i : ℕ) (w : V) → F m vs → Fit m i w → F m (set vs i w)
-  stays m vs i w f mine = moves m m vs i w f f.range f.few f.once f.lawful f.counted f.held mine (λ _ _ _ x. x)
+  stays m vs i w f mine = moves m m vs i w f f.range f.within_most f.closed_once f.lawful f.counted f.home_or_held mine (λ _ _ _ x. x)
+
+  -- the value stays at home where neither the slot nor the history changes
+  home_stays : (m m' : Mo) → m'.home ≡ m.home → m'.history ≡ m.history → m'.start ≡ m.start
+      → m'.closed ≡ m.closed → IsHome origin stands m → IsHome origin stands m'
+  home_stays m m' home history start closed h = record {
+    value = h.value;
+    last = h.last;
+    home_is = home ∙ h.home_is;
+    results = subst (stands h.value) (sym history) h.results;
+    origin_is = h.origin_is ∙ sym start;
+    not_closed = closed ∙ h.not_closed;
+  }
+
+  -- the moment with other holders of the port numbers
+  abbrev with_holder : Mo → (List ℕ → ℕ) → Bool → Mo
+  with_holder m holder lone = record m { holder = holder; lone = lone }
+
+  -- a turn does not depend on who holds the port numbers
+  waits_still : (m : Mo) (holder : List ℕ → ℕ) (lone : Bool) (i n : ℕ) (k : Known E R O)
+      → Stand m i k (Waiting n) → Stand (with_holder m holder lone) i k (Waiting n)
+  waits_still m holder lone i n k h = (record { not_ended = h.0.not_ended; drawn = h.0.drawn; owner_is = h.0.owner_is }, λ e. home_stays m (with_holder m holder lone) refl refl refl refl (h.1 e))
+
+  holds_still : (m : Mo) (holder : List ℕ → ℕ) (lone : Bool) (i n : ℕ) (k : Known E R O)
+      → HoldsSlot m i n k → HoldsSlot (with_holder m holder lone) i n k
+  holds_still m holder lone i n k h = let t = h.holds in record { holds = record { not_ended = t.not_ended; drawn = t.drawn; owner_is = t.owner_is }; served = h.served; seen = h.seen; not_closed = h.not_closed }
 
   fit_at_stage : (m : Mo) (i : ℕ) (v : V) (stage : Stage E R O) → Fit m i v
       → Stand m i v.known stage → Fit m i (with_stage v stage)
-  fit_at_stage m i v stage f st = record { named = f.named; seen = f.seen; drawn = f.drawn; served = f.served; lone = f.lone; staged = st; port = f.port }
+  fit_at_stage m i v stage f st = record { origin_is = f.origin_is; seen = f.seen; drawn = f.drawn; served = f.served; first_if_lone = f.first_if_lone; stage = st; port = f.port }
 
   -- a port's knowledge after it has seen the longest history
   abbrev informed : Mo → Known E R O → Known E R O
-  informed m k = record k { seen = m.whole; drawn = m.ticket }
+  informed m k = record k { seen = m.history; drawn = m.ticket }
 
   abbrev informed_view : Mo → V → Stage E R O → V
   informed_view m v stage = record { known = informed m v.known; is_port = v.is_port; stage = stage }
@@ -172,16 +198,16 @@ module _ {T E R O : Type 0} (origin : T → O) (stands : T → List (Entry E R) 
   informs : (m : Mo) (i : ℕ) (v : V) (stage : Stage E R O) → Fit m i v
       → Stand m i (informed m v.known) stage → Fit m i (informed_view m v stage)
   informs m i v stage f st = record {
-    named = f.named;
-    seen = starts_refl m.whole;
+    origin_is = f.origin_is;
+    seen = starts_refl m.history;
     drawn = le_refl m.ticket;
     served = f.served;
-    lone = f.lone;
-    staged = st;
-    port = λ e. let p = f.port e in record { begun = p.begun; own = λ q o. ((p.own q o).0, refl); future = p.future; apart = p.apart };
+    first_if_lone = f.first_if_lone;
+    stage = st;
+    port = λ e. let p = f.port e in record { origin_is = p.origin_is; own = λ q o. ((p.own q o).0, refl); future = p.future; apart = p.apart };
   }
 
-  watches : (m : Mo) (i : ℕ) (v : V) → Fit m i v → v.is_port ≡ true → legal m.start m.whole
+  watches : (m : Mo) (i : ℕ) (v : V) → Fit m i v → v.is_port ≡ true → legal m.start m.history
       → Watches legal v.known (informed m v.known)
   watches m i v f port lawful = record {
     sees = record {
@@ -191,8 +217,8 @@ module _ {T E R O : Type 0} (origin : T → O) (stands : T → List (Entry E R) 
       drawn = f.drawn;
       served = le_refl v.known.served;
       seen = f.seen;
-      lawful = (m.start, (f.port port).begun, lawful);
-      own = λ q o. ((f.port port).own q o).1;
+      lawful = record { origin = m.start; origin_is = (f.port port).origin_is; legal_history = lawful };
+      own_calls = λ q o. ((f.port port).own q o).1;
     };
     joined = refl;
   }
@@ -202,14 +228,14 @@ module _ {T E R O : Type 0} (origin : T → O) (stands : T → List (Entry E R) 
 
   -- a port that has seen the longest history has only watched
   moves_to : (m : Mo) (i : ℕ) (me : M) (stage : Stage E R O) (cs : Carried T E R) → Fit m i me.0
-      → me.0.is_port ≡ true → legal m.start m.whole
+      → me.0.is_port ≡ true → legal m.start m.history
       → MovesTo legal stage (seat_state me) (seat_with (informed_view m me.0 stage) cs)
   moves_to m i me stage cs f port lawful = record { port = port; stage_is = refl; watches = watches m i me.0 f port lawful }
 
   -- such a port has taken the slot, which was at home
   takes_value : (m : Mo) (i : ℕ) (me : M) (stage : Stage E R O) (x : T) (l : LastCall E R)
-      → Fit m i me.0 → me.0.is_port ≡ true → legal m.start m.whole → stands x m.whole
-      → origin x ≡ m.start
+      → Fit m i me.0 → me.0.is_port ≡ true → legal m.start m.history → stands x m.history → origin x
+      ≡ m.start
       → TakesValue origin stands legal stage (seat_state me) (seat_with (informed_view m me.0 stage) ((0, full_slot x l) ∷ me.1))
   takes_value m i me stage x l f port lawful stood same = record {
     moves = moves_to m i me stage ((0, full_slot x l) ∷ me.1) f port lawful;
@@ -217,7 +243,7 @@ module _ {T E R O : Type 0} (origin : T → O) (stands : T → List (Entry E R) 
     last = l;
     carried = refl;
     results = stood;
-    origin_is = (f.port port).begun ∙ ap (λ (o : O). Some o) (sym same);
+    origin_is = (f.port port).origin_is ∙ ap (λ (o : O). Some o) (sym same);
   }
 
   -- a load that takes no slot
@@ -232,7 +258,7 @@ module _ {T E R O : Type 0} (origin : T → O) (stands : T → List (Entry E R) 
   pub settles : (slots id : ℕ) (me : M) → Allows Rule slots id me 1 (λ n. n)
       (play Settles (step slots 1 0 0 none) me)
   settles slots id me = loads slots id me 1 (play Settles (step slots 1 0 0 none) me) (λ m vs f fit.
-      (with_stage me.0 Idle, fit_at_stage m id me.0 Idle fit tt, record { after_is = refl; no_calls = λ e. subst (Stand m id me.0.known) e fit.staged }))
+      (with_stage me.0 Idle, fit_at_stage m id me.0 Idle fit tt, record { after_is = refl; no_calls = λ e. subst (Stand m id me.0.known) e fit.stage }))
 
   pub looks : (slots id : ℕ) (me : M) → me.0.is_port ≡ true
       → Allows Rule slots id me 0 (λ n. n) (play (Looks legal) (step slots 0 0 0 none) me)
@@ -242,40 +268,56 @@ module _ {T E R O : Type 0} (origin : T → O) (stands : T → List (Entry E R) 
   -- the view of a seat that has read the count of ended turns
   counts : (m : Mo) (i : ℕ) (v : V) → Fit m i v → Fit m i (view_with_served v m.serving)
   counts m i v f = record {
-    named = f.named;
+    origin_is = f.origin_is;
     seen = f.seen;
     drawn = f.drawn;
     served = le_refl m.serving;
-    lone = f.lone;
-    staged = le_refl m.serving;
-    port = λ e. let p = f.port e in record { begun = p.begun; own = p.own; future = p.future; apart = p.apart };
+    first_if_lone = f.first_if_lone;
+    stage = le_refl m.serving;
+    port = λ e. let p = f.port e in record { origin_is = p.origin_is; own = p.own; future = p.future; apart = p.apart };
   }
 
   pub sees : (slots id : ℕ) (me : M) → Allows Rule slots id me 1 (λ n. n)
       (play SeesServing (step slots 1 0 0 none) me)
   sees slots id me = loads slots id me 1 (play SeesServing (step slots 1 0 0 none) me) (λ m vs f fit.
-      let a : m.serving ≤ m.ticket = f.range in let b : m.ticket ≤ most_turns + m.closed = f.few in let c : m.closed ≤ 1 = f.once in
-      let d : length m.whole ≤ m.serving = f.counted in let e : length me.0.known.seen ≤ length m.whole = starts_length m.whole me.0.known.seen fit.seen in
+      let a : m.serving ≤ m.ticket = f.range in let b : m.ticket ≤ most_turns + m.closed = f.within_most in let c : m.closed ≤ 1 = f.closed_once in
+      let d : length m.history ≤ m.serving = f.counted in let e : length me.0.known.seen ≤ length m.history = starts_length m.history me.0.known.seen fit.seen in
       (view_with_served me.0 m.serving, counts m id me.0 fit, record { view = refl; carried = refl; no_less = fit.served; counted = omega arith; within = omega arith }))
 
   -- the moment after seat i has drawn a turn
   abbrev after_draw : Mo → ℕ → ℕ → Mo
   after_draw m i new = record m { ticket = new; owner = put m.owner m.ticket i }
 
+  -- a turn that was drawn before
+  draw_turn : (m : Mo) (i new j n : ℕ) → new ≡ m.ticket + 1 → HoldsTurn m j n
+      → HoldsTurn (after_draw m i new) j n
+  draw_turn m i new j n up h = let low : n < m.ticket = h.drawn in record { not_ended = h.not_ended; drawn = omega arith; owner_is = put_else m.owner m.ticket i n (λ e. omega arith) ∙ h.owner_is }
+
+  -- a seat that was taken in, after more turns were drawn
+  met_later : (m m' : Mo) (j : ℕ) (k : Known E R O) (b : Bool) (u : Known E R O) → m'.start
+      ≡ m.start → m'.history ≡ m.history → m'.holder ≡ m.holder → m.ticket ≤ m'.ticket
+      → HasMet m j k b u → HasMet m' j k b u
+  met_later m m' j k b u start history holder more h = let low : u.drawn ≤ m.ticket = h.drawn in record {
+    seen = subst (λ l. StartsWith l u.seen) (sym history) h.seen;
+    origin_is = λ o e. h.origin_is o e ∙ sym start;
+    drawn = omega arith;
+    numbers = λ yes q one. let a = h.numbers yes q one in record { holder_is = ap (λ f. f q) holder ∙ a.holder_is; calls = ap (calls_by q) history ∙ a.calls; not_own = a.not_own; not_future = a.not_future };
+  }
+
   draw_staged : (m : Mo) (i new j : ℕ) (k : Known E R O) → new ≡ m.ticket + 1 → (st : Stage E R O)
       → Stand m j k st → Stand (after_draw m i new) j k st
   draw_staged m i new j k up New h = h
   draw_staged m i new j k up Young h = h
   draw_staged m i new j k up Idle h = tt
-  draw_staged m i new j k up (Waiting n) h = let low : n < m.ticket = h.0.1 in ((h.0.0, omega arith, put_else m.owner m.ticket i n (λ e. omega arith) ∙ h.0.2), h.1)
-  draw_staged m i new j k up (Turn n) h = let low : n < m.ticket = h.0.1 in ((h.0.0, omega arith, put_else m.owner m.ticket i n (λ e. omega arith) ∙ h.0.2), h.1, h.2, h.3)
+  draw_staged m i new j k up (Waiting n) h = (draw_turn m i new j n up h.0, λ e. home_stays m (after_draw m i new) refl refl refl refl (h.1 e))
+  draw_staged m i new j k up (Turn n) h = record { holds = draw_turn m i new j n up h.holds; served = h.served; seen = h.seen; not_closed = h.not_closed }
   draw_staged m i new j k up (SawServing n) h = h
-  draw_staged m i new j k up (Met b u) h = let few : u.drawn ≤ m.ticket = h.2 in (h.0, h.1, omega arith, h.3)
+  draw_staged m i new j k up (Met b u) h = met_later m (after_draw m i new) j k b u refl refl refl (omega arith) h
 
   draw_fit : (m : Mo) (i new j : ℕ) (d : V) → new ≡ m.ticket + 1 → Fit m j d
       → Fit (after_draw m i new) j d
   draw_fit m i new j d up f = let low : d.known.drawn ≤ m.ticket = f.drawn in
-      record { named = f.named; seen = f.seen; drawn = omega arith; served = f.served; lone = f.lone; staged = draw_staged m i new j d.known up d.stage f.staged; port = f.port }
+      record { origin_is = f.origin_is; seen = f.seen; drawn = omega arith; served = f.served; first_if_lone = f.first_if_lone; stage = draw_staged m i new j d.known up d.stage f.stage; port = f.port }
 
   at_home : (m : Mo) → IsHome origin stands m ⊎ (m.serving < m.ticket) → m.ticket ≡ m.serving
       → IsHome origin stands m
@@ -285,8 +327,9 @@ module _ {T E R O : Type 0} (origin : T → O) (stands : T → List (Entry E R) 
       ≡ old + 1 → old < most_turns → m.ticket ≡ old
       → F (after_draw m id new) (set vs id (with_stage me.0 (Waiting m.ticket)))
   draws_at id me old new m vs f fit up few hit = let low : m.serving ≤ m.ticket = f.range in let more : new ≡ m.ticket + 1 = omega arith in
-      moves m (after_draw m id new) vs id (with_stage me.0 (Waiting m.ticket)) f (omega arith) (omega arith) f.once f.lawful f.counted (⊎_elim inl (λ (l : m.serving < m.ticket). inr (omega arith)) f.held)
-      (fit_at_stage (after_draw m id new) id me.0 (Waiting m.ticket) (draw_fit m id new id me.0 more fit) ((low, omega arith, put_here m.owner m.ticket id), at_home m f.held))
+      moves m (after_draw m id new) vs id (with_stage me.0 (Waiting m.ticket)) f (omega arith) (omega arith) f.closed_once f.lawful f.counted (⊎_elim (λ h. inl (home_stays m (after_draw m id new) refl refl refl refl h)) (λ (l : m.serving < m.ticket). inr (omega arith)) f.home_or_held)
+      (fit_at_stage (after_draw m id new) id me.0 (Waiting m.ticket) (draw_fit m id new id me.0 more fit)
+      (record { not_ended = low; drawn = omega arith; owner_is = put_here m.owner m.ticket id }, λ e. home_stays m (after_draw m id new) refl refl refl refl (at_home m f.home_or_held e)))
       (λ j d _ x. draw_fit m id new j d more x)
 
   pub draws : (slots id : ℕ) (me : M) (old new : ℕ) → new ≡ old + 1 → old < most_turns
@@ -308,37 +351,41 @@ module _ {T E R O : Type 0} (origin : T → O) (stands : T → List (Entry E R) 
   -- a seat that is one of two is not alone
   not_lone : {X : Type 0} (m : Mo) (i j : ℕ) (v d : V) → j ≢ i → Fit m i v → Fit m j d
       → m.lone ≡ true → X
-  not_lone m i j v d other f g lone = absurd (other (g.lone lone ∙ sym (f.lone lone)))
+  not_lone m i j v d other f g lone = absurd (other (g.first_if_lone lone ∙ sym (f.first_if_lone lone)))
+
+  take_turn : (m : Mo) (j n : ℕ) → HoldsTurn m j n → HoldsTurn (after_take m) j n
+  take_turn m j n h = record { not_ended = h.not_ended; drawn = h.drawn; owner_is = h.owner_is }
 
   take_staged : (m : Mo) (i n j : ℕ) (k : Known E R O) → j ≢ i → m.owner n ≡ i → n ≡ m.serving
       → (m.lone ≡ true → ⊥) → (st : Stage E R O) → Stand m j k st → Stand (after_take m) j k st
   take_staged m i n j k other mine here pair New h = absurd (pair h.0)
   take_staged m i n j k other mine here pair Young h = h
   take_staged m i n j k other mine here pair Idle h = tt
-  take_staged m i n j k other mine here pair (Waiting q) h = (h.0, λ e. absurd (other (sym h.0.2 ∙ (ap m.owner (e ∙ sym here) ∙ mine))))
-  take_staged m i n j k other mine here pair (Turn q) h = h
+  take_staged m i n j k other mine here pair (Waiting q) h = (take_turn m j q h.0, λ e. absurd (other (sym h.0.owner_is ∙ (ap m.owner (e ∙ sym here) ∙ mine))))
+  take_staged m i n j k other mine here pair (Turn q) h = record { holds = take_turn m j q h.holds; served = h.served; seen = h.seen; not_closed = h.not_closed }
   take_staged m i n j k other mine here pair (SawServing q) h = h
-  take_staged m i n j k other mine here pair (Met b u) h = h
+  take_staged m i n j k other mine here pair (Met b u) h = met_later m (after_take m) j k b u refl refl refl (le_refl m.ticket) h
 
-  restaged : (m m' : Mo) (i : ℕ) (v : V) → m'.start ≡ m.start → m'.whole ≡ m.whole
+  restaged : (m m' : Mo) (i : ℕ) (v : V) → m'.start ≡ m.start → m'.history ≡ m.history
       → m.ticket ≤ m'.ticket → m.serving ≤ m'.serving → (m'.lone ≡ true → m.lone ≡ true) → m'.holder
       ≡ m.holder → Fit m i v → Stand m' i v.known v.stage → Fit m' i v
   restaged m m' i v start whole more later lone holder f st = let low : v.known.drawn ≤ m.ticket = f.drawn in let few : v.known.served ≤ m.serving = f.served in record {
-    named = λ o e. f.named o e ∙ sym start;
+    origin_is = λ o e. f.origin_is o e ∙ sym start;
     seen = subst (λ h. StartsWith h v.known.seen) (sym whole) f.seen;
     drawn = omega arith;
     served = omega arith;
-    lone = λ e. f.lone (lone e);
-    staged = st;
+    first_if_lone = λ e. f.first_if_lone (lone e);
+    stage = st;
     port = λ e. subst (λ (z : O × (List ℕ → ℕ) × List (Entry E R)). IsPort z.0 z.1 i z.2 v.known) (λ c. (sym start c, sym holder c, sym whole c)) (f.port e);
   }
 
   takes_at : (id n : ℕ) (v : V) (m : Mo) (vs : List V) → F m vs → Fit m id v → v.stage ≡ Waiting n
       → m.serving ≡ n → F (after_take m) (set vs id (informed_view m v (Turn n)))
-  takes_at id n v m vs f fit is hit = let w : V = informed_view m v (Turn n) in let st = subst (Stand m id v.known) is fit.staged in let home = st.1 (sym hit) in let low : n < m.ticket = st.0.1 in
-      moves m (after_take m) vs id w f f.range f.few f.once f.lawful f.counted (inr (omega arith))
-      (restaged m (after_take m) id w refl refl (le_refl m.ticket) (le_refl m.serving) (λ e. e) refl (informs m id v (Turn n) fit (st.0, sym hit, refl, home.5)) (st.0, sym hit, refl, home.5))
-      (λ j d other g. restaged m (after_take m) j d refl refl (le_refl m.ticket) (le_refl m.serving) (λ e. e) refl g (take_staged m id n j d.known other st.0.2 (sym hit) (not_lone m id j v d other fit g) d.stage g.staged))
+  takes_at id n v m vs f fit is hit = let w : V = informed_view m v (Turn n) in let st = subst (Stand m id v.known) is fit.stage in let home = st.1 (sym hit) in let low : n < m.ticket = st.0.drawn in let has : HoldsSlot m id n w.known = record { holds = st.0; served = sym hit; seen = refl; not_closed = home.not_closed } in
+      moves m (after_take m) vs id w f f.range f.within_most f.closed_once f.lawful f.counted (inr (omega arith))
+      (restaged m (after_take m) id w refl refl (le_refl m.ticket) (le_refl m.serving) (λ e. e) refl (informs m id v (Turn n) fit has)
+      (record { holds = take_turn m id n st.0; served = sym hit; seen = refl; not_closed = home.not_closed }))
+      (λ j d other g. restaged m (after_take m) j d refl refl (le_refl m.ticket) (le_refl m.serving) (λ e. e) refl g (take_staged m id n j d.known other st.0.owner_is (sym hit) (not_lone m id j v d other fit g) d.stage g.stage))
 
   pub reaches : (slots id n : ℕ) (me : M) → me.0.is_port ≡ true → me.0.stage ≡ Waiting n
       → Allows Rule slots id me 1 (λ x. x) (play (Reaches origin stands legal)
@@ -347,14 +394,14 @@ module _ {T E R O : Type 0} (origin : T → O) (stands : T → List (Entry E R) 
       (λ s. length s.homes ≡ slots → get_elem? s.views id ≡ some me.0 → get_or s.words 1 0 < 18446744073709551616
       → (w : V) × (a : Act Sl) × Valid s.homes me.1 a × Rule (stepped s 1 (get_or s.words 1 0) id me.1 w a) × play (Reaches origin stands legal) (step slots 1 0 0 none) me (get_or s.words 1 0) (w, carried_after me.1 a))
       (λ m vs f _ at _. let fit = f.fits id me.0 at in dite (ℕ_discrete m.serving n)
-      (λ hit. let st = subst (Stand m id me.0.known) is fit.staged in let home = st.1 (sym hit) in let w : V = informed_view m me.0 (Turn n) in
-      let met : TakesTurn origin stands legal n (seat_state me) (seat_with w ((0, full_slot home.0 home.1) ∷ me.1)) = record { takes = takes_value m id me (Turn n) home.0 home.1 fit port f.lawful home.3 home.4; drawn = st.0.1 } in (
+      (λ hit. let st = subst (Stand m id me.0.known) is fit.stage in let home = st.1 (sym hit) in let w : V = informed_view m me.0 (Turn n) in
+      let met : TakesTurn origin stands legal n (seat_state me) (seat_with w ((0, full_slot home.value home.last) ∷ me.1)) = record { takes = takes_value m id me (Turn n) home.value home.last fit port f.lawful home.results home.origin_is; drawn = st.0.drawn } in (
         w,
-        takes 0 (full_slot home.0 home.1),
-        ap (λ h. some h) home.2,
+        takes 0 (full_slot home.value home.last),
+        ap (λ h. some h) home.home_is,
         kept (after_take m) (set vs id w) (takes_at id n me.0 m vs f fit is hit),
         λ k is'. let same : n ≡ k = ap (turn_of n) (sym is ∙ is') in record {
-          if_served = λ _. subst (λ (z : ℕ). TakesTurn origin stands legal z (seat_state me) (seat_with w ((0, full_slot home.0 home.1) ∷ me.1))) same met;
+          if_served = λ _. subst (λ (z : ℕ). TakesTurn origin stands legal z (seat_state me) (seat_with w ((0, full_slot home.value home.last) ∷ me.1))) same met;
           if_not = λ miss. absurd (miss (hit ∙ same));
         },
       ))
@@ -368,7 +415,7 @@ module _ {T E R O : Type 0} (origin : T → O) (stands : T → List (Entry E R) 
 
   -- the moment after port p's turn has ended and the slot has x again
   abbrev after_end : Mo → List ℕ → T → LastCall E R → Mo
-  after_end m p x l = record m { serving = m.serving + 1; whole = m.whole ++ new_entries p l; home = some (full_slot x l) }
+  after_end m p x l = record m { serving = m.serving + 1; history = m.history ++ new_entries p l; home = some (full_slot x l) }
 
   end_staged : (m : Mo) (i n j : ℕ) (p : List ℕ) (x : T) (l : LastCall E R) (k : Known E R O)
       → j ≢ i → m.owner n ≡ i → n ≡ m.serving → m.holder p ≡ i → (m.lone ≡ true → ⊥)
@@ -376,47 +423,52 @@ module _ {T E R O : Type 0} (origin : T → O) (stands : T → List (Entry E R) 
   end_staged m i n j p x l k other mine here holds pair home New h = absurd (pair h.0)
   end_staged m i n j p x l k other mine here holds pair home Young h = h
   end_staged m i n j p x l k other mine here holds pair home Idle h = tt
-  end_staged m i n j p x l k other mine here holds pair home (Waiting q) h = let low : m.serving ≤ q = h.0.0 in let apart : q ≢ m.serving = λ e. other (sym h.0.2 ∙ (ap m.owner (e ∙ sym here) ∙ mine)) in ((omega arith, h.0.1, h.0.2), λ _. home)
-  end_staged m i n j p x l k other mine here holds pair home (Turn q) h = absurd (other (sym h.0.2 ∙ (ap m.owner (h.1 ∙ sym here) ∙ mine)))
+  end_staged m i n j p x l k other mine here holds pair home (Waiting q) h = let t = h.0 in let low : m.serving ≤ q = t.not_ended in let apart : q ≢ m.serving = λ e. other (sym t.owner_is ∙ (ap m.owner (e ∙ sym here) ∙ mine)) in (record { not_ended = omega arith; drawn = t.drawn; owner_is = t.owner_is }, λ _. home)
+  end_staged m i n j p x l k other mine here holds pair home (Turn q) h = absurd (other (sym h.holds.owner_is ∙ (ap m.owner (h.served ∙ sym here) ∙ mine)))
   end_staged m i n j p x l k other mine here holds pair home (SawServing q) h = let low : q ≤ m.serving = h in (omega arith)
-  end_staged m i n j p x l k other mine here holds pair home (Met b u) h = (
-    starts_more m.whole u.seen (new_entries p l) h.0,
-    h.1,
-    h.2,
-    λ yes q one. let a = h.3 yes q one in (a.0, entries-other q p m.whole l (λ e. other (sym a.0 ∙ (ap m.holder e ∙ holds))) ∙ a.1, a.2, a.3),
-  )
+  end_staged m i n j p x l k other mine here holds pair home (Met b u) h = record {
+    seen = starts_more m.history u.seen (new_entries p l) h.seen;
+    origin_is = h.origin_is;
+    drawn = h.drawn;
+    numbers = λ yes q one. let a = h.numbers yes q one in record {
+      holder_is = a.holder_is;
+      calls = entries-other q p m.history l (λ e. other (sym a.holder_is ∙ (ap m.holder e ∙ holds))) ∙ a.calls;
+      not_own = a.not_own;
+      not_future = a.not_future;
+    };
+  }
 
   end_others : (m : Mo) (i n j : ℕ) (p : List ℕ) (x : T) (l : LastCall E R) (d : V) → j ≢ i
       → m.owner n ≡ i → n ≡ m.serving → m.holder p ≡ i → (m.lone ≡ true → ⊥)
       → IsHome origin stands (after_end m p x l) → Fit m j d → Fit (after_end m p x l) j d
   end_others m i n j p x l d other mine here holds pair home f = let few : d.known.served ≤ m.serving = f.served in record {
-    named = f.named;
-    seen = starts_more m.whole d.known.seen (new_entries p l) f.seen;
+    origin_is = f.origin_is;
+    seen = starts_more m.history d.known.seen (new_entries p l) f.seen;
     drawn = f.drawn;
     served = omega arith;
-    lone = f.lone;
-    staged = end_staged m i n j p x l d.known other mine here holds pair home d.stage f.staged;
+    first_if_lone = f.first_if_lone;
+    stage = end_staged m i n j p x l d.known other mine here holds pair home d.stage f.stage;
     port = λ e. let t = f.port e in record {
-      begun = t.begun;
-      own = λ q o. let a = t.own q o in (a.0, entries-other q p m.whole l (λ same. other (sym a.0 ∙ (ap m.holder same ∙ holds))) ∙ a.1);
-      future = λ q o. let a = t.future q o in (a.0, entries-other q p m.whole l (λ same. other (sym a.0 ∙ (ap m.holder same ∙ holds))) ∙ a.1);
+      origin_is = t.origin_is;
+      own = λ q o. let a = t.own q o in (a.0, entries-other q p m.history l (λ same. other (sym a.0 ∙ (ap m.holder same ∙ holds))) ∙ a.1);
+      future = λ q o. let a = t.future q o in (a.0, entries-other q p m.history l (λ same. other (sym a.0 ∙ (ap m.holder same ∙ holds))) ∙ a.1);
       apart = t.apart;
     };
   }
 
-  end_mine : (m : Mo) (i : ℕ) (x : T) (l : LastCall E R) (v : V) → v.known.seen ≡ m.whole
+  end_mine : (m : Mo) (i : ℕ) (x : T) (l : LastCall E R) (v : V) → v.known.seen ≡ m.history
       → Fit m i v → Fit (after_end m v.known.number x l) i (view_after_turn v l)
-  end_mine m i x l v all f = let p : List ℕ = v.known.number in let same : m.whole ++ new_entries p l ≡ v.known.seen ++ new_entries p l = ap (λ h. h ++ new_entries p l) (sym all) in let few : v.known.served ≤ m.serving = f.served in record {
-    named = f.named;
+  end_mine m i x l v all f = let p : List ℕ = v.known.number in let same : m.history ++ new_entries p l ≡ v.known.seen ++ new_entries p l = ap (λ h. h ++ new_entries p l) (sym all) in let few : v.known.served ≤ m.serving = f.served in record {
+    origin_is = f.origin_is;
     seen = subst (λ h. StartsWith h (v.known.seen ++ new_entries p l)) (sym same) (starts_refl (v.known.seen ++ new_entries p l));
     drawn = f.drawn;
     served = omega arith;
-    lone = f.lone;
-    staged = tt;
+    first_if_lone = f.first_if_lone;
+    stage = tt;
     port = λ e. let t = f.port e in record {
-      begun = t.begun;
+      origin_is = t.origin_is;
       own = λ q o. ((t.own q o).0, ap (calls_by q) same);
-      future = λ q o. let a = t.future q o in (a.0, entries-other q p m.whole l (future-not-self p v.known.splits q o) ∙ a.1);
+      future = λ q o. let a = t.future q o in (a.0, entries-other q p m.history l (future-not-self p v.known.splits q o) ∙ a.1);
       apart = t.apart;
     };
   }
@@ -425,19 +477,19 @@ module _ {T E R O : Type 0} (origin : T → O) (stands : T → List (Entry E R) 
     ends_at : (id n : ℕ) (v : V) (x : T) (l : LastCall E R) (m : Mo) (vs : List V) → F m vs
         → Fit m id v → v.is_port ≡ true → v.stage ≡ Turn n → v.known.origin ≡ Some (origin x)
         → stands x (v.known.seen ++ new_entries v.known.number l) → F (after_end m v.known.number x l) (set vs id (view_after_turn v l)) × AddsCall legal l v (view_after_turn v l)
-    ends_at id n v x l m vs f fit port is begun stood = let p : List ℕ = v.known.number in let st = subst (Stand m id v.known) is fit.staged in let all = st.2 in let mine = fit.port port in
-        let start : origin x ≡ m.start = fit.named (origin x) begun in let whole : v.known.seen ++ new_entries p l ≡ m.whole ++ new_entries p l = ap (λ h. h ++ new_entries p l) all in
-        let stood' : stands x (m.whole ++ new_entries p l) = subst (stands x) whole stood in let home : IsHome origin stands (after_end m p x l) = (x, l, refl, stood', start, st.3) in
-        let lawful : legal m.start (m.whole ++ new_entries p l) = subst (λ o. legal o (m.whole ++ new_entries p l)) start (law x (m.whole ++ new_entries p l) stood') in
-        let low : n < m.ticket = st.0.1 in let here : n ≡ m.serving = st.1 in let were : length m.whole ≤ m.serving = f.counted in let more = entries_few p m.whole l in (
-          moves m (after_end m p x l) vs id (view_after_turn v l) f (omega arith) f.few f.once lawful (omega (arith, were, more)) (inl home) (end_mine m id x l v all fit)
-              (λ j d other g. end_others m id n j p x l d other st.0.2 here (mine.own p (inl refl)).0 (not_lone m id j v d other fit g) home g),
+    ends_at id n v x l m vs f fit port is begun stood = let p : List ℕ = v.known.number in let st = subst (Stand m id v.known) is fit.stage in let all = st.seen in let mine = fit.port port in
+        let start : origin x ≡ m.start = fit.origin_is (origin x) begun in let whole : v.known.seen ++ new_entries p l ≡ m.history ++ new_entries p l = ap (λ h. h ++ new_entries p l) all in
+        let stood' : stands x (m.history ++ new_entries p l) = subst (stands x) whole stood in let home : IsHome origin stands (after_end m p x l) = record { value = x; last = l; home_is = refl; results = stood'; origin_is = start; not_closed = st.not_closed } in
+        let lawful : legal m.start (m.history ++ new_entries p l) = subst (λ o. legal o (m.history ++ new_entries p l)) start (law x (m.history ++ new_entries p l) stood') in
+        let low : n < m.ticket = st.holds.drawn in let here : n ≡ m.serving = st.served in let were : length m.history ≤ m.serving = f.counted in let more = entries_few p m.history l in (
+          moves m (after_end m p x l) vs id (view_after_turn v l) f (omega arith) f.within_most f.closed_once lawful (omega (arith, were, more)) (inl home) (end_mine m id x l v all fit)
+              (λ j d other g. end_others m id n j p x l d other st.holds.owner_is here (mine.own p (inl refl)).0 (not_lone m id j v d other fit g) home g),
           record {
             view = refl;
-            lawful = (m.start, mine.begun, subst (legal m.start) (sym whole) lawful);
+            lawful = record { origin = m.start; origin_is = mine.origin_is; legal_history = subst (legal m.start) (sym whole) lawful };
             own_calls = entries-own p v.known.seen l;
             joined_calls = λ q a. entries-other q p v.known.seen l (mine.apart q a).0;
-            within = λ turn at. let same : n ≡ turn = ap (held_of n) (sym is ∙ at) in let long : length (v.known.seen ++ new_entries p l) ≡ length (m.whole ++ new_entries p l) = ap (λ h. length h) whole in omega (arith, were, more, here, same, long);
+            within = λ turn at. let same : n ≡ turn = ap (held_of n) (sym is ∙ at) in let long : length (v.known.seen ++ new_entries p l) ≡ length (m.history ++ new_entries p l) = ap (λ h. length h) whole in omega (arith, were, more, here, same, long);
           },
         )
 
@@ -449,7 +501,7 @@ module _ {T E R O : Type 0} (origin : T → O) (stands : T → List (Entry E R) 
         (λ s. length s.homes ≡ slots → get_elem? s.views id ≡ some v → get_or s.words 1 0 < 18446744073709551616
         → (w : V) × (a : Act Sl) × Valid s.homes me.1 a × Rule (stepped s 1 ((get_or s.words 1 0 + 1) % 2 ^ 64) id me.1 w a) × play (Ends legal) (step slots 1 1 0 none) me (get_or s.words 1 0) (w, carried_after me.1 a))
         (λ m vs f _ at _. let t = ends_at id n v x l m vs f (f.fits id v at) port is begun stood in let w : V = view_after_turn v l in
-        let a : m.serving ≤ m.ticket = f.range in let b : m.ticket ≤ most_turns + m.closed = f.few in let c : m.closed ≤ 1 = f.once in let small : m.serving + 1 < 2 ^ 64 = omega arith in
+        let a : m.serving ≤ m.ticket = f.range in let b : m.ticket ≤ most_turns + m.closed = f.within_most in let c : m.closed ≤ 1 = f.closed_once in let small : m.serving + 1 < 2 ^ 64 = omega arith in
         (w, gives, tt, subst (λ (z : ℕ). Rule record { words = m.ticket ∷ z ∷ []; homes = some (full_slot x l) ∷ []; views = set vs id w }) (sym (mod-eq_of_lt small)) (kept (after_end m v.known.number x l) (set vs id w) t.0), record { carried = refl; adds = t.1 }))
 
     pub ends : (slots id n : ℕ) (me : M) (x : T) (l : LastCall E R) → me.0.is_port ≡ true
@@ -460,17 +512,17 @@ module _ {T E R O : Type 0} (origin : T → O) (stands : T → List (Entry E R) 
 
     -- the moment at which the table is made
     abbrev first_moment : T → Mo
-    first_moment x = record { ticket = 0; serving = 0; start = origin x; whole = []; home = some (full_slot x None); holder = λ _. 0; owner = λ _. 0; lone = true; closed = 0 }
+    first_moment x = record { ticket = 0; serving = 0; start = origin x; history = []; home = some (full_slot x None); holder = λ _. 0; owner = λ _. 0; lone = true; closed = 0 }
 
     first_fit : (x : T) → x ≡ first → Fit (first_moment x) 0 (first_view (origin x))
     first_fit x same = record {
-      named = λ o e. sym (the_value e);
+      origin_is = λ o e. sym (the_value e);
       seen = starts_refl [];
       drawn = le_refl 0;
       served = le_refl 0;
-      lone = λ _. refl;
-      staged = (refl, ap (λ (y : T). some (full_slot y None)) same);
-      port = λ _. record { begun = refl; own = λ q _. (refl, refl); future = λ q _. (refl, refl); apart = λ q a. absurd a };
+      first_if_lone = λ _. refl;
+      stage = (refl, ap (λ (y : T). some (full_slot y None)) same);
+      port = λ _. record { origin_is = refl; own = λ q _. (refl, refl); future = λ q _. (refl, refl); apart = λ q a. absurd a };
     }
       where
         the_value : {a b : O} → Some a ≡ Some b → a ≡ b
@@ -478,14 +530,14 @@ module _ {T E R O : Type 0} (origin : T → O) (stands : T → List (Entry E R) 
 
     pub made : (x : T) → stands x [] → x ≡ first
         → Rule (opening (0 ∷ 0 ∷ []) (full_slot x None ∷ []) (first_view (origin x)))
-    made x empty same = let m : Mo = first_moment x in let w : V = first_view (origin x) in let mine = first_fit x same in let home : IsHome origin stands m = (x, None, refl, empty, refl, refl) in
+    made x empty same = let m : Mo = first_moment x in let w : V = first_view (origin x) in let mine = first_fit x same in let home : IsHome origin stands m = record { value = x; last = None; home_is = refl; results = empty; origin_is = refl; not_closed = refl } in
         kept m (w ∷ []) (moves m m (w ∷ []) 0 w (record {
           range = le_refl 0;
-          few = omega arith;
-          once = omega arith;
+          within_most = omega arith;
+          closed_once = omega arith;
           lawful = law x [] empty;
           counted = le_refl 0;
-          held = inl home;
+          home_or_held = inl home;
           fits = λ i v at. ⊎_elim (λ (e : get_elem? [] i ≡ some v). absurd (some-ne-none v (sym e))) (λ (t : (i ≡ 0) × (w ≡ v)). subst (λ (z : ℕ × V). Fit m z.0 z.1) (λ c. (sym t.0 c, t.1 c)) mine) (at_end [] w v i at);
         }) (le_refl 0) (omega arith) (omega arith) (law x [] empty) (le_refl 0) (inl home) mine (λ _ _ _ g. g))
 
@@ -498,17 +550,17 @@ module _ {T E R O : Type 0} (origin : T → O) (stands : T → List (Entry E R) 
   close_staged m j k ended pair New h = absurd (pair h.0)
   close_staged m j k ended pair Young h = h
   close_staged m j k ended pair Idle h = tt
-  close_staged m j k ended pair (Waiting q) h = let low : m.serving ≤ q = h.0.0 in let high : q < m.ticket = h.0.1 in absurd (omega arith)
-  close_staged m j k ended pair (Turn q) h = let low : m.serving ≤ q = h.0.0 in let high : q < m.ticket = h.0.1 in absurd (omega arith)
+  close_staged m j k ended pair (Waiting q) h = let low : m.serving ≤ q = h.0.not_ended in let high : q < m.ticket = h.0.drawn in absurd (omega arith)
+  close_staged m j k ended pair (Turn q) h = let low : m.serving ≤ q = h.holds.not_ended in let high : q < m.ticket = h.holds.drawn in absurd (omega arith)
   close_staged m j k ended pair (SawServing q) h = h
-  close_staged m j k ended pair (Met b u) h = let few : u.drawn ≤ m.ticket = h.2 in (h.0, h.1, omega arith, h.3)
+  close_staged m j k ended pair (Met b u) h = met_later m (after_close m) j k b u refl refl refl (omega arith) h
 
   closes_at : (id : ℕ) (v : V) (m : Mo) (vs : List V) → F m vs → Fit m id v → m.ticket ≡ m.serving
       → m.closed ≡ 0 → F (after_close m) (set vs id (informed_view m v Idle))
-  closes_at id v m vs f fit ended fresh = let few : m.ticket ≤ most_turns + m.closed = f.few in let more : m.ticket ≤ m.ticket + 1 = omega arith in let w : V = informed_view m v Idle in
+  closes_at id v m vs f fit ended fresh = let few : m.ticket ≤ most_turns + m.closed = f.within_most in let more : m.ticket ≤ m.ticket + 1 = omega arith in let w : V = informed_view m v Idle in
       moves m (after_close m) vs id w f (omega arith) (omega arith) (omega arith) f.lawful f.counted (inr (omega arith))
       (restaged m (after_close m) id w refl refl more (le_refl m.serving) (λ e. e) refl (informs m id v Idle fit tt) tt)
-      (λ j d other g. restaged m (after_close m) j d refl refl more (le_refl m.serving) (λ e. e) refl g (close_staged m j d.known ended (not_lone m id j v d other fit g) d.stage g.staged))
+      (λ j d other g. restaged m (after_close m) j d refl refl more (le_refl m.serving) (λ e. e) refl g (close_staged m j d.known ended (not_lone m id j v d other fit g) d.stage g.stage))
 
   pub closes : (slots id old new : ℕ) (me : M) → new ≡ old + 1 → me.0.is_port ≡ true → me.0.stage
       ≡ SawServing old
@@ -517,16 +569,16 @@ module _ {T E R O : Type 0} (origin : T → O) (stands : T → List (Entry E R) 
       (λ s. length s.homes ≡ slots → get_elem? s.views id ≡ some me.0 → get_or s.words 0 0 < 18446744073709551616
       → (w : V) × (a : Act Sl) × Valid s.homes me.1 a × Rule (stepped s 0 (either (eqb (get_or s.words 0 0) old) new (get_or s.words 0 0)) id me.1 w a)
       × play (Closes origin stands legal) (step slots 0 old new none) me (get_or s.words 0 0) (w, carried_after me.1 a))
-      (λ m vs f _ at _. let fit = f.fits id me.0 at in let st : old ≤ m.serving = subst (Stand m id me.0.known) is fit.staged in let range : m.serving ≤ m.ticket = f.range in let w : V = informed_view m me.0 Idle in
+      (λ m vs f _ at _. let fit = f.fits id me.0 at in let st : old ≤ m.serving = subst (Stand m id me.0.known) is fit.stage in let range : m.serving ≤ m.ticket = f.range in let w : V = informed_view m me.0 Idle in
       exchanged m.ticket old new
       (λ x. (w : V) × (a : Act Sl) × Valid (m.home ∷ []) me.1 a × Rule record { words = x ∷ m.serving ∷ []; homes = homes_after (m.home ∷ []) me.1 a; views = set vs id w }
       × play (Closes origin stands legal) (step slots 0 old new none) me m.ticket (w, carried_after me.1 a))
-      (λ hit. let done : m.ticket ≡ m.serving = omega arith in let home = at_home m f.held done in let more : m.ticket + 1 ≡ new = omega arith in (
+      (λ hit. let done : m.ticket ≡ m.serving = omega arith in let home = at_home m f.home_or_held done in let more : m.ticket + 1 ≡ new = omega arith in (
         w,
-        takes 0 (full_slot home.0 home.1),
-        ap (λ h. some h) home.2,
-        subst (λ (z : ℕ). Rule record { words = z ∷ m.serving ∷ []; homes = none ∷ []; views = set vs id w }) more (kept (after_close m) (set vs id w) (closes_at id me.0 m vs f fit done home.5)),
-        record { if_expected = λ _. takes_value m id me Idle home.0 home.1 fit port f.lawful home.3 home.4; if_other = λ miss. absurd (miss hit) },
+        takes 0 (full_slot home.value home.last),
+        ap (λ h. some h) home.home_is,
+        subst (λ (z : ℕ). Rule record { words = z ∷ m.serving ∷ []; homes = none ∷ []; views = set vs id w }) more (kept (after_close m) (set vs id w) (closes_at id me.0 m vs f fit done home.not_closed)),
+        record { if_expected = λ _. takes_value m id me Idle home.value home.last fit port f.lawful home.results home.origin_is; if_other = λ miss. absurd (miss hit) },
       ))
       (λ miss. (
         w,
@@ -538,21 +590,21 @@ module _ {T E R O : Type 0} (origin : T → O) (stands : T → List (Entry E R) 
 
   -- a port's knowledge after it has merged what the other seat knew
   abbrev merged_known : Mo → Known E R O → V → Known E R O
-  merged_known m k other = record k { joined = joined_with k other; seen = m.whole; drawn = m.ticket }
+  merged_known m k other = record k { joined = joined_with k other; seen = m.history; drawn = m.ticket }
 
   -- the seat that a stage `Met` has taken in
   abbrev other_view : Bool → Known E R O → V
   other_view b u = record { known = u; is_port = b; stage = Idle }
 
   merge_port : (m : Mo) (i : ℕ) (k : Known E R O) (b : Bool) (u : Known E R O)
-      → Stand m i k (Met b u) → IsPort m.start m.holder i m.whole k
-      → IsPort m.start m.holder i m.whole (merged_known m k (other_view b u))
-  merge_port m i k false u st t = record { begun = t.begun; own = λ q o. ((t.own q o).0, refl); future = t.future; apart = t.apart }
+      → Stand m i k (Met b u) → IsPort m.start m.holder i m.history k
+      → IsPort m.start m.holder i m.history (merged_known m k (other_view b u))
+  merge_port m i k false u st t = record { origin_is = t.origin_is; own = λ q o. ((t.own q o).0, refl); future = t.future; apart = t.apart }
   merge_port m i k true u st t = record {
-    begun = t.begun;
-    own = λ q o. (⊎_elim (λ e. (t.own q (inl e)).0) (λ a. ⊎_elim (λ x. (t.own q (inr x)).0) (λ x. (st.3 refl q x).0) (among-append q u.number k.joined u.joined a)) o, refl);
+    origin_is = t.origin_is;
+    own = λ q o. (⊎_elim (λ e. (t.own q (inl e)).0) (λ a. ⊎_elim (λ x. (t.own q (inr x)).0) (λ x. (st.numbers refl q x).holder_is) (among-append q u.number k.joined u.joined a)) o, refl);
     future = t.future;
-    apart = λ q a. ⊎_elim (t.apart q) (λ x. let y = st.3 refl q x in (y.2, y.3)) (among-append q u.number k.joined u.joined a);
+    apart = λ q a. ⊎_elim (t.apart q) (λ x. let y = st.numbers refl q x in (y.not_own, y.not_future)) (among-append q u.number k.joined u.joined a);
   }
 
   -- a stage names the seat that it has taken in
@@ -562,32 +614,32 @@ module _ {T E R O : Type 0} (origin : T → O) (stands : T → List (Entry E R) 
   same_other b u stage other is now = let same : (b, u) ≡ (other.is_port, other.known) = ap (met_of (b, u)) (sym is ∙ now) in λ i. record { known = (same i).1; is_port = (same i).0; stage = other.stage }
 
   knows_both : (m : Mo) (i : ℕ) (v : V) (b : Bool) (u : Known E R O) (stage : Stage E R O)
-      → Fit m i v → v.is_port ≡ true → legal m.start m.whole → Stand m i v.known (Met b u)
+      → Fit m i v → v.is_port ≡ true → legal m.start m.history → Stand m i v.known (Met b u)
       → KnowsBoth legal v.known (record { known = u; is_port = b; stage = stage }) (record { known = merged_known m v.known (other_view b u); is_port = v.is_port; stage = Idle })
   knows_both m i v b u stage fit port lawful st = let see = (watches m i v fit port lawful).sees in record {
     port = port;
     stage_is = refl;
-    sees = record { origin = refl; number = refl; splits = refl; drawn = see.drawn; served = see.served; seen = see.seen; lawful = see.lawful; own = see.own };
+    sees = record { origin = refl; number = refl; splits = refl; drawn = see.drawn; served = see.served; seen = see.seen; lawful = record { origin = m.start; origin_is = (fit.port port).origin_is; legal_history = lawful }; own_calls = see.own_calls };
     joined = refl;
-    drawn = st.2;
-    seen = st.0;
-    same_origin = λ o e. (fit.port port).begun ∙ ap (λ (z : O). Some z) (sym (st.1 o e));
-    calls = λ yes q x. (st.3 yes q x).1;
+    drawn = st.drawn;
+    other_seen = st.seen;
+    same_origin = λ o e. (fit.port port).origin_is ∙ ap (λ (z : O). Some z) (sym (st.origin_is o e));
+    other_calls = λ yes q x. (st.numbers yes q x).calls;
   }
 
   pub merges : (slots id : ℕ) (me : M) (b : Bool) (u : Known E R O) → me.0.is_port ≡ true
       → me.0.stage ≡ Met b u
       → Allows Rule slots id me 1 (λ n. n) (play (Merges legal) (step slots 1 0 0 none) me)
-  merges slots id me b u port is = loads slots id me 1 (play (Merges legal) (step slots 1 0 0 none) me) (λ m vs f fit. let st = subst (Stand m id me.0.known) is fit.staged in let k : Known E R O = me.0.known in
+  merges slots id me b u port is = loads slots id me 1 (play (Merges legal) (step slots 1 0 0 none) me) (λ m vs f fit. let st = subst (Stand m id me.0.known) is fit.stage in let k : Known E R O = me.0.known in
       let w : V = record { known = merged_known m k (other_view b u); is_port = me.0.is_port; stage = Idle } in (
         w,
         record {
-          named = fit.named;
-          seen = starts_refl m.whole;
+          origin_is = fit.origin_is;
+          seen = starts_refl m.history;
           drawn = le_refl m.ticket;
           served = fit.served;
-          lone = fit.lone;
-          staged = tt;
+          first_if_lone = fit.first_if_lone;
+          stage = tt;
           port = λ e. merge_port m id k b u st (fit.port e);
         },
         record {
@@ -595,6 +647,17 @@ module _ {T E R O : Type 0} (origin : T → O) (stands : T → List (Entry E R) 
           knows_both = λ other now. subst (λ (z : V). KnowsBoth legal me.0.known z w) (same_other b u me.0.stage other is now) (knows_both m id me.0 b u other.stage fit port f.lawful st);
         },
       ))
+
+  -- a seat that was taken in, while the seat holds the numbers that it held
+  met_still : (m : Mo) (holder : List ℕ → ℕ) (lone : Bool) (j : ℕ) (k : Known E R O) (b : Bool)
+      (u : Known E R O) → ((q : List ℕ) → m.holder q ≡ j → holder q ≡ j) → HasMet m j k b u
+      → HasMet (with_holder m holder lone) j k b u
+  met_still m holder lone j k b u still h = record {
+    seen = h.seen;
+    origin_is = h.origin_is;
+    drawn = h.drawn;
+    numbers = λ yes q one. let a = h.numbers yes q one in record { holder_is = still q a.holder_is; calls = a.calls; not_own = a.not_own; not_future = a.not_future };
+  }
 
   -- the moment after a seat was split
   abbrev after_split : Mo → List ℕ → ℕ → Mo
@@ -611,23 +674,24 @@ module _ {T E R O : Type 0} (origin : T → O) (stands : T → List (Entry E R) 
   tell_staged m j k pair New h = absurd (pair h.0)
   tell_staged m j k pair Young h = h
   tell_staged m j k pair Idle h = tt
-  tell_staged m j k pair (Waiting q) h = h
-  tell_staged m j k pair (Turn q) h = h
+  tell_staged m j k pair (Waiting q) h = waits_still m m.holder false j q k h
+  tell_staged m j k pair (Turn q) h = holds_still m m.holder false j q k h
   tell_staged m j k pair (SawServing q) h = h
-  tell_staged m j k pair (Met b u) h = h
+  tell_staged m j k pair (Met b u) h = met_later m (after_tell m) j k b u refl refl refl (le_refl m.ticket) h
 
   -- the invariant after a new seat with the view w was added
   comes : (m m' : Mo) (vs : List V) (i : ℕ) (v w : V) → F m vs → m'.serving ≡ m.serving → m'.ticket
-      ≡ m.ticket → m'.closed ≡ m.closed → m'.start ≡ m.start → m'.whole ≡ m.whole → m'.home ≡ m.home
+      ≡ m.ticket → m'.closed ≡ m.closed → m'.start ≡ m.start → m'.history ≡ m.history
+      → m'.home ≡ m.home
       → Fit m' i v → Fit m' (length (set vs i v)) w → ((j : ℕ) (d : V) → j ≢ i → Fit m j d → Fit m' j d) → F m' (set vs i v ++ w ∷ [])
   comes m m' vs i v w f serving ticket end start whole home mine theirs others =
-      let few : m.ticket ≤ most_turns + m.closed = f.few in let range : m.serving ≤ m.ticket = f.range in let once : m.closed ≤ 1 = f.once in record {
+      let few : m.ticket ≤ most_turns + m.closed = f.within_most in let range : m.serving ≤ m.ticket = f.range in let once : m.closed ≤ 1 = f.closed_once in record {
         range = omega arith;
-        few = omega arith;
-        once = omega arith;
+        within_most = omega arith;
+        closed_once = omega arith;
         lawful = subst (λ (z : O × List (Entry E R)). legal z.0 z.1) (λ c. (sym start c, sym whole c)) f.lawful;
         counted = subst (λ (z : List (Entry E R) × ℕ). length z.0 ≤ z.1) (λ c. (sym whole c, sym serving c)) f.counted;
-        held = ⊎_elim (λ (h : IsHome origin stands m). inl (h.0, h.1, home ∙ h.2, subst (stands h.0) (sym whole) h.3, h.4 ∙ sym start, end ∙ h.5)) (λ (l : m.serving < m.ticket). inr (omega arith)) f.held;
+        home_or_held = ⊎_elim (λ (h : IsHome origin stands m). inl (home_stays m m' home whole start end h)) (λ (l : m.serving < m.ticket). inr (omega arith)) f.home_or_held;
         fits = λ j d at. ⊎_elim (λ e. seats (Fit m') vs i v mine (λ j d n e. others j d n (f.fits j d e)) j d e)
             (λ (t : (j ≡ length (set vs i v)) × (w ≡ d)). subst (λ (z : ℕ × V). Fit m' z.0 z.1) (λ c. (sym t.0 c, t.1 c)) theirs) (at_end (set vs i v) w d j at);
       }
@@ -636,7 +700,7 @@ module _ {T E R O : Type 0} (origin : T → O) (stands : T → List (Entry E R) 
   abbrev next_number : Known E R O → List ℕ
   next_number k = k.number ++ k.splits ∷ []
 
-  module _ (m : Mo) (i new : ℕ) (k : Known E R O) (mine : IsPort m.start m.holder i m.whole k) where
+  module _ (m : Mo) (i new : ℕ) (k : Known E R O) (mine : IsPort m.start m.holder i m.history k) where
     abbrev Forked : Mo
     Forked = after_split m (next_number k) new
 
@@ -649,21 +713,21 @@ module _ {T E R O : Type 0} (origin : T → O) (stands : T → List (Entry E R) 
     split_staged j d other pair New h = absurd (pair h.0)
     split_staged j d other pair Young h = h
     split_staged j d other pair Idle h = tt
-    split_staged j d other pair (Waiting q) h = h
-    split_staged j d other pair (Turn q) h = h
+    split_staged j d other pair (Waiting q) h = waits_still m Forked.holder false j q d h
+    split_staged j d other pair (Turn q) h = holds_still m Forked.holder false j q d h
     split_staged j d other pair (SawServing q) h = h
-    split_staged j d other pair (Met b u) h = (h.0, h.1, h.2, λ yes q one. let a = h.3 yes q one in (theirs_stay j q other a.0, a.1, a.2, a.3))
+    split_staged j d other pair (Met b u) h = met_still m Forked.holder false j d b u (λ q e. theirs_stay j q other e) h
 
     split_others : (v : V) (j : ℕ) (d : V) → Fit m i v → j ≢ i → Fit m j d → Fit Forked j d
     split_others v j d fit other f = record {
-      named = f.named;
+      origin_is = f.origin_is;
       seen = f.seen;
       drawn = f.drawn;
       served = f.served;
-      lone = λ e. never e;
-      staged = split_staged j d.known other (not_lone m i j v d other fit f) d.stage f.staged;
+      first_if_lone = λ e. never e;
+      stage = split_staged j d.known other (not_lone m i j v d other fit f) d.stage f.stage;
       port = λ e. let t = f.port e in record {
-        begun = t.begun;
+        origin_is = t.origin_is;
         own = λ q o. let a = t.own q o in (theirs_stay j q other a.0, a.1);
         future = λ q o. let a = t.future q o in (theirs_stay j q other a.0, a.1);
         apart = t.apart;
@@ -678,14 +742,14 @@ module _ {T E R O : Type 0} (origin : T → O) (stands : T → List (Entry E R) 
     split_mine : (v : V) → v.known ≡ k → v.stage ≡ Idle → Fit m i v
         → Fit Forked i (record v { known = record k { splits = k.splits + 1 } })
     split_mine v same idle f = let g : Fit m i (record v { known = k }) = subst (λ (z : Known E R O). Fit m i (record v { known = z })) same f in record {
-      named = g.named;
+      origin_is = g.origin_is;
       seen = g.seen;
       drawn = g.drawn;
       served = g.served;
-      lone = λ e. never e;
-      staged = subst (Stand Forked i (record k { splits = k.splits + 1 })) (sym idle) tt;
+      first_if_lone = λ e. never e;
+      stage = subst (Stand Forked i (record k { splits = k.splits + 1 })) (sym idle) tt;
       port = λ _. record {
-        begun = mine.begun;
+        origin_is = mine.origin_is;
         own = λ q o. (own_stays q o, (mine.own q o).1);
         future = λ q o. let a = mine.future q (future_sooner k.number k.splits q o) in (forked_else m.holder (next_number k) new q (future-not-front k.number k.splits q o) ∙ a.0, a.1);
         apart = λ q a. let t = mine.apart q a in (t.0, λ o. t.1 (future_sooner k.number k.splits q o));
@@ -694,23 +758,23 @@ module _ {T E R O : Type 0} (origin : T → O) (stands : T → List (Entry E R) 
 
     -- numbers that begin with the new port's number belong to the new seat
     front_of_child : (q : List ℕ) → StartsWith q (next_number k) → (Forked.holder q ≡ new)
-        × (calls_by q m.whole ≡ [])
+        × (calls_by q m.history ≡ [])
     front_of_child q a = (forked_here m.holder (next_number k) new q (ap (has_front (next_number k)) a.1 ∙ has_front-append (next_number k) a.0), (mine.future q (front_is_future k.number k.splits q a)).1)
 
-    split_born : (v : V) → v.known ≡ k → Fit m i v
+    split_child : (v : V) → v.known ≡ k → Fit m i v
         → Fit Forked new (child_view (record v { known = k }))
-    split_born v same f = let g : Fit m i (record v { known = k }) = subst (λ (z : Known E R O). Fit m i (record v { known = z })) same f in let c : List ℕ = next_number k in
-        let self = front_of_child c (starts_refl c) in let none_seen : calls_by c k.seen ≡ [] = calls_none c m.whole k.seen g.seen self.1 in record {
-          named = g.named;
+    split_child v same f = let g : Fit m i (record v { known = k }) = subst (λ (z : Known E R O). Fit m i (record v { known = z })) same f in let c : List ℕ = next_number k in
+        let self = front_of_child c (starts_refl c) in let none_seen : calls_by c k.seen ≡ [] = calls_none c m.history k.seen g.seen self.1 in record {
+          origin_is = g.origin_is;
           seen = g.seen;
           drawn = omega arith;
           served = omega arith;
-          lone = λ e. never e;
-          staged = none_seen;
+          first_if_lone = λ e. never e;
+          stage = none_seen;
           port = λ _. record {
-            begun = mine.begun;
-            own = λ q o. ⊎_elim (λ (e : q ≡ c). subst (λ (z : List ℕ). (Forked.holder z ≡ new) × (calls_by z m.whole ≡ calls_by z k.seen)) (sym e) (self.0, self.1 ∙ sym none_seen)) (λ a. absurd a) o;
-            future = λ q o. front_of_child q (o.0 ∷ o.1, o.2);
+            origin_is = mine.origin_is;
+            own = λ q o. ⊎_elim (λ (e : q ≡ c). subst (λ (z : List ℕ). (Forked.holder z ≡ new) × (calls_by z m.history ≡ calls_by z k.seen)) (sym e) (self.0, self.1 ∙ sym none_seen)) (λ a. absurd a) o;
+            future = λ q o. front_of_child q (o.count ∷ o.rest, o.number_is);
             apart = λ q a. absurd a;
           };
         }
@@ -720,18 +784,18 @@ module _ {T E R O : Type 0} (origin : T → O) (stands : T → List (Entry E R) 
   splits id v port idle = by_moment (λ s. get_elem? s.views id ≡ some v → Rule record { words = s.words; homes = s.homes; views = set s.views id (parent_view v) ++ child_view v ∷ [] })
       (λ m vs f at. let fit = f.fits id v at in let mine = fit.port port in let new : ℕ = length (set vs id (parent_view v)) in let m' : Mo = after_split m (next_number v.known) new in
       kept m' (set vs id (parent_view v) ++ child_view v ∷ []) (comes m m' vs id (parent_view v) (child_view v) f refl refl refl refl refl refl (split_mine m id new v.known mine v refl idle fit)
-      (split_born m id new v.known mine v refl fit) (λ j d other g. split_others m id new v.known mine v j d fit other g)))
+      (split_child m id new v.known mine v refl fit) (λ j d other g. split_others m id new v.known mine v j d fit other g)))
 
   told_fit : (m : Mo) (i : ℕ) (v : V) → Fit m i v → Stand (after_tell m) i v.known v.stage
       → Fit (after_tell m) i v
-  told_fit m i v f st = record { named = f.named; seen = f.seen; drawn = f.drawn; served = f.served; lone = λ e. never e; staged = st; port = f.port }
+  told_fit m i v f st = record { origin_is = f.origin_is; seen = f.seen; drawn = f.drawn; served = f.served; first_if_lone = λ e. never e; stage = st; port = f.port }
 
   pub tells : (id : ℕ) (v : V) → v.stage ≡ Idle → Splits Rule id v v (note_view v)
   tells id v idle = by_moment (λ s. get_elem? s.views id ≡ some v → Rule record { words = s.words; homes = s.homes; views = set s.views id v ++ note_view v ∷ [] })
       (λ m vs f at. let fit = f.fits id v at in let m' : Mo = after_tell m in
       kept m' (set vs id v ++ note_view v ∷ []) (comes m m' vs id v (note_view v) f refl refl refl refl refl refl (told_fit m id v fit (subst (Stand m' id v.known) (sym idle) tt))
-      record { named = fit.named; seen = fit.seen; drawn = omega arith; served = omega arith; lone = λ e. never e; staged = tt; port = λ e. never e }
-      (λ j d other g. told_fit m j d g (tell_staged m j d.known (not_lone m id j v d other fit g) d.stage g.staged))))
+      record { origin_is = fit.origin_is; seen = fit.seen; drawn = omega arith; served = omega arith; first_if_lone = λ e. never e; stage = tt; port = λ e. never e }
+      (λ j d other g. told_fit m j d g (tell_staged m j d.known (not_lone m id j v d other fit g) d.stage g.stage))))
 
   -- the moment at which the numbers of seat `other` belong to seat i
   abbrev after_join : Mo → ℕ → ℕ → Mo
@@ -742,23 +806,23 @@ module _ {T E R O : Type 0} (origin : T → O) (stands : T → List (Entry E R) 
   join_staged m other i j k apart New h = h
   join_staged m other i j k apart Young h = h
   join_staged m other i j k apart Idle h = tt
-  join_staged m other i j k apart (Waiting q) h = h
-  join_staged m other i j k apart (Turn q) h = h
+  join_staged m other i j k apart (Waiting q) h = waits_still m (passed_on m.holder other i) m.lone j q k h
+  join_staged m other i j k apart (Turn q) h = holds_still m (passed_on m.holder other i) m.lone j q k h
   join_staged m other i j k apart (SawServing q) h = h
-  join_staged m other i j k apart (Met b u) h = (h.0, h.1, h.2, λ yes q one. let a = h.3 yes q one in (passed_else m.holder other i j q apart a.0, a.1, a.2, a.3))
+  join_staged m other i j k apart (Met b u) h = met_still m (passed_on m.holder other i) m.lone j k b u (λ q e. passed_else m.holder other i j q apart e) h
 
   -- a seat other than the one that was taken in
   join_fit : (m : Mo) (other i j : ℕ) (d : V) → j ≢ other → Fit m j d
       → Fit (after_join m other i) j d
   join_fit m other i j d apart f = record {
-    named = f.named;
+    origin_is = f.origin_is;
     seen = f.seen;
     drawn = f.drawn;
     served = f.served;
-    lone = f.lone;
-    staged = join_staged m other i j d.known apart d.stage f.staged;
+    first_if_lone = f.first_if_lone;
+    stage = join_staged m other i j d.known apart d.stage f.stage;
     port = λ e. let t = f.port e in record {
-      begun = t.begun;
+      origin_is = t.origin_is;
       own = λ q o. let a = t.own q o in (passed_else m.holder other i j q apart a.0, a.1);
       future = λ q o. let a = t.future q o in (passed_else m.holder other i j q apart a.0, a.1);
       apart = t.apart;
@@ -769,17 +833,17 @@ module _ {T E R O : Type 0} (origin : T → O) (stands : T → List (Entry E R) 
   join_met : (m : Mo) (other i : ℕ) (v w : V) → i ≢ other → v.is_port ≡ true → Fit m i v
       → Fit m other w
       → Stand (after_join m other i) i v.known (Met w.is_port w.known)
-  join_met m other i v w apart port f g = let mine = f.port port in (
-    g.seen,
-    g.named,
-    g.drawn,
-    λ yes q one. let a = (g.port yes).own q one in (
-      passed_here m.holder other i q a.0,
-      a.1,
-      (λ e. apart (sym (mine.own q (inl e)).0 ∙ a.0)),
-      λ t. apart (sym (mine.future q t).0 ∙ a.0),
-    ),
-  )
+  join_met m other i v w apart port f g = let mine = f.port port in record {
+    seen = g.seen;
+    origin_is = g.origin_is;
+    drawn = g.drawn;
+    numbers = λ yes q one. let a = (g.port yes).own q one in record {
+      holder_is = passed_here m.holder other i q a.0;
+      calls = a.1;
+      not_own = λ e. apart (sym (mine.own q (inl e)).0 ∙ a.0);
+      not_future = λ t. apart (sym (mine.future q t).0 ∙ a.0);
+    };
+  }
 
   pub joins : (id : ℕ) (v : V) (other : ℕ) (w : V) → v.is_port ≡ true
       → Joins Rule id v other w (view_with v w) spent_view
@@ -788,14 +852,14 @@ module _ {T E R O : Type 0} (origin : T → O) (stands : T → List (Entry E R) 
       (λ m vs f at apart there. let n : id ≢ other = λ e. apart (sym e) in let fit = f.fits id v at in let m' : Mo = after_join m other id in let both : V = view_with v w in
       let theirs = f.fits other w (sym (set_else vs id other both apart) ∙ there) in let st = join_met m other id v w n port fit theirs in
       let mine : Fit m' id both = fit_at_stage m' id v (Met w.is_port w.known) (join_fit m other id id v n fit) st in
-      let spent : Fit m' other spent_view = record { named = λ o e. no_origin e; seen = (m.whole, refl); drawn = omega arith; served = omega arith; lone = theirs.lone; staged = tt; port = λ e. never e } in
+      let spent : Fit m' other spent_view = record { origin_is = λ o e. no_origin e; seen = (m.history, refl); drawn = omega arith; served = omega arith; first_if_lone = theirs.first_if_lone; stage = tt; port = λ e. never e } in
       kept m' (set (set vs id both) other spent_view) record {
         range = f.range;
-        few = f.few;
-        once = f.once;
+        within_most = f.within_most;
+        closed_once = f.closed_once;
         lawful = f.lawful;
         counted = f.counted;
-        held = f.held;
+        home_or_held = ⊎_elim (λ (h : IsHome origin stands m). inl (home_stays m m' refl refl refl refl h)) inr f.home_or_held;
         fits = seats (Fit m') (set vs id both) other spent_view spent (λ j d a e. seats (λ j d. j ≢ other → Fit m' j d) vs id both (λ _. mine) (λ j d _ e a. join_fit m other id j d a (f.fits j d e)) j d e a);
       })
     where
@@ -805,5 +869,5 @@ module _ {T E R O : Type 0} (origin : T → O) (stands : T → List (Entry E R) 
   -- while the first seat has taken no step, the slot has the value that the table was made with
   pub regained : (ws : List ℕ) (xs : List Sl) (id : ℕ) (v : V) → v.stage ≡ New
       → Final (Seen Rule id v) ws xs → get_elem? xs 0 ≡ some (full_slot first None)
-  regained ws xs id v is (s, seen, words, count, homes) = let r = seen.0 in let fit = r.facts.fits id v seen.1 in let st = subst (Stand r.now id v.known) is fit.staged in
+  regained ws xs id v is (s, seen, words, count, homes) = let r = seen.0 in let fit = r.facts.fits id v seen.1 in let st = subst (Stand r.now id v.known) is fit.stage in
       homes 0 (full_slot first None) (ap (λ h. get_elem? h 0) r.homes_are ∙ ap (λ h. some h) st.1)

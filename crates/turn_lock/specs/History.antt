@@ -6,28 +6,33 @@ use Rattle.turn_lock.specs.declared.turned.Entry.{Entry}
 abbrev pub StartsWith : {A : Type 0} → List A → List A → Type 0
 StartsWith {A} xs ys = (rest : List A) × (xs ≡ ys ++ rest)
 
--- the number q is one of qs
+-- the number q is in the list
 abbrev pub IsAmong : List ℕ → List (List ℕ) → Type 0
 IsAmong q [] = ⊥
-IsAmong q (p ∷ ps) = (q ≡ p) ⊎ IsAmong q ps
+IsAmong q (number ∷ numbers) = (q ≡ number) ⊎ IsAmong q numbers
 
 -- whether two port numbers are equal
-abbrev pub is_same : List ℕ → List ℕ → Bool
-is_same [] [] = true
-is_same [] (y ∷ ys) = false
-is_same (x ∷ xs) [] = false
-is_same (x ∷ xs) (y ∷ ys) = (x == y) && is_same xs ys
+abbrev pub is_same_number : List ℕ → List ℕ → Bool
+is_same_number [] [] = true
+is_same_number [] (y ∷ ys) = false
+is_same_number (x ∷ xs) [] = false
+is_same_number (x ∷ xs) (y ∷ ys) = (x == y) && is_same_number xs ys
 
--- q is the number of a port that a later split of p, or of its descendants, may make: p, then a
--- split count of at least k, then anything
-abbrev pub IsFuture : List ℕ → ℕ → List ℕ → Type 0
-IsFuture p k q = (j : ℕ) × (rest : List ℕ) × (q ≡ p ++ j ∷ rest) × (k ≤ j)
+-- q is the number of a port that a later split of a port, or of its descendants, may make: the
+-- port's number, then a count of splits that is no less than the port's, then anything
+pub record IsFuture (number : List ℕ) (splits : ℕ) (q : List ℕ) : Type 0 where
+  pub count : ℕ
+  pub rest : List ℕ
+  pub number_is : q ≡ number ++ count ∷ rest
+  pub later : splits ≤ count
 
 module _ {E R : Type 0} where
+  -- the call of this event with this reply by the port of this number
   abbrev pub entry : List ℕ → E → R → Entry E R
-  entry p e r = record { by = p; event = e; reply = r }
+  entry number event reply = record { by = number; event = event; reply = reply }
 
-  -- the calls that the port p made, in order
+  -- the calls that the port of this number made, in order
   abbrev pub calls_by : List ℕ → List (Entry E R) → List (Entry E R)
-  calls_by p [] = []
-  calls_by p (x ∷ xs) = if is_same x.by p then x ∷ calls_by p xs else calls_by p xs
+  calls_by number [] = []
+  calls_by number (call ∷ calls) = if is_same_number call.by number
+      then call ∷ calls_by number calls else calls_by number calls

@@ -1,5 +1,9 @@
 -- The invariant of the table: what holds for its words, its slot and all views between any two
 -- steps.
+--     Moment  the table at one moment
+--     Fits    a seat's view agrees with the moment
+--     Facts   all that holds at a moment
+--     Keeps   the invariant
 use Rattle.std.specs.Prelude.{◌≡◌, ◌≢◌, ◌⊎◌, ℕ, ◌+◌, ◌^◌, ◌<◌, ◌≤◌, Bool, true, List, [], ◌∷◌, length, Option, Some, None}
 use mathlib.Core.Option.{some, none}
 use mathlib.Core.Option as maybe
@@ -32,12 +36,12 @@ fresh_known origin number seen = record {
 }
 
 -- the first port's knowledge right after `Shared::new`
-abbrev pub opened : {E R O : Type 0} → O → Known E R O
-opened origin = fresh_known (Some origin) [] []
+abbrev pub first_known : {E R O : Type 0} → O → Known E R O
+first_known origin = fresh_known (Some origin) [] []
 
 -- the view of the first seat
 abbrev pub first_view : {E R O : Type 0} → O → View E R O
-first_view origin = record { known = opened origin; is_port = true; stage = New }
+first_view origin = record { known = first_known origin; is_port = true; stage = New }
 
 -- the call of a turn: its event and its reply, or `None` if the turn made no call
 abbrev pub LastCall : Type 0 → Type 0 → Type 0
@@ -49,85 +53,122 @@ full_slot value last = record { value = Some value; last = last }
 
 -- q is the port's own number or one joined into it
 abbrev pub IsOwn : {E R O : Type 0} → Known E R O → List ℕ → Type 0
-IsOwn k q = (q ≡ k.number) ⊎ IsAmong q k.joined
+IsOwn known q = (q ≡ known.number) ⊎ IsAmong q known.joined
 
--- The table at one moment. `whole` is the longest history, `home` the slot if no seat holds it,
--- `holder` the seat that a port number belongs to, `owner` the seat that drew a turn. `lone` says
--- that the first seat is the only one. `closed` is 1 once the lock is closed.
+-- the port has seen no call of its own
+abbrev pub HasNoCalls : {E R O : Type 0} → Known E R O → Type 0
+HasNoCalls known = calls_by known.number known.seen ≡ []
+
+-- The table at one moment. `history` is the longest history, `start` its origin, and `home` the
+-- slot if no seat holds it. `holder` is the seat that a port number belongs to, `owner` the seat
+-- that drew a turn. `lone` says that the first seat is the only one. `closed` is 1 once the lock is
+-- closed.
 pub record Moment (T E R O : Type 0) : Type 0 where
   pub ticket : ℕ
   pub serving : ℕ
   pub start : O
-  pub whole : List (Entry E R)
+  pub history : List (Entry E R)
   pub home : maybe.Option (Slot T E R)
   pub holder : List ℕ → ℕ
   pub owner : ℕ → ℕ
   pub lone : Bool
   pub closed : ℕ
 
+module _ {T E R O : Type 0} where
+  -- The seat drew this turn, which has not ended.
+  pub record HoldsTurn (now : Moment T E R O) (seat turn : ℕ) : Type 0 where
+    pub not_ended : now.serving ≤ turn
+    pub drawn : turn < now.ticket
+    pub owner_is : now.owner turn ≡ seat
+
+  -- The seat has taken the slot at this turn, and has seen the whole history.
+  pub record HoldsSlot (now : Moment T E R O) (seat turn : ℕ) (known : Known E R O) : Type 0 where
+    pub holds : HoldsTurn now seat turn
+    pub served : turn ≡ now.serving
+    pub seen : known.seen ≡ now.history
+    pub not_closed : now.closed ≡ 0
+
+  -- The number of a port that this seat has taken in is the seat's, and is none that the seat's own
+  -- port or a split of it has. The other port had seen all calls of it.
+  pub record OwnsNumber (now : Moment T E R O) (seat : ℕ) (known other : Known E R O) (q : List ℕ)
+      : Type 0 where
+    pub holder_is : now.holder q ≡ seat
+    pub calls : calls_by q now.history ≡ calls_by q other.seen
+    pub not_own : q ≢ known.number
+    pub not_future : ¬ IsFuture known.number known.splits q
+
+  -- The seat has taken in another seat, and if that was a port's, its numbers.
+  pub record HasMet (now : Moment T E R O) (seat : ℕ) (known : Known E R O) (other_is_port : Bool)
+      (other : Known E R O) : Type 0 where
+    pub seen : StartsWith now.history other.seen
+    pub origin_is : (o : O) → other.origin ≡ Some o → o ≡ now.start
+    pub drawn : other.drawn ≤ now.ticket
+    pub numbers : other_is_port ≡ true → (q : List ℕ) → IsOwn other q
+        → OwnsNumber now seat known other q
+
 module _ {T E R O : Type 0} (origin : T → O) (stands : T → List (Entry E R) → Type 0) where
-  -- the value is in the slot and results from the history
-  abbrev pub IsHome : Moment T E R O → Type 0
-  IsHome m = (x : T) × (l : LastCall E R) × (m.home ≡ some (full_slot x l))
-      × stands x m.whole × (origin x ≡ m.start) × (m.closed ≡ 0)
+  -- The value is in the slot and results from the history, and the lock is not closed.
+  pub record IsHome (now : Moment T E R O) : Type 0 where
+    pub value : T
+    pub last : LastCall E R
+    pub home_is : now.home ≡ some (full_slot value last)
+    pub results : stands value now.history
+    pub origin_is : origin value ≡ now.start
+    pub not_closed : now.closed ≡ 0
 
-  -- seat i drew turn n, which has not ended
-  abbrev pub Holds : Moment T E R O → ℕ → ℕ → Type 0
-  Holds m i n = (m.serving ≤ n) × (n < m.ticket) × (m.owner n ≡ i)
-
-  -- What a seat knows at its stage. `first` is the value that the lock was made with.
-  abbrev pub Staged : T → Moment T E R O → ℕ → Known E R O → Stage E R O → Type 0
-  Staged first m i k New = (m.lone ≡ true) × (m.home ≡ some (full_slot first None))
-  Staged first m i k Young = calls_by k.number k.seen ≡ []
-  Staged first m i k Idle = Unit {0}
-  Staged first m i k (Waiting n) = Holds m i n × (n ≡ m.serving → IsHome m)
-  Staged first m i k (Turn n) = Holds m i n × (n ≡ m.serving) × (k.seen ≡ m.whole) × (m.closed ≡ 0)
-  Staged first m i k (SawServing n) = n ≤ m.serving
-  Staged first m i k (Met b u) = StartsWith m.whole u.seen
-      × ((o : O) → u.origin ≡ Some o → o ≡ m.start)
-      × (u.drawn ≤ m.ticket)
-      × (b ≡ true → (q : List ℕ) → IsOwn u q → (m.holder q ≡ i)
-      × (calls_by q m.whole ≡ calls_by q u.seen) × (q ≢ k.number)
-      × ¬ IsFuture k.number k.splits q)
+  -- what a seat knows at its stage; `first` is the value that the lock was made with
+  abbrev pub FitsStage : T → Moment T E R O → ℕ → Known E R O → Stage E R O → Type 0
+  FitsStage first now seat known New = (now.lone ≡ true) × (now.home ≡ some (full_slot first None))
+  FitsStage first now seat known Young = HasNoCalls known
+  FitsStage first now seat known Idle = Unit {0}
+  FitsStage first now seat known (Waiting turn) = HoldsTurn now seat turn
+      × (turn ≡ now.serving → IsHome now)
+  FitsStage first now seat known (Turn turn) = HoldsSlot now seat turn known
+  FitsStage first now seat known (SawServing count) = count ≤ now.serving
+  FitsStage first now seat known (Met other_is_port other) =
+      HasMet now seat known other_is_port other
 
 -- A port has seen all calls of its own numbers. The numbers that its later splits may give have no
 -- calls, and all these numbers are distinct.
-pub record IsPort {E R O : Type 0} (start : O) (holder : List ℕ
-    → ℕ) (i : ℕ) (whole : List (Entry E R)) (k : Known E R O) : Type 0 where
-  pub begun : k.origin ≡ Some start
-  pub own : (q : List ℕ) → IsOwn k q → (holder q ≡ i) × (calls_by q whole ≡ calls_by q k.seen)
-  pub future : (q : List ℕ) → IsFuture k.number k.splits q → (holder q ≡ i)
-      × (calls_by q whole ≡ [])
-  pub apart : (q : List ℕ) → IsAmong q k.joined → (q ≢ k.number) × ¬ IsFuture k.number k.splits q
+pub record IsPort {E R O : Type 0} (start : O) (holder : List ℕ → ℕ) (seat : ℕ)
+    (history : List (Entry E R)) (known : Known E R O) : Type 0 where
+  pub origin_is : known.origin ≡ Some start
+  pub own : (q : List ℕ) → IsOwn known q
+      → (holder q ≡ seat) × (calls_by q history ≡ calls_by q known.seen)
+  pub future : (q : List ℕ) → IsFuture known.number known.splits q
+      → (holder q ≡ seat) × (calls_by q history ≡ [])
+  pub apart : (q : List ℕ) → IsAmong q known.joined
+      → (q ≢ known.number) × ¬ IsFuture known.number known.splits q
 
--- The view of seat i agrees with the moment.
-pub record Fits {T E R O : Type 0} (origin : T → O) (stands : T → List (Entry E R)
-    → Type 0) (first : T) (m : Moment T E R O) (i : ℕ) (v : View E R O) : Type 0 where
-  pub named : (o : O) → v.known.origin ≡ Some o → o ≡ m.start
-  pub seen : StartsWith m.whole v.known.seen
-  pub drawn : v.known.drawn ≤ m.ticket
-  pub served : v.known.served ≤ m.serving
-  pub lone : m.lone ≡ true → i ≡ 0
-  pub staged : Staged origin stands first m i v.known v.stage
-  pub port : v.is_port ≡ true → IsPort m.start m.holder i m.whole v.known
+-- The view of a seat agrees with the moment.
+pub record Fits {T E R O : Type 0} (origin : T → O) (stands : T → List (Entry E R) → Type 0)
+    (first : T) (now : Moment T E R O) (seat : ℕ) (view : View E R O) : Type 0 where
+  pub origin_is : (o : O) → view.known.origin ≡ Some o → o ≡ now.start
+  pub seen : StartsWith now.history view.known.seen
+  pub drawn : view.known.drawn ≤ now.ticket
+  pub served : view.known.served ≤ now.serving
+  pub first_if_lone : now.lone ≡ true → seat ≡ 0
+  pub stage : FitsStage origin stands first now seat view.known view.stage
+  pub port : view.is_port ≡ true → IsPort now.start now.holder seat now.history view.known
 
 -- The longest history is legal and has at most one call for each turn that has ended; the value is
 -- in the slot or a turn is held; each view agrees with the moment.
-pub record Facts {T E R O : Type 0} (origin : T → O) (stands : T → List (Entry E R)
-    → Type 0) (legal : O → List (Entry E R)
-    → Type 0) (first : T) (m : Moment T E R O) (views : List (View E R O)) : Type 0 where
-  pub range : m.serving ≤ m.ticket
-  pub few : m.ticket ≤ most_turns + m.closed
-  pub once : m.closed ≤ 1
-  pub lawful : legal m.start m.whole
-  pub counted : length m.whole ≤ m.serving
-  pub held : IsHome origin stands m ⊎ (m.serving < m.ticket)
-  pub fits : (i : ℕ) (v : View E R O) → get_elem? views i ≡ some v → Fits origin stands first m i v
+pub record Facts {T E R O : Type 0} (origin : T → O) (stands : T → List (Entry E R) → Type 0)
+    (legal : O → List (Entry E R) → Type 0) (first : T) (now : Moment T E R O)
+    (views : List (View E R O)) : Type 0 where
+  pub range : now.serving ≤ now.ticket
+  pub within_most : now.ticket ≤ most_turns + now.closed
+  pub closed_once : now.closed ≤ 1
+  pub lawful : legal now.start now.history
+  pub counted : length now.history ≤ now.serving
+  pub home_or_held : IsHome origin stands now ⊎ (now.serving < now.ticket)
+  pub fits : (seat : ℕ) (view : View E R O) → get_elem? views seat ≡ some view
+      → Fits origin stands first now seat view
 
--- The invariant.
-pub record Keeps {T E R O : Type 0} (origin : T → O) (stands : T → List (Entry E R)
-    → Type 0) (legal : O → List (Entry E R)
-    → Type 0) (first : T) (s : State (Slot T E R) (View E R O)) : Type 0 where
+-- The invariant: the words and the slot are those of a moment, at which these facts hold.
+pub record Keeps {T E R O : Type 0} (origin : T → O) (stands : T → List (Entry E R) → Type 0)
+    (legal : O → List (Entry E R) → Type 0) (first : T) (s : State (Slot T E R) (View E R O))
+    : Type 0 where
   pub now : Moment T E R O
   pub words_are : s.words ≡ now.ticket ∷ now.serving ∷ []
   pub homes_are : s.homes ≡ now.home ∷ []

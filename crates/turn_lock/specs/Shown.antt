@@ -10,14 +10,14 @@ pub record ShownPort (E R O : Type 0) : Type 0 where
   pub bound : ℕ
   pub known : Known E R O
 
--- q is port p after any number of calls: no split, no join
-pub record IsSame {E R O : Type 0} (p q : ShownPort E R O) : Type 0 where
-  pub lock : q.lock ≡ p.lock
-  pub bound : q.bound ≡ p.bound
-  pub origin : q.known.origin ≡ p.known.origin
-  pub number : q.known.number ≡ p.known.number
-  pub splits : q.known.splits ≡ p.known.splits
-  pub joined : q.known.joined ≡ p.known.joined
+-- the port after any number of calls: no split, no join
+pub record IsSame {E R O : Type 0} (before after : ShownPort E R O) : Type 0 where
+  pub lock : after.lock ≡ before.lock
+  pub bound : after.bound ≡ before.bound
+  pub origin : after.known.origin ≡ before.known.origin
+  pub number : after.known.number ≡ before.known.number
+  pub splits : after.known.splits ≡ before.known.splits
+  pub joined : after.known.joined ≡ before.known.joined
 
 -- A note: its lock, the origin, and the history it records.
 pub record ShownNote (E R O : Type 0) : Type 0 where

@@ -2,27 +2,26 @@
 use Rattle.std.specs.Prelude.{◌≡◌, ℕ, ◌+◌, ◌%◌, ◌^◌, List, [], ◌∷◌, ◌++◌}
 use Rattle.turn_lock.specs.declared.turned.Entry.{Entry}
 use Rattle.turn_lock.specs.declared.known.Known.{Known}
-use Rattle.turn_lock.specs.History.{entry}
 use Rattle.turn_lock.specs.Calls.{IsLegal}
 
 -- the count after n, which wraps at 2^64
-abbrev pub next : ℕ → ℕ
-next n = (n + 1) % 2 ^ 64
+abbrev pub next_count : ℕ → ℕ
+next_count n = (n + 1) % 2 ^ 64
 
 -- starting from count n, each call's reply is the next count
 abbrev pub Counts : {E : Type 0} → ℕ → List (Entry E ℕ) → Type 0
 Counts n [] = Unit {0}
-Counts n (x ∷ h) = (x.reply ≡ next n) × Counts (next n) h
+Counts n (call ∷ calls) = (call.reply ≡ next_count n) × Counts (next_count n) calls
 
 -- the count after a history that starts from count n
 abbrev pub count_after : {E : Type 0} → ℕ → List (Entry E ℕ) → ℕ
 count_after n [] = n
-count_after n (x ∷ h) = count_after (next n) h
+count_after n (call ∷ calls) = count_after (next_count n) calls
 
 -- The second call is after the first in one legal history, which the port has seen.
-pub record StandsBehind {E R O : Type 0} (legal : O → List (Entry E R)
-    → Type 0) (one two : List ℕ) (e : E) (r : R) (f : E) (s : R) (k : Known E R O) : Type 0 where
+pub record FollowsCall {E R O : Type 0} (legal : O → List (Entry E R) → Type 0)
+    (first second : Entry E R) (known : Known E R O) : Type 0 where
   pub before : List (Entry E R)
   pub between : List (Entry E R)
-  pub seen : k.seen ≡ ((before ++ entry one e r ∷ []) ++ between) ++ entry two f s ∷ []
-  pub lawful : IsLegal legal k
+  pub seen : known.seen ≡ ((before ++ first ∷ []) ++ between) ++ second ∷ []
+  pub lawful : IsLegal legal known

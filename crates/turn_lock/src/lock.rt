@@ -2,9 +2,9 @@
 ghost use Rattle.std.specs.Prelude.{◌≡◌, ◌<◌, ◌≤◌, [], ◌∷◌, Some, None, IfOk, IfErr};
 ghost use Rattle.std.specs.Arc.{arc_value};
 ghost use Rattle.turn_lock.specs.declared.known.Stage.TheVariants.{New};
-ghost use Rattle.turn_lock.specs.Rule.{most_turns, opened, first_view};
+ghost use Rattle.turn_lock.specs.Rule.{most_turns, first_known, first_view};
 ghost use Rattle.turn_lock.specs.Calls.{Watches, Yields, IsBusy};
-ghost use Rattle.turn_lock.specs.Plays.{IsSized, seat_with, state_of, view_of};
+ghost use Rattle.turn_lock.specs.Seats.{IsSized, seat_with, state_of, view_of};
 
 use crate::board::{Board, Place, Slot};
 use crate::faults::Busy;
@@ -84,7 +84,7 @@ impl<T: Turned> Shared<T> {
         requires bound { (0 < bound) × (bound ≤ most_turns) }
         requires empty { T.stands value [] }
         ensures ok { IfOk result (λ r. (r.0 ≡ r.1.lock) × (r.1.bound ≡ bound)
-            × (r.1.known ≡ opened (T.origin value))) }
+            × (r.1.known ≡ first_known (T.origin value))) }
         ensures err { IfErr result (λ e. e.1 ≡ value) }
     {
         match lay(alloc, value) {

@@ -94,7 +94,7 @@ impl<T: Turned> Play<Slot<T, T::Event, T::Reply>, View<T::Event, T::Reply, T::Or
 pub(crate) struct Cut;
 
 impl<E, R, O> Split<View<E, R, O>> for Cut {
-    ghost use Rattle.turn_lock.specs.Plays.{parent_view, child_view};
+    ghost use Rattle.turn_lock.specs.Seats.{parent_view, child_view};
 
     ghost left = { parent_view };
 
@@ -105,7 +105,7 @@ impl<E, R, O> Split<View<E, R, O>> for Cut {
 pub(crate) struct Tell;
 
 impl<E, R, O> Split<View<E, R, O>> for Tell {
-    ghost use Rattle.turn_lock.specs.Plays.{note_view};
+    ghost use Rattle.turn_lock.specs.Seats.{note_view};
 
     ghost left = { λ v. v };
 
@@ -116,7 +116,7 @@ impl<E, R, O> Split<View<E, R, O>> for Tell {
 pub(crate) struct TakeIn;
 
 impl<E, R, O> Join<View<E, R, O>> for TakeIn {
-    ghost use Rattle.turn_lock.specs.Plays.{view_with, spent_view};
+    ghost use Rattle.turn_lock.specs.Seats.{view_with, spent_view};
 
     ghost both = { view_with };
 

@@ -1,7 +1,7 @@
 //! Ports, through which threads call the value, and the notes that one port writes for another.
 ghost use Rattle.std.specs.Prelude.{◌≡◌, ◌≤◌, ◌++◌, [], ◌∷◌, length, IfOk, IfErr, OnOk, OnErr};
-ghost use Rattle.turn_lock.specs.History.{calls_by};
-ghost use Rattle.turn_lock.specs.Calls.{IsLegal, Called, Watches, IsCause, EndsTurn, divided, born, Meets, Joins};
+ghost use Rattle.turn_lock.specs.Rule.{HasNoCalls};
+ghost use Rattle.turn_lock.specs.Calls.{IsLegal, Called, Watches, IsCause, EndsTurn, parent_after_split, child_after_split, Meets, Joins};
 
 use crate::board::{Board, Place};
 use crate::steps::{call_at, divide, take_in, write_note};
@@ -22,12 +22,8 @@ pub struct Port<T: Turned> {
 }
 
 impl<T: Turned> Model for Port<T> {
-    ghost use Rattle.std.specs.Prelude.{◌≡◌, ◌≤◌, [], true};
     ghost use Rattle.std.specs.Arc.{arc_value};
-    ghost use Rattle.turn_lock.specs.declared.known.Stage.TheVariants.{Idle};
-    ghost use Rattle.turn_lock.specs.Rule.{most_turns};
-    ghost use Rattle.turn_lock.specs.Calls.{IsLegal};
-    ghost use Rattle.turn_lock.specs.Plays.{IsSized, IsReady, known_of};
+    ghost use Rattle.turn_lock.specs.Seats.{IsPortSeat, known_of};
     ghost use Rattle.turn_lock.specs.Shown.{ShownPort};
 
     ghost Value = { ShownPort T.Event T.Reply T.Origin };
@@ -38,9 +34,8 @@ impl<T: Turned> Model for Port<T> {
       known = known_of p.place;
     } };
 
-    ghost invariant = { λ p. (p.place.table_id ≡ (arc_value p.table).shared.table_id)
-        × IsSized p.place.table_id × IsReady p.place Idle [] × IsLegal T.legal (known_of p.place)
-        × (p.bound ≤ most_turns) };
+    ghost invariant = { λ p. IsPortSeat T.legal (arc_value p.table).shared.table_id p.place
+        p.bound };
 }
 
 /// A record of the history that a port had seen, for another port of the same lock to read.
@@ -50,9 +45,7 @@ pub struct Note<T: Turned> {
 }
 
 impl<T: Turned> Model for Note<T> {
-    ghost use Rattle.std.specs.Prelude.{◌≡◌, [], false};
-    ghost use Rattle.turn_lock.specs.Calls.{IsLegal};
-    ghost use Rattle.turn_lock.specs.Plays.{view_of, known_of, carried_by};
+    ghost use Rattle.turn_lock.specs.Seats.{IsNoteSeat, known_of};
     ghost use Rattle.turn_lock.specs.Shown.{ShownNote};
 
     ghost Value = { ShownNote T.Event T.Reply T.Origin };
@@ -63,8 +56,7 @@ impl<T: Turned> Model for Note<T> {
       seen = (known_of n.place).seen;
     } };
 
-    ghost invariant = { λ n. (carried_by n.place ≡ []) × ((view_of n.place).is_port ≡ false)
-        × IsLegal T.legal (known_of n.place) };
+    ghost invariant = { λ n. IsNoteSeat T.legal n.place };
 }
 
 impl<T: Turned> Port<T> {
@@ -105,9 +97,9 @@ impl<T: Turned> Port<T> {
     /// Returns `AllocError`, with nothing changed, if the lock can't have another owner.
     pub fn split(&mut self) -> Result<Port<T>, AllocError>
         ensures lock { (self.new.lock ≡ self.old.lock) × (self.new.bound ≡ self.old.bound) }
-        ensures this { OnOk result (self.new.known ≡ divided self.old.known) }
+        ensures this { OnOk result (self.new.known ≡ parent_after_split self.old.known) }
         ensures other { IfOk result (λ p. (p.lock ≡ self.old.lock) × (p.bound ≡ self.old.bound)
-            × (p.known ≡ born self.old.known) × (calls_by p.known.number p.known.seen ≡ [])) }
+            × (p.known ≡ child_after_split self.old.known) × HasNoCalls p.known) }
         ensures err { OnErr result (self.new.known ≡ self.old.known) }
     {
         match Arc::try_clone(&self.table) {

@@ -2,10 +2,10 @@
 ghost use Rattle.std.specs.Prelude.{◌≡◌, ℕ, ◌+◌, ◌<◌, ◌≤◌, [], ◌∷◌, ◌++◌, Some, None, length, IfOk, IfErr, OnOk, IfSome, IfNone, IsTrue, IsFalse, Option};
 ghost use Rattle.std.specs.declared.snapshot.Snapshot.{Snapshot};
 ghost use Rattle.turn_lock.specs.declared.known.Stage.TheVariants.{Young, Idle, Waiting, Turn};
-ghost use Rattle.turn_lock.specs.History.{calls_by};
-ghost use Rattle.turn_lock.specs.Rule.{most_turns, LastCall, full_slot};
+ghost use Rattle.turn_lock.specs.Rule.{most_turns, LastCall, full_slot, HasNoCalls};
 ghost use Rattle.turn_lock.specs.Calls.{IsLegal, Watches, Called, IsCause, EndsTurn, IsBusy};
-ghost use Rattle.turn_lock.specs.Plays.{IsSized, IsReady, empty_slot, with_stage, new_entries, parent_view, child_view, note_view, seat_with, at_stage, state_of, view_of, known_of, carried_by, AddsCall, KnowsBoth, TakesTurn};
+ghost use Rattle.turn_lock.specs.Seats.{IsSized, IsReady, empty_slot, with_stage, new_entries, parent_view, child_view, note_view, seat_with, at_stage, state_of, view_of, known_of, carried_by};
+ghost use Rattle.turn_lock.specs.Plays.{AddsCall, KnowsBoth, TakesTurn};
 
 use crate::board::{HOME, Place, SERVING, Slot, TICKET, Top};
 use crate::faults::Busy;
@@ -27,8 +27,7 @@ pub(crate) fn settle<T: Turned>(top: &Top<T>, place: &mut Place<T>)
     requires table { (place.old.table_id ≡ top.now.table_id) × IsSized top.now.table_id }
     ensures seat { (place.new.table_id ≡ place.old.table_id)
         × (state_of place.new ≡ at_stage (state_of place.old) Idle) }
-    ensures young { (view_of place.old).stage ≡ Young
-        → calls_by (known_of place.old).number (known_of place.old).seen ≡ [] }
+    ensures young { (view_of place.old).stage ≡ Young → HasNoCalls (known_of place.old) }
 {
     top.load::<Settle>(place, SERVING);
 }
@@ -208,8 +207,8 @@ pub(crate) fn call_at<T: Turned, W: Wait>(
     requires table { (place.old.table_id ≡ top.now.table_id) × IsSized top.now.table_id }
     requires bound { bound ≤ most_turns }
     requires ready { IsReady place.old Idle [] × IsLegal T.legal (known_of place.old) }
-    ensures seat { (place.new.table_id ≡ place.old.table_id) × IsReady place.new Idle []
-        × IsLegal T.legal (known_of place.new) }
+    ensures seat { (place.new.table_id ≡ place.old.table_id) × IsReady place.new Idle [] }
+    ensures lawful { IsLegal T.legal (known_of place.new) }
     ensures ok { IfOk result
         (λ r. Called T.legal (known_of place.old) event r (known_of place.new)) }
     ensures err { IfErr result (λ f. Watches T.legal (known_of place.old) (known_of place.new)
@@ -243,7 +242,7 @@ pub(crate) fn divide<T: Turned>(top: &Top<T>, place: &mut Place<T>) -> Place<T>
         × (state_of place.new ≡ seat_with (parent_view (view_of place.old)) []) }
     ensures child { (result.table_id ≡ place.old.table_id)
         × (state_of result ≡ seat_with (with_stage (child_view (view_of place.old)) Idle) []) }
-    ensures young { calls_by (known_of result).number (known_of result).seen ≡ [] }
+    ensures young { HasNoCalls (known_of result) }
 {
     let mut child = top.split_seat::<Cut>(place);
     settle(top, &mut child);

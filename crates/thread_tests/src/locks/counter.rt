@@ -1,6 +1,6 @@
 //! Values for the tests of locks.
 ghost use Rattle.std.specs.Prelude.{◌≡◌, ◌≢◌, ℕ, ◌+◌, ◌%◌, ◌^◌, IfOk, IfErr};
-ghost use Rattle.turn_lock.specs.Trials.{next, Counts, count_after};
+ghost use Rattle.turn_lock.specs.Trials.{next_count, Counts, count_after};
 
 use std::alloc::{AllocError, Global};
 use std::sync::Arc;

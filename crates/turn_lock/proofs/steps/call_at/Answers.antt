@@ -18,7 +18,7 @@ end_turn-requires-in-Err-clause-value g c = let t = g.T.Turned in let seen = c.r
 
 pub returns-in-Ok-clause-seat : goal.returns-in-Ok-clause-seat
 returns-in-Ok-clause-seat g c = let ended = c.end_turn.ensures.call in let seat = c.reach-value.ensures.seat in
-    (c.end_turn.ensures.seat.0 ∙ (seat.0 ∙ c.draw.ensures.seat), record { port = ap (λ v. v.is_port) ended.view ∙ seat.1.port; stage_is = ap (λ v. v.stage) ended.view; carried_is = c.end_turn.ensures.seat.1 }, ended.lawful)
+    (c.end_turn.ensures.seat.0 ∙ (seat.0 ∙ c.draw.ensures.seat), record { port = ap (λ v. v.is_port) ended.view ∙ seat.1.port; stage_is = ap (λ v. v.stage) ended.view; carried_is = c.end_turn.ensures.seat.1 })
 
 pub returns-in-Ok-clause-ok : goal.returns-in-Ok-clause-ok
 returns-in-Ok-clause-ok g c = let t = g.T.Turned in let first = c.args.place.now.me.0.known in let last = c.end_turn.new.place.me.0 in
@@ -27,7 +27,7 @@ returns-in-Ok-clause-ok g c = let t = g.T.Turned in let first = c.args.place.now
 
 pub returns-in-Err-clause-seat : goal.returns-in-Err-clause-seat
 returns-in-Err-clause-seat g c = let ended = c.end_turn-in-Err.ensures.call in let seat = c.reach-value.ensures.seat in
-    (c.end_turn-in-Err.ensures.seat.0 ∙ (seat.0 ∙ c.draw.ensures.seat), record { port = ap (λ v. v.is_port) ended.view ∙ seat.1.port; stage_is = ap (λ v. v.stage) ended.view; carried_is = c.end_turn-in-Err.ensures.seat.1 }, ended.lawful)
+    (c.end_turn-in-Err.ensures.seat.0 ∙ (seat.0 ∙ c.draw.ensures.seat), record { port = ap (λ v. v.is_port) ended.view ∙ seat.1.port; stage_is = ap (λ v. v.stage) ended.view; carried_is = c.end_turn-in-Err.ensures.seat.1 })
 
 pub returns-in-Err-clause-err : goal.returns-in-Err-clause-err
 returns-in-Err-clause-err g c =

@@ -1,6 +1,6 @@
 use Rattle.std.proofs.Common.{rules, ◌≡◌, sym, ap, ◌∙◌, subst}
 use Rattle.turn_lock.specs.Calls.{Watches}
-use Rattle.turn_lock.specs.Plays.{state_of, known_of}
+use Rattle.turn_lock.specs.Seats.{state_of, known_of}
 use Rattle.turn_lock.proofs.Watching.{watches_refl, watches_trans}
 use Rattle.turn_lock.proofs.steps.draw.Goals.{else-served-turn-via-then-served-turn+else-try_draw, else-served-turn-via-else-served-turn}
 use Rattle.turn_lock.proofs.steps.draw.Goals as goal

@@ -1,7 +1,7 @@
 use Rattle.std.proofs.Common.{◌≡◌, []}
 use Rattle.turn_lock.specs.declared.known.Stage.TheVariants.{Idle}
 use Rattle.turn_lock.specs.Calls.{Watches}
-use Rattle.turn_lock.specs.Plays.{IsReady, known_of}
+use Rattle.turn_lock.specs.Seats.{IsReady, known_of}
 use Rattle.turn_lock.proofs.steps.draw.Given as goal
 
 abbrev pub invariant-loop : goal.invariant-loop

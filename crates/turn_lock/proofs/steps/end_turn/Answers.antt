@@ -1,5 +1,5 @@
 use Rattle.std.proofs.Common.{rules, ◌++◌, sym, ap, ◌∙◌, subst}
-use Rattle.turn_lock.specs.Plays.{new_entries}
+use Rattle.turn_lock.specs.Seats.{new_entries}
 use Rattle.turn_lock.proofs.StepsKeep.{ends}
 use Rattle.turn_lock.proofs.steps.end_turn.Goals as goal
 

@@ -1,5 +1,5 @@
 use Rattle.std.proofs.Common.{◌≡◌}
-use Rattle.turn_lock.specs.Plays.{state_of}
+use Rattle.turn_lock.specs.Seats.{state_of}
 use Rattle.turn_lock.proofs.steps.reach.Given as goal
 
 abbrev pub invariant-loop : goal.invariant-loop

@@ -1,5 +1,6 @@
 use Rattle.std.proofs.Common.{rules, ap, ◌∙◌, subst}
-use Rattle.turn_lock.specs.Plays.{KnowsBoth, view_of}
+use Rattle.turn_lock.specs.Seats.{view_of}
+use Rattle.turn_lock.specs.Plays.{KnowsBoth}
 use Rattle.turn_lock.proofs.StepsKeep.{joins, merges}
 use Rattle.turn_lock.proofs.steps.take_in.Goals as goal
 
