@@ -7,7 +7,8 @@ use Rattle.std.specs.Prelude.{◌≡◌, ◌⊎◌, ◌≤◌, ◌<◌, ◌+◌,
 use Rattle.std.specs.Io.KnownBytes.{Appends, Consumes, IsAtEnd}
 use Rattle.acse_ber.specs.Password.{IsPassword}
 use Rattle.relay_core.specs.World.{IsDeviceName}
-use Rattle.session_serving.specs.Hexadecimal.{IsHex, RunsShort, hex_output, is_taken}
+use Rattle.session_serving.specs.Hexadecimal.{IsHex, RunsShort, WritesLines, is_taken}
+use Rattle.session_serving.specs.Sides.{Output, WritesNothing, output_of}
 use Rattle.hex_commands.specs.Apdu.{most_bytes}
 use Rattle.hex_commands.specs.declared.telling.CommandFault.{CommandFault}
 use Rattle.hex_commands.specs.declared.telling.CommandFault.TheVariants as fault
@@ -28,45 +29,40 @@ abbrev pub digit_fault : List ℕ → CommandFault
 digit_fault text = fault_at (position (λ character. not (is_taken character)) text)
 
 -- a text is not pairs of digits and has this fault, and nothing was written
-abbrev pub IsNoHex : List ℕ → CommandFault → Option (List ℕ) → Option (List ℕ) → Type 0
-IsNoHex text given written written' = (given ≡ digit_fault text)
-    × ((input : List ℕ) → ¬ (IsHex text input)) × Appends written written' []
+abbrev pub IsNoHex : List ℕ → CommandFault → Output → Output → Type 0
+IsNoHex text given before after = (given ≡ digit_fault text)
+    × ((input : List ℕ) → ¬ (IsHex text input)) × WritesNothing before after
 
--- the effect of serving the bytes of a session, by the result; the two numbers count the failed
--- writes before and after
-abbrev pub PlaysInput : List ℕ → List ℕ → List ℕ → Option (List ℕ) → ℕ
-    → Result (Unit {0}) CommandFault → Option (List ℕ) → ℕ → Type 0
-PlaysInput device password input written failed (Ok done) written' failed' =
-    Appends written written' (hex_output device password input)
-PlaysInput device password input written failed (Err fault.Write) written' failed' =
-    failed < failed'
-PlaysInput device password input written failed (Err fault.Memory) written' failed' =
-    Appends written written' [] ⊎ RunsShort device password input written written'
-PlaysInput device password input written failed (Err other) written' failed' = ⊥
+-- the effect of serving the bytes of a session, by the result
+abbrev pub PlaysInput : List ℕ → List ℕ → List ℕ → Output → Result (Unit {0}) CommandFault → Output
+    → Type 0
+PlaysInput device password input before (Ok done) after =
+    WritesLines device password input before after
+PlaysInput device password input before (Err fault.Write) after = before.failures < after.failures
+PlaysInput device password input before (Err fault.Memory) after =
+    WritesNothing before after ⊎ RunsShort device password input before after
+PlaysInput device password input before (Err other) after = ⊥
 
--- the effect of serving a text that was read, by the result; the two numbers count the failed
--- writes before and after
-abbrev pub PlaysBytes : List ℕ → List ℕ → List ℕ → Option (List ℕ) → ℕ
-    → Result (Unit {0}) CommandFault → Option (List ℕ) → ℕ → Type 0
-PlaysBytes device password text written failed (Ok done) written' failed' =
-    (input : List ℕ) × IsHex text input
-    × Appends written written' (hex_output device password input)
-PlaysBytes device password text written failed (Err (fault.Digit character)) written' failed' =
-    IsNoHex text (fault.Digit character) written written'
-PlaysBytes device password text written failed (Err fault.OddDigits) written' failed' =
-    IsNoHex text fault.OddDigits written written'
-PlaysBytes device password text written failed (Err fault.Write) written' failed' = (input : List ℕ)
-    × IsHex text input × (failed < failed')
-PlaysBytes device password text written failed (Err fault.Memory) written' failed' =
-    Appends written written' []
-    ⊎ ((input : List ℕ) × IsHex text input × RunsShort device password input written written')
-PlaysBytes device password text written failed (Err fault.TooLong) written' failed' = ⊥
-PlaysBytes device password text written failed (Err (fault.Odd line)) written' failed' = ⊥
-PlaysBytes device password text written failed (Err (fault.Character line byte)) written' failed' =
-    ⊥
-PlaysBytes device password text written failed (Err fault.Password) written' failed' = ⊥
-PlaysBytes device password text written failed (Err fault.Device) written' failed' = ⊥
-PlaysBytes device password text written failed (Err fault.Read) written' failed' = ⊥
+-- the effect of serving a text that was read, by the result
+abbrev pub PlaysBytes : List ℕ → List ℕ → List ℕ → Output → Result (Unit {0}) CommandFault → Output
+    → Type 0
+PlaysBytes device password text before (Ok done) after =
+    (input : List ℕ) × IsHex text input × WritesLines device password input before after
+PlaysBytes device password text before (Err (fault.Digit character)) after =
+    IsNoHex text (fault.Digit character) before after
+PlaysBytes device password text before (Err fault.OddDigits) after =
+    IsNoHex text fault.OddDigits before after
+PlaysBytes device password text before (Err fault.Write) after =
+    (input : List ℕ) × IsHex text input × (before.failures < after.failures)
+PlaysBytes device password text before (Err fault.Memory) after =
+    WritesNothing before after
+    ⊎ ((input : List ℕ) × IsHex text input × RunsShort device password input before after)
+PlaysBytes device password text before (Err fault.TooLong) after = ⊥
+PlaysBytes device password text before (Err (fault.Odd line)) after = ⊥
+PlaysBytes device password text before (Err (fault.Character line byte)) after = ⊥
+PlaysBytes device password text before (Err fault.Password) after = ⊥
+PlaysBytes device password text before (Err fault.Device) after = ⊥
+PlaysBytes device password text before (Err fault.Read) after = ⊥
 
 module _ {R W : Type 0}
     (remaining : R → Option (List ℕ)) (read_failures : R → ℕ)
@@ -84,8 +80,8 @@ module _ {R W : Type 0}
       (result : Result (Unit {0}) CommandFault) (r' : R) (w' : W) : Type 0 where
     pub text : List ℕ
     pub reads : ReadsWhole password device r r' text
-    pub plays : PlaysBytes device password text (contents w) (write_failures w) result (contents w')
-        (write_failures w')
+    pub plays : PlaysBytes device password text (output_of contents write_failures w) result
+        (output_of contents write_failures w')
 
   -- the options are fit, and a text was not read to its end
   pub record StopsReading (password device : List ℕ) (r : R) (w : W) (r' : R) (w' : W)

@@ -3,6 +3,7 @@ ghost use Rattle.std.specs.Prelude.{◌≡◌, ◌≤◌, length, IfOk, IfErr};
 ghost use Rattle.acse_ber.specs.Password.{IsPassword};
 ghost use Rattle.relay_core.specs.World.{IsDeviceName};
 ghost use Rattle.hex_commands.specs.Sessions.{IsOptionFault, PlaysInput, PlaysText};
+ghost use Rattle.session_serving.specs.Sides.{output_of};
 
 use crate::telling::CommandFault;
 use acse_ber::MAX_PASSWORD;
@@ -44,8 +45,9 @@ fn play<W: Writer>(
     requires writable { W.can_write writer.now }
     requires named { IsDeviceName device.now }
     requires password { IsPassword password.now }
-    ensures { PlaysInput device.now password.now input.now (W.contents writer.old)
-        (W.failures writer.old) result (W.contents writer.new) (W.failures writer.new) }
+    ensures { PlaysInput device.now password.now input.now
+        (output_of W.contents W.failures writer.old) result
+        (output_of W.contents W.failures writer.new) }
 {
     match play_session(alloc, input, writer, device, password) {
         Ok(()) => Ok(()),

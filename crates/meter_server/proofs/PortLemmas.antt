@@ -2,9 +2,10 @@
 use Rattle.std.proofs.Common.{◌≡◌, ℕ, List, [], ◌∷◌, ◌++◌, Option, Result, Ok, Err, IfOk, refl, sym, ap, ◌∙◌, subst, ⊎_elim}
 use Rattle.std.proofs.lemmas.List.{append-nil, append_assoc}
 use Rattle.kept_meter.specs.Calls.{IsLegal, events_and_replies}
-use Rattle.session_serving.specs.Meters.{Replied, Refused}
+use Rattle.session_serving.specs.Meters.{RepliesTo, RefusesLast}
 use Rattle.meter_server.specs.Ports.{MeterPort, PortSteps, entries, Enters}
-use Rattle.session_serving.specs.Served.{Served, Did}
+use Rattle.session_serving.specs.Serving.{Plan, HasEffect, ServesSession, plan_of}
+use Rattle.session_serving.specs.Sides.{Sides}
 use Rattle.session_serving.specs.declared.fault.ServeFault.{ServeFault}
 use Rattle.session_serving.specs.declared.fault.ServeFault.TheVariants as fault
 use Rattle.relay_events.specs.declared.event.Event.{Event}
@@ -51,27 +52,27 @@ port_fits k event (Err fault) l called = tt
 module _ {M : Type 0} (steps : M → Event → Result Reply CallFault → M → Type 0) (P : M → M → Type 0)
     (here : (m : M) → P m m) (on : (a b c : M) → P a b → P b c → P a c) (by : (m : M) (event : Event) (result : Result Reply CallFault) (n : M) → steps m event result n → P m n) where
   pub replied_on : (m : M) (events : List Event) (replies : List Reply) (n : M)
-      → Replied steps m events replies n → P m n
+      → RepliesTo steps m events replies n → P m n
   replied_on m [] [] n same = subst (P m) (sym same) (here m)
   replied_on m [] (reply ∷ replies) n never = absurd never
   replied_on m (event ∷ events) [] n never = absurd never
   replied_on m (event ∷ events) (reply ∷ replies) n (next, step, rest) = on m next n (by m event (Ok reply) next step) (replied_on next events replies n rest)
 
   refused_on : (m : M) (events : List Event) (replies : List Reply) (fault : CallFault) (n : M)
-      → Refused steps m events replies fault n → P m n
+      → RefusesLast steps m events replies fault n → P m n
   refused_on m events replies fault n refused =
       on m refused.before n (replied_on m refused.taken replies refused.before refused.replied) (by refused.before refused.event (Err fault) n refused.refused)
 
-  module _ {R W : Type 0} (remaining : R → Option (List ℕ)) (reads read_failures : R → ℕ) (contents : W → Option (List ℕ)) (write_failures : W → ℕ) (password seen : List ℕ) where
-    did_on : (r : R) (w : W) (m : M) (result : Result SessionEnd ServeFault) (r' : R)
-        (w' : W) (m' : M)
-        → Did remaining reads read_failures contents write_failures steps password seen r w m result r' w' m' → P m m'
-    did_on r w m (Ok end) r' w' m' did = replied_on m _ did.0.replies m' did.0.replied
-    did_on r w m (Err fault.Read) r' w' m' did = replied_on m _ did.0.replies m' did.0.replied
-    did_on r w m (Err fault.Write) r' w' m' did = replied_on m did.0.asked did.0.replies m' did.0.replied
-    did_on r w m (Err fault.Memory) r' w' m' did = ⊎_elim (replied_on m did.asked did.replies m') (refused_on m did.asked did.replies _ m') did.replied
-    did_on r w m (Err fault.Exhausted) r' w' m' did = refused_on m did.asked did.replies _ m' did.refused
-    did_on r w m (Err fault.Listen) r' w' m' did = absurd did
+  effect_on : (plan : Plan) (seen : List ℕ) (before : Sides M)
+      (result : Result SessionEnd ServeFault) (after : Sides M)
+      → HasEffect steps plan seen before result after → P before.outlets.meter after.outlets.meter
+  effect_on plan seen before (Ok end) after effect = replied_on before.outlets.meter _ effect.0.replies after.outlets.meter effect.0.replied
+  effect_on plan seen before (Err fault.Read) after effect = replied_on before.outlets.meter _ effect.0.replies after.outlets.meter effect.0.replied
+  effect_on plan seen before (Err fault.Write) after effect = replied_on before.outlets.meter effect.asked effect.replies after.outlets.meter effect.replied
+  effect_on plan seen before (Err fault.Memory) after effect =
+      ⊎_elim (replied_on before.outlets.meter effect.asked effect.replies after.outlets.meter) (refused_on before.outlets.meter effect.asked effect.replies _ after.outlets.meter) effect.replied
+  effect_on plan seen before (Err fault.Exhausted) after effect = refused_on before.outlets.meter effect.asked effect.replies _ after.outlets.meter effect.refused
+  effect_on plan seen before (Err fault.Listen) after effect = absurd effect
 
 pub is_same : (p : MeterPort) → IsSame p p
 is_same p = record { lock = refl; bound = refl; origin = refl; number = refl; splits = refl; joined = refl }
@@ -94,12 +95,11 @@ step_same p event (Err fault) q step =
     record { lock = step.lock; bound = step.bound; origin = step.calls.0.sees.origin; number = step.calls.0.sees.number; splits = step.calls.0.sees.splits; joined = step.calls.0.joined }
 
 -- a port that served a session is the same port
-pub served_same : {R W : Type 0} (remaining : R → Option (List ℕ)) (reads read_failures : R
-    → ℕ) (contents : W → Option (List ℕ)) (write_failures : W → ℕ) (password : List ℕ)
-    (r : R) (w : W) (p : MeterPort) (result : Result SessionEnd ServeFault) (r' : R) (w' : W) (q : MeterPort)
-    → Served remaining reads read_failures contents write_failures PortSteps password r w p result r' w' q → IsSame p q
-served_same remaining reads read_failures contents write_failures password r w p result r' w' q served =
-    did_on PortSteps IsSame is_same same_on step_same remaining reads read_failures contents write_failures password served.seen r w p result r' w' q served.did
+pub served_same : (password : List ℕ) (before : Sides MeterPort)
+    (result : Result SessionEnd ServeFault) (after : Sides MeterPort)
+    → ServesSession PortSteps password before result after → IsSame before.outlets.meter after.outlets.meter
+served_same password before result after served =
+    effect_on PortSteps IsSame is_same same_on step_same (plan_of password) served.seen before result after served.effect
 
 -- ports are related if their equals are
 pub between : (P : MeterPort → MeterPort → Type 0) (p m n q : MeterPort) → m ≡ p → q ≡ n
@@ -108,7 +108,7 @@ between P p m n q first last holds = subst (λ x. P x q) first (subst (P m) (sym
 
 -- the calls of a port are extended by the events that it passed on
 pub entered : (p : MeterPort) (events : List Event) (replies : List Reply) (q : MeterPort)
-    → Replied PortSteps p events replies q → Enters p events replies q
+    → RepliesTo PortSteps p events replies q → Enters p events replies q
 entered p [] [] q same = subst (λ (q : MeterPort). Enters p [] [] q) (sym same) (sym (append-nil (calls_by p.known.number p.known.seen)))
 entered p [] (reply ∷ replies) q never = absurd never
 entered p (event ∷ events) [] q never = absurd never

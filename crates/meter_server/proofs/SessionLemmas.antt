@@ -5,8 +5,9 @@ use Rattle.relay_events.specs.declared.event.Event.{Event}
 use Rattle.relay_events.specs.declared.reply.Reply.{Reply}
 use Rattle.session_core.specs.Backwards.{Asks}
 use Rattle.session_core.specs.declared.end.SessionEnd.{SessionEnd}
-use Rattle.session_serving.specs.Meters.{Replied, Refused}
-use Rattle.session_serving.specs.Served.{Served, Did}
+use Rattle.session_serving.specs.Meters.{RepliesTo, RefusesLast}
+use Rattle.session_serving.specs.Serving.{HasEffect, ServesSession, plan_of}
+use Rattle.session_serving.specs.Sides.{Sides}
 use Rattle.session_serving.specs.declared.fault.ServeFault.{ServeFault}
 use Rattle.session_serving.specs.declared.fault.ServeFault.TheVariants as fault
 use Rattle.call_fault.specs.declared.fault.CallFault.{CallFault}
@@ -25,7 +26,7 @@ event_of call = call.event
 -- the events of the port's new calls are those that were replied to
 entries_events : (by : List ℕ) (p : MeterPort) (events : List Event) (replies : List Reply)
     (q : MeterPort)
-    → Replied PortSteps p events replies q → map event_of (entries by events replies) ≡ events
+    → RepliesTo PortSteps p events replies q → map event_of (entries by events replies) ≡ events
 entries_events by p [] [] q same = refl
 entries_events by p [] (reply ∷ replies) q never = absurd never
 entries_events by p (event ∷ events) [] q never = absurd never
@@ -33,7 +34,7 @@ entries_events by p (event ∷ events) (reply ∷ replies) q (next, step, rest) 
     ap (λ (es : List Event). event ∷ es) (entries_events by next events replies q rest)
 
 replied_events : (p : MeterPort) (events : List Event) (replies : List Reply) (q : MeterPort)
-    → Replied PortSteps p events replies q → events_by p.known.number q ≡ events_by p.known.number p ++ events
+    → RepliesTo PortSteps p events replies q → events_by p.known.number q ≡ events_by p.known.number p ++ events
 replied_events p events replies q replied =
     let by : List ℕ = p.known.number in
     ap (map event_of) (entered p events replies q replied)
@@ -42,7 +43,7 @@ replied_events p events replies q replied =
 
 by_replied : (password seen : List ℕ) (p : MeterPort) (events later : List Event)
     (replies : List Reply) (q : MeterPort)
-    → Asks password seen ≡ events ++ later → Replied PortSteps p events replies q → AsksThrough password p q
+    → Asks password seen ≡ events ++ later → RepliesTo PortSteps p events replies q → AsksThrough password p q
 by_replied password seen p events later replies q all replied = record {
   asked = events;
   are = record { input = seen; later = later; all = all };
@@ -51,7 +52,7 @@ by_replied password seen p events later replies q all replied = record {
 
 by_refused : (password seen : List ℕ) (p : MeterPort) (events later : List Event)
     (replies : List Reply) (refusal : CallFault) (q : MeterPort)
-    → Asks password seen ≡ events ++ later → Refused PortSteps p events replies refusal q → AsksThrough password p q
+    → Asks password seen ≡ events ++ later → RefusesLast PortSteps p events replies refusal q → AsksThrough password p q
 by_refused password seen p events later replies refusal q all r =
     let same = replied_on PortSteps IsSame is_same same_on step_same p r.taken replies r.before r.replied in
     let N : List ℕ → Type 0 = λ n. events_by n q ≡ events_by n r.before in
@@ -66,25 +67,27 @@ by_refused password seen p events later replies refusal q all r =
       entered = still ∙ replied_events p r.taken replies r.before r.replied;
     }
 
-module _ {R W : Type 0} (remaining : R → Option (List ℕ)) (reads read_failures : R → ℕ) (contents : W → Option (List ℕ)) (write_failures : W → ℕ) (password seen : List ℕ) where
-  did_ask : (r : R) (w : W) (p : MeterPort) (result : Result SessionEnd ServeFault) (r' : R)
-      (w' : W) (q : MeterPort)
-      → Did remaining reads read_failures contents write_failures PortSteps password seen r w p result r' w' q → AsksThrough password p q
-  did_ask r w p (Ok end) r' w' q did = by_replied password seen p _ [] did.0.replies q (sym (append-nil (Asks password seen))) did.0.replied
-  did_ask r w p (Err fault.Read) r' w' q did = by_replied password seen p _ [] did.0.replies q (sym (append-nil (Asks password seen))) did.0.replied
-  did_ask r w p (Err fault.Write) r' w' q did = by_replied password seen p did.0.asked did.0.later did.0.replies q did.0.all_asked did.0.replied
-  did_ask r w p (Err fault.Memory) r' w' q did =
-      ⊎_elim (by_replied password seen p did.asked did.later did.replies q did.all_asked) (by_refused password seen p did.asked did.later did.replies _ q did.all_asked) did.replied
-  did_ask r w p (Err fault.Exhausted) r' w' q did = by_refused password seen p did.asked did.later did.replies _ q did.all_asked did.refused
-  did_ask r w p (Err fault.Listen) r' w' q did = absurd did
+effect_asks : (password seen : List ℕ) (before : Sides MeterPort)
+    (result : Result SessionEnd ServeFault) (after : Sides MeterPort)
+    → HasEffect PortSteps (plan_of password) seen before result after → AsksThrough password before.outlets.meter after.outlets.meter
+effect_asks password seen before (Ok end) after effect =
+    by_replied password seen before.outlets.meter _ [] effect.0.replies after.outlets.meter (sym (append-nil (Asks password seen))) effect.0.replied
+effect_asks password seen before (Err fault.Read) after effect =
+    by_replied password seen before.outlets.meter _ [] effect.0.replies after.outlets.meter (sym (append-nil (Asks password seen))) effect.0.replied
+effect_asks password seen before (Err fault.Write) after effect =
+    by_replied password seen before.outlets.meter effect.asked effect.later effect.replies after.outlets.meter effect.all_asked effect.replied
+effect_asks password seen before (Err fault.Memory) after effect =
+    ⊎_elim (by_replied password seen before.outlets.meter effect.asked effect.later effect.replies after.outlets.meter effect.all_asked)
+    (by_refused password seen before.outlets.meter effect.asked effect.later effect.replies _ after.outlets.meter effect.all_asked) effect.replied
+effect_asks password seen before (Err fault.Exhausted) after effect =
+    by_refused password seen before.outlets.meter effect.asked effect.later effect.replies _ after.outlets.meter effect.all_asked effect.refused
+effect_asks password seen before (Err fault.Listen) after effect = absurd effect
 
 -- a port that served a session made the calls of the session
-pub served_asks : {R W : Type 0} (remaining : R → Option (List ℕ)) (reads read_failures : R
-    → ℕ) (contents : W → Option (List ℕ)) (write_failures : W → ℕ) (password : List ℕ)
-    (r : R) (w : W) (p : MeterPort) (result : Result SessionEnd ServeFault) (r' : R) (w' : W) (q : MeterPort)
-    → Served remaining reads read_failures contents write_failures PortSteps password r w p result r' w' q → AsksThrough password p q
-served_asks remaining reads read_failures contents write_failures password r w p result r' w' q served =
-    did_ask remaining reads read_failures contents write_failures password served.seen r w p result r' w' q served.did
+pub served_asks : (password : List ℕ) (before : Sides MeterPort)
+    (result : Result SessionEnd ServeFault) (after : Sides MeterPort)
+    → ServesSession PortSteps password before result after → AsksThrough password before.outlets.meter after.outlets.meter
+served_asks password before result after served = effect_asks password served.seen before result after served.effect
 
 abbrev Session : List ℕ → MeterPort → MeterPort → Type 0
 Session password p q = IsSame p q × AsksThrough password p q

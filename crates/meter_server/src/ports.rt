@@ -1,10 +1,11 @@
 //! A session on a meter that it shares with others.
 ghost use Rattle.std.specs.Prelude.{◌≡◌, List};
 ghost use Rattle.acse_ber.specs.Password.{IsPassword};
-ghost use Rattle.session_serving.specs.Meters.{Replied};
+ghost use Rattle.session_serving.specs.Meters.{RepliesTo};
 ghost use Rattle.meter_server.specs.Ports.{MeterPort, PortSteps, Enters};
 ghost use Rattle.meter_server.specs.Sessions.{AsksThrough};
-ghost use Rattle.session_serving.specs.Served.{Served};
+ghost use Rattle.session_serving.specs.Serving.{ServesSession};
+ghost use Rattle.session_serving.specs.Sides.{input_of, outlets_of};
 ghost use Rattle.relay_events.specs.declared.event.Event.{Event};
 ghost use Rattle.relay_events.specs.declared.reply.Reply.{Reply};
 ghost use Rattle.turn_lock.specs.Shown.{IsSame};
@@ -77,7 +78,7 @@ impl<'a, W: Wait> Meter for PortMeter<'a, W> {
 /// number.
 pub fn calls_are_entered()
     ensures { (p : MeterPort) (events : List Event) (replies : List Reply) (q : MeterPort)
-        → Replied PortSteps p events replies q → Enters p events replies q }
+        → RepliesTo PortSteps p events replies q → Enters p events replies q }
 {}
 
 /// Proves that a session that [`serve_session`] served over a [`PortMeter`] leaves the same port,
@@ -86,8 +87,16 @@ pub fn calls_are_entered()
 pub fn session_keeps_its_port<R: Reader, O: Writer>()
     ensures { (password : _) (reader : _) (writer : _) (p : MeterPort) (end : _) (read : _)
         (written : _) (q : MeterPort)
-        → Served R.remaining R.reads R.failures O.contents O.failures PortSteps password
-        reader writer p end read written q
+        → ServesSession PortSteps password
+        (record {
+          input = input_of R.remaining R.reads R.failures reader;
+          outlets = outlets_of O.contents O.failures writer p;
+        })
+        end
+        (record {
+          input = input_of R.remaining R.reads R.failures read;
+          outlets = outlets_of O.contents O.failures written q;
+        })
         → IsSame p q × AsksThrough password p q }
 {}
 
@@ -105,8 +114,16 @@ pub fn serve_port<R: Reader, O: Writer, W: Wait>(
     requires readable { R.can_read reader.now }
     requires writable { O.can_write writer.now }
     requires password { IsPassword password.now }
-    ensures served { Served R.remaining R.reads R.failures O.contents O.failures PortSteps
-        password.now reader.old writer.old port result.1 reader.new writer.new result.0 }
+    ensures served { ServesSession PortSteps password.now
+        (record {
+          input = input_of R.remaining R.reads R.failures reader.old;
+          outlets = outlets_of O.contents O.failures writer.old port;
+        })
+        result.1
+        (record {
+          input = input_of R.remaining R.reads R.failures reader.new;
+          outlets = outlets_of O.contents O.failures writer.new result.0;
+        }) }
     ensures same { IsSame port result.0 }
     ensures asks { AsksThrough password.now port result.0 }
 {

@@ -1,20 +1,20 @@
 -- The session defined by looking back is the session that keeps its state: each definition over one
 -- more frame is the rule of that frame, applied to the definition over the frames before it.
 use Rattle.std.proofs.Common.{◌≡◌, ℕ, ◌+◌, ◌*◌, ◌==◌, ◌&&◌, ◌||◌, not, nat_lt, nat_le, Bool, true, false, cond, Option, Some, None, List, [], ◌∷◌, ◌++◌, length, map, refl, sym, ◌∙◌, ap, arith, length-append}
-use Rattle.std.specs.Prelude.{if◌then◌else◌, option_and_then, option_to_list, filter, find}
+use Rattle.std.specs.Prelude.{if◌then◌else◌, option_and_then, option_map, option_to_list, filter, find}
 use Rattle.std.specs.List.{list_any}
 use Rattle.std.proofs.lemmas.Bool.{le-leb, leb-true}
 use Rattle.relay_events.specs.declared.event.Event.{Event}
 use Rattle.relay_events.specs.declared.reply.Reply.{Reply}
 use Rattle.session_core.specs.Answers.{answer_text, due_text}
 use Rattle.session_core.specs.Association.{opened_by}
-use Rattle.session_core.specs.Backwards.{since, unreleased, link_of, heard, is_no_later_form, goes_on, in_order, joined_so_far, blocks_so_far, First, first_of, incoming_by, incoming_among, incoming_of, Past, Heard, frames_past, heard_past, is_no_next, names_in_order, begun_by_role, outgoing_after_nexts, outgoing_among, outgoing_of, Asks, Answers, to_server}
+use Rattle.session_core.specs.Backwards.{after_last_match, unreleased_link, link_of, requests_of, LaterRequest, Transfer, new_transfer, extended_transfer, last_transfer, block_count, is_inner_block, is_in_order, joined_bytes, is_too_long, incoming_by_transfer, incoming_among, incoming_of, Past, Exchange, frames_past, exchanges_of, LongGet, extended_long_get, last_long_get, is_named_in_order, outgoing_by_get, outgoing_among, outgoing_of, Asks, Answers, to_server}
 use Rattle.session_core.specs.Incoming.{no_blocks, after_by_fault, block_after, transfer_of, later_after}
 use Rattle.xdlms_blocks.specs.Joining.{joining_after_block}
 use Rattle.xdlms_blocks.specs.Limits.{max_joined}
 use Rattle.xdlms_blocks.specs.declared.fault.BlockFault.TheVariants.{WrongNumber, TooLong}
 use Rattle.session_core.specs.Outcome.{Outcome, asks, says, turn_event}
-use Rattle.session_core.specs.Outgoing.{transfer_after, sending_by_fault, transfer_after_next}
+use Rattle.session_core.specs.Outgoing.{transfer_after, begun_by, sending_by_fault, transfer_after_next}
 use Rattle.session_core.specs.Roles.{Role, starts, follows, gets, gets_next, stops, role_of_request, role_of}
 use Rattle.session_core.specs.Rules.{opens, is_heard, is_release, is_closing, call_in, role_in, turn_of, link_in, link_after, incoming_by_role, incoming_in, incoming_after, outgoing_by_role, outgoing_in, outgoing_after, outcome_of_turn, outcome_at, state_after, reply_text}
 use Rattle.session_core.specs.Running.{Known, event_at, known_after, known_in, new_state, asks_on, answers_on}
@@ -35,7 +35,7 @@ use Rattle.xdlms_blocks.specs.Transfer.{Sending, Joining}
 
 -- ---- the association
 
-unreleased_none : (link : Option Link) → unreleased link [] ≡ link
+unreleased_none : (link : Option Link) → unreleased_link link [] ≡ link
 unreleased_none None = refl
 unreleased_none (Some link) = refl
 
@@ -47,7 +47,7 @@ unreleased_by false true f link = refl
 unreleased_by false false f link = refl
 
 unreleased_more : (f : Frame) (later : List Frame) (link : Option Link)
-    → unreleased link (f ∷ later) ≡ link_in f (unreleased link later)
+    → unreleased_link link (f ∷ later) ≡ link_in f (unreleased_link link later)
 unreleased_more f later None = refl
 unreleased_more f later (Some link) =
     elim (list_any (is_closing link) later) as (λ b. (if is_closing link f || b then None else Some link) ≡ link_in f (if b then None else Some link)) [
@@ -56,8 +56,8 @@ unreleased_more f later (Some link) =
     ]
 
 link_step : (password : List ℕ) (f : Frame) (last : Option Frame) (later : List Frame) (o : Bool)
-    → unreleased (option_and_then (opened_by password) (cond o (Some f) last)) (cond o [] (f ∷ later))
-    ≡ (if o then opened_by password f else link_in f (unreleased (option_and_then (opened_by password) last) later))
+    → unreleased_link (option_and_then (opened_by password) (cond o (Some f) last)) (cond o [] (f ∷ later))
+    ≡ (if o then opened_by password f else link_in f (unreleased_link (option_and_then (opened_by password) last) later))
 link_step password f last later true = unreleased_none (opened_by password f)
 link_step password f last later false = unreleased_more f later (option_and_then (opened_by password) last)
 
@@ -65,7 +65,7 @@ link_step password f last later false = unreleased_more f later (option_and_then
 pub link_more : (password : List ℕ) (f : Frame) (earlier : List Frame)
     → link_of password (f ∷ earlier) ≡ link_after password f (link_of password earlier)
 unfolding link_of link_after
-link_more password f earlier = link_step password f (find opens earlier) (since opens earlier) (opens f)
+link_more password f earlier = link_step password f (find opens earlier) (after_last_match opens earlier) (opens f)
 
 -- ---- a long SET or ACTION
 
@@ -94,48 +94,44 @@ added_by p block j false long = refl
 added_by p block j true true = sym (never (not block.last) (Some (record { purpose = p; blocks = joining_after_block false block.raw j })))
 added_by p block j true false = last_by block.last (Some (record { purpose = p; blocks = joining_after_block false block.raw j }))
 
--- whether the joined bytes are too many
-abbrev too_long : List ℕ → Bool
-too_long bytes = nat_lt max_joined (length bytes)
-
 added : (p : Purpose) (block : DataBlock) (n : ℕ) (bytes : List ℕ)
     → block_after p block (record { number = n; bytes = bytes; is_open = true })
-    ≡ (if goes_on (n + 1) (Some block) && not (too_long (bytes ++ block.raw)) then going p (n + 1) (bytes ++ block.raw) else None)
+    ≡ (if is_inner_block (n + 1) block && not (is_too_long (bytes ++ block.raw)) then going p (n + 1) (bytes ++ block.raw) else None)
 unfolding block_after
 added p block n bytes =
     added_by p block (record { number = n; bytes = bytes; is_open = true }) (block.number == n + 1) (nat_lt max_joined (length bytes + length block.raw))
-    ∙ ap (λ (size : ℕ). if goes_on (n + 1) (Some block) && not (nat_lt max_joined size) then going p (n + 1) (bytes ++ block.raw) else None) (sym (length-append bytes block.raw))
+    ∙ ap (λ (size : ℕ). if is_inner_block (n + 1) block && not (nat_lt max_joined size) then going p (n + 1) (bytes ++ block.raw) else None) (sym (length-append bytes block.raw))
 
 -- the transfer after a first request
-first_block : (p : Purpose) (block : DataBlock)
-    → incoming_by [] (record { purpose = p; block = block }) ≡ block_after p block no_blocks
+first_block : (p : Purpose) (block : DataBlock) → incoming_by_transfer (new_transfer p block)
+    ≡ block_after p block no_blocks
 first_block p block =
-    ap (λ (b : Bool). if b && not (too_long block.raw) then going p 1 block.raw else None) (and_true (goes_on 1 (Some block)))
+    ap (λ (b : Bool). if b && not (is_too_long block.raw) then going p 1 block.raw else None) (and_true (is_inner_block 1 block))
     ∙ sym (added p block 0 [])
 
 -- bytes that are too many are still too many with more
-longer : (bytes raw : List ℕ) → too_long bytes ≡ true → too_long (bytes ++ raw) ≡ true
+longer : (bytes raw : List ℕ) → is_too_long bytes ≡ true → is_too_long (bytes ++ raw) ≡ true
 longer bytes raw e = let h = leb-true (max_joined + 1) (length bytes) e in le-leb (max_joined + 1) (length (bytes ++ raw)) (omega (arith, length-append bytes raw))
 
 -- the transfer after one more block of its service, by whether the bytes before were too many
 later_long : (K : Option Incoming → Option Incoming) (p : Purpose) (n : ℕ) (bytes : List ℕ)
-    (block : DataBlock) (long : Bool) → too_long bytes ≡ long
+    (block : DataBlock) (long : Bool) → is_too_long bytes ≡ long
     → K None ≡ None → K (going p n bytes) ≡ block_after p block (record { number = n; bytes = bytes; is_open = true })
-    → (if goes_on (n + 1) (Some block) && not (too_long (bytes ++ block.raw)) then going p (n + 1) (bytes ++ block.raw) else None) ≡ K (if not long then going p n bytes else None)
+    → (if is_inner_block (n + 1) block && not (is_too_long (bytes ++ block.raw)) then going p (n + 1) (bytes ++ block.raw) else None) ≡ K (if not long then going p n bytes else None)
 later_long K p n bytes block true e none some =
-    ap (λ (b : Bool). if goes_on (n + 1) (Some block) && not b then going p (n + 1) (bytes ++ block.raw) else None) (longer bytes block.raw e)
-    ∙ never (goes_on (n + 1) (Some block)) (going p (n + 1) (bytes ++ block.raw))
+    ap (λ (b : Bool). if is_inner_block (n + 1) block && not b then going p (n + 1) (bytes ++ block.raw) else None) (longer bytes block.raw e)
+    ∙ never (is_inner_block (n + 1) block) (going p (n + 1) (bytes ++ block.raw))
     ∙ sym none
 later_long K p n bytes block false e none some = sym (added p block n bytes) ∙ sym some
 
 later_block : (K : Option Incoming → Option Incoming) (p : Purpose) (first others : Bool) (n : ℕ)
     (bytes : List ℕ) (block : DataBlock)
     → K None ≡ None → K (going p n bytes) ≡ block_after p block (record { number = n; bytes = bytes; is_open = true })
-    → (if first && (others && goes_on (n + 1) (Some block)) && not (too_long (bytes ++ block.raw)) then going p (n + 1) (bytes ++ block.raw) else None)
-    ≡ K (if first && others && not (too_long bytes) then going p n bytes else None)
+    → (if first && (others && is_inner_block (n + 1) block) && not (is_too_long (bytes ++ block.raw)) then going p (n + 1) (bytes ++ block.raw) else None)
+    ≡ K (if first && others && not (is_too_long bytes) then going p n bytes else None)
 later_block K p false others n bytes block none some = sym none
 later_block K p true false n bytes block none some = sym none
-later_block K p true true n bytes block none some = later_long K p n bytes block (too_long bytes) refl none some
+later_block K p true true n bytes block none some = later_long K p n bytes block (is_too_long bytes) refl none some
 
 -- the transfer after a block of the other service
 other_block : (K : Option Incoming → Option Incoming) (next : Option Incoming) (p : Purpose)
@@ -147,34 +143,46 @@ other_block K next p true false short next_short n bytes none some = sym none
 other_block K next p true true true next_short n bytes none some = sym some
 other_block K next p true true false next_short n bytes none some = sym none
 
--- the transfer after one more later request
-follows_block : (s : LongService) (block : DataBlock) (later : List Role) (p : Purpose)
-    (first : DataBlock)
-    → incoming_by (follows s block ∷ later) (record { purpose = p; block = first }) ≡ later_after block (transfer_of s (incoming_by later (record { purpose = p; block = first })))
-follows_block service.Set block later (purpose.Set target) first =
-    later_block (λ i. later_after block (transfer_of service.Set i)) (purpose.Set target) (goes_on 1 (Some first)) (in_order service.Set later) (blocks_so_far later)
-    (joined_so_far service.Set first.raw later) block refl refl
-follows_block service.Set block later (purpose.Action method) first =
-    other_block (λ i. later_after block (transfer_of service.Set i)) _ (purpose.Action method) (goes_on 1 (Some first)) (in_order service.Action later) _ _ (blocks_so_far later)
-    (joined_so_far service.Action first.raw later) refl refl
-follows_block service.Action block later (purpose.Set target) first =
-    other_block (λ i. later_after block (transfer_of service.Action i)) _ (purpose.Set target) (goes_on 1 (Some first)) (in_order service.Set later) _ _ (blocks_so_far later)
-    (joined_so_far service.Set first.raw later) refl refl
-follows_block service.Action block later (purpose.Action method) first =
-    later_block (λ i. later_after block (transfer_of service.Action i)) (purpose.Action method) (goes_on 1 (Some first)) (in_order service.Action later) (blocks_so_far later)
-    (joined_so_far service.Action first.raw later) block refl refl
+-- a transfer by its parts
+abbrev transfer : Purpose → DataBlock → List LaterRequest → Transfer
+transfer p first later = record { purpose = p; first_block = first; later = later }
 
-follows_more : (s : LongService) (block : DataBlock) (later : List Role) (first : Option First)
-    → option_and_then (incoming_by (follows s block ∷ later)) first ≡ later_after block (transfer_of s (option_and_then (incoming_by later) first))
-follows_more service.Set block later None = refl
-follows_more service.Action block later None = refl
-follows_more s block later (Some first) = follows_block s block later first.purpose first.block
+abbrev request : LongService → DataBlock → LaterRequest
+request s block = record { service = s; block = block }
+
+-- the transfer after one more later request
+follows_block : (s : LongService) (block : DataBlock) (p : Purpose) (first : DataBlock)
+    (later : List LaterRequest)
+    → incoming_by_transfer (extended_transfer (request s block) (transfer p first later))
+    ≡ later_after block (transfer_of s (incoming_by_transfer (transfer p first later)))
+follows_block service.Set block (purpose.Set target) first later =
+    later_block (λ i. later_after block (transfer_of service.Set i)) (purpose.Set target)
+    (is_inner_block 1 first) (is_in_order (purpose.Set target) later) (block_count later)
+    (joined_bytes first later) block refl refl
+follows_block service.Set block (purpose.Action method) first later =
+    other_block (λ i. later_after block (transfer_of service.Set i)) _ (purpose.Action method)
+    (is_inner_block 1 first) (is_in_order (purpose.Action method) later) _ _ (block_count later)
+    (joined_bytes first later) refl refl
+follows_block service.Action block (purpose.Set target) first later =
+    other_block (λ i. later_after block (transfer_of service.Action i)) _ (purpose.Set target)
+    (is_inner_block 1 first) (is_in_order (purpose.Set target) later) _ _ (block_count later)
+    (joined_bytes first later) refl refl
+follows_block service.Action block (purpose.Action method) first later =
+    later_block (λ i. later_after block (transfer_of service.Action i)) (purpose.Action method)
+    (is_inner_block 1 first) (is_in_order (purpose.Action method) later) (block_count later)
+    (joined_bytes first later) block refl refl
+
+follows_more : (s : LongService) (block : DataBlock) (t : Option Transfer)
+    → option_and_then incoming_by_transfer (option_map (extended_transfer (request s block)) t) ≡ later_after block (transfer_of s (option_and_then incoming_by_transfer t))
+follows_more service.Set block None = refl
+follows_more service.Action block None = refl
+follows_more s block (Some t) = follows_block s block t.purpose t.first_block t.later
 
 -- the transfer after one more request
 role_more : (role : Role) (roles : List Role) → incoming_among (role ∷ roles)
     ≡ incoming_by_role role (incoming_among roles)
 role_more (starts p block) roles = first_block p block
-role_more (follows s block) roles = follows_more s block (since is_no_later_form roles) (option_and_then first_of (find is_no_later_form roles))
+role_more (follows s block) roles = follows_more s block (last_transfer roles)
 role_more (gets form) roles = refl
 role_more (gets_next number) roles = refl
 role_more stops roles = refl
@@ -220,10 +228,10 @@ incoming_step password f fs link false = heard_more f fs link
 
 -- the transfer after one more frame, if the association is known
 incoming_at_link : (password : List ℕ) (f : Frame) (earlier : List Frame) (link : Option Link)
-    → option_and_then (λ (l : Link). incoming_among (heard l (f ∷ earlier))) (link_after password f link)
-    ≡ incoming_after link f (option_and_then (λ (l : Link). incoming_among (heard l earlier)) link)
+    → option_and_then (λ (l : Link). incoming_among (requests_of l (f ∷ earlier))) (link_after password f link)
+    ≡ incoming_after link f (option_and_then (λ (l : Link). incoming_among (requests_of l earlier)) link)
 unfolding link_after incoming_after
-incoming_at_link password f earlier link = incoming_step password f (since opens earlier) link (opens f)
+incoming_at_link password f earlier link = incoming_step password f (after_last_match opens earlier) link (opens f)
 
 -- the long SET or ACTION after one more frame
 pub incoming_more : (password : List ℕ) (f : Frame) (earlier : List Frame)
@@ -231,7 +239,7 @@ pub incoming_more : (password : List ℕ) (f : Frame) (earlier : List Frame)
     (incoming_of password earlier)
 unfolding incoming_of
 incoming_more password f earlier =
-    ap (option_and_then (λ (l : Link). incoming_among (heard l (f ∷ earlier)))) (link_more password f earlier)
+    ap (option_and_then (λ (l : Link). incoming_among (requests_of l (f ∷ earlier)))) (link_more password f earlier)
     ∙ incoming_at_link password f earlier (link_of password earlier)
 
 -- ---- a long GET
@@ -266,25 +274,30 @@ unfolding transfer_after_next
 next_named named number s false = refl
 next_named named number s true = next_sent named number s (nat_le (length s.text) (number * s.size)) refl
 
-next_more : (named : ℕ) (reply : Option Reply) (later : List Heard) (first : Option Sending)
-    → option_and_then (outgoing_after_nexts (record { role = gets_next named; reply = reply } ∷ later)) first
-    ≡ transfer_after_next named (option_and_then (outgoing_after_nexts later) first)
+next_more : (named : ℕ) (get : Option LongGet)
+    → option_and_then outgoing_by_get (option_map (extended_long_get named) get) ≡ transfer_after_next named (option_and_then outgoing_by_get get)
 unfolding transfer_after_next
-next_more named reply later None = refl
-next_more named reply later (Some s) = next_named named (blocks_so_far later) s (names_in_order later)
+next_more named None = refl
+next_more named (Some get) = next_named named (block_count get.named_blocks) get.text (is_named_in_order get.named_blocks)
+
+-- the long GET that a text begins
+new_get : (text : Option Sending) → option_and_then outgoing_by_get
+    (option_map (λ (t : Sending). record { text = t; named_blocks = [] }) text)
+    ≡ option_and_then (transfer_after 1) text
+new_get None = refl
+new_get (Some text) = refl
 
 -- the long GET after one more request
-get_more : (link : Link) (role : Role) (reply : Option Reply) (calls : List Heard)
+get_more : (link : Link) (role : Role) (reply : Option Reply) (calls : List Exchange)
     → outgoing_among link (record { role = role; reply = reply } ∷ calls) ≡ outgoing_by_role link role reply (outgoing_among link calls)
 get_more link (starts p block) reply calls = refl
 get_more link (follows s block) reply calls = refl
 get_more link (gets form) None calls = refl
-get_more link (gets form) (Some reply) calls = refl
-get_more link (gets_next number) reply calls =
-    next_more number reply (since (λ (h : Heard). is_no_next h.role) calls) (option_and_then (λ (h : Heard). begun_by_role link h.role h.reply) (find (λ (h : Heard). is_no_next h.role) calls))
+get_more link (gets form) (Some reply) calls = new_get (begun_by (record { link = link; form = form }) reply)
+get_more link (gets_next number) reply calls = next_more number (last_long_get link calls)
 get_more link stops reply calls = refl
 
-outgoing_call : (link : Link) (c : Call) (reply : Option Reply) (calls : List Heard)
+outgoing_call : (link : Link) (c : Call) (reply : Option Reply) (calls : List Exchange)
     → (if is_release c then None else outgoing_among link (record { role = role_of c; reply = reply } ∷ calls)) ≡ outgoing_by_role link (role_of c) reply (outgoing_among link calls)
 outgoing_call link call.Release reply calls = refl
 outgoing_call link (call.Service r) reply calls = get_more link (role_of_request r) reply calls
@@ -294,17 +307,17 @@ outgoing_call link (call.Refused exception) reply calls = refl
 abbrev is_heard_past : Link → Past → Bool
 is_heard_past link p = is_heard link p.frame
 
-abbrev as_heard : Link → Past → Heard
-as_heard link p = record { role = role_in link p.frame; reply = p.reply }
+abbrev as_exchange : Link → Past → Exchange
+as_exchange link p = record { role = role_in link p.frame; reply = p.reply }
 
 abbrev outgoing_since : List Past → Link → Option Sending
-outgoing_since past link = outgoing_among link (map (as_heard link) (filter (is_heard_past link) past))
+outgoing_since past link = outgoing_among link (map (as_exchange link) (filter (is_heard_past link) past))
 
 past_by : (link : Link) (p : Past) (past : List Past) (here : Bool)
-    → (if here && is_release (call_in link p.frame) then None else outgoing_among link (map (as_heard link) (cond here (p ∷ filter (is_heard_past link) past) (filter (is_heard_past link) past))))
+    → (if here && is_release (call_in link p.frame) then None else outgoing_among link (map (as_exchange link) (cond here (p ∷ filter (is_heard_past link) past) (filter (is_heard_past link) past))))
     ≡ (if here then outgoing_by_role link (role_in link p.frame) p.reply (outgoing_since past link) else outgoing_since past link)
 past_by link p past false = refl
-past_by link p past true = outgoing_call link (call_in link p.frame) p.reply (map (as_heard link) (filter (is_heard_past link) past))
+past_by link p past true = outgoing_call link (call_in link p.frame) p.reply (map (as_exchange link) (filter (is_heard_past link) past))
 
 past_more : (p : Past) (past : List Past) (link : Option Link)
     → option_and_then (outgoing_since (p ∷ past)) (link_in p.frame link) ≡ outgoing_in link p.frame p.reply (option_and_then (outgoing_since past) link)
@@ -322,10 +335,10 @@ outgoing_step password p past link true = none_sent (opened_by password p.frame)
 outgoing_step password p past link false = past_more p past link
 
 outgoing_at_link : (password : List ℕ) (p : Past) (past : List Past) (link : Option Link)
-    → option_and_then (λ (l : Link). outgoing_among l (heard_past l (p ∷ past))) (link_after password p.frame link)
-    ≡ outgoing_after link p.frame p.reply (option_and_then (λ (l : Link). outgoing_among l (heard_past l past)) link)
+    → option_and_then (λ (l : Link). outgoing_among l (exchanges_of l (p ∷ past))) (link_after password p.frame link)
+    ≡ outgoing_after link p.frame p.reply (option_and_then (λ (l : Link). outgoing_among l (exchanges_of l past)) link)
 unfolding link_after outgoing_after
-outgoing_at_link password p past link = outgoing_step password p (since (λ (q : Past). opens q.frame) past) link (opens p.frame)
+outgoing_at_link password p past link = outgoing_step password p (after_last_match (λ (q : Past). opens q.frame) past) link (opens p.frame)
 
 -- the long GET after one more frame and the reply to its event
 pub outgoing_more : (password : List ℕ) (p : Past) (past : List Past)
@@ -333,7 +346,7 @@ pub outgoing_more : (password : List ℕ) (p : Past) (past : List Past)
     p.reply (outgoing_of password past)
 unfolding outgoing_of
 outgoing_more password p past =
-    ap (option_and_then (λ (l : Link). outgoing_among l (heard_past l (p ∷ past)))) (link_more password p.frame (frames_past past))
+    ap (option_and_then (λ (l : Link). outgoing_among l (exchanges_of l (p ∷ past)))) (link_more password p.frame (frames_past past))
     ∙ outgoing_at_link password p past (link_of password (frames_past past))
 
 -- ---- two walks whose states correspond

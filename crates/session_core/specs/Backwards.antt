@@ -1,27 +1,29 @@
 -- One client session, defined by looking back over the earlier frames (IEC 62056-5-3). A list of
 -- earlier frames begins with the last of them.
 --     link_of        the association before a frame
---     incoming_of    the long SET or ACTION before it
---     outgoing_of    the long GET before it, which also depends on the replies
+--     Transfer       a long SET or ACTION, seen backwards
+--     incoming_of    the long SET or ACTION before a frame
+--     LongGet        a long GET, seen backwards
+--     outgoing_of    the long GET before a frame, which also depends on the replies
 --     Asks           the events of an input
 --     Answers        the bytes of the answers, for the replies to the events
 --     end_of         how the session ends
-use Rattle.std.specs.Prelude.{ℕ, ◌+◌, ◌==◌, ◌&&◌, nat_lt, not, Bool, true, false, if◌then◌else◌, cond, Option, Some, None, option_and_then, List, [], ◌∷◌, ◌++◌, length, map, filter, find}
+use Rattle.std.specs.Prelude.{ℕ, ◌+◌, ◌==◌, ◌&&◌, nat_lt, not, Bool, true, if◌then◌else◌, cond, Option, Some, None, option_and_then, option_map, List, [], ◌∷◌, ◌++◌, length, map, filter, find}
 use Rattle.std.specs.List.{list_any}
 use Rattle.relay_events.specs.declared.event.Event.{Event}
 use Rattle.relay_events.specs.declared.reply.Reply.{Reply}
 use Rattle.session_core.specs.Association.{opened_by}
+use Rattle.session_core.specs.Incoming.{is_of}
 use Rattle.session_core.specs.Outcome.{turn_event}
 use Rattle.session_core.specs.Outgoing.{transfer_after, begun_by}
-use Rattle.session_core.specs.Roles.{Role, starts, follows, gets, gets_next}
+use Rattle.session_core.specs.Roles.{Role, starts, follows, gets, gets_next, stops}
 use Rattle.session_core.specs.Rules.{opens, is_heard, is_closing, role_in, turn_of, outcome_of_turn}
 use Rattle.session_core.specs.Standard.{management_device}
 use Rattle.session_core.specs.Walks.{asks_along, answers_along}
+use Rattle.session_core.specs.declared.asked.ReplyForm.{ReplyForm}
 use Rattle.session_core.specs.declared.incoming.Incoming.{Incoming}
 use Rattle.session_core.specs.declared.incoming.LongService.{LongService}
-use Rattle.session_core.specs.declared.incoming.LongService.TheVariants as service
 use Rattle.session_core.specs.declared.incoming.Purpose.{Purpose}
-use Rattle.session_core.specs.Incoming.{service_of}
 use Rattle.session_core.specs.declared.end.SessionEnd.{SessionEnd}
 use Rattle.session_core.specs.declared.end.SessionEnd.TheVariants as ending
 use Rattle.session_core.specs.declared.link.Link.{Link}
@@ -34,105 +36,152 @@ use Rattle.xdlms_apdu.specs.declared.block.DataBlock.{DataBlock}
 use Rattle.xdlms_blocks.specs.Limits.{max_joined}
 use Rattle.xdlms_blocks.specs.Transfer.{Sending}
 
+-- the last item that passes the test
+abbrev pub last_match : {X : Type 0} → (X → Bool) → List X → Option X
+last_match test earlier = find test earlier
+
 -- the items after the last one that passes the test
-abbrev pub since : {X : Type 0} → (X → Bool) → List X → List X
-since test [] = []
-since test (x ∷ earlier) = cond (test x) [] (x ∷ since test earlier)
+abbrev pub after_last_match : {X : Type 0} → (X → Bool) → List X → List X
+after_last_match test [] = []
+after_last_match test (x ∷ earlier) = cond (test x) [] (x ∷ after_last_match test earlier)
 
 -- ---- the association
 
--- an association, or none if one of the later frames released it
-abbrev pub unreleased : Option Link → List Frame → Option Link
-unreleased None later = None
-unreleased (Some link) later = if list_any (is_closing link) later then None else Some link
+-- the association that the last AARQ opened, if it was accepted
+abbrev pub opened_link : List ℕ → List Frame → Option Link
+opened_link password earlier = option_and_then (opened_by password) (last_match opens earlier)
 
--- the association before a frame: the one that the last AARQ opened, if it was accepted and no
--- later frame released it
+-- an association, or none if one of the later frames released it
+abbrev pub unreleased_link : Option Link → List Frame → Option Link
+unreleased_link None later = None
+unreleased_link (Some link) later = if list_any (is_closing link) later then None else Some link
+
+-- the association before a frame: the one that was opened last, if no later frame released it
 unfoldable pub link_of : List ℕ → List Frame → Option Link
 link_of password earlier =
-    unreleased (option_and_then (opened_by password) (find opens earlier)) (since opens earlier)
+    unreleased_link (opened_link password earlier) (after_last_match opens earlier)
 
 -- the roles of the client's requests since its association was opened
-abbrev pub heard : Link → List Frame → List Role
-heard link earlier = map (role_in link) (filter (is_heard link) (since opens earlier))
+abbrev pub requests_of : Link → List Frame → List Role
+requests_of link earlier =
+    map (role_in link) (filter (is_heard link) (after_last_match opens earlier))
 
 -- ---- a long SET or ACTION
 
--- the block in a later request of a long SET or ACTION, if the request is of this service
-abbrev pub block_of : LongService → Role → Option DataBlock
-block_of service.Set (follows service.Set block) = Some block
-block_of service.Action (follows service.Action block) = Some block
-block_of _ _ = None
-
--- whether a request is not a later request of a long SET or ACTION
-abbrev pub is_no_later_form : Role → Bool
-is_no_later_form (follows service block) = false
-is_no_later_form _ = true
-
--- The first request of a long SET or ACTION: its purpose, and the first block.
-pub record First : Type 0 where
-  pub purpose : Purpose
+-- A later request of a long SET or ACTION.
+pub record LaterRequest : Type 0 where
+  pub service : LongService
   pub block : DataBlock
 
-abbrev pub first_of : Role → Option First
-first_of (starts purpose block) = Some (record { purpose = purpose; block = block })
-first_of _ = None
+-- A long SET or ACTION, seen backwards: the purpose and the block of its first request, and its
+-- later requests, the last of them first.
+pub record Transfer : Type 0 where
+  pub purpose : Purpose
+  pub first_block : DataBlock
+  pub later : List LaterRequest
 
--- the number of the last block: the first request has block 1, and each later one the next
-abbrev pub blocks_so_far : {X : Type 0} → List X → ℕ
-blocks_so_far [] = 1
-blocks_so_far (x ∷ later) = blocks_so_far later + 1
+-- a transfer that has only its first request
+abbrev pub new_transfer : Purpose → DataBlock → Transfer
+new_transfer purpose block = record { purpose = purpose; first_block = block; later = [] }
+
+-- a transfer with one more later request
+abbrev pub extended_transfer : LaterRequest → Transfer → Transfer
+extended_transfer request transfer =
+    record {
+      purpose = transfer.purpose;
+      first_block = transfer.first_block;
+      later = request ∷ transfer.later;
+    }
+
+-- the transfer that the last of these requests belongs to: a first request begins a transfer, a
+-- later one belongs to the transfer before it, and any other request ends it
+abbrev pub last_transfer : List Role → Option Transfer
+last_transfer [] = None
+last_transfer (starts purpose block ∷ earlier) = Some (new_transfer purpose block)
+last_transfer (follows service block ∷ earlier) =
+    option_map (extended_transfer (record { service = service; block = block }))
+    (last_transfer earlier)
+last_transfer (gets form ∷ earlier) = None
+last_transfer (gets_next number ∷ earlier) = None
+last_transfer (stops ∷ earlier) = None
+
+-- the number of blocks: one for the first request, and one for each of these later ones
+abbrev pub block_count : {X : Type 0} → List X → ℕ
+block_count [] = 1
+block_count (request ∷ earlier) = block_count earlier + 1
 
 -- whether a block has this number and is not the last
-abbrev pub goes_on : ℕ → Option DataBlock → Bool
-goes_on number None = false
-goes_on number (Some block) = block.number == number && not block.last
+abbrev pub is_inner_block : ℕ → DataBlock → Bool
+is_inner_block number block = block.number == number && not block.last
 
--- the raw bytes of a block
-abbrev pub raw_of : Option DataBlock → List ℕ
-raw_of None = []
-raw_of (Some block) = block.raw
+-- whether a later request continues a transfer of this purpose: it is of the same service, and its
+-- block has this number and is not the last
+abbrev pub is_continuation : Purpose → ℕ → LaterRequest → Bool
+is_continuation purpose number request =
+    is_of request.service purpose && is_inner_block number request.block
 
--- whether all later requests are of the service, have consecutive block numbers, and none has the
--- last block
-abbrev pub in_order : LongService → List Role → Bool
-in_order service [] = true
-in_order service (role ∷ later) =
-    in_order service later && goes_on (blocks_so_far later + 1) (block_of service role)
+-- whether each later request continues the transfer, with the next block
+abbrev pub is_in_order : Purpose → List LaterRequest → Bool
+is_in_order purpose [] = true
+is_in_order purpose (request ∷ earlier) =
+    is_in_order purpose earlier && is_continuation purpose (block_count earlier + 1) request
 
--- the bytes of all blocks, concatenated
-abbrev pub joined_so_far : LongService → List ℕ → List Role → List ℕ
-joined_so_far service first [] = first
-joined_so_far service first (role ∷ later) =
-    joined_so_far service first later ++ raw_of (block_of service role)
+-- the raw bytes of the first block and of the later ones, one after the other
+abbrev pub joined_bytes : DataBlock → List LaterRequest → List ℕ
+joined_bytes first_block [] = first_block.raw
+joined_bytes first_block (request ∷ earlier) =
+    joined_bytes first_block earlier ++ request.block.raw
 
--- the transfer of a first request and the later requests, if they are in order and not too long
-abbrev pub incoming_by : List Role → First → Option Incoming
-incoming_by later first =
-    if goes_on 1 (Some first.block) && in_order (service_of first.purpose) later &&
-    not (nat_lt max_joined
-    (length (joined_so_far (service_of first.purpose) first.block.raw later)))
-    then Some (record {
-      purpose = first.purpose;
+-- the bytes of a transfer so far
+abbrev pub bytes_of : Transfer → List ℕ
+bytes_of transfer = joined_bytes transfer.first_block transfer.later
+
+-- whether the joined bytes are too many
+abbrev pub is_too_long : List ℕ → Bool
+is_too_long bytes = nat_lt max_joined (length bytes)
+
+-- whether the first request has block 1, and more blocks follow it
+abbrev pub has_first_block : Transfer → Bool
+has_first_block transfer = is_inner_block 1 transfer.first_block
+
+-- whether the later requests have the blocks that follow it, in their order
+abbrev pub has_later_blocks : Transfer → Bool
+has_later_blocks transfer = is_in_order transfer.purpose transfer.later
+
+-- whether all blocks together are not too long
+abbrev pub has_room : Transfer → Bool
+has_room transfer = not (is_too_long (bytes_of transfer))
+
+-- whether a transfer is in progress
+abbrev pub is_in_progress : Transfer → Bool
+is_in_progress transfer =
+    has_first_block transfer && has_later_blocks transfer && has_room transfer
+
+-- a transfer as a session keeps it, with the number of its last block
+abbrev pub kept_transfer : Transfer → Incoming
+kept_transfer transfer =
+    record {
+      purpose = transfer.purpose;
       blocks = record {
-        number = blocks_so_far later;
-        bytes = joined_so_far (service_of first.purpose) first.block.raw later;
+        number = block_count transfer.later;
+        bytes = bytes_of transfer;
         is_open = true;
       };
-    })
-    else None
+    }
 
--- the transfer before a request: the last request that was not a later one is its first, and all
--- requests after that are its later ones
+-- what a session keeps of a transfer: nothing, unless it is in progress
+abbrev pub incoming_by_transfer : Transfer → Option Incoming
+incoming_by_transfer transfer =
+    if is_in_progress transfer then Some (kept_transfer transfer) else None
+
+-- the transfer in progress after these requests
 abbrev pub incoming_among : List Role → Option Incoming
-incoming_among roles =
-    option_and_then (incoming_by (since is_no_later_form roles))
-    (option_and_then first_of (find is_no_later_form roles))
+incoming_among requests = option_and_then incoming_by_transfer (last_transfer requests)
 
 -- the long SET or ACTION in progress before a frame
 unfoldable pub incoming_of : List ℕ → List Frame → Option Incoming
 incoming_of password earlier =
-    option_and_then (λ link. incoming_among (heard link earlier)) (link_of password earlier)
+    option_and_then (λ link. incoming_among (requests_of link earlier)) (link_of password earlier)
 
 -- ---- a long GET
 
@@ -142,7 +191,7 @@ pub record Past : Type 0 where
   pub reply : Option Reply
 
 -- The role of an earlier request, with the reply to its event, if it had one.
-pub record Heard : Type 0 where
+pub record Exchange : Type 0 where
   pub role : Role
   pub reply : Option Reply
 
@@ -151,47 +200,64 @@ abbrev pub frames_past : List Past → List Frame
 frames_past past = map (λ p. p.frame) past
 
 -- the client's requests since its association was opened, with the replies
-abbrev pub heard_past : Link → List Past → List Heard
-heard_past link past =
+abbrev pub exchanges_of : Link → List Past → List Exchange
+exchanges_of link past =
     map (λ p. record { role = role_in link p.frame; reply = p.reply })
-    (filter (λ p. is_heard link p.frame) (since (λ p. opens p.frame) past))
+    (filter (λ p. is_heard link p.frame) (after_last_match (λ p. opens p.frame) past))
 
--- whether a request is not a GET-next
-abbrev pub is_no_next : Role → Bool
-is_no_next (gets_next number) = false
-is_no_next _ = true
+-- A long GET, seen backwards: the text that it sends in blocks, and the block numbers that its
+-- GET-nexts name, the last of them first.
+pub record LongGet : Type 0 where
+  pub text : Sending
+  pub named_blocks : List ℕ
 
--- whether a request is a GET-next that names this block
-abbrev pub names : ℕ → Role → Bool
-names number (gets_next named) = named == number
-names number _ = false
+-- the long GET that a GET begins, if its reply is too long for one PDU
+abbrev pub new_long_get : Link → ReplyForm → Option Reply → Option LongGet
+new_long_get link form reply =
+    option_map (λ text. record { text = text; named_blocks = [] })
+    (option_and_then (begun_by (record { link = link; form = form })) reply)
+
+-- a long GET with one more GET-next
+abbrev pub extended_long_get : ℕ → LongGet → LongGet
+extended_long_get number get = record { text = get.text; named_blocks = number ∷ get.named_blocks }
+
+-- the long GET that a request with its reply belongs to: a GET begins one, a GET-next belongs to
+-- the one before it, and any other request ends it
+abbrev pub long_get_with : Link → Role → Option Reply → Option LongGet → Option LongGet
+long_get_with link (gets form) reply earlier = new_long_get link form reply
+long_get_with link (gets_next number) reply earlier =
+    option_map (extended_long_get number) earlier
+long_get_with link (starts purpose block) reply earlier = None
+long_get_with link (follows service block) reply earlier = None
+long_get_with link stops reply earlier = None
+
+-- the long GET that the last of these requests belongs to
+abbrev pub last_long_get : Link → List Exchange → Option LongGet
+last_long_get link [] = None
+last_long_get link (exchange ∷ earlier) =
+    long_get_with link exchange.role exchange.reply (last_long_get link earlier)
 
 -- whether each GET-next names the block that was sent last before it
-abbrev pub names_in_order : List Heard → Bool
-names_in_order [] = true
-names_in_order (h ∷ later) = names_in_order later && names (blocks_so_far later) h.role
+abbrev pub is_named_in_order : List ℕ → Bool
+is_named_in_order [] = true
+is_named_in_order (number ∷ earlier) =
+    is_named_in_order earlier && number == block_count earlier
 
--- the text to send in blocks, if the reply to a GET is too long for one PDU
-abbrev pub begun_by_role : Link → Role → Option Reply → Option Sending
-begun_by_role link (gets form) reply =
-    option_and_then (begun_by (record { link = link; form = form })) reply
-begun_by_role link _ reply = None
-
--- the transfer of a text after these GET-nexts, if they were in order and blocks are left
-abbrev pub outgoing_after_nexts : List Heard → Sending → Option Sending
-outgoing_after_nexts later s = if names_in_order later then transfer_after (blocks_so_far later) s
+-- what a session keeps of a long GET: nothing, unless it is in order and blocks are left
+abbrev pub outgoing_by_get : LongGet → Option Sending
+outgoing_by_get get =
+    if is_named_in_order get.named_blocks then transfer_after
+        (block_count get.named_blocks) get.text
     else None
 
--- the transfer before a request: the last request that was not a GET-next began it
-abbrev pub outgoing_among : Link → List Heard → Option Sending
-outgoing_among link calls =
-    option_and_then (outgoing_after_nexts (since (λ h. is_no_next h.role) calls))
-    (option_and_then (λ h. begun_by_role link h.role h.reply) (find (λ h. is_no_next h.role) calls))
+-- the transfer in progress after these requests
+abbrev pub outgoing_among : Link → List Exchange → Option Sending
+outgoing_among link exchanges = option_and_then outgoing_by_get (last_long_get link exchanges)
 
 -- the long GET in progress before a frame
 unfoldable pub outgoing_of : List ℕ → List Past → Option Sending
 outgoing_of password past =
-    option_and_then (λ link. outgoing_among link (heard_past link past))
+    option_and_then (λ link. outgoing_among link (exchanges_of link past))
     (link_of password (frames_past past))
 
 -- ---- a whole session

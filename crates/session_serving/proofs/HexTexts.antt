@@ -1,5 +1,5 @@
 -- Texts of hexadecimal that are read.
-use Rattle.std.proofs.Common.{◌≡◌, ◌+◌, ◌<◌, ◌≤◌, ℕ, Bool, true, false, not, ◌&&◌, ◌||◌, List, [], ◌∷◌, Option, Some, None, length, get_or, filter, cond, Result, Ok, Err, refl, sym, ap}
+use Rattle.std.proofs.Common.{◌≡◌, ◌+◌, ◌<◌, ◌≤◌, ℕ, Bool, true, false, not, ◌&&◌, ◌||◌, List, [], ◌∷◌, Some, None, length, get_or, filter, cond, Result, Ok, Err, refl, sym, ap}
 use Rattle.std.specs.List.{position, list_all}
 use Rattle.std.specs.Io.KnownBytes.{Consumes, IsAtEnd}
 use Rattle.std.proofs.lemmas.List.Quantifiers.{position-Some}
@@ -8,6 +8,7 @@ use Rattle.hex.proofs.HexLemmas.{decode_of-ok}
 use Rattle.hex.specs.Hex.{is_hex_digit}
 use Rattle.hex.specs.declared.error.FromHexError.{FromHexError}
 use Rattle.session_serving.specs.Hexadecimal.{IsHex, IsUndecoded, StopsReading, bytes_of, fault_at, is_blank, is_taken, most_characters}
+use Rattle.session_serving.specs.Sides.{Input}
 use Rattle.session_serving.specs.declared.fault.TextFault.{TextFault}
 use Rattle.session_serving.specs.declared.fault.TextFault.TheVariants as text_fault
 
@@ -73,10 +74,10 @@ pub undecoded_odd : (text : List ℕ) (error : FromHexError)
 undecoded_odd text error none e = (sym (ap fault_at none), no_bytes (bytes_of text) error e)
 
 -- a whole text that was read and not decoded
-pub undecoded : (text : List ℕ) (left left' : Option (List ℕ)) (failed failed' : ℕ) (f : TextFault)
-    → Consumes left left' text → IsAtEnd left' → length text ≤ most_characters → IsUndecoded text f → StopsReading left failed f left' failed'
-undecoded text left left' failed failed' (text_fault.Digit character) read at_end within wrong = record { text = text; read = read; cause = (wrong, within, at_end) }
-undecoded text left left' failed failed' text_fault.OddDigits read at_end within wrong = record { text = text; read = read; cause = (wrong, within, at_end) }
-undecoded text left left' failed failed' text_fault.TooLong read at_end within wrong = absurd wrong
-undecoded text left left' failed failed' text_fault.Read read at_end within wrong = absurd wrong
-undecoded text left left' failed failed' text_fault.Memory read at_end within wrong = record { text = text; read = read; cause = tt }
+pub undecoded : (text : List ℕ) (before after : Input) (f : TextFault)
+    → Consumes before.left after.left text → IsAtEnd after.left → length text ≤ most_characters → IsUndecoded text f → StopsReading before f after
+undecoded text before after (text_fault.Digit character) read at_end within wrong = record { text = text; read = read; cause = (wrong, within, at_end) }
+undecoded text before after text_fault.OddDigits read at_end within wrong = record { text = text; read = read; cause = (wrong, within, at_end) }
+undecoded text before after text_fault.TooLong read at_end within wrong = absurd wrong
+undecoded text before after text_fault.Read read at_end within wrong = absurd wrong
+undecoded text before after text_fault.Memory read at_end within wrong = record { text = text; read = read; cause = tt }

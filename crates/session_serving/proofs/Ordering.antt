@@ -5,7 +5,7 @@ use Rattle.std.specs.Io.KnownBytes.{Consumes}
 use Rattle.std.proofs.KnownBytes.{Consumes-nil, Consumes-trans}
 use Rattle.std.proofs.lemmas.Grind.{flat_map-append}
 use Rattle.session_serving.specs.Order.{Happening, reads, fails_to_read, writes, fails_to_write, calls, refuses, after_all, Passes, FailsToPass, bytes_read, replies_in, IsAnswered, IsInOrder, IsAt, ComesOn, StopsInOrder, Orders}
-use Rattle.session_serving.specs.Served.{as_bytes}
+use Rattle.session_serving.specs.Serving.{as_bytes}
 use Rattle.session_serving.specs.Settling.{IsSettled}
 use Rattle.session_serving.specs.declared.fault.ServeFault.{ServeFault}
 use Rattle.session_serving.specs.declared.fault.ServeFault.TheVariants as fault

@@ -2,18 +2,19 @@
 --     bytes_of      the bytes that a text's digits encode
 --     hex_line      the line of a frame
 --     hex_output    the lines of a whole session of a new meter
---     PlayedOn      the effect of a session's bytes on a meter, by the result
---     Played        that effect on a new meter
+--     PlaysOn       the effect of a session's bytes on a meter, by the result
+--     PlaysNew      that effect on a new meter
 --     ReadsHex      a text was read to its end and decoded
 --     StopsReading  a text was not decoded, by the fault
---     Hexed         the effect of reading and playing a text, by the result
+--     RunsHex       the effect of reading and playing a text, by the result
 use Rattle.std.specs.Prelude.{◌≡◌, ◌⊎◌, ◌<◌, ◌≤◌, ℕ, Bool, ◌+◌, ◌==◌, ◌||◌, not, Option, Some, None, List, [], ◌∷◌, ◌++◌, length, map, filter, position, ⊤, Result, Ok, Err}
 use Rattle.std.specs.List.{flat_map}
 use Rattle.std.specs.Io.KnownBytes.{Appends, Consumes, IsAtEnd}
 use Rattle.hex.specs.Hex.{decode_of, encode_upper, is_hex_digit}
 use Rattle.hex.specs.declared.error.FromHexError.{FromHexError}
 use Rattle.session_serving.specs.Meters.{CoreSteps}
-use Rattle.session_serving.specs.Served.{DoesAll, StopsShort}
+use Rattle.session_serving.specs.Serving.{DoesAll, StopsShort, plan_of, work_for}
+use Rattle.session_serving.specs.Sides.{Input, Output, Outlets, Streams, WritesNothing}
 use Rattle.session_serving.specs.declared.fault.HexFault.{HexFault}
 use Rattle.session_serving.specs.declared.fault.HexFault.TheVariants as fault
 use Rattle.session_serving.specs.declared.fault.TextFault.{TextFault}
@@ -93,24 +94,22 @@ pub record ReadsHex (left left' : Option (List ℕ)) (input : List ℕ) : Type 0
 abbrev pub IsWrongWhole : List ℕ → TextFault → Option (List ℕ) → Type 0
 IsWrongWhole text given left' = IsNoHex text given × (length text ≤ most_characters) × IsAtEnd left'
 
--- why a text was not decoded, after these characters; the two numbers count the failed reads before
--- and after
-abbrev pub FailsToRead : List ℕ → ℕ → TextFault → Option (List ℕ) → ℕ → Type 0
-FailsToRead text failed (text_fault.Digit character) left' failed' =
-    IsWrongWhole text (text_fault.Digit character) left'
-FailsToRead text failed text_fault.OddDigits left' failed' =
-    IsWrongWhole text text_fault.OddDigits left'
-FailsToRead text failed text_fault.TooLong left' failed' = most_characters < length text
-FailsToRead text failed text_fault.Read left' failed' = (length text ≤ most_characters)
-    × (failed < failed')
-FailsToRead text failed text_fault.Memory left' failed' = ⊤
+-- why a text gave no bytes, after these characters
+abbrev pub FailsToRead : List ℕ → Input → TextFault → Input → Type 0
+FailsToRead text before (text_fault.Digit character) after =
+    IsWrongWhole text (text_fault.Digit character) after.left
+FailsToRead text before text_fault.OddDigits after =
+    IsWrongWhole text text_fault.OddDigits after.left
+FailsToRead text before text_fault.TooLong after = most_characters < length text
+FailsToRead text before text_fault.Read after = (length text ≤ most_characters)
+    × (before.failures < after.failures)
+FailsToRead text before text_fault.Memory after = ⊤
 
--- a text was not decoded
-pub record StopsReading (left : Option (List ℕ)) (failed : ℕ) (f : TextFault)
-    (left' : Option (List ℕ)) (failed' : ℕ) : Type 0 where
+-- a text gave no bytes
+pub record StopsReading (before : Input) (f : TextFault) (after : Input) : Type 0 where
   pub text : List ℕ
-  pub read : Consumes left left' text
-  pub cause : FailsToRead text failed f left' failed'
+  pub read : Consumes before.left after.left text
+  pub cause : FailsToRead text before f after
 
 -- the fault of a session whose text was not decoded
 abbrev pub hex_fault_of : TextFault → HexFault
@@ -122,70 +121,73 @@ hex_fault_of text_fault.Memory = fault.Memory
 
 -- The session of an input ran out of memory: a new meter was asked the first of the events, and the
 -- first of the lines were written.
-pub record RunsShort (device password input : List ℕ) (written written' : Option (List ℕ)) : Type 0
-  where
-    pub core : RelayCore
-    pub core' : RelayCore
-    pub is_new : StandsFor core (new_world device)
-    pub stops : StopsShort CoreSteps hex_line (Asks password input) (Answers password input) core
-        written core' written'
+pub record RunsShort (device password input : List ℕ) (before after : Output) : Type 0 where
+  pub core : RelayCore
+  pub core' : RelayCore
+  pub is_new : StandsFor core (new_world device)
+  pub stops : StopsShort CoreSteps hex_line (work_for (plan_of password) input)
+      (record { output = before; meter = core }) (record { output = after; meter = core' })
 
 -- the effect of a session's bytes on a meter, by the result
-abbrev pub PlayedOn : List ℕ → List ℕ → RelayCore → Option (List ℕ) → ℕ → Result (Unit {0}) HexFault
-    → RelayCore → Option (List ℕ) → ℕ → Type 0
-PlayedOn password input core written failed (Ok done) core' written' failed' =
-    DoesAll CoreSteps hex_line (Asks password input) (Answers password input) core written core'
-    written'
-PlayedOn password input core written failed (Err fault.Digits) core' written' failed' = ⊥
-PlayedOn password input core written failed (Err fault.TooLong) core' written' failed' = ⊥
-PlayedOn password input core written failed (Err fault.Read) core' written' failed' = ⊥
-PlayedOn password input core written failed (Err fault.Write) core' written' failed' =
-    failed < failed'
-PlayedOn password input core written failed (Err fault.Memory) core' written' failed' =
-    Appends written written' []
-    ⊎ StopsShort CoreSteps hex_line (Asks password input) (Answers password input) core written
-    core' written'
+abbrev pub PlaysOn : List ℕ → List ℕ → Outlets RelayCore → Result (Unit {0}) HexFault
+    → Outlets RelayCore → Type 0
+PlaysOn password input before (Ok done) after =
+    DoesAll CoreSteps hex_line (work_for (plan_of password) input) before after
+PlaysOn password input before (Err fault.Digits) after = ⊥
+PlaysOn password input before (Err fault.TooLong) after = ⊥
+PlaysOn password input before (Err fault.Read) after = ⊥
+PlaysOn password input before (Err fault.Write) after =
+    before.output.failures < after.output.failures
+PlaysOn password input before (Err fault.Memory) after =
+    WritesNothing before.output after.output
+    ⊎ StopsShort CoreSteps hex_line (work_for (plan_of password) input) before after
+
+-- the lines of a whole session of a new meter were written
+abbrev pub WritesLines : List ℕ → List ℕ → List ℕ → Output → Output → Type 0
+WritesLines device password input before after =
+    Appends before.written after.written (hex_output device password input)
 
 -- the effect of a session's bytes on a new meter, by the result
-abbrev pub Played : List ℕ → List ℕ → List ℕ → Option (List ℕ) → ℕ → Result (Unit {0}) HexFault
-    → Option (List ℕ) → ℕ → Type 0
-Played device password input written failed (Ok done) written' failed' =
-    Appends written written' (hex_output device password input)
-Played device password input written failed (Err fault.Digits) written' failed' = ⊥
-Played device password input written failed (Err fault.TooLong) written' failed' = ⊥
-Played device password input written failed (Err fault.Read) written' failed' = ⊥
-Played device password input written failed (Err fault.Write) written' failed' = failed < failed'
-Played device password input written failed (Err fault.Memory) written' failed' =
-    Appends written written' [] ⊎ RunsShort device password input written written'
+abbrev pub PlaysNew : List ℕ → List ℕ → List ℕ → Output → Result (Unit {0}) HexFault → Output
+    → Type 0
+PlaysNew device password input before (Ok done) after =
+    WritesLines device password input before after
+PlaysNew device password input before (Err fault.Digits) after = ⊥
+PlaysNew device password input before (Err fault.TooLong) after = ⊥
+PlaysNew device password input before (Err fault.Read) after = ⊥
+PlaysNew device password input before (Err fault.Write) after = before.failures < after.failures
+PlaysNew device password input before (Err fault.Memory) after =
+    WritesNothing before after ⊎ RunsShort device password input before after
 
-module _ {R W : Type 0}
-    (remaining : R → Option (List ℕ)) (read_failures : R → ℕ)
-    (contents : W → Option (List ℕ)) (write_failures : W → ℕ) where
-  -- the effect of the characters that were read, by the result
-  abbrev pub HexDid : List ℕ → List ℕ → List ℕ → R → W → Result (Unit {0}) HexFault → R → W → Type 0
-  HexDid device password text r w (Ok done) r' w' =
-      (input : List ℕ) × IsHex text input × (length text ≤ most_characters) × IsAtEnd (remaining r')
-      × Appends (contents w) (contents w') (hex_output device password input)
-  HexDid device password text r w (Err fault.Digits) r' w' =
-      ((input : List ℕ) → ¬ (IsHex text input)) × (length text ≤ most_characters)
-      × IsAtEnd (remaining r') × Appends (contents w) (contents w') []
-  HexDid device password text r w (Err fault.TooLong) r' w' =
-      (most_characters < length text) × Appends (contents w) (contents w') []
-  HexDid device password text r w (Err fault.Read) r' w' =
-      (length text ≤ most_characters) × (read_failures r < read_failures r')
-      × Appends (contents w) (contents w') []
-  HexDid device password text r w (Err fault.Write) r' w' =
-      (input : List ℕ) × IsHex text input × (length text ≤ most_characters) × IsAtEnd (remaining r')
-      × (write_failures w < write_failures w')
-  HexDid device password text r w (Err fault.Memory) r' w' =
-      Appends (contents w) (contents w') []
-      ⊎ ((input : List ℕ) × IsHex text input × (length text ≤ most_characters)
-      × IsAtEnd (remaining r')
-      × RunsShort device password input (contents w) (contents w'))
+-- the characters that were read are a whole text of a fit length
+abbrev pub IsWholeText : List ℕ → Input → Type 0
+IsWholeText text after = (length text ≤ most_characters) × IsAtEnd after.left
 
-  -- A text was played: some characters were read, with this effect.
-  pub record Hexed (device password : List ℕ) (r : R) (w : W) (result : Result (Unit {0}) HexFault)
-      (r' : R) (w' : W) : Type 0 where
-    pub text : List ℕ
-    pub read : Consumes (remaining r) (remaining r') text
-    pub did : HexDid device password text r w result r' w'
+-- the effect of the characters that were read, by the result
+abbrev pub HexEffect : List ℕ → List ℕ → List ℕ → Streams → Result (Unit {0}) HexFault → Streams
+    → Type 0
+HexEffect device password text before (Ok done) after =
+    (input : List ℕ) × IsHex text input × IsWholeText text after.input
+    × WritesLines device password input before.output after.output
+HexEffect device password text before (Err fault.Digits) after =
+    ((input : List ℕ) → ¬ (IsHex text input)) × IsWholeText text after.input
+    × WritesNothing before.output after.output
+HexEffect device password text before (Err fault.TooLong) after =
+    (most_characters < length text) × WritesNothing before.output after.output
+HexEffect device password text before (Err fault.Read) after =
+    (length text ≤ most_characters) × (before.input.failures < after.input.failures)
+    × WritesNothing before.output after.output
+HexEffect device password text before (Err fault.Write) after =
+    (input : List ℕ) × IsHex text input × IsWholeText text after.input
+    × (before.output.failures < after.output.failures)
+HexEffect device password text before (Err fault.Memory) after =
+    WritesNothing before.output after.output
+    ⊎ ((input : List ℕ) × IsHex text input × IsWholeText text after.input
+    × RunsShort device password input before.output after.output)
+
+-- A text was played: some characters were read, with this effect.
+pub record RunsHex (device password : List ℕ) (before : Streams)
+    (result : Result (Unit {0}) HexFault) (after : Streams) : Type 0 where
+  pub text : List ℕ
+  pub read : Consumes before.input.left after.input.left text
+  pub effect : HexEffect device password text before result after

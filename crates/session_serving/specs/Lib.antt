@@ -3,5 +3,6 @@ pub mod Hexadecimal
 pub mod Meters
 pub mod Numbers
 pub mod Order
-pub mod Served
+pub mod Serving
 pub mod Settling
+pub mod Sides

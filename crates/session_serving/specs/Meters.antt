@@ -1,7 +1,7 @@
 -- The events that a meter is asked, and its replies.
---     Replied     all events had replies
---     Refused     the last event was refused
---     CoreSteps   how the core takes an event
+--     RepliesTo      all events had replies
+--     RefusesLast    the last event was refused
+--     CoreSteps      how the core takes an event
 use Rattle.std.specs.Prelude.{◌≡◌, false, List, [], ◌∷◌, ◌++◌, Result, Ok, Err}
 use Rattle.relay_events.specs.declared.event.Event.{Event}
 use Rattle.relay_events.specs.declared.reply.Reply.{Reply}
@@ -14,22 +14,22 @@ use Rattle.call_fault.specs.declared.fault.CallFault.TheVariants.{Memory, Exhaus
 
 module _ {M : Type 0} (steps : M → Event → Result Reply CallFault → M → Type 0) where
   -- a meter took these events, one after the other, and returned these replies
-  abbrev pub Replied : M → List Event → List Reply → M → Type 0
-  Replied first [] [] last = last ≡ first
-  Replied first [] (reply ∷ replies) last = ⊥
-  Replied first (event ∷ events) [] last = ⊥
-  Replied first (event ∷ events) (reply ∷ replies) last = (next : M)
-      × steps first event (Ok reply) next × Replied next events replies last
+  abbrev pub RepliesTo : M → List Event → List Reply → M → Type 0
+  RepliesTo first [] [] last = last ≡ first
+  RepliesTo first [] (reply ∷ replies) last = ⊥
+  RepliesTo first (event ∷ events) [] last = ⊥
+  RepliesTo first (event ∷ events) (reply ∷ replies) last = (next : M)
+      × steps first event (Ok reply) next × RepliesTo next events replies last
 
   -- A meter took all but the last of these events, returned these replies, and refused the last
   -- event.
-  pub record Refused (first : M) (events : List Event) (replies : List Reply) (fault : CallFault)
-      (last : M) : Type 0 where
+  pub record RefusesLast (first : M) (events : List Event) (replies : List Reply)
+      (fault : CallFault) (last : M) : Type 0 where
     pub taken : List Event
     pub event : Event
     pub all : events ≡ taken ++ event ∷ []
     pub before : M
-    pub replied : Replied first taken replies before
+    pub replied : RepliesTo first taken replies before
     pub refused : steps before event (Err fault) last
 
 -- A core took an event: it represents the world after it, and the reply is that world's.

@@ -1,17 +1,17 @@
 -- The progress of a session.
---     Reached      what was asked and written so far, and that the session has yet to do the rest
---     IsSettled    there is nothing to do without more input
---     Settled      everything that the input asks for was done
---     Stands       a session between two reads
+--     HasDone       what was asked and written so far, and that the session has yet to do the rest
+--     IsSettled     there is nothing to do without more input
+--     Settles       everything that the input asks for was done
+--     IsCaughtUp    a session between two reads
 use Rattle.std.specs.Prelude.{◌≡◌, ◌*◌, ◌<◌, ◌≤◌, ℕ, false, Option, Some, None, List, [], ◌++◌, length, ⊤, Result}
-use Rattle.std.specs.List.{flat_map}
-use Rattle.std.specs.Io.KnownBytes.{Appends, Consumes}
-use Rattle.session_serving.specs.Meters.{Replied}
+use Rattle.std.specs.Io.KnownBytes.{Consumes}
+use Rattle.session_serving.specs.Meters.{RepliesTo}
 use Rattle.session_serving.specs.declared.fault.ServeFault.{ServeFault}
 use Rattle.session_serving.specs.declared.fault.ServeFault.TheVariants as fault
 use Rattle.relay_events.specs.declared.event.Event.{Event}
 use Rattle.relay_events.specs.declared.reply.Reply.{Reply}
-use Rattle.session_serving.specs.Served.{longest_piece}
+use Rattle.session_serving.specs.Serving.{Plan, WritesTexts, remaining_plan, longest_piece}
+use Rattle.session_serving.specs.Sides.{Output, Outlets, Sides, WritesNothing}
 use Rattle.session_core.specs.Ends.{EndsWithInput}
 use Rattle.session_core.specs.Progress.{IsOver}
 use Rattle.session_core.specs.Remaining.{still_asks, still_sends, still_ends, is_asking, is_finished}
@@ -26,13 +26,13 @@ abbrev pub fault_of : CallFault → ServeFault
 fault_of call.Memory = fault.Memory
 fault_of call.Exhausted = fault.Exhausted
 
--- a frame was not written; `failed` and `failed'` are the numbers of failed writes before and after
-abbrev pub FailsToWrite : Option (List ℕ) → ℕ → ServeFault → Option (List ℕ) → ℕ → Type 0
-FailsToWrite written failed fault.Read written' failed' = ⊥
-FailsToWrite written failed fault.Write written' failed' = failed < failed'
-FailsToWrite written failed fault.Memory written' failed' = Appends written written' []
-FailsToWrite written failed fault.Exhausted written' failed' = ⊥
-FailsToWrite written failed fault.Listen written' failed' = ⊥
+-- a frame was not written
+abbrev pub FailsToWrite : Output → ServeFault → Output → Type 0
+FailsToWrite before fault.Read after = ⊥
+FailsToWrite before fault.Write after = before.failures < after.failures
+FailsToWrite before fault.Memory after = WritesNothing before after
+FailsToWrite before fault.Exhausted after = ⊥
+FailsToWrite before fault.Listen after = ⊥
 
 -- There is nothing to ask and nothing to send without more input.
 pub record IsSettled (s : Session) : Type 0 where
@@ -57,42 +57,39 @@ abbrev pub IsDone : Option SessionEnd → Session → Type 0
 IsDone None s = (is_finished s ≡ false) × EndsWithInput (still_ends s [])
 IsDone (Some end) s = IsOver end s
 
-module _ {M : Type 0} (steps : M → Event → Result Reply CallFault → M → Type 0) (written_as : List ℕ
-    → List ℕ) where
-  -- Of the events, texts and end of each input, some were asked and sent after these bytes, and the
-  -- session has yet to do the rest.
-  pub record Reached (asks : List ℕ → List Event) (sends : List ℕ → List Reply
-      → List (List ℕ)) (ends : List ℕ → SessionEnd)
-      (m : M) (written : Option (List ℕ)) (seen : List ℕ) (s : Session) (m' : M)
-      (written' : Option (List ℕ)) : Type 0 where
+module _ {M : Type 0}
+    (steps : M → Event → Result Reply CallFault → M → Type 0)
+    (written_as : List ℕ → List ℕ) where
+  -- Of a plan for these bytes and all that may follow, some events were asked and some texts were
+  -- sent, and the session has yet to do the rest.
+  pub record HasDone (plan : Plan) (before : Outlets M) (seen : List ℕ) (s : Session)
+      (after : Outlets M) : Type 0 where
     pub asked : List Event
     pub replies : List Reply
     pub sent : List (List ℕ)
-    pub asks_rest : (more : List ℕ) → asks (seen ++ more) ≡ asked ++ still_asks s more
+    pub asks_rest : (more : List ℕ) → plan.asks (seen ++ more) ≡ asked ++ still_asks s more
     pub sends_rest : (more : List ℕ) (later : List Reply)
-        → sends (seen ++ more) (replies ++ later) ≡ sent ++ still_sends s more later
-    pub ends_rest : (more : List ℕ) → ends (seen ++ more) ≡ still_ends s more
-    pub replied : Replied steps m asked replies m'
-    pub wrote : Appends written written' (flat_map written_as sent)
+        → plan.sends (seen ++ more) (replies ++ later) ≡ sent ++ still_sends s more later
+    pub ends_rest : (more : List ℕ) → plan.ends (seen ++ more) ≡ still_ends s more
+    pub replied : RepliesTo steps before.meter asked replies after.meter
+    pub wrote : WritesTexts written_as sent before.output after.output
 
   -- A session took in bytes, and did everything that they ask for.
-  pub record Settled (old : Session) (m : M) (written : Option (List ℕ)) (bytes : List ℕ)
-      (end : Option SessionEnd) (new : Session) (m' : M) (written' : Option (List ℕ)) : Type 0 where
-    pub reached : Reached (still_asks old) (still_sends old) (still_ends old) m written bytes new m'
-        written'
+  pub record Settles (old : Session) (before : Outlets M) (bytes : List ℕ)
+      (end : Option SessionEnd) (new : Session) (after : Outlets M) : Type 0 where
+    pub reached : HasDone (remaining_plan old) before bytes new after
     pub settled : IsSettled new
     pub done : IsDone end new
     pub silent : is_asking new ≡ false
     pub finished : is_finished new ≡ is_finished old
 
   -- A session after `count` reads, with everything done that the bytes read so far ask for.
-  pub record Stands (old : Session) (m : M) (written left : Option (List ℕ)) (count : ℕ)
-      (s : Session) (m' : M) (written' left' : Option (List ℕ)) : Type 0 where
+  pub record IsCaughtUp (old : Session) (before : Sides M) (count : ℕ) (s : Session)
+      (after : Sides M) : Type 0 where
     pub seen : List ℕ
-    pub read : Consumes left left' seen
+    pub read : Consumes before.input.left after.input.left seen
     pub short : length seen ≤ count * longest_piece
-    pub reached : Reached (still_asks old) (still_sends old) (still_ends old) m written seen s m'
-        written'
+    pub reached : HasDone (remaining_plan old) before.outlets seen s after.outlets
     pub settled : IsSettled s
     pub ends : EndsWithInput (still_ends s [])
     pub silent : is_asking s ≡ false

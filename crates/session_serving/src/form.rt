@@ -1,9 +1,10 @@
 ghost use Rattle.std.specs.Prelude.{◌≡◌, ℕ, List, IfErr, IfOk, OnOk, string_bytes};
 ghost use Rattle.std.specs.Io.KnownBytes.{Appends};
 ghost use Rattle.session_serving.specs.Hexadecimal.{hex_line};
-ghost use Rattle.session_serving.specs.Served.{as_bytes};
+ghost use Rattle.session_serving.specs.Serving.{as_bytes};
 ghost use Rattle.session_serving.specs.Order.{Passes, FailsToPass, writes};
 ghost use Rattle.session_serving.specs.Settling.{FailsToWrite};
+ghost use Rattle.session_serving.specs.Sides.{output_of};
 
 use crate::fault::ServeFault;
 use crate::watch::SessionWatch;
@@ -28,8 +29,8 @@ pub(crate) trait Form {
         ensures ready { OnOk result (W.can_write writer.new) }
         ensures failures_unchanged { OnOk result (W.failures writer.new ≡ W.failures writer.old) }
         ensures err { IfErr result
-            (λ fault. FailsToWrite (W.contents writer.old) (W.failures writer.old) fault
-            (W.contents writer.new) (W.failures writer.new)) }
+            (λ fault. FailsToWrite (output_of W.contents W.failures writer.old) fault
+            (output_of W.contents W.failures writer.new)) }
         ensures passes { OnOk result
             (Passes (V.passed watch.old) (writes (written_as frame.now)) (V.passed watch.new)) }
         ensures fails_to_pass { IfErr result

@@ -1,5 +1,6 @@
 ghost use Rattle.acse_ber.specs.Password.{IsPassword};
-ghost use Rattle.session_serving.specs.Hexadecimal.{Hexed, Played, PlayedOn};
+ghost use Rattle.session_serving.specs.Hexadecimal.{PlaysNew, PlaysOn, RunsHex};
+ghost use Rattle.session_serving.specs.Sides.{input_of, output_of, outlets_of};
 ghost use Rattle.relay_core.specs.World.{IsDeviceName};
 
 use crate::fault::{HexFault, ServeFault};
@@ -23,8 +24,9 @@ fn play_on<W: Writer>(
 ) -> Result<(), HexFault>
     requires writable { W.can_write writer.now }
     requires password { IsPassword password.now }
-    ensures { PlayedOn password.now input.now core.old (W.contents writer.old)
-        (W.failures writer.old) result core.new (W.contents writer.new) (W.failures writer.new) }
+    ensures { PlaysOn password.now input.now
+        (outlets_of W.contents W.failures writer.old core.old) result
+        (outlets_of W.contents W.failures writer.new core.new) }
 {
     let mut session = Session::new(alloc, password)?;
     match session.feed(input) {
@@ -67,8 +69,9 @@ pub fn play_session<W: Writer>(
     requires writable { W.can_write writer.now }
     requires named { IsDeviceName device.now }
     requires password { IsPassword password.now }
-    ensures { Played device.now password.now input.now (W.contents writer.old)
-        (W.failures writer.old) result (W.contents writer.new) (W.failures writer.new) }
+    ensures { PlaysNew device.now password.now input.now
+        (output_of W.contents W.failures writer.old) result
+        (output_of W.contents W.failures writer.new) }
 {
     let mut core = RelayCore::new(alloc, device)?;
     let played = play_on(alloc, input, writer, &mut core, password);
@@ -95,8 +98,16 @@ pub fn run_hex<R: Reader, W: Writer>(
     requires writable { W.can_write writer.now }
     requires named { IsDeviceName device.now }
     requires password { IsPassword password.now }
-    ensures { Hexed R.remaining R.failures W.contents W.failures device.now password.now reader.old
-        writer.old result reader.new writer.new }
+    ensures { RunsHex device.now password.now
+        (record {
+          input = input_of R.remaining R.reads R.failures reader.old;
+          output = output_of W.contents W.failures writer.old;
+        })
+        result
+        (record {
+          input = input_of R.remaining R.reads R.failures reader.new;
+          output = output_of W.contents W.failures writer.new;
+        }) }
 {
     match read_hex(alloc, reader) {
         Ok(input) => play_session(alloc, input.as_slice(), writer, device, password),

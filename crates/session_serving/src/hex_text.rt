@@ -1,6 +1,7 @@
 ghost use Rattle.std.specs.Prelude.{◌≡◌, ◌≤◌, length, None, not, filter, position, IfOk, IfErr};
 ghost use Rattle.std.specs.Io.KnownBytes.{Consumes, IsAtEnd};
 ghost use Rattle.session_serving.specs.Hexadecimal.{IsHex, IsUndecoded, ReadsHex, StopsReading, is_blank, is_taken, most_characters};
+ghost use Rattle.session_serving.specs.Sides.{input_of};
 
 use crate::fault::TextFault;
 use byte_streams::{InputFault, Reader, read_to_end_within};
@@ -18,8 +19,8 @@ fn read_text<R: Reader>(alloc: Global, reader: &mut R) -> Result<Vec<u8>, TextFa
     ensures whole { IfOk result (λ text. IsAtEnd (R.remaining reader.new)) }
     ensures within { IfOk result (λ text. length text.items ≤ most_characters) }
     ensures err { IfErr result
-        (λ fault. StopsReading (R.remaining reader.old) (R.failures reader.old) fault
-        (R.remaining reader.new) (R.failures reader.new)) }
+        (λ fault. StopsReading (input_of R.remaining R.reads R.failures reader.old) fault
+        (input_of R.remaining R.reads R.failures reader.new)) }
 {
     match read_to_end_within(alloc, reader, MAX_CHARACTERS) {
         Ok(text) => Ok(text),
@@ -102,8 +103,8 @@ pub fn read_hex<R: Reader>(alloc: Global, reader: &mut R) -> Result<Vec<u8>, Tex
     ensures ok { IfOk result
         (λ input. ReadsHex (R.remaining reader.old) (R.remaining reader.new) input.items) }
     ensures err { IfErr result
-        (λ fault. StopsReading (R.remaining reader.old) (R.failures reader.old) fault
-        (R.remaining reader.new) (R.failures reader.new)) }
+        (λ fault. StopsReading (input_of R.remaining R.reads R.failures reader.old) fault
+        (input_of R.remaining R.reads R.failures reader.new)) }
 {
     let text = read_text(alloc, reader)?;
     match decode(alloc, text.as_slice()) {

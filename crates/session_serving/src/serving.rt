@@ -1,9 +1,10 @@
 ghost use Rattle.std.specs.Prelude.{◌≡◌, ℕ, List, [], ◌++◌, false, Some, IfSome, IfNone, IfOk, IfErr, OnOk};
 ghost use Rattle.acse_ber.specs.Password.{IsPassword};
-ghost use Rattle.session_serving.specs.Served.{Served, DoesAll, Stops, as_bytes};
+ghost use Rattle.session_serving.specs.Serving.{DoesAll, ServesSession, Stops, as_bytes, remaining_plan, work_for};
+ghost use Rattle.session_serving.specs.Sides.{input_of, outlets_of};
 ghost use Rattle.session_serving.specs.Order.{Happening, IsAt, Orders, StopsInOrder, IsInOrder};
 ghost use Rattle.relay_events.specs.declared.reply.Reply.{Reply};
-ghost use Rattle.session_serving.specs.Settling.{Settled, IsSettled, MayContinue, IsWrongHeader};
+ghost use Rattle.session_serving.specs.Settling.{Settles, IsSettled, MayContinue, IsWrongHeader};
 ghost use Rattle.session_core.specs.Ends.{EndsWithInput};
 ghost use Rattle.session_core.specs.Progress.{Owes};
 ghost use Rattle.session_core.specs.Remaining.{still_asks, still_sends, still_ends, is_asking, is_finished};
@@ -36,14 +37,15 @@ fn settle<F: Form, V: SessionWatch, W: Writer, M: Meter>(
     requires writable { W.can_write writer.now }
     requires not_asking { is_asking session.now ≡ false }
     ensures ok { IfOk result
-        (λ end. Settled M.steps F.written_as session.old meter.old (W.contents writer.old) [] end
-        session.new meter.new (W.contents writer.new)) }
+        (λ end. Settles M.steps F.written_as session.old
+        (outlets_of W.contents W.failures writer.old meter.old) [] end session.new
+        (outlets_of W.contents W.failures writer.new meter.new)) }
     ensures writable { OnOk result (W.can_write writer.new) }
     ensures failures_unchanged { OnOk result (W.failures writer.new ≡ W.failures writer.old) }
     ensures err { IfErr result
-        (λ fault. Stops M.steps F.written_as (still_asks session.old [])
-        (still_sends session.old []) meter.old (W.contents writer.old) (W.failures writer.old) fault
-        meter.new (W.contents writer.new) (W.failures writer.new)) }
+        (λ fault. Stops M.steps F.written_as (work_for (remaining_plan session.old) [])
+        (outlets_of W.contents W.failures writer.old meter.old) fault
+        (outlets_of W.contents W.failures writer.new meter.new)) }
     ensures order { (password : List ℕ) (texts_of : List ℕ → List Reply → List (List ℕ))
         (happened : List Happening)
         → IsAt F.written_as password texts_of (still_sends session.old) happened
@@ -94,14 +96,15 @@ fn take_in<V: SessionWatch, W: Writer, M: Meter>(
     requires writable { W.can_write writer.now }
     requires not_asking { is_asking session.now ≡ false }
     ensures ok { IfOk result
-        (λ end. Settled M.steps as_bytes session.old meter.old (W.contents writer.old) bytes.now end
-        session.new meter.new (W.contents writer.new)) }
+        (λ end. Settles M.steps as_bytes session.old
+        (outlets_of W.contents W.failures writer.old meter.old) bytes.now end session.new
+        (outlets_of W.contents W.failures writer.new meter.new)) }
     ensures writable { OnOk result (W.can_write writer.new) }
     ensures failures_unchanged { OnOk result (W.failures writer.new ≡ W.failures writer.old) }
     ensures err { IfErr result
-        (λ fault. Stops M.steps as_bytes (still_asks session.old bytes.now)
-        (still_sends session.old bytes.now) meter.old (W.contents writer.old)
-        (W.failures writer.old) fault meter.new (W.contents writer.new) (W.failures writer.new)) }
+        (λ fault. Stops M.steps as_bytes (work_for (remaining_plan session.old) bytes.now)
+        (outlets_of W.contents W.failures writer.old meter.old) fault
+        (outlets_of W.contents W.failures writer.new meter.new)) }
     ensures order { (password : List ℕ) (texts_of : List ℕ → List Reply → List (List ℕ))
         (happened : List Happening)
         → IsAt as_bytes password texts_of (λ more. still_sends session.old (bytes.now ++ more))
@@ -126,13 +129,14 @@ pub(crate) fn end_input<F: Form, V: SessionWatch, W: Writer, M: Meter>(
     requires writable { W.can_write writer.now }
     requires not_asking { is_asking session.now ≡ false }
     ensures ok { OnOk result
-        (DoesAll M.steps F.written_as (still_asks session.old []) (still_sends session.old [])
-        meter.old (W.contents writer.old) meter.new (W.contents writer.new)) }
+        (DoesAll M.steps F.written_as (work_for (remaining_plan session.old) [])
+        (outlets_of W.contents W.failures writer.old meter.old)
+        (outlets_of W.contents W.failures writer.new meter.new)) }
     ensures end { IfOk result (λ end. end ≡ still_ends session.old []) }
     ensures err { IfErr result
-        (λ fault. Stops M.steps F.written_as (still_asks session.old [])
-        (still_sends session.old []) meter.old (W.contents writer.old) (W.failures writer.old) fault
-        meter.new (W.contents writer.new) (W.failures writer.new)) }
+        (λ fault. Stops M.steps F.written_as (work_for (remaining_plan session.old) [])
+        (outlets_of W.contents W.failures writer.old meter.old) fault
+        (outlets_of W.contents W.failures writer.new meter.new)) }
     ensures order { (password : List ℕ) (texts_of : List ℕ → List Reply → List (List ℕ))
         (happened : List Happening)
         → IsAt F.written_as password texts_of (still_sends session.old) happened
@@ -174,8 +178,16 @@ fn serve<V: SessionWatch, R: Reader, W: Writer, M: Meter>(
     requires ends { EndsWithInput (still_ends session.now []) }
     requires not_asking { is_asking session.now ≡ false }
     ensures served { (password : List ℕ) → Owes password session.old
-        → Served R.remaining R.reads R.failures W.contents W.failures M.steps password reader.old
-        writer.old meter.old result reader.new writer.new meter.new }
+        → ServesSession M.steps password
+        (record {
+          input = input_of R.remaining R.reads R.failures reader.old;
+          outlets = outlets_of W.contents W.failures writer.old meter.old;
+        })
+        result
+        (record {
+          input = input_of R.remaining R.reads R.failures reader.new;
+          outlets = outlets_of W.contents W.failures writer.new meter.new;
+        }) }
     ensures order { (password : List ℕ) → Owes password session.old
         → IsInOrder as_bytes password (V.passed watch.old) (V.passed watch.new)
         (R.remaining reader.old) (R.remaining reader.new) }
@@ -214,8 +226,16 @@ pub fn watch_session<V: SessionWatch, R: Reader, W: Writer, M: Meter>(
     requires readable { R.can_read reader.now }
     requires writable { W.can_write writer.now }
     requires password { IsPassword password.now }
-    ensures served { Served R.remaining R.reads R.failures W.contents W.failures M.steps
-        password.now reader.old writer.old meter.old result reader.new writer.new meter.new }
+    ensures served { ServesSession M.steps password.now
+        (record {
+          input = input_of R.remaining R.reads R.failures reader.old;
+          outlets = outlets_of W.contents W.failures writer.old meter.old;
+        })
+        result
+        (record {
+          input = input_of R.remaining R.reads R.failures reader.new;
+          outlets = outlets_of W.contents W.failures writer.new meter.new;
+        }) }
     ensures order { IsInOrder as_bytes password.now (V.passed watch.old) (V.passed watch.new)
         (R.remaining reader.old) (R.remaining reader.new) }
 {
@@ -245,8 +265,16 @@ pub fn serve_session<R: Reader, W: Writer, M: Meter>(
     requires readable { R.can_read reader.now }
     requires writable { W.can_write writer.now }
     requires password { IsPassword password.now }
-    ensures { Served R.remaining R.reads R.failures W.contents W.failures M.steps password.now
-        reader.old writer.old meter.old result reader.new writer.new meter.new }
+    ensures { ServesSession M.steps password.now
+        (record {
+          input = input_of R.remaining R.reads R.failures reader.old;
+          outlets = outlets_of W.contents W.failures writer.old meter.old;
+        })
+        result
+        (record {
+          input = input_of R.remaining R.reads R.failures reader.new;
+          outlets = outlets_of W.contents W.failures writer.new meter.new;
+        }) }
 {
     let mut watch = UnwatchedSession;
     watch_session(alloc, &mut watch, reader, writer, meter, password)

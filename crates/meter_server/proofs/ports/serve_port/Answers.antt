@@ -6,14 +6,10 @@ use Rattle.meter_server.proofs.ports.serve_port.Goals as goal
 
 pub returns-clause-same : goal.returns-clause-same
 returns-clause-same g c =
-    let i = g.R.Reader in
-    let o = g.O.Writer in
     between IsSame _ _ _ _ c.new-meter.ensures c.into_port.ensures
-    (served_same i.remaining i.reads i.failures o.contents o.failures _ _ _ _ _ _ _ _ c.serve_session-result.ensures)
+    (served_same _ _ _ _ c.serve_session-result.ensures)
 
 pub returns-clause-asks : goal.returns-clause-asks
 returns-clause-asks g c =
-    let i = g.R.Reader in
-    let o = g.O.Writer in
     between (AsksThrough c.args.password.now) _ _ _ _ c.new-meter.ensures c.into_port.ensures
-    (served_asks i.remaining i.reads i.failures o.contents o.failures _ _ _ _ _ _ _ _ c.serve_session-result.ensures)
+    (served_asks _ _ _ _ c.serve_session-result.ensures)

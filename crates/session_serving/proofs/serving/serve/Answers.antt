@@ -1,13 +1,14 @@
 use Rattle.std.proofs.Common.{◌≡◌, ◌<◌, ℕ, [], take, ap, refl, sym, add-zero, subst, inl, inr, ◌∙◌, arith}
 use Rattle.std.proofs.KnownBytes.{Consumes-nil, Consumes-kept}
-use Rattle.session_serving.specs.Served.{as_bytes}
+use Rattle.session_serving.specs.Serving.{as_bytes}
+use Rattle.session_serving.specs.Sides.{input_of}
 use Rattle.session_serving.proofs.Ordering.{texts_after, waits_new, waits_next, has_read, at_end, stops_here, in_order_unread, in_order_stop, in_order_waiting}
 use Rattle.session_serving.proofs.Sessions.{stands_new, stands_next, wrong_ends, piece_of, served_stop_by, served_end, served_over, served_unread}
 use Rattle.session_serving.proofs.serving.serve.Goals as goal
 
 pub reads-init : goal.reads-init
 reads-init g c = record {
-  stands = stands_new g.M.Meter.steps as_bytes c.args.session.now c.args.meter.now (g.W.Writer.contents c.args.writer.now) (g.R.Reader.remaining c.args.reader.now)
+  stands = stands_new g.M.Meter.steps as_bytes c.args.session.now _
       c.requires.settled c.requires.ends c.requires.not_asking;
   readable = c.requires.readable;
   counted = sym (add-zero (g.R.Reader.reads c.args.reader.now));
@@ -22,10 +23,8 @@ reads-init g c = record {
 pub returns-in-Err-clause-served : goal.returns-in-Err-clause-served
 returns-in-Err-clause-served g c = λ password owes.
     let left = g.R.Reader.remaining c.reads.reader in
-    served_unread g.R.Reader.remaining g.R.Reader.reads g.R.Reader.failures g.W.Writer.contents
-    g.W.Writer.failures g.M.Meter.steps password c.reads.counter
-    c.args.session.now c.reads.session c.args.reader.now c.reads.reader c.read.new.reader
-    c.args.writer.now c.reads.writer c.args.meter.now c.reads.meter
+    served_unread g.M.Meter.steps password c.reads.counter c.args.session.now c.reads.session _ _
+    (input_of g.R.Reader.remaining g.R.Reader.reads g.R.Reader.failures c.read.new.reader)
     owes c.reads.invariant.stands
     (Consumes-kept left left (g.R.Reader.remaining c.read.new.reader) [] (Consumes-nil left)
     c.in-Err.ensures.bytes)
@@ -36,11 +35,8 @@ returns-in-Err-clause-served g c = λ password owes.
 
 pub returns-then-count-eq0-clause-served : goal.returns-then-count-eq0-clause-served
 returns-then-count-eq0-clause-served g c = λ password owes.
-    served_end g.R.Reader.remaining g.R.Reader.reads g.R.Reader.failures g.W.Writer.contents
-    g.W.Writer.failures g.M.Meter.steps password c.reads.counter
-    c.args.session.now c.reads.session c.args.reader.now c.reads.reader c.read.new.reader
-    c.args.writer.now c.reads.writer c.end_input.new.writer
-    c.args.meter.now c.reads.meter c.end_input.new.meter c.end_input.result owes c.reads.invariant.stands
+    served_end g.M.Meter.steps password c.reads.counter
+    c.args.session.now c.reads.session _ _ _ c.end_input.result owes c.reads.invariant.stands
     (rw c.if-count-eq0.true at c.in-Ok.ensures.bytes.0)
     (c.in-Ok.ensures.bytes.1 c.if-count-eq0.true (omega (arith, c.read.auto.buffer, c.reads.invariant.room)))
     (omega (arith, c.reads-test.true))
@@ -49,11 +45,9 @@ returns-then-count-eq0-clause-served g c = λ password owes.
 
 pub returns-in_err-end-clause-served : goal.returns-in_err-end-clause-served
 returns-in_err-end-clause-served g c = λ password owes.
-    served_stop_by g.R.Reader.remaining g.R.Reader.reads g.R.Reader.failures g.W.Writer.contents g.W.Writer.failures g.M.Meter.steps password
+    served_stop_by g.M.Meter.steps password
     (take c.in-Ok.count c.read.new.buffer) c.reads.counter c.args.session.now c.reads.session
-    c.args.reader.now c.reads.reader c.read.new.reader
-    c.args.writer.now c.reads.writer c.take_in.new.writer c.args.meter.now c.reads.meter
-    c.take_in.new.meter c.in_err-end.field-0.0 c.from_residual.result
+    _ _ _ c.in_err-end.field-0.0 c.from_residual.result
     owes c.reads.invariant.stands c.in-Ok.ensures.bytes.0
     (piece_of c.read.new.buffer c.in-Ok.count c.in-Ok.ensures.bound.0
     (c.read.auto.buffer ∙ c.reads.invariant.room))
@@ -63,11 +57,9 @@ returns-in_err-end-clause-served g c = λ password owes.
 
 pub returns-in-Some-clause-served : goal.returns-in-Some-clause-served
 returns-in-Some-clause-served g c = λ password owes.
-    served_over g.R.Reader.remaining g.R.Reader.reads g.R.Reader.failures g.W.Writer.contents g.W.Writer.failures g.M.Meter.steps password
+    served_over g.M.Meter.steps password
     (take c.in-Ok.count c.read.new.buffer) c.reads.counter c.args.session.now c.reads.session
-    c.take_in.new.session c.args.reader.now c.reads.reader c.read.new.reader
-    c.args.writer.now c.reads.writer c.take_in.new.writer c.args.meter.now c.reads.meter
-    c.take_in.new.meter c.in-Some.end
+    c.take_in.new.session _ _ _ c.in-Some.end
     owes c.reads.invariant.stands c.in-Ok.ensures.bytes.0
     (piece_of c.read.new.buffer c.in-Ok.count c.in-Ok.ensures.bound.0
     (c.read.auto.buffer ∙ c.reads.invariant.room))
@@ -79,10 +71,7 @@ returns-in-Some-clause-served g c = λ password owes.
 pub reads-preserved : goal.reads-preserved
 reads-preserved g c = record {
   stands = stands_next g.M.Meter.steps as_bytes c.args.session.now c.reads.session
-      c.take_in.new.session c.args.meter.now c.reads.meter c.take_in.new.meter
-      (g.W.Writer.contents c.args.writer.now) (g.W.Writer.contents c.reads.writer) (g.W.Writer.contents c.take_in.new.writer)
-      (g.R.Reader.remaining c.args.reader.now) (g.R.Reader.remaining c.reads.reader)
-      (g.R.Reader.remaining c.read.new.reader)
+      c.take_in.new.session _ _ _
       c.reads.counter (take c.in-Ok.count c.read.new.buffer) c.in_ok-end.end
       c.reads.invariant.stands c.in-Ok.ensures.bytes.0
       (piece_of c.read.new.buffer c.in-Ok.count c.in-Ok.ensures.bound.0
@@ -112,9 +101,8 @@ reads-preserved g c = record {
 
 pub returns-clause-served : goal.returns-clause-served
 returns-clause-served g c = λ password owes.
-    served_unread g.R.Reader.remaining g.R.Reader.reads g.R.Reader.failures g.W.Writer.contents
-    g.W.Writer.failures g.M.Meter.steps password c.reads.counter
-    c.args.session.now c.reads.session c.args.reader.now c.reads.reader c.reads.reader c.args.writer.now c.reads.writer c.args.meter.now c.reads.meter
+    served_unread g.M.Meter.steps password c.reads.counter c.args.session.now c.reads.session _ _
+    (input_of g.R.Reader.remaining g.R.Reader.reads g.R.Reader.failures c.reads.reader)
     owes c.reads.invariant.stands (Consumes-nil (g.R.Reader.remaining c.reads.reader))
     (omega (arith, c.reads-test.false, c.reads.auto.counter-end)) c.reads.invariant.counted
     (inr (omega (arith, c.reads.invariant.counted, c.reads-test.false)))

@@ -2,15 +2,23 @@
 use Rattle.std.proofs.Common.{◌≡◌, ◌+◌, ℕ, List, length}
 use Rattle.session_core.specs.Progress.{Owes}
 use Rattle.session_serving.proofs.Ordering.{Waits}
-use Rattle.session_serving.specs.Served.{as_bytes}
-use Rattle.session_serving.specs.Settling.{Stands}
+use Rattle.session_serving.specs.Serving.{as_bytes}
+use Rattle.session_serving.specs.Settling.{IsCaughtUp}
+use Rattle.session_serving.specs.Sides.{input_of, outlets_of}
 use Rattle.session_serving.proofs.serving.serve.Given as goal
 
 abbrev pub invariant-reads : goal.invariant-reads
 invariant-reads g l = record {
-  stands : Stands g.M.Meter.steps as_bytes l.initial.session l.initial.meter
-      (g.W.Writer.contents l.initial.writer) (g.R.Reader.remaining l.initial.reader) l.counter
-      l.session l.meter (g.W.Writer.contents l.writer) (g.R.Reader.remaining l.reader);
+  stands : IsCaughtUp g.M.Meter.steps as_bytes l.initial.session
+      (record {
+        input = input_of g.R.Reader.remaining g.R.Reader.reads g.R.Reader.failures l.initial.reader;
+        outlets = outlets_of g.W.Writer.contents g.W.Writer.failures l.initial.writer l.initial.meter;
+      })
+      l.counter l.session
+      (record {
+        input = input_of g.R.Reader.remaining g.R.Reader.reads g.R.Reader.failures l.reader;
+        outlets = outlets_of g.W.Writer.contents g.W.Writer.failures l.writer l.meter;
+      });
   counted : g.R.Reader.reads l.reader ≡ g.R.Reader.reads l.initial.reader + l.counter;
   readable : g.R.Reader.can_read l.reader;
   writable : g.W.Writer.can_write l.writer;

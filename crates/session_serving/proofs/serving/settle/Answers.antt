@@ -2,6 +2,7 @@ use Rattle.std.proofs.Common.{◌≡◌, false, refl, [], ◌∙◌}
 use Rattle.relay_events.specs.declared.event.Event.TheVariants as event
 use Rattle.session_serving.proofs.serving.settle.Goals as goal
 use Rattle.session_core.specs.Remaining.{still_sends}
+use Rattle.session_serving.specs.Sides.{output_of, outlets_of}
 use Rattle.session_serving.specs.Settling.{fault_of}
 use Rattle.session_serving.specs.declared.fault.ServeFault.TheVariants as fault
 use Rattle.session_serving.proofs.Ordering.{comes_new, comes_sent, comes_asked, comes_still, stops_here, stops_asked, stops_refused, stops_unsent, orders_stop}
@@ -9,7 +10,7 @@ use Rattle.session_serving.proofs.Reaching.{reached_none, reached_sent, reached_
 
 pub due-init : goal.due-init
 due-init g c = record {
-  reached = reached_none c.args.session.now c.args.meter.now (g.W.Writer.contents c.args.writer.now);
+  reached = reached_none c.args.session.now (outlets_of g.W.Writer.contents g.W.Writer.failures c.args.writer.now c.args.meter.now);
   silent = c.requires.not_asking;
   finished = refl;
   writable = c.requires.writable;
@@ -23,16 +24,15 @@ due-init g c = record {
 pub returns-in_err-reply-in-Some-clause-err : goal.returns-in_err-reply-in-Some-clause-err
 returns-in_err-reply-in-Some-clause-err g c =
     let asked = c.in-Some.ensures.asks in
-    refused_by [] [] c.due.session c.next_get.new.self c.due.meter c.call.new.meter
-    (g.W.Writer.contents c.due.writer)
-    (g.W.Writer.failures c.args.writer.now) (g.W.Writer.failures c.due.writer) (event.Get c.in-Some.level c.in-Some.attr false) c.in_err-reply-in-Some.field-0.0
+    refused_by {before = outlets_of g.W.Writer.contents g.W.Writer.failures c.args.writer.now c.args.meter.now} [] [] c.due.session c.next_get.new.self
+    (outlets_of g.W.Writer.contents g.W.Writer.failures c.due.writer c.due.meter) c.call.new.meter (event.Get c.in-Some.level c.in-Some.attr false) c.in_err-reply-in-Some.field-0.0
     c.from_residual.result c.due.invariant.reached asked.steps asked.awaits c.in_err-reply-in-Some.ensures.step c.from_residual.ensures.1
 
 pub returns-in-Err-clause-err : goal.returns-in-Err-clause-err
 returns-in-Err-clause-err g c =
     let asked = c.in-Some.ensures.asks in
-    unanswered [] [] c.due.session c.next_get.new.self c.due.meter c.call.new.meter
-    (g.W.Writer.contents c.due.writer)
+    unanswered {before = outlets_of g.W.Writer.contents g.W.Writer.failures c.args.writer.now c.args.meter.now} [] [] c.due.session c.next_get.new.self
+    (outlets_of g.W.Writer.contents g.W.Writer.failures c.due.writer c.due.meter) c.call.new.meter
     (event.Get c.in-Some.level c.in-Some.attr false) c.in_ok-reply-in-Some.reply c.due.invariant.reached asked.steps c.in_ok-reply-in-Some.ensures.step
 
 pub due-preserved-in-Ok : goal.due-preserved-in-Ok
@@ -41,8 +41,8 @@ due-preserved-in-Ok g c =
     let answered = c.in-Ok.ensures.ok in
     record {
       reached = reached_answered [] c.due.session c.next_get.new.self c.answer_get-answered.new.self
-          c.due.meter c.call.new.meter
-          (g.W.Writer.contents c.due.writer) (g.W.Writer.contents c.write.new.writer) (event.Get c.in-Some.level c.in-Some.attr false) c.in_ok-reply-in-Some.reply c.in-Ok.frame
+          (outlets_of g.W.Writer.contents g.W.Writer.failures c.due.writer c.due.meter) c.call.new.meter
+          (output_of g.W.Writer.contents g.W.Writer.failures c.write.new.writer) (event.Get c.in-Some.level c.in-Some.attr false) c.in_ok-reply-in-Some.reply c.in-Ok.frame
           c.due.invariant.reached asked.steps c.in_ok-reply-in-Some.ensures.step answered (rw c.as_slice.ensures at c.in_ok-write-in-Ok.ensures.bytes);
       silent = answered.silent;
       finished = answered.sends.finished ∙ answered.takes.finished ∙ asked.steps.finished ∙ c.due.invariant.finished;
@@ -65,21 +65,22 @@ pub returns-in_err-write-in-Ok-clause-err : goal.returns-in_err-write-in-Ok-clau
 returns-in_err-write-in-Ok-clause-err g c =
     let asked = c.in-Some.ensures.asks in
     let answered = c.in-Ok.ensures.ok in
-    unsent_by [] [] answered.between c.answer_get-answered.new.self c.call.new.meter
-    (g.W.Writer.contents c.due.writer) (g.W.Writer.contents c.write.new.writer)
-    (g.W.Writer.failures c.args.writer.now) (g.W.Writer.failures c.due.writer) (g.W.Writer.failures c.write.new.writer)
-    c.in-Ok.frame c.in_err-write-in-Ok.field-0.0 c.from_residual-in_err-write-in-Ok.result
-    (reached_asked [] c.due.session c.next_get.new.self answered.between c.due.meter
-    c.call.new.meter (g.W.Writer.contents c.due.writer)
+    unsent_by {before = outlets_of g.W.Writer.contents g.W.Writer.failures c.args.writer.now c.args.meter.now} [] [] answered.between
+    (outlets_of g.W.Writer.contents g.W.Writer.failures c.due.writer c.call.new.meter)
+    (output_of g.W.Writer.contents g.W.Writer.failures c.write.new.writer)
+    c.in_err-write-in-Ok.field-0.0 c.from_residual-in_err-write-in-Ok.result
+    (reached_asked {before = outlets_of g.W.Writer.contents g.W.Writer.failures c.args.writer.now c.args.meter.now} [] c.due.session c.next_get.new.self answered.between
+    (outlets_of g.W.Writer.contents g.W.Writer.failures c.due.writer c.due.meter) c.call.new.meter
     (event.Get c.in-Some.level c.in-Some.attr false) c.in_ok-reply-in-Some.reply c.due.invariant.reached asked.steps c.in_ok-reply-in-Some.ensures.step answered.takes)
-    answered.sends c.due.invariant.even c.in_err-write-in-Ok.ensures.err c.from_residual-in_err-write-in-Ok.ensures.1
+    c.due.invariant.even c.in_err-write-in-Ok.ensures.err c.from_residual-in_err-write-in-Ok.ensures.1
 
 -- ---- all other tasks
 
 pub returns-in_err-event-in-None-clause-err : goal.returns-in_err-event-in-None-clause-err
 returns-in_err-event-in-None-clause-err g c =
     let same : c.next_get.new.self ≡ c.due.session = c.in-None.ensures.none in
-    starved_by [] [] c.due.session c.next.new.self c.due.meter (g.W.Writer.contents c.due.writer) (g.W.Writer.failures c.args.writer.now) (g.W.Writer.failures c.due.writer)
+    starved_by {before = outlets_of g.W.Writer.contents g.W.Writer.failures c.args.writer.now c.args.meter.now} [] [] c.due.session c.next.new.self
+    (outlets_of g.W.Writer.contents g.W.Writer.failures c.due.writer c.due.meter)
     c.from_residual-in_err-event-in-None.result c.due.invariant.reached (rw same at c.in_err-event-in-None.ensures.steps) c.from_residual-in_err-event-in-None.ensures.1
 
 pub returns-in_err-reply-in-Ask-clause-err : goal.returns-in_err-reply-in-Ask-clause-err
@@ -87,9 +88,8 @@ returns-in_err-reply-in-Ask-clause-err g c =
     let same : c.next_get.new.self ≡ c.due.session = c.in-None.ensures.none in
     let stepped = rw (c.in-Ask.is, same) at c.in_ok-event-in-None.ensures.steps in
     let left = rw c.in-Ask.is at c.in_ok-event-in-None.ensures.leaves in
-    refused_by [] [] c.due.session c.next.new.self c.due.meter c.call-in-Ask.new.meter
-    (g.W.Writer.contents c.due.writer)
-    (g.W.Writer.failures c.args.writer.now) (g.W.Writer.failures c.due.writer) c.in-Ask.event c.in_err-reply-in-Ask.field-0.0
+    refused_by {before = outlets_of g.W.Writer.contents g.W.Writer.failures c.args.writer.now c.args.meter.now} [] [] c.due.session c.next.new.self
+    (outlets_of g.W.Writer.contents g.W.Writer.failures c.due.writer c.due.meter) c.call-in-Ask.new.meter c.in-Ask.event c.in_err-reply-in-Ask.field-0.0
     c.from_residual-in_err-reply-in-Ask.result c.due.invariant.reached stepped left.0 c.in_err-reply-in-Ask.ensures.step c.from_residual-in_err-reply-in-Ask.ensures.1
 
 pub due-preserved-in-Ok-answer : goal.due-preserved-in-Ok-answer
@@ -99,8 +99,8 @@ due-preserved-in-Ok-answer g c =
     let left = (rw c.in-Ask.is at c.in_ok-event-in-None.ensures.leaves).0 in
     let taken = c.in-Ok-answer.ensures.ok in
     record {
-      reached = reached_asked [] c.due.session c.next.new.self c.answer.new.self c.due.meter
-          c.call-in-Ask.new.meter (g.W.Writer.contents c.due.writer)
+      reached = reached_asked [] c.due.session c.next.new.self c.answer.new.self
+          (outlets_of g.W.Writer.contents g.W.Writer.failures c.due.writer c.due.meter) c.call-in-Ask.new.meter
           c.in-Ask.event c.in_ok-reply-in-Ask.reply c.due.invariant.reached stepped c.in_ok-reply-in-Ask.ensures.step taken;
       silent = taken.silent;
       finished = taken.finished ∙ stepped.finished ∙ c.due.invariant.finished;
@@ -118,8 +118,8 @@ pub returns-in-Err-answer-clause-err : goal.returns-in-Err-answer-clause-err
 returns-in-Err-answer-clause-err g c =
     let same : c.next_get.new.self ≡ c.due.session = c.in-None.ensures.none in
     let stepped = rw (c.in-Ask.is, same) at c.in_ok-event-in-None.ensures.steps in
-    unanswered [] [] c.due.session c.next.new.self c.due.meter c.call-in-Ask.new.meter
-    (g.W.Writer.contents c.due.writer)
+    unanswered {before = outlets_of g.W.Writer.contents g.W.Writer.failures c.args.writer.now c.args.meter.now} [] [] c.due.session c.next.new.self
+    (outlets_of g.W.Writer.contents g.W.Writer.failures c.due.writer c.due.meter) c.call-in-Ask.new.meter
     c.in-Ask.event c.in_ok-reply-in-Ask.reply c.due.invariant.reached stepped c.in_ok-reply-in-Ask.ensures.step
 
 pub due-preserved : goal.due-preserved
@@ -128,7 +128,9 @@ due-preserved g c =
     let stepped = rw (c.in-Send.is, same) at c.in_ok-event-in-None.ensures.steps in
     let left = rw c.in-Send.is at c.in_ok-event-in-None.ensures.leaves in
     record {
-      reached = reached_sent [] c.due.session c.next.new.self c.due.meter (g.W.Writer.contents c.due.writer) (g.W.Writer.contents c.write-in-Send.new.writer)
+      reached = reached_sent [] c.due.session c.next.new.self
+          (outlets_of g.W.Writer.contents g.W.Writer.failures c.due.writer c.due.meter)
+          (output_of g.W.Writer.contents g.W.Writer.failures c.write-in-Send.new.writer)
           c.in-Send.frame c.due.invariant.reached stepped (rw c.as_slice-in-Send.ensures at c.in_ok-write-in-Send.ensures.bytes);
       silent = left.0;
       finished = stepped.finished ∙ c.due.invariant.finished;
@@ -144,17 +146,18 @@ due-preserved g c =
 
 pub returns-in_err-write-in-Send-clause-err : goal.returns-in_err-write-in-Send-clause-err
 returns-in_err-write-in-Send-clause-err g c =
-    let same : c.next_get.new.self ≡ c.due.session = c.in-None.ensures.none in
-    unsent_by [] [] c.due.session c.next.new.self c.due.meter (g.W.Writer.contents c.due.writer) (g.W.Writer.contents c.write-in-Send.new.writer)
-    (g.W.Writer.failures c.args.writer.now) (g.W.Writer.failures c.due.writer) (g.W.Writer.failures c.write-in-Send.new.writer)
-    c.in-Send.frame c.in_err-write-in-Send.field-0.0 c.from_residual-in_err-write-in-Send.result c.due.invariant.reached
-    (rw (c.in-Send.is, same) at c.in_ok-event-in-None.ensures.steps) c.due.invariant.even c.in_err-write-in-Send.ensures.err c.from_residual-in_err-write-in-Send.ensures.1
+    unsent_by {before = outlets_of g.W.Writer.contents g.W.Writer.failures c.args.writer.now c.args.meter.now} [] [] c.due.session
+    (outlets_of g.W.Writer.contents g.W.Writer.failures c.due.writer c.due.meter)
+    (output_of g.W.Writer.contents g.W.Writer.failures c.write-in-Send.new.writer)
+    c.in_err-write-in-Send.field-0.0 c.from_residual-in_err-write-in-Send.result
+    c.due.invariant.reached c.due.invariant.even c.in_err-write-in-Send.ensures.err c.from_residual-in_err-write-in-Send.ensures.1
 
 pub returns-in-End-clause-ok : goal.returns-in-End-clause-ok
 returns-in-End-clause-ok g c =
     let same : c.next_get.new.self ≡ c.due.session = c.in-None.ensures.none in
-    settled_over g.M.Meter.steps g.F.Form.written_as c.args.session.now c.due.session c.next.new.self c.args.meter.now c.due.meter
-    (g.W.Writer.contents c.args.writer.now) (g.W.Writer.contents c.due.writer) c.in-End.end c.due.invariant.reached c.due.invariant.finished
+    settled_over g.M.Meter.steps g.F.Form.written_as c.args.session.now c.due.session c.next.new.self
+    (outlets_of g.W.Writer.contents g.W.Writer.failures c.args.writer.now c.args.meter.now)
+    (outlets_of g.W.Writer.contents g.W.Writer.failures c.due.writer c.due.meter) c.in-End.end c.due.invariant.reached c.due.invariant.finished
     (rw (c.in-End.is, same) at c.in_ok-event-in-None.ensures.steps) (rw c.in-End.is at c.in_ok-event-in-None.ensures.leaves)
 
 -- ---- the order

@@ -3,15 +3,17 @@
 use Rattle.std.proofs.Common.{◌≡◌, ℕ, List, [], false}
 use Rattle.session_serving.specs.Order.{Happening, IsAt, ComesOn}
 use Rattle.relay_events.specs.declared.reply.Reply.{Reply}
-use Rattle.session_serving.specs.Settling.{Reached}
-use Rattle.session_core.specs.Remaining.{still_asks, still_sends, still_ends, is_asking, is_finished, load}
+use Rattle.session_serving.specs.Serving.{remaining_plan}
+use Rattle.session_serving.specs.Settling.{HasDone}
+use Rattle.session_serving.specs.Sides.{outlets_of}
+use Rattle.session_core.specs.Remaining.{still_sends, is_asking, is_finished, load}
 use Rattle.session_serving.proofs.serving.settle.Given as goal
 
 abbrev pub invariant-due : goal.invariant-due
 invariant-due g l = record {
-  reached : Reached g.M.Meter.steps g.F.Form.written_as (still_asks l.initial.session)
-      (still_sends l.initial.session) (still_ends l.initial.session)
-      l.initial.meter (g.W.Writer.contents l.initial.writer) [] l.session l.meter (g.W.Writer.contents l.writer);
+  reached : HasDone g.M.Meter.steps g.F.Form.written_as (remaining_plan l.initial.session)
+      (outlets_of g.W.Writer.contents g.W.Writer.failures l.initial.writer l.initial.meter) []
+      l.session (outlets_of g.W.Writer.contents g.W.Writer.failures l.writer l.meter);
   silent : is_asking l.session ≡ false;
   finished : is_finished l.session ≡ is_finished l.initial.session;
   writable : g.W.Writer.can_write l.writer;

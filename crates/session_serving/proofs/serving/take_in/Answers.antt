@@ -1,5 +1,6 @@
 use Rattle.session_core.specs.Remaining.{still_sends}
 use Rattle.session_serving.specs.declared.fault.ServeFault.TheVariants as fault
+use Rattle.session_serving.specs.Sides.{outlets_of}
 use Rattle.session_serving.proofs.Ordering.{nothing_passed, comes_new, at_fed, orders_stop}
 use Rattle.std.proofs.Common.{◌≡◌, refl, []}
 use Rattle.session_serving.proofs.Reaching.{reached_none, settled_by_feeding, steps_none, starved_by}
@@ -8,14 +9,14 @@ use Rattle.session_serving.proofs.serving.take_in.Goals as goal
 pub returns-in_err-feed-clause-err : goal.returns-in_err-feed-clause-err
 returns-in_err-feed-clause-err g c =
     let s = c.args.session.now in
-    let written = g.W.Writer.contents c.args.writer.now in
-    let failed = g.W.Writer.failures c.args.writer.now in
-    starved_by [] c.args.bytes.now s s c.args.meter.now written failed failed c.from_residual.result
-    (reached_none s c.args.meter.now written) (steps_none s) c.from_residual.ensures.1
+    let now = outlets_of g.W.Writer.contents g.W.Writer.failures c.args.writer.now c.args.meter.now in
+    starved_by [] c.args.bytes.now s s now c.from_residual.result
+    (reached_none s now) (steps_none s) c.from_residual.ensures.1
 
 pub returns-then-is_idle-clause-ok : goal.returns-then-is_idle-clause-ok
 returns-then-is_idle-clause-ok g c =
-    settled_by_feeding g.M.Meter.steps _ c.args.session.now c.feed.new.self c.args.bytes.now c.args.meter.now (g.W.Writer.contents c.args.writer.now)
+    settled_by_feeding g.M.Meter.steps _ c.args.session.now c.feed.new.self c.args.bytes.now
+    (outlets_of g.W.Writer.contents g.W.Writer.failures c.args.writer.now c.args.meter.now)
     c.in_ok-feed.ensures.ok (c.if-is_idle.ensures.quiet refl)
 
 pub returns-in_err-feed-clause-order : goal.returns-in_err-feed-clause-order

@@ -4,9 +4,7 @@ use Rattle.session_serving.proofs.serving.watch_session.Goals as goal
 
 pub returns-in_err-session-clause-served : goal.returns-in_err-session-clause-served
 returns-in_err-session-clause-served g c =
-    served_none g.R.Reader.remaining g.R.Reader.reads g.R.Reader.failures g.W.Writer.contents
-    g.W.Writer.failures g.M.Meter.steps c.args.password.now
-    c.args.reader.now c.args.writer.now c.args.meter.now c.from_residual.result
+    served_none g.M.Meter.steps c.args.password.now _ c.from_residual.result
     c.from_residual.ensures.1
 
 pub serve-end-requires-clause-settled : goal.serve-end-requires-clause-settled
