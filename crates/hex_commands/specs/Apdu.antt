@@ -50,7 +50,7 @@ module _ {R W : Type 0}
   abbrev pub IsWholeText : List ℕ → R → Type 0
   IsWholeText text r = (length text ≤ most_bytes) × IsAtEnd (remaining r)
 
-  -- what came of the bytes that were read
+  -- the effect of the bytes that were read, by the result
   abbrev pub AnswersBytes : List ℕ → R → W → Result (Unit {0}) CommandFault → R → W → Type 0
   AnswersBytes text r w (Ok done) r' w' =
       (requests : List (List ℕ)) × (requests_of text ≡ Ok requests) × IsWholeText text r'

@@ -94,7 +94,7 @@ pub record ReadsHex (left left' : Option (List ℕ)) (input : List ℕ) : Type 0
 abbrev pub IsWrongWhole : List ℕ → TextFault → Option (List ℕ) → Type 0
 IsWrongWhole text given left' = IsNoHex text given × (length text ≤ most_characters) × IsAtEnd left'
 
--- why a text gave no bytes, after these characters
+-- why a text was not decoded, after these characters
 abbrev pub FailsToRead : List ℕ → Input → TextFault → Input → Type 0
 FailsToRead text before (text_fault.Digit character) after =
     IsWrongWhole text (text_fault.Digit character) after.left
@@ -105,7 +105,7 @@ FailsToRead text before text_fault.Read after = (length text ≤ most_characters
     × (before.failures < after.failures)
 FailsToRead text before text_fault.Memory after = ⊤
 
--- a text gave no bytes
+-- a text was not decoded
 pub record StopsReading (before : Input) (f : TextFault) (after : Input) : Type 0 where
   pub text : List ℕ
   pub read : Consumes before.left after.left text
