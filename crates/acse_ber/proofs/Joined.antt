@@ -6,7 +6,7 @@ use Rattle.byte_reading.specs.Outcome.{◌>>=◌, ◌>>◌, guard}
 use Rattle.byte_reading.proofs.Agreeing as agreeing
 use Rattle.byte_reading.proofs.Agreeing.{Agrees}
 use Rattle.byte_reading.proofs.OutcomeLemmas.{done, guard_ok, chosen}
-use Rattle.cosem_axdr.specs.Spelling.{IsJoined}
+use Rattle.byte_reading.specs.Format.{IsJoined}
 use Rattle.acse_ber.specs.Reading.{Read}
 use Rattle.acse_ber.specs.declared.fault.AcseFault.{AcseFault}
 use Rattle.acse_ber.specs.declared.fault.AcseFault.TheVariants.{Unreadable}
@@ -57,5 +57,5 @@ choice_agrees {X = X} b one other P Q whole_one whole_other = record {
 }
 
 -- a reading that always fails
-pub never_agrees : {X : Type 0} → Agrees X (λ bytes. Err Unreadable) (λ x text. ⊥)
+pub never_agrees : {X : Type 0} → Agrees {T = ℕ} X (λ bytes. Err Unreadable) (λ x text. ⊥)
 never_agrees = record { takes = λ bytes x e. absurd cc; again = λ x text rest s. absurd s }

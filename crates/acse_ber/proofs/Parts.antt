@@ -8,7 +8,8 @@ use Rattle.byte_reading.specs.Outcome.{◌>>=◌, ◌>>◌, guard}
 use Rattle.byte_reading.specs.Reading.{read_as}
 use Rattle.byte_reading.proofs.Agreeing.{Agrees, IsNone, IsMade, IsByte, AreBytes, none_agrees, made_agrees, byte_agrees, bytes_agrees, seen_as, all_read, all_taken}
 use Rattle.byte_reading.proofs.OutcomeLemmas.{done, ok_is, bind_ok}
-use Rattle.cosem_axdr.specs.Spelling.{IsUnsigned, IsJoined}
+use Rattle.byte_reading.specs.Format.{IsJoined}
+use Rattle.cosem_axdr.specs.Spelling.{IsUnsigned}
 use Rattle.acse_ber.specs.Reading.{Field, byte_at, bytes_at, size_at, literal_at, length_at, contents_at, tagged_at, tag_contents, field_at, fields_within, fields_of, contents_of, at_most_one, field_of, or_unreadable, optional, inner_of}
 use Rattle.acse_ber.specs.Spelling.{IsLength, IsTagged, IsField, AreFields, HasNone, HasInner}
 use Rattle.acse_ber.specs.declared.fault.AcseFault.{AcseFault}

@@ -6,7 +6,8 @@
 --     SpellsAarq, SpellsAare, SpellsRelease    whole APDUs
 use Rattle.std.specs.Prelude.{◌≡◌, ◌⊎◌, ℕ, ◌<◌, ◌≤◌, true, Option, Some, None, List, [], ◌∷◌, ◌++◌, length}
 use Rattle.std.specs.Int.{w16, w32, from_be_bytes}
-use Rattle.cosem_axdr.specs.Spelling.{IsUnsigned, IsJoined}
+use Rattle.byte_reading.specs.Format.{IsJoined}
+use Rattle.cosem_axdr.specs.Spelling.{IsUnsigned}
 use Rattle.acse_ber.specs.Reading.{Field, contents_of, is_response}
 use Rattle.acse_ber.specs.declared.aarq.Aarq.{Aarq}
 use Rattle.acse_ber.specs.declared.aare.Aare.{Aare}

@@ -1,2 +1,6 @@
 pub mod Agreeing
+pub mod ByteLaws
+pub mod ChoiceLaws
+pub mod Items
+pub mod Lawful
 pub mod OutcomeLemmas

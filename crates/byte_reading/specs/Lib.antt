@@ -1,2 +1,5 @@
+pub mod ByteFormats
+pub mod Choice
+pub mod Format
 pub mod Outcome
 pub mod Reading

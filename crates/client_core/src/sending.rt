@@ -1,7 +1,7 @@
 //! The messages that a client sends.
 ghost use Rattle.std.specs.Prelude.{◌≡◌, ◌≤◌, length, IfOk};
 ghost use Rattle.acse_ber.specs.Password.{IsPassword};
-ghost use Rattle.xdlms_apdu.specs.Text.{request_text};
+ghost use Rattle.xdlms_apdu.specs.Requests.{request_text};
 ghost use Rattle.client_core.specs.Texts.{frame_around, aarq_payload, action_payload, request_payload, aarq_frame, request_frame, release_frame};
 
 use crate::job::Verb;
@@ -85,7 +85,7 @@ fn frame_around(alloc: Global, payload: &[u8]) -> Result<Octets, AllocError>
 }
 
 // Returns the request of a verb.
-#[tactic(auto, unfolding(xdlms_apdu::specs::Text::request_text))]
+#[tactic(auto, unfolding(xdlms_apdu::specs::Requests::request_text))]
 fn request(verb: Verb) -> Request
     ensures { request_text result ≡ request_payload verb }
 {
@@ -107,7 +107,7 @@ fn request(verb: Verb) -> Request
 }
 
 // Returns the invocation of a method of the disconnect control, with the parameter integer 0.
-#[tactic(auto, unfolding(xdlms_apdu::specs::Text::request_text))]
+#[tactic(auto, unfolding(xdlms_apdu::specs::Requests::request_text))]
 fn action(number: u8) -> Request
     ensures { request_text result ≡ action_payload number }
 {

@@ -1,6 +1,8 @@
 pub mod Again
 pub mod Appending
 pub mod BigEndian
+pub mod DataFits
+pub mod FormatLaws
 pub mod OneTree
 pub mod Steps
 pub mod Taken

@@ -3,6 +3,7 @@ pub mod Equality
 pub mod EqualityLaws
 pub mod Falls
 pub mod Forms
+pub mod Formats
 pub mod Limits
 pub mod Reading
 pub mod Spelling

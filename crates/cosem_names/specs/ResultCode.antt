@@ -1,4 +1,6 @@
 use Rattle.std.specs.Prelude.{ℕ, Option, Some, None, ◌==◌, if◌then◌else◌}
+use Rattle.byte_reading.specs.ByteFormats.{byte}
+use Rattle.byte_reading.specs.Format.{Format, narrow}
 use Rattle.cosem_names.specs.declared.result_code.ResultCode.{ResultCode}
 use Rattle.cosem_names.specs.declared.result_code.ResultCode.TheVariants.{Success, HardwareFault, TemporaryFailure, ReadWriteDenied, ObjectUndefined, ObjectClassInconsistent, TypeUnmatched, ScopeOfAccessViolated, NoLongGetInProgress, NoLongSetInProgress, DataBlockNumberInvalid, OtherReason}
 
@@ -27,3 +29,7 @@ result_of n = if n == 0 then Some Success else if n == 1 then Some HardwareFault
     else if n == 16 then Some NoLongGetInProgress
     else if n == 18 then Some NoLongSetInProgress else if n == 19 then Some DataBlockNumberInvalid
     else if n == 250 then Some OtherReason else None
+
+-- the byte of a result; the fault if it is the number of none
+abbrev pub result : {F : Type 0} → F → Format ℕ F ResultCode
+result fault = narrow fault result_of code_of (byte fault)

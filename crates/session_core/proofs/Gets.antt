@@ -28,7 +28,7 @@ use Rattle.wrapper_frame.specs.Header.{head_of, header_size, src_of, dst_of}
 use Rattle.wrapper_frame.specs.Messages.{first_frame, after_first}
 use Rattle.wrapper_frame.specs.Stream.{GoesOn}
 use Rattle.wrapper_frame.specs.declared.header.Head.TheVariants as head
-use Rattle.xdlms_apdu.specs.Reading.{request_of, request_at, get_request_at, target_at, attribute_at, selection_at}
+use Rattle.xdlms_apdu.specs.Requests.{request_of}
 use Rattle.xdlms_apdu.specs.declared.invoke_id.InvokeId.{InvokeId}
 use Rattle.xdlms_apdu.specs.declared.response.Exception.TheVariants.{Unknown}
 use Rattle.xdlms_blocks.specs.Transfer.{Sending}
@@ -40,7 +40,7 @@ single_of : (conformance id high low a b c d e f number : ℕ)
     → (bit_and conformance 0x10 == 0x10) ≡ true
     → IsSingleGet conformance (0xC0 ∷ 0x01 ∷ id ∷ high ∷ low ∷ a ∷ b ∷ c ∷ d ∷ e ∷ f ∷ number ∷ 0x00 ∷ []) (record { 0 = id })
     (record { class = record { 0 = from_be_bytes w16 (high ∷ low ∷ []) }; name = record { 0 = a ∷ b ∷ c ∷ d ∷ e ∷ f ∷ [] }; number = number })
-unfolding call_of is_negotiated request_form request_of request_at get_request_at target_at attribute_at selection_at
+unfolding call_of is_negotiated request_form request_of
 single_of conformance id high low a b c d e f number negotiated =
     let payload : List ℕ = 0xC0 ∷ 0x01 ∷ id ∷ high ∷ low ∷ a ∷ b ∷ c ∷ d ∷ e ∷ f ∷ number ∷ 0x00 ∷ [] in
     record {

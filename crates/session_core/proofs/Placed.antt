@@ -10,7 +10,7 @@ use Rattle.session_core.specs.declared.answer.Answer.TheVariants.{Service}
 use Rattle.session_core.specs.declared.asked.Asked.{Asked}
 use Rattle.session_core.specs.declared.asked.ReplyForm.{ReplyForm}
 use Rattle.session_core.specs.declared.asked.ReplyForm.TheVariants as form
-use Rattle.xdlms_apdu.specs.Text.{response_text}
+use Rattle.xdlms_apdu.specs.Responses.{response_text}
 
 -- the index of the result code is within the bytes
 pub within : (f : ReplyForm) (was : ResultCode)

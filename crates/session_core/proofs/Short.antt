@@ -11,7 +11,7 @@ use Rattle.cosem_names.specs.declared.service.GetResult.TheVariants.{Value, Code
 use Rattle.session_core.specs.Answers.{answer_text, IsSmall}
 use Rattle.session_core.specs.Standard.{greatest_pdu, greatest_raw}
 use Rattle.session_core.specs.declared.answer.Answer.TheVariants.{Association, Release, Service}
-use Rattle.xdlms_apdu.specs.Text.{response_text}
+use Rattle.xdlms_apdu.specs.Responses.{response_text}
 use Rattle.xdlms_apdu.specs.declared.response.Exception.TheVariants.{NotAllowed, Unknown, Unreadable}
 use Rattle.xdlms_apdu.specs.declared.response.Response.{Response}
 use Rattle.xdlms_apdu.specs.declared.response.Response.TheVariants as response

@@ -17,7 +17,7 @@ use Rattle.session_core.specs.Standard.{management_device}
 use Rattle.cosem_axdr.specs.declared.value.Data.{Data}
 use Rattle.cosem_names.specs.declared.service.GetResult.{GetResult}
 use Rattle.cosem_names.specs.declared.service.GetResult.TheVariants as result
-use Rattle.xdlms_apdu.specs.Text.{response_text}
+use Rattle.xdlms_apdu.specs.Responses.{response_text}
 use Rattle.xdlms_apdu.specs.declared.response.Response.TheVariants as response
 use Rattle.session_core.specs.Progress.{asked_by, Owes, Feeds, Finishes, Steps, Takes, IsQuiet, IsAwaiting, IsOver, WorksBy, task_by, next_by}
 use Rattle.session_core.specs.Remaining.{asks_of, texts_of, texts_from, texts_after, ends_of, after_outcome, end_in, awaits, still_asks, still_sends, still_ends, is_asking, reported_end, is_finished, load, task_load}

@@ -9,7 +9,7 @@ use Rattle.session_core.specs.declared.answer.Way.TheVariants as way
 use Rattle.cosem_names.specs.declared.service.GetResult.TheVariants.{Value}
 use Rattle.wrapper_frame.specs.Header.{header_size}
 use Rattle.wrapper_frame.specs.Text.{frame_text}
-use Rattle.xdlms_apdu.specs.Text.{response_text}
+use Rattle.xdlms_apdu.specs.Responses.{response_text}
 use Rattle.xdlms_apdu.specs.declared.response.Response.{Response}
 use Rattle.xdlms_apdu.specs.declared.response.Response.TheVariants as response
 

@@ -10,7 +10,7 @@ use Rattle.session_core.specs.Standard.{aarq_tag, rlrq_tag, request_forms, get_t
 use Rattle.session_core.specs.declared.call.Call.{Call}
 use Rattle.session_core.specs.declared.call.Call.TheVariants.{Release, Service, Refused}
 use Rattle.session_core.specs.declared.conformance.RequestForm.{RequestForm}
-use Rattle.xdlms_apdu.specs.Reading.{request_of}
+use Rattle.xdlms_apdu.specs.Requests.{request_of}
 use Rattle.xdlms_apdu.specs.declared.fault.ApduFault.{ApduFault}
 use Rattle.xdlms_apdu.specs.declared.invoke_id.InvokeId.{InvokeId}
 use Rattle.xdlms_apdu.specs.declared.request.Request.{Request}
@@ -65,8 +65,8 @@ call_of conformance payload =
     else request_call conformance payload
 
 -- The payload is a GET of this attribute, whole and without selective access.
-pub record IsSingleGet (conformance : ℕ) (payload : List ℕ) (id : InvokeId) (attr : AttrRef)
-    : Type 0 where
+pub record IsSingleGet (conformance : ℕ) (payload : List ℕ) (id : InvokeId) (attr : AttrRef) : Type
+    0 where
   pub opens : is_opening payload ≡ false
   pub calls : is_call payload ≡ true
   pub call : call_of conformance payload

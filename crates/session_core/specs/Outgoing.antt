@@ -17,7 +17,8 @@ use Rattle.session_core.specs.declared.asked.Asked.{Asked}
 use Rattle.session_core.specs.declared.asked.ReplyForm.{ReplyForm}
 use Rattle.session_core.specs.declared.asked.ReplyForm.TheVariants as form
 use Rattle.session_core.specs.declared.link.Link.{Link}
-use Rattle.xdlms_apdu.specs.Text.{data_text, list_text, result_text, response_text}
+use Rattle.xdlms_apdu.specs.Parts.{data_part, list_part, result_part}
+use Rattle.xdlms_apdu.specs.Responses.{response_text}
 use Rattle.xdlms_apdu.specs.declared.invoke_id.InvokeId.{InvokeId}
 use Rattle.xdlms_apdu.specs.declared.response.Response.{Response}
 use Rattle.xdlms_apdu.specs.declared.response.Response.TheVariants as response
@@ -85,11 +86,12 @@ pub record LongAnswer : Type 0 where
 
 abbrev pub value_answer : InvokeId → Data → LongAnswer
 value_answer id value =
-    record { id = id; normal = response.Get id (result.Value value); raw = data_text value }
+    record { id = id; normal = response.Get id (result.Value value); raw = data_part.text value }
 
 abbrev pub values_answer : InvokeId → List GetResult → LongAnswer
 values_answer id results =
-    record { id = id; normal = response.GetList id results; raw = list_text result_text results }
+    record { id = id; normal = response.GetList id results;
+        raw = (list_part result_part).text results }
 
 -- the answer with a reply's values, if the form is of a GET and the reply has values
 abbrev pub long_answer : ReplyForm → Reply → Option LongAnswer

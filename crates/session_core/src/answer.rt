@@ -1,7 +1,7 @@
 ghost use Rattle.std.specs.Prelude.{◌≡◌, ◌≤◌, length, drop, IfOk};
 ghost use Rattle.session_core.specs.Answers.{answer_text, due_text, way_size, way_text};
 ghost use Rattle.session_core.specs.Standard.{greatest_pdu};
-ghost use Rattle.xdlms_apdu.specs.Text.{response_text};
+ghost use Rattle.xdlms_apdu.specs.Responses.{response_text};
 
 use acse_ber::{Aare, RELEASE_RESPONSE, write_aare};
 use cosem_axdr::{Data, Octets, append};
@@ -84,7 +84,7 @@ impl Way {
     }
 
     // Returns the bytes of the response with a value, after those reserved for the header.
-    #[tactic(auto, unfolding(xdlms_apdu::specs::Text::response_text), using(std::proofs::lemmas::List::drop_at))]
+    #[tactic(auto, unfolding(xdlms_apdu::specs::Responses::response_text), using(std::proofs::lemmas::List::drop_at))]
     pub(crate) fn write_value(
         self,
         alloc: Global,

@@ -1,6 +1,4 @@
-pub mod Fit
-pub mod Heads
-pub mod Reading
-pub mod Spelling
-pub mod Text
 pub mod Numbers
+pub mod Parts
+pub mod Requests
+pub mod Responses

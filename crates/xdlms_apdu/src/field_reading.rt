@@ -1,6 +1,10 @@
 //! Readers of numbers, of lengths and of the parts of the services.
 ghost use Rattle.std.specs.Prelude.{◌≡◌};
-ghost use Rattle.xdlms_apdu.specs.Reading.{Reads, flag_at, number_at, length_at, raw_at, data_at, invoke_id_at, code_at, class_at, name_at, attribute_at, method_at, selection_at, target_at, parameter_at, block_at, result_at};
+ghost use Rattle.cosem_axdr.specs.Formats.{count_read};
+ghost use Rattle.xdlms_apdu.specs.Parts.{Reads, flag_part, number_part, raw_part, data_part};
+ghost use Rattle.xdlms_apdu.specs.Parts.{invoke_id_part, code_part, class_part, name_part};
+ghost use Rattle.xdlms_apdu.specs.Parts.{attribute_part, method_part, selection_part, target_part};
+ghost use Rattle.xdlms_apdu.specs.Parts.{parameter_part, block_part, result_part};
 
 use crate::block::DataBlock;
 use crate::choice;
@@ -14,22 +18,22 @@ use std::alloc::Global;
 
 // Reads a byte as a boolean: false for 0, true for any other value.
 pub(crate) fn read_flag(reader: &mut Cursor) -> Result<bool, ApduFault>
-    ensures { Reads (λ flag. flag) result reader.new (flag_at reader.old) }
+    ensures { Reads (λ flag. flag) result reader.new (flag_part.read reader.old) }
 {
     Ok(reader.byte(ApduFault::Unreadable)? != 0)
 }
 
 // Reads a block number: four bytes, highest first.
 pub(crate) fn read_block_number(reader: &mut Cursor) -> Result<u32, ApduFault>
-    ensures { Reads (λ number. number) result reader.new (number_at reader.old) }
+    ensures { Reads (λ number. number) result reader.new (number_part.read reader.old) }
 {
     Ok(BigEndian::read_u32(reader.bytes(4, ApduFault::Unreadable)?))
 }
 
 // Reads a length or count: one byte below 80 hex, or 81 to 84 hex followed by one to four bytes.
-#[tactic(auto, unfolding(crate::specs::Reading::length_at))]
+#[tactic(auto, unfolding(cosem_axdr::specs::Formats::count_read))]
 pub(crate) fn read_length(reader: &mut Cursor) -> Result<usize, ApduFault>
-    ensures { Reads (λ n. n) result reader.new (length_at reader.old) }
+    ensures { Reads (λ n. n) result reader.new (count_read ApduFault.Unreadable reader.old) }
 {
     match reader.byte(ApduFault::Unreadable)? {
         short @ 0..=0x7F => Ok(usize::from(short)),
@@ -43,16 +47,15 @@ pub(crate) fn read_length(reader: &mut Cursor) -> Result<usize, ApduFault>
 
 // Reads a length and that number of bytes into a newly allocated buffer.
 pub(crate) fn read_raw(alloc: Global, reader: &mut Cursor) -> Result<Octets, ApduFault>
-    ensures { Reads (λ raw. raw) result reader.new (raw_at reader.old) }
+    ensures { Reads (λ raw. raw) result reader.new (raw_part.read reader.old) }
 {
     let count = read_length(reader)?;
     Ok(Octets::from_slice(alloc, reader.bytes(count, ApduFault::Unreadable)?)?)
 }
 
 // Reads a Data. Its limit on bytes counts from its own tag.
-#[tactic(auto, unfolding(crate::specs::Reading::data_at))]
 pub(crate) fn read_data(alloc: Global, reader: &mut Cursor) -> Result<Data, ApduFault>
-    ensures { Reads (λ value. value) result reader.new (data_at reader.old) }
+    ensures { Reads (λ value. value) result reader.new (data_part.read reader.old) }
 {
     match cosem_axdr::read(alloc, reader.rest()) {
         Ok((value, count)) => {
@@ -66,35 +69,33 @@ pub(crate) fn read_data(alloc: Global, reader: &mut Cursor) -> Result<Data, Apdu
 
 // Reads an Invoke-Id-And-Priority.
 pub(crate) fn read_invoke_id(reader: &mut Cursor) -> Result<InvokeId, ApduFault>
-    ensures { Reads (λ id. id) result reader.new (invoke_id_at reader.old) }
+    ensures { Reads (λ id. id) result reader.new (invoke_id_part.read reader.old) }
 {
     Ok(InvokeId(reader.byte(ApduFault::Unreadable)?))
 }
 
 // Reads a Data-Access-Result or an Action-Result.
-#[tactic(auto, unfolding(crate::specs::Reading::code_at))]
 pub(crate) fn read_code(reader: &mut Cursor) -> Result<ResultCode, ApduFault>
-    ensures { Reads (λ code. code) result reader.new (code_at reader.old) }
+    ensures { Reads (λ code. code) result reader.new (code_part.read reader.old) }
 {
     Ok(ResultCode::try_from(reader.byte(ApduFault::Unreadable)?)?)
 }
 
 fn read_class(reader: &mut Cursor) -> Result<ClassId, ApduFault>
-    ensures { Reads (λ class. class) result reader.new (class_at reader.old) }
+    ensures { Reads (λ class. class) result reader.new (class_part.read reader.old) }
 {
     Ok(ClassId(BigEndian::read_u16(reader.bytes(2, ApduFault::Unreadable)?)))
 }
 
 fn read_name(reader: &mut Cursor) -> Result<Obis, ApduFault>
-    ensures { Reads (λ name. name) result reader.new (name_at reader.old) }
+    ensures { Reads (λ name. name) result reader.new (name_part.read reader.old) }
 {
     Ok(Obis(reader.array(ApduFault::Unreadable)?))
 }
 
 // Reads a Cosem-Attribute-Descriptor.
-#[tactic(auto, unfolding(crate::specs::Reading::attribute_at))]
 pub(crate) fn read_attribute(reader: &mut Cursor) -> Result<AttrRef, ApduFault>
-    ensures { Reads (λ attribute. attribute) result reader.new (attribute_at reader.old) }
+    ensures { Reads (λ attribute. attribute) result reader.new (attribute_part.read reader.old) }
 {
     Ok(AttrRef {
         class: read_class(reader)?,
@@ -104,9 +105,8 @@ pub(crate) fn read_attribute(reader: &mut Cursor) -> Result<AttrRef, ApduFault>
 }
 
 // Reads a Cosem-Method-Descriptor.
-#[tactic(auto, unfolding(crate::specs::Reading::method_at))]
 pub(crate) fn read_method(reader: &mut Cursor) -> Result<MethodRef, ApduFault>
-    ensures { Reads (λ method. method) result reader.new (method_at reader.old) }
+    ensures { Reads (λ method. method) result reader.new (method_part.read reader.old) }
 {
     Ok(MethodRef {
         class: read_class(reader)?,
@@ -117,9 +117,8 @@ pub(crate) fn read_method(reader: &mut Cursor) -> Result<MethodRef, ApduFault>
 
 // Reads an optional Selective-Access-Descriptor and returns whether it is present. Its selector
 // and parameters are discarded.
-#[tactic(auto, unfolding(crate::specs::Reading::selection_at))]
 pub(crate) fn read_selection(alloc: Global, reader: &mut Cursor) -> Result<bool, ApduFault>
-    ensures { Reads (λ selected. selected) result reader.new (selection_at reader.old) }
+    ensures { Reads (λ selected. selected) result reader.new (selection_part.read reader.old) }
 {
     let selected = read_flag(reader)?;
     if selected {
@@ -130,12 +129,11 @@ pub(crate) fn read_selection(alloc: Global, reader: &mut Cursor) -> Result<bool,
 }
 
 // Reads a Cosem-Attribute-Descriptor-With-Selection.
-#[tactic(auto, unfolding(crate::specs::Reading::target_at))]
 pub(crate) fn read_target(
     alloc: Global,
     reader: &mut Cursor,
 ) -> Result<AttributeSelection, ApduFault>
-    ensures { Reads (λ target. target) result reader.new (target_at reader.old) }
+    ensures { Reads (λ target. target) result reader.new (target_part.read reader.old) }
 {
     Ok(AttributeSelection {
         attr: read_attribute(reader)?,
@@ -144,9 +142,8 @@ pub(crate) fn read_target(
 }
 
 // Reads the optional parameter of a method.
-#[tactic(auto, unfolding(crate::specs::Reading::parameter_at))]
 pub(crate) fn read_parameter(alloc: Global, reader: &mut Cursor) -> Result<Option<Data>, ApduFault>
-    ensures { Reads (λ parameter. parameter) result reader.new (parameter_at reader.old) }
+    ensures { Reads (λ parameter. parameter) result reader.new (parameter_part.read reader.old) }
 {
     Ok(if read_flag(reader)? {
         Some(read_data(alloc, reader)?)
@@ -156,9 +153,8 @@ pub(crate) fn read_parameter(alloc: Global, reader: &mut Cursor) -> Result<Optio
 }
 
 // Reads a DataBlock-SA.
-#[tactic(auto, unfolding(crate::specs::Reading::block_at))]
 pub(crate) fn read_block(alloc: Global, reader: &mut Cursor) -> Result<DataBlock, ApduFault>
-    ensures { Reads (λ block. block) result reader.new (block_at reader.old) }
+    ensures { Reads (λ block. block) result reader.new (block_part.read reader.old) }
 {
     Ok(DataBlock {
         last: read_flag(reader)?,
@@ -168,9 +164,8 @@ pub(crate) fn read_block(alloc: Global, reader: &mut Cursor) -> Result<DataBlock
 }
 
 // Reads a Get-Data-Result.
-#[tactic(auto, unfolding(crate::specs::Reading::result_at))]
 pub(crate) fn read_result(alloc: Global, reader: &mut Cursor) -> Result<GetResult, ApduFault>
-    ensures { Reads (λ result. result) result reader.new (result_at reader.old) }
+    ensures { Reads (λ result. result) result reader.new (result_part.read reader.old) }
 {
     match reader.byte(ApduFault::Unreadable)? {
         choice::DATA => Ok(GetResult::Value(read_data(alloc, reader)?)),

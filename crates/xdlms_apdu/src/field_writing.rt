@@ -1,9 +1,10 @@
 //! Writers of the parts of the services.
-ghost use Rattle.std.specs.Prelude.{◌≡◌, ◌∷◌, ◌++◌, OnOk, OnErr};
+ghost use Rattle.std.specs.Prelude.{◌≡◌, [], ◌∷◌, ◌++◌, OnOk, OnErr};
 ghost use Rattle.cosem_axdr.specs.Appending.{Extends};
-ghost use Rattle.cosem_axdr.specs.Spelling.{string_text};
-ghost use Rattle.xdlms_apdu.specs.Heads.{head};
-ghost use Rattle.xdlms_apdu.specs.Text.{flag_text, number_text, descriptor_text, attribute_text, method_text, selection_text, target_text, parameter_text, block_text, result_text};
+ghost use Rattle.byte_reading.specs.Format.{◌&◌};
+ghost use Rattle.xdlms_apdu.specs.Parts.{byte_part, flag_part, number_part, raw_part, class_part};
+ghost use Rattle.xdlms_apdu.specs.Parts.{name_part, attribute_part, method_part, selection_part};
+ghost use Rattle.xdlms_apdu.specs.Parts.{target_part, parameter_part, block_part, result_part};
 
 use crate::block::DataBlock;
 use crate::choice;
@@ -16,7 +17,7 @@ use std::alloc::AllocError;
 
 // Appends the first bytes of an APDU: its tag, its form and the invoke-id-and-priority.
 pub(crate) fn put_head(tag: u8, form: u8, id: InvokeId, out: &mut Octets) -> Result<(), AllocError>
-    ensures ok { OnOk result (out.new ≡ out.old ++ head tag form id) }
+    ensures ok { OnOk result (out.new ≡ out.old ++ tag ∷ form ∷ id.0 ∷ []) }
     ensures unchanged_on_error { OnErr result (out.new ≡ out.old) }
 {
     out.extend_from_slice(&[tag, form, id.0])
@@ -24,7 +25,7 @@ pub(crate) fn put_head(tag: u8, form: u8, id: InvokeId, out: &mut Octets) -> Res
 
 // Appends a flag: 01 for true, 00 for false.
 pub(crate) fn put_flag(flag: bool, out: &mut Octets) -> Result<(), AllocError>
-    ensures ok { OnOk result (out.new ≡ out.old ++ flag_text flag) }
+    ensures ok { OnOk result (out.new ≡ out.old ++ flag_part.text flag) }
     ensures unchanged_on_error { OnErr result (out.new ≡ out.old) }
 {
     out.push(u8::from(flag))
@@ -32,7 +33,7 @@ pub(crate) fn put_flag(flag: bool, out: &mut Octets) -> Result<(), AllocError>
 
 // Appends the number of a block.
 pub(crate) fn put_number(number: u32, out: &mut Octets) -> Result<(), AllocError>
-    ensures ok { OnOk result (out.new ≡ out.old ++ number_text number) }
+    ensures ok { OnOk result (out.new ≡ out.old ++ number_part.text number) }
     ensures unchanged_on_error { OnErr result (out.new ≡ out.old) }
 {
     let mut text = [0; 4];
@@ -43,7 +44,7 @@ pub(crate) fn put_number(number: u32, out: &mut Octets) -> Result<(), AllocError
 // Appends the length of bytes, followed by the bytes.
 #[tactic(auto, using(cosem_axdr::proofs::Appending::extends_same, cosem_axdr::proofs::Appending::extends_more))]
 pub(crate) fn put_raw(raw: &Octets, out: &mut Octets) -> Result<(), AllocError>
-    ensures ok { OnOk result (out.new ≡ out.old ++ string_text raw.now) }
+    ensures ok { OnOk result (out.new ≡ out.old ++ raw_part.text raw.now) }
     ensures extends { OnErr result (Extends out.old out.new) }
 {
     append_length(raw.len(), out)?;
@@ -52,14 +53,14 @@ pub(crate) fn put_raw(raw: &Octets, out: &mut Octets) -> Result<(), AllocError>
 
 // Appends a Cosem-Attribute-Descriptor.
 pub(crate) fn put_attribute(attribute: &AttrRef, out: &mut Octets) -> Result<(), AllocError>
-    ensures { OnOk result (out.new ≡ out.old ++ attribute_text attribute.now) }
+    ensures { OnOk result (out.new ≡ out.old ++ attribute_part.text attribute.now) }
 {
     put_descriptor(attribute.class, attribute.name, attribute.number, out)
 }
 
 // Appends a Cosem-Method-Descriptor.
 pub(crate) fn put_method(method: &MethodRef, out: &mut Octets) -> Result<(), AllocError>
-    ensures { OnOk result (out.new ≡ out.old ++ method_text method.now) }
+    ensures { OnOk result (out.new ≡ out.old ++ method_part.text method.now) }
 {
     put_descriptor(method.class, method.name, method.number, out)
 }
@@ -71,7 +72,8 @@ fn put_descriptor(
     number: u8,
     out: &mut Octets,
 ) -> Result<(), AllocError>
-    ensures { OnOk result (out.new ≡ out.old ++ descriptor_text class name number) }
+    ensures { OnOk result (out.new ≡ out.old
+        ++ (class_part & name_part & byte_part).text (class, (name, number))) }
 {
     let mut class_text = [0; 2];
     BigEndian::write_u16(&mut class_text, class.0);
@@ -83,7 +85,7 @@ fn put_descriptor(
 // Appends an optional Selective-Access-Descriptor: if it is present, selector 0 with null-data as
 // its parameters.
 pub(crate) fn put_selection(selected: bool, out: &mut Octets) -> Result<(), AllocError>
-    ensures { OnOk result (out.new ≡ out.old ++ selection_text selected) }
+    ensures { OnOk result (out.new ≡ out.old ++ selection_part.text selected) }
 {
     if selected {
         out.extend_from_slice(&[PRESENT, NO_SELECTOR, NULL_DATA])
@@ -98,7 +100,7 @@ const NULL_DATA: u8 = 0;
 
 // Appends a Cosem-Attribute-Descriptor-With-Selection.
 pub(crate) fn put_target(target: &AttributeSelection, out: &mut Octets) -> Result<(), AllocError>
-    ensures { OnOk result (out.new ≡ out.old ++ target_text target.now) }
+    ensures { OnOk result (out.new ≡ out.old ++ target_part.text target.now) }
 {
     put_attribute(&target.attr, out)?;
     put_selection(target.selected, out)
@@ -106,7 +108,7 @@ pub(crate) fn put_target(target: &AttributeSelection, out: &mut Octets) -> Resul
 
 // Appends the optional parameter of a method.
 pub(crate) fn put_parameter(parameter: &Option<Data>, out: &mut Octets) -> Result<(), AllocError>
-    ensures { OnOk result (out.new ≡ out.old ++ parameter_text parameter.now) }
+    ensures { OnOk result (out.new ≡ out.old ++ parameter_part.text parameter.now) }
 {
     match parameter {
         Some(value) => {
@@ -119,7 +121,7 @@ pub(crate) fn put_parameter(parameter: &Option<Data>, out: &mut Octets) -> Resul
 
 // Appends a DataBlock-SA.
 pub(crate) fn put_block(block: &DataBlock, out: &mut Octets) -> Result<(), AllocError>
-    ensures { OnOk result (out.new ≡ out.old ++ block_text block.now) }
+    ensures { OnOk result (out.new ≡ out.old ++ block_part.text block.now) }
 {
     put_flag(block.last, out)?;
     put_number(block.number, out)?;
@@ -129,7 +131,7 @@ pub(crate) fn put_block(block: &DataBlock, out: &mut Octets) -> Result<(), Alloc
 // Appends a Get-Data-Result.
 #[tactic(auto, using(cosem_axdr::proofs::Appending::extends_same, cosem_axdr::proofs::Appending::extends_more))]
 pub(crate) fn put_result(outcome: &GetResult, out: &mut Octets) -> Result<(), AllocError>
-    ensures ok { OnOk result (out.new ≡ out.old ++ result_text outcome.now) }
+    ensures ok { OnOk result (out.new ≡ out.old ++ result_part.text outcome.now) }
     ensures extends { OnErr result (Extends out.old out.new) }
 {
     match outcome {

@@ -2,10 +2,9 @@
 //! known to the caller's proof.
 ghost use Rattle.std.specs.Prelude.{◌≡◌, ℕ, List, [], ◌++◌};
 ghost use Rattle.cosem_axdr.specs.Spelling.{IsBytes};
-ghost use Rattle.xdlms_apdu.specs.Fit.{IsFitRequest, IsFitResponse};
-ghost use Rattle.xdlms_apdu.specs.Reading.{request_of, response_of};
-ghost use Rattle.xdlms_apdu.specs.Spelling.{SpellsRequest, SpellsResponse};
-ghost use Rattle.xdlms_apdu.specs.Text.{request_text, response_text};
+ghost use Rattle.xdlms_apdu.specs.Requests.{request_of, request_text, IsFitRequest, SpellsRequest};
+ghost use Rattle.xdlms_apdu.specs.Responses.{response_of, response_text, IsFitResponse};
+ghost use Rattle.xdlms_apdu.specs.Responses.{SpellsResponse};
 ghost use Rattle.xdlms_apdu.specs.declared.fault.ApduFault.{ApduFault};
 ghost use Rattle.xdlms_apdu.specs.declared.request.Request.{Request};
 ghost use Rattle.xdlms_apdu.specs.declared.response.Response.{Response};

@@ -1,6 +1,7 @@
 //! Readers of lists of parts of the services.
 ghost use Rattle.std.specs.Prelude.{◌≡◌};
-ghost use Rattle.xdlms_apdu.specs.Reading.{Reads, target_at, result_at, items_at, list_at};
+ghost use Rattle.byte_reading.specs.Format.{items_read};
+ghost use Rattle.xdlms_apdu.specs.Parts.{Reads, target_part, result_part, list_part};
 
 use crate::fault::ApduFault;
 use crate::field_reading::{read_length, read_result, read_target};
@@ -10,12 +11,12 @@ use listed::Listed;
 use std::alloc::Global;
 
 // Reads a count and that number of attributes.
-#[tactic(auto, unfolding(crate::specs::Reading::list_at))]
 pub(crate) fn read_targets(
     alloc: Global,
     reader: &mut Cursor,
 ) -> Result<Listed<AttributeSelection>, ApduFault>
-    ensures { Reads (λ targets. targets) result reader.new (list_at target_at reader.old) }
+    ensures { Reads (λ targets. targets) result reader.new
+        ((list_part target_part).read reader.old) }
 {
     let count = read_length(reader)?;
     Ok(Listed::from_vec(read_target_items(alloc, count, reader)?))
@@ -27,7 +28,8 @@ fn read_target_items(
     count: usize,
     reader: &mut Cursor,
 ) -> Result<Vec<AttributeSelection>, ApduFault>
-    ensures { Reads (λ items. items.items) result reader.new (items_at target_at count reader.old) }
+    ensures { Reads (λ items. items.items) result reader.new
+        (items_read target_part.read count reader.old) }
 {
     let mut items = Vec::new(alloc);
     'items: for _ in 0..count {
@@ -37,12 +39,12 @@ fn read_target_items(
 }
 
 // Reads a count and that number of results.
-#[tactic(auto, unfolding(crate::specs::Reading::list_at))]
 pub(crate) fn read_results(
     alloc: Global,
     reader: &mut Cursor,
 ) -> Result<Listed<GetResult>, ApduFault>
-    ensures { Reads (λ results. results) result reader.new (list_at result_at reader.old) }
+    ensures { Reads (λ results. results) result reader.new
+        ((list_part result_part).read reader.old) }
 {
     let count = read_length(reader)?;
     Ok(Listed::from_vec(read_result_items(alloc, count, reader)?))
@@ -54,7 +56,8 @@ fn read_result_items(
     count: usize,
     reader: &mut Cursor,
 ) -> Result<Vec<GetResult>, ApduFault>
-    ensures { Reads (λ items. items.items) result reader.new (items_at result_at count reader.old) }
+    ensures { Reads (λ items. items.items) result reader.new
+        (items_read result_part.read count reader.old) }
 {
     let mut items = Vec::new(alloc);
     'items: for _ in 0..count {

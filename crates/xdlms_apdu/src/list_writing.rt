@@ -1,7 +1,7 @@
 //! Writers of lists of parts of the services.
 ghost use Rattle.std.specs.Prelude.{◌≡◌, ◌++◌, OnOk, OnErr};
 ghost use Rattle.cosem_axdr.specs.Appending.{Extends};
-ghost use Rattle.xdlms_apdu.specs.Text.{target_text, result_text, list_text};
+ghost use Rattle.xdlms_apdu.specs.Parts.{target_part, result_part, list_part};
 
 use crate::field_writing::{put_result, put_target};
 use cosem_axdr::{Octets, append_length};
@@ -13,7 +13,7 @@ pub(crate) fn put_targets(
     targets: &[AttributeSelection],
     out: &mut Octets,
 ) -> Result<(), AllocError>
-    ensures { OnOk result (out.new ≡ out.old ++ list_text target_text targets.now) }
+    ensures { OnOk result (out.new ≡ out.old ++ (list_part target_part).text targets.now) }
 {
     append_length(targets.len(), out)?;
     for target in targets {
@@ -25,7 +25,7 @@ pub(crate) fn put_targets(
 // Appends the number of results, followed by the results.
 #[tactic(auto, using(cosem_axdr::proofs::Appending::extends_same, cosem_axdr::proofs::Appending::extends_more))]
 pub(crate) fn put_results(results: &[GetResult], out: &mut Octets) -> Result<(), AllocError>
-    ensures ok { OnOk result (out.new ≡ out.old ++ list_text result_text results.now) }
+    ensures ok { OnOk result (out.new ≡ out.old ++ (list_part result_part).text results.now) }
     ensures extends { OnErr result (Extends out.old out.new) }
 {
     append_length(results.len(), out)?;

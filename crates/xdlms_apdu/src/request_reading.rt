@@ -1,7 +1,12 @@
 ghost use Rattle.std.specs.Prelude.{◌≡◌, IfOk, MatchResult};
 ghost use Rattle.byte_reading.specs.Outcome.{Gives};
-ghost use Rattle.xdlms_apdu.specs.Reading.{Reads, two_at, three_at, number_at, data_at, invoke_id_at, method_at, target_at, parameter_at, block_at, list_at, get_request_at, set_request_at, action_request_at, request_at, request_of};
-ghost use Rattle.xdlms_apdu.specs.Spelling.{SpellsRequest};
+ghost use Rattle.byte_reading.specs.ByteFormats.{read_one_of};
+ghost use Rattle.byte_reading.specs.Format.{◌&◌};
+ghost use Rattle.byte_reading.specs.Reading.{read_as};
+ghost use Rattle.xdlms_apdu.specs.Parts.{Reads, number_part, data_part, list_part, invoke_id_part};
+ghost use Rattle.xdlms_apdu.specs.Parts.{method_part, target_part, parameter_part, block_part};
+ghost use Rattle.xdlms_apdu.specs.Requests.{get_forms, set_forms, action_forms, request_format};
+ghost use Rattle.xdlms_apdu.specs.Requests.{request_of, SpellsRequest};
 ghost use Rattle.xdlms_apdu.specs.declared.request.Request.{Request};
 
 use crate::fault::ApduFault;
@@ -36,24 +41,20 @@ pub fn read_request(alloc: Global, bytes: &[u8]) -> Result<Request, ApduFault>
 }
 
 // Reads a request as `read_request` does; its contract refers to the definition `request_of` alone.
-#[tactic(auto, unfolding(crate::specs::Reading::request_of))]
+#[tactic(auto, unfolding(crate::specs::Requests::request_of))]
 fn read_whole(alloc: Global, bytes: &[u8]) -> Result<Request, ApduFault>
     ensures { Gives ApduFault.Memory (λ read. read) result (request_of bytes.now) }
 {
-    let [tag, body @ ..] = bytes else {
-        return Err(ApduFault::UnknownTag);
-    };
-    let mut reader = Cursor::new(body);
-    let request = read_tagged(alloc, *tag, &mut reader)?;
+    let mut reader = Cursor::new(bytes);
+    let request = read_tagged(alloc, &mut reader)?;
     reader.finish(request, ApduFault::Unreadable)
 }
 
-// Reads the rest of a request after its tag.
-#[tactic(auto, unfolding(crate::specs::Reading::request_at))]
-fn read_tagged(alloc: Global, tag: u8, reader: &mut Cursor) -> Result<Request, ApduFault>
-    ensures { Reads (λ request. request) result reader.new (request_at tag reader.old) }
+// Reads a request at the front of bytes.
+fn read_tagged(alloc: Global, reader: &mut Cursor) -> Result<Request, ApduFault>
+    ensures { Reads (λ request. request) result reader.new (request_format.read reader.old) }
 {
-    match tag {
+    match reader.byte(ApduFault::UnknownTag)? {
         tag::GET_REQUEST => read_get(alloc, reader),
         tag::SET_REQUEST => read_set(alloc, reader),
         tag::ACTION_REQUEST => read_action(alloc, reader),
@@ -62,9 +63,9 @@ fn read_tagged(alloc: Global, tag: u8, reader: &mut Cursor) -> Result<Request, A
 }
 
 // Reads a Get-Request after its tag.
-#[tactic(auto, unfolding(crate::specs::Reading::get_request_at))]
 fn read_get(alloc: Global, reader: &mut Cursor) -> Result<Request, ApduFault>
-    ensures { Reads (λ request. request) result reader.new (get_request_at reader.old) }
+    ensures { Reads (λ request. request) result reader.new
+        (read_one_of ApduFault.Unreadable get_forms reader.old) }
 {
     match reader.byte(ApduFault::Unreadable)? {
         form::NORMAL => read_get_normal(alloc, reader),
@@ -77,7 +78,7 @@ fn read_get(alloc: Global, reader: &mut Cursor) -> Result<Request, ApduFault>
 // Reads a Get-Request-Normal after its form.
 fn read_get_normal(alloc: Global, reader: &mut Cursor) -> Result<Request, ApduFault>
     ensures { Reads (λ request. request) result reader.new
-        (two_at Request.Get invoke_id_at target_at reader.old) }
+        (read_as (λ p. Request.Get p.0 p.1) ((invoke_id_part & target_part).read reader.old)) }
 {
     let id = read_invoke_id(reader)?;
     let target = read_target(alloc, reader)?;
@@ -87,7 +88,7 @@ fn read_get_normal(alloc: Global, reader: &mut Cursor) -> Result<Request, ApduFa
 // Reads a Get-Request-Next after its form.
 fn read_get_next(reader: &mut Cursor) -> Result<Request, ApduFault>
     ensures { Reads (λ request. request) result reader.new
-        (two_at Request.GetNext invoke_id_at number_at reader.old) }
+        (read_as (λ p. Request.GetNext p.0 p.1) ((invoke_id_part & number_part).read reader.old)) }
 {
     let id = read_invoke_id(reader)?;
     let number = read_block_number(reader)?;
@@ -97,7 +98,8 @@ fn read_get_next(reader: &mut Cursor) -> Result<Request, ApduFault>
 // Reads a Get-Request-With-List after its form.
 fn read_get_list(alloc: Global, reader: &mut Cursor) -> Result<Request, ApduFault>
     ensures { Reads (λ request. request) result reader.new
-        (two_at Request.GetList invoke_id_at (list_at target_at) reader.old) }
+        (read_as (λ p. Request.GetList p.0 p.1)
+        ((invoke_id_part & list_part target_part).read reader.old)) }
 {
     let id = read_invoke_id(reader)?;
     let targets = read_targets(alloc, reader)?;
@@ -105,9 +107,9 @@ fn read_get_list(alloc: Global, reader: &mut Cursor) -> Result<Request, ApduFaul
 }
 
 // Reads a Set-Request after its tag.
-#[tactic(auto, unfolding(crate::specs::Reading::set_request_at))]
 fn read_set(alloc: Global, reader: &mut Cursor) -> Result<Request, ApduFault>
-    ensures { Reads (λ request. request) result reader.new (set_request_at reader.old) }
+    ensures { Reads (λ request. request) result reader.new
+        (read_one_of ApduFault.Unreadable set_forms reader.old) }
 {
     match reader.byte(ApduFault::Unreadable)? {
         form::NORMAL => read_set_normal(alloc, reader),
@@ -120,7 +122,8 @@ fn read_set(alloc: Global, reader: &mut Cursor) -> Result<Request, ApduFault>
 // Reads a Set-Request-Normal after its form.
 fn read_set_normal(alloc: Global, reader: &mut Cursor) -> Result<Request, ApduFault>
     ensures { Reads (λ request. request) result reader.new
-        (three_at Request.Set invoke_id_at target_at data_at reader.old) }
+        (read_as (λ p. Request.Set p.0 p.1.0 p.1.1)
+        ((invoke_id_part & target_part & data_part).read reader.old)) }
 {
     let id = read_invoke_id(reader)?;
     let target = read_target(alloc, reader)?;
@@ -131,7 +134,8 @@ fn read_set_normal(alloc: Global, reader: &mut Cursor) -> Result<Request, ApduFa
 // Reads a Set-Request-With-First-Datablock after its form.
 fn read_set_first(alloc: Global, reader: &mut Cursor) -> Result<Request, ApduFault>
     ensures { Reads (λ request. request) result reader.new
-        (three_at Request.SetFirst invoke_id_at target_at block_at reader.old) }
+        (read_as (λ p. Request.SetFirst p.0 p.1.0 p.1.1)
+        ((invoke_id_part & target_part & block_part).read reader.old)) }
 {
     let id = read_invoke_id(reader)?;
     let target = read_target(alloc, reader)?;
@@ -142,7 +146,7 @@ fn read_set_first(alloc: Global, reader: &mut Cursor) -> Result<Request, ApduFau
 // Reads a Set-Request-With-Datablock after its form.
 fn read_set_next(alloc: Global, reader: &mut Cursor) -> Result<Request, ApduFault>
     ensures { Reads (λ request. request) result reader.new
-        (two_at Request.SetNext invoke_id_at block_at reader.old) }
+        (read_as (λ p. Request.SetNext p.0 p.1) ((invoke_id_part & block_part).read reader.old)) }
 {
     let id = read_invoke_id(reader)?;
     let block = read_block(alloc, reader)?;
@@ -150,9 +154,9 @@ fn read_set_next(alloc: Global, reader: &mut Cursor) -> Result<Request, ApduFaul
 }
 
 // Reads an Action-Request after its tag.
-#[tactic(auto, unfolding(crate::specs::Reading::action_request_at))]
 fn read_action(alloc: Global, reader: &mut Cursor) -> Result<Request, ApduFault>
-    ensures { Reads (λ request. request) result reader.new (action_request_at reader.old) }
+    ensures { Reads (λ request. request) result reader.new
+        (read_one_of ApduFault.Unreadable action_forms reader.old) }
 {
     match reader.byte(ApduFault::Unreadable)? {
         form::NORMAL => read_action_normal(alloc, reader),
@@ -165,7 +169,8 @@ fn read_action(alloc: Global, reader: &mut Cursor) -> Result<Request, ApduFault>
 // Reads an Action-Request-Normal after its form.
 fn read_action_normal(alloc: Global, reader: &mut Cursor) -> Result<Request, ApduFault>
     ensures { Reads (λ request. request) result reader.new
-        (three_at Request.Action invoke_id_at method_at parameter_at reader.old) }
+        (read_as (λ p. Request.Action p.0 p.1.0 p.1.1)
+        ((invoke_id_part & method_part & parameter_part).read reader.old)) }
 {
     let id = read_invoke_id(reader)?;
     let method = read_method(reader)?;
@@ -180,7 +185,8 @@ fn read_action_normal(alloc: Global, reader: &mut Cursor) -> Result<Request, Apd
 // Reads an Action-Request-With-First-Pblock after its form.
 fn read_action_first(alloc: Global, reader: &mut Cursor) -> Result<Request, ApduFault>
     ensures { Reads (λ request. request) result reader.new
-        (three_at Request.ActionFirst invoke_id_at method_at block_at reader.old) }
+        (read_as (λ p. Request.ActionFirst p.0 p.1.0 p.1.1)
+        ((invoke_id_part & method_part & block_part).read reader.old)) }
 {
     let id = read_invoke_id(reader)?;
     let method = read_method(reader)?;
@@ -191,7 +197,8 @@ fn read_action_first(alloc: Global, reader: &mut Cursor) -> Result<Request, Apdu
 // Reads an Action-Request-With-Pblock after its form.
 fn read_action_next(alloc: Global, reader: &mut Cursor) -> Result<Request, ApduFault>
     ensures { Reads (λ request. request) result reader.new
-        (two_at Request.ActionNext invoke_id_at block_at reader.old) }
+        (read_as (λ p. Request.ActionNext p.0 p.1)
+        ((invoke_id_part & block_part).read reader.old)) }
 {
     let id = read_invoke_id(reader)?;
     let block = read_block(alloc, reader)?;

@@ -1,7 +1,14 @@
 ghost use Rattle.std.specs.Prelude.{◌≡◌, IfOk, MatchResult};
 ghost use Rattle.byte_reading.specs.Outcome.{Gives};
-ghost use Rattle.xdlms_apdu.specs.Reading.{Reads, one_at, two_at, three_at, number_at, raw_at, invoke_id_at, code_at, result_at, list_at, get_block_at, get_response_at, set_response_at, action_response_at, nothing_at, exception_at, response_at, response_of};
-ghost use Rattle.xdlms_apdu.specs.Spelling.{SpellsResponse};
+ghost use Rattle.byte_reading.specs.ByteFormats.{read_one_of};
+ghost use Rattle.byte_reading.specs.Format.{◌&◌};
+ghost use Rattle.byte_reading.specs.Reading.{read_as};
+ghost use Rattle.xdlms_apdu.specs.Parts.{Reads, number_part, raw_part, list_part, invoke_id_part};
+ghost use Rattle.xdlms_apdu.specs.Parts.{code_part, result_part, nothing_part, exception_part, get_block_part};
+ghost use Rattle.xdlms_apdu.specs.Responses.{block_response, get_response_forms};
+ghost use Rattle.xdlms_apdu.specs.Responses.{set_response_forms, action_response_forms};
+ghost use Rattle.xdlms_apdu.specs.Responses.{response_format, response_of};
+ghost use Rattle.xdlms_apdu.specs.Responses.{SpellsResponse};
 ghost use Rattle.xdlms_apdu.specs.declared.response.Response.{Response};
 
 use crate::block::DataBlock;
@@ -39,24 +46,20 @@ pub fn read_response(alloc: Global, bytes: &[u8]) -> Result<Response, ApduFault>
 
 // Reads a response as `read_response` does; its contract refers to the definition `response_of`
 // alone.
-#[tactic(auto, unfolding(crate::specs::Reading::response_of))]
+#[tactic(auto, unfolding(crate::specs::Responses::response_of))]
 fn read_whole(alloc: Global, bytes: &[u8]) -> Result<Response, ApduFault>
     ensures { Gives ApduFault.Memory (λ read. read) result (response_of bytes.now) }
 {
-    let [tag, body @ ..] = bytes else {
-        return Err(ApduFault::UnknownTag);
-    };
-    let mut reader = Cursor::new(body);
-    let response = read_tagged(alloc, *tag, &mut reader)?;
+    let mut reader = Cursor::new(bytes);
+    let response = read_tagged(alloc, &mut reader)?;
     reader.finish(response, ApduFault::Unreadable)
 }
 
-// Reads the rest of a response after its tag.
-#[tactic(auto, unfolding(crate::specs::Reading::response_at))]
-fn read_tagged(alloc: Global, tag: u8, reader: &mut Cursor) -> Result<Response, ApduFault>
-    ensures { Reads (λ response. response) result reader.new (response_at tag reader.old) }
+// Reads a response at the front of bytes.
+fn read_tagged(alloc: Global, reader: &mut Cursor) -> Result<Response, ApduFault>
+    ensures { Reads (λ response. response) result reader.new (response_format.read reader.old) }
 {
-    match tag {
+    match reader.byte(ApduFault::UnknownTag)? {
         tag::GET_RESPONSE => read_get(alloc, reader),
         tag::SET_RESPONSE => read_set(reader),
         tag::ACTION_RESPONSE => read_action(reader),
@@ -66,9 +69,9 @@ fn read_tagged(alloc: Global, tag: u8, reader: &mut Cursor) -> Result<Response, 
 }
 
 // Reads a Get-Response after its tag.
-#[tactic(auto, unfolding(crate::specs::Reading::get_response_at))]
 fn read_get(alloc: Global, reader: &mut Cursor) -> Result<Response, ApduFault>
-    ensures { Reads (λ response. response) result reader.new (get_response_at reader.old) }
+    ensures { Reads (λ response. response) result reader.new
+        (read_one_of ApduFault.Unreadable get_response_forms reader.old) }
 {
     match reader.byte(ApduFault::Unreadable)? {
         form::NORMAL => read_get_normal(alloc, reader),
@@ -81,7 +84,7 @@ fn read_get(alloc: Global, reader: &mut Cursor) -> Result<Response, ApduFault>
 // Reads a Get-Response-Normal after its form.
 fn read_get_normal(alloc: Global, reader: &mut Cursor) -> Result<Response, ApduFault>
     ensures { Reads (λ response. response) result reader.new
-        (two_at Response.Get invoke_id_at result_at reader.old) }
+        (read_as (λ p. Response.Get p.0 p.1) ((invoke_id_part & result_part).read reader.old)) }
 {
     let id = read_invoke_id(reader)?;
     let result = read_result(alloc, reader)?;
@@ -91,7 +94,8 @@ fn read_get_normal(alloc: Global, reader: &mut Cursor) -> Result<Response, ApduF
 // Reads a Get-Response-With-List after its form.
 fn read_get_list(alloc: Global, reader: &mut Cursor) -> Result<Response, ApduFault>
     ensures { Reads (λ response. response) result reader.new
-        (two_at Response.GetList invoke_id_at (list_at result_at) reader.old) }
+        (read_as (λ p. Response.GetList p.0 p.1)
+        ((invoke_id_part & list_part result_part).read reader.old)) }
 {
     let id = read_invoke_id(reader)?;
     let results = read_results(alloc, reader)?;
@@ -99,9 +103,9 @@ fn read_get_list(alloc: Global, reader: &mut Cursor) -> Result<Response, ApduFau
 }
 
 // Reads a Get-Response-With-Datablock after its form: a DataBlock-G with raw data or a result.
-#[tactic(auto, unfolding(crate::specs::Reading::get_block_at))]
 fn read_get_block(alloc: Global, reader: &mut Cursor) -> Result<Response, ApduFault>
-    ensures { Reads (λ response. response) result reader.new (get_block_at reader.old) }
+    ensures { Reads (λ response. response) result reader.new
+        (read_as block_response ((invoke_id_part & get_block_part).read reader.old)) }
 {
     let id = read_invoke_id(reader)?;
     let last = read_flag(reader)?;
@@ -122,8 +126,8 @@ fn read_block_raw(
     reader: &mut Cursor,
 ) -> Result<Response, ApduFault>
     ensures { Reads (λ response. response) result reader.new
-        (one_at (λ raw. Response.GetBlock id (record { last = last; number = number; raw = raw }))
-        raw_at reader.old) }
+        (read_as (λ raw. Response.GetBlock id (record { last = last; number = number; raw = raw }))
+        (raw_part.read reader.old)) }
 {
     let raw = read_raw(alloc, reader)?;
     Ok(Response::GetBlock {
@@ -140,7 +144,7 @@ fn read_block_refusal(
     reader: &mut Cursor,
 ) -> Result<Response, ApduFault>
     ensures { Reads (λ response. response) result reader.new
-        (one_at (Response.GetBlockRefused id last number) code_at reader.old) }
+        (read_as (Response.GetBlockRefused id last number) (code_part.read reader.old)) }
 {
     let code = read_code(reader)?;
     Ok(Response::GetBlockRefused {
@@ -152,9 +156,9 @@ fn read_block_refusal(
 }
 
 // Reads a Set-Response after its tag.
-#[tactic(auto, unfolding(crate::specs::Reading::set_response_at))]
 fn read_set(reader: &mut Cursor) -> Result<Response, ApduFault>
-    ensures { Reads (λ response. response) result reader.new (set_response_at reader.old) }
+    ensures { Reads (λ response. response) result reader.new
+        (read_one_of ApduFault.Unreadable set_response_forms reader.old) }
 {
     match reader.byte(ApduFault::Unreadable)? {
         form::NORMAL => read_set_normal(reader),
@@ -167,7 +171,7 @@ fn read_set(reader: &mut Cursor) -> Result<Response, ApduFault>
 // Reads a Set-Response-Normal after its form.
 fn read_set_normal(reader: &mut Cursor) -> Result<Response, ApduFault>
     ensures { Reads (λ response. response) result reader.new
-        (two_at Response.Set invoke_id_at code_at reader.old) }
+        (read_as (λ p. Response.Set p.0 p.1) ((invoke_id_part & code_part).read reader.old)) }
 {
     let id = read_invoke_id(reader)?;
     let code = read_code(reader)?;
@@ -177,7 +181,8 @@ fn read_set_normal(reader: &mut Cursor) -> Result<Response, ApduFault>
 // Reads a Set-Response-Datablock after its form.
 fn read_set_block(reader: &mut Cursor) -> Result<Response, ApduFault>
     ensures { Reads (λ response. response) result reader.new
-        (two_at Response.SetBlock invoke_id_at number_at reader.old) }
+        (read_as (λ p. Response.SetBlock p.0 p.1)
+        ((invoke_id_part & number_part).read reader.old)) }
 {
     let id = read_invoke_id(reader)?;
     let number = read_block_number(reader)?;
@@ -187,7 +192,8 @@ fn read_set_block(reader: &mut Cursor) -> Result<Response, ApduFault>
 // Reads a Set-Response-Last-Datablock after its form.
 fn read_set_last(reader: &mut Cursor) -> Result<Response, ApduFault>
     ensures { Reads (λ response. response) result reader.new
-        (three_at Response.SetLastBlock invoke_id_at code_at number_at reader.old) }
+        (read_as (λ p. Response.SetLastBlock p.0 p.1.0 p.1.1)
+        ((invoke_id_part & code_part & number_part).read reader.old)) }
 {
     let id = read_invoke_id(reader)?;
     let code = read_code(reader)?;
@@ -196,9 +202,9 @@ fn read_set_last(reader: &mut Cursor) -> Result<Response, ApduFault>
 }
 
 // Reads an Action-Response after its tag.
-#[tactic(auto, unfolding(crate::specs::Reading::action_response_at))]
 fn read_action(reader: &mut Cursor) -> Result<Response, ApduFault>
-    ensures { Reads (λ response. response) result reader.new (action_response_at reader.old) }
+    ensures { Reads (λ response. response) result reader.new
+        (read_one_of ApduFault.Unreadable action_response_forms reader.old) }
 {
     match reader.byte(ApduFault::Unreadable)? {
         form::NORMAL => read_action_normal(reader),
@@ -210,8 +216,8 @@ fn read_action(reader: &mut Cursor) -> Result<Response, ApduFault>
 // Reads an Action-Response-Normal after its form.
 fn read_action_normal(reader: &mut Cursor) -> Result<Response, ApduFault>
     ensures { Reads (λ response. response) result reader.new
-        (three_at (λ id code nothing. Response.Action id code) invoke_id_at code_at nothing_at
-        reader.old) }
+        (read_as (λ p. Response.Action p.0 p.1.0)
+        ((invoke_id_part & code_part & nothing_part).read reader.old)) }
 {
     let id = read_invoke_id(reader)?;
     let code = read_code(reader)?;
@@ -222,7 +228,8 @@ fn read_action_normal(reader: &mut Cursor) -> Result<Response, ApduFault>
 // Reads an Action-Response-Next-Pblock after its form.
 fn read_action_block(reader: &mut Cursor) -> Result<Response, ApduFault>
     ensures { Reads (λ response. response) result reader.new
-        (two_at Response.ActionBlock invoke_id_at number_at reader.old) }
+        (read_as (λ p. Response.ActionBlock p.0 p.1)
+        ((invoke_id_part & number_part).read reader.old)) }
 {
     let id = read_invoke_id(reader)?;
     let number = read_block_number(reader)?;
@@ -231,7 +238,7 @@ fn read_action_block(reader: &mut Cursor) -> Result<Response, ApduFault>
 
 // Reads the byte that marks the return parameters as absent.
 fn read_nothing(reader: &mut Cursor) -> Result<(), ApduFault>
-    ensures { Reads (λ nothing. nothing) result reader.new (nothing_at reader.old) }
+    ensures { Reads (λ nothing. nothing) result reader.new (nothing_part.read reader.old) }
 {
     if reader.byte(ApduFault::Unreadable)? != ABSENT {
         return Err(ApduFault::Unreadable);
@@ -240,17 +247,20 @@ fn read_nothing(reader: &mut Cursor) -> Result<(), ApduFault>
 }
 
 // Reads the state-error and the service-error of an ExceptionResponse.
-#[tactic(auto, unfolding(crate::specs::Reading::exception_at))]
 fn read_exception(reader: &mut Cursor) -> Result<Response, ApduFault>
-    ensures { Reads (λ response. response) result reader.new (exception_at reader.old) }
+    ensures { Reads (λ response. response) result reader.new
+        (read_as Response.Exception (exception_part.read reader.old)) }
 {
-    let state = reader.byte(ApduFault::Unreadable)?;
-    let service = reader.byte(ApduFault::Unreadable)?;
-    Ok(Response::Exception(match (state, service) {
-        (state_error::SERVICE_NOT_ALLOWED, service_error::OPERATION_NOT_POSSIBLE) =>
-            Exception::NotAllowed,
-        (state_error::SERVICE_UNKNOWN, service_error::SERVICE_NOT_SUPPORTED) => Exception::Unknown,
-        (state_error::SERVICE_NOT_ALLOWED, service_error::OTHER_REASON) => Exception::Unreadable,
+    Ok(Response::Exception(match reader.byte(ApduFault::Unreadable)? {
+        state_error::SERVICE_NOT_ALLOWED => match reader.byte(ApduFault::Unreadable)? {
+            service_error::OPERATION_NOT_POSSIBLE => Exception::NotAllowed,
+            service_error::OTHER_REASON => Exception::Unreadable,
+            _ => return Err(ApduFault::Unreadable),
+        },
+        state_error::SERVICE_UNKNOWN => match reader.byte(ApduFault::Unreadable)? {
+            service_error::SERVICE_NOT_SUPPORTED => Exception::Unknown,
+            _ => return Err(ApduFault::Unreadable),
+        },
         _ => return Err(ApduFault::Unreadable),
     }))
 }

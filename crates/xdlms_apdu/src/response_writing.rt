@@ -1,9 +1,9 @@
-ghost use Rattle.std.specs.Prelude.{◌≡◌, [], ◌∷◌, ◌++◌, IfOk, OnOk, OnErr};
+ghost use Rattle.std.specs.Prelude.{◌≡◌, ◌++◌, IfOk, OnOk, OnErr};
+ghost use Rattle.std.proofs.Common.{inl, inr};
 ghost use Rattle.cosem_axdr.specs.Appending.{Extends};
-ghost use Rattle.cosem_axdr.specs.Spelling.{string_text};
-ghost use Rattle.cosem_names.specs.ResultCode.{code_of};
-ghost use Rattle.xdlms_apdu.specs.Heads.{response_head};
-ghost use Rattle.xdlms_apdu.specs.Text.{exception_text, flag_text, number_text, response_body, response_text};
+ghost use Rattle.byte_reading.specs.Format.{◌&◌};
+ghost use Rattle.xdlms_apdu.specs.Parts.{number_part, code_part, nothing_part, exception_part, get_block_part};
+ghost use Rattle.xdlms_apdu.specs.Responses.{response_text};
 
 use crate::block::DataBlock;
 use crate::field_value::{ABSENT, service_error, state_error};
@@ -43,64 +43,62 @@ pub fn append_response(response: &Response, out: &mut Octets) -> Result<(), Allo
     done
 }
 
-// Appends the first bytes of a response, followed by the rest.
-#[tactic(auto, unfolding(crate::specs::Text::response_text), using(cosem_axdr::proofs::Appending::extends_same, cosem_axdr::proofs::Appending::extends_more))]
+// Appends a response: tag, form, invoke-id-and-priority and the rest; of an exception the tag and
+// the rest.
+#[tactic(auto, unfolding(crate::specs::Responses::response_text), using(cosem_axdr::proofs::Appending::extends_same, cosem_axdr::proofs::Appending::extends_more))]
 fn put_response(response: &Response, out: &mut Octets) -> Result<(), AllocError>
     ensures ok { OnOk result (out.new ≡ out.old ++ response_text response.now) }
     ensures extends { OnErr result (Extends out.old out.new) }
 {
-    put_response_head(response, out)?;
-    put_response_body(response, out)
-}
-
-// Appends the first bytes of a response: tag, form and invoke-id-and-priority; of an exception only
-// the tag.
-fn put_response_head(response: &Response, out: &mut Octets) -> Result<(), AllocError>
-    ensures ok { OnOk result (out.new ≡ out.old ++ response_head response.now) }
-    ensures unchanged_on_error { OnErr result (out.new ≡ out.old) }
-{
-    let (tag, form, id) = match response {
-        Response::Get { id, .. } => (GET_RESPONSE, form::NORMAL, *id),
-        Response::GetBlock { id, .. } | Response::GetBlockRefused { id, .. } => {
-            (GET_RESPONSE, get_response::WITH_DATABLOCK, *id)
-        }
-        Response::GetList { id, .. } => (GET_RESPONSE, get_response::WITH_LIST, *id),
-        Response::Set { id, .. } => (SET_RESPONSE, form::NORMAL, *id),
-        Response::SetBlock { id, .. } => (SET_RESPONSE, set_response::DATABLOCK, *id),
-        Response::SetLastBlock { id, .. } => (SET_RESPONSE, set_response::LAST_DATABLOCK, *id),
-        Response::Action { id, .. } => (ACTION_RESPONSE, form::NORMAL, *id),
-        Response::ActionBlock { id, .. } => (ACTION_RESPONSE, action_response::NEXT_PBLOCK, *id),
-        Response::Exception(_) => return out.push(EXCEPTION_RESPONSE),
-    };
-    put_head(tag, form, id, out)
-}
-
-// Appends the rest of a response, after its first bytes.
-#[tactic(auto, using(cosem_axdr::proofs::Appending::extends_same, cosem_axdr::proofs::Appending::extends_more))]
-fn put_response_body(response: &Response, out: &mut Octets) -> Result<(), AllocError>
-    ensures ok { OnOk result (out.new ≡ out.old ++ response_body response.now) }
-    ensures extends { OnErr result (Extends out.old out.new) }
-{
     match response {
         Response::Get {
+            id,
             result: outcome,
-            ..
-        } => put_result(outcome, out),
-        Response::GetBlock { block, .. } => put_get_block(block, out),
+        } => {
+            put_head(GET_RESPONSE, form::NORMAL, *id, out)?;
+            put_result(outcome, out)
+        }
+        Response::GetBlock { id, block } => {
+            put_head(GET_RESPONSE, get_response::WITH_DATABLOCK, *id, out)?;
+            put_get_block(block, out)
+        }
         Response::GetBlockRefused {
+            id,
             last,
             number,
             code,
-            ..
-        } => put_refusal(*last, *number, *code, out),
-        Response::GetList { results, .. } => put_results(results.as_slice(), out),
-        Response::Set { code, .. } => put_code(*code, out),
-        Response::SetBlock { number, .. } | Response::ActionBlock { number, .. } => put_number(
-            *number, out,
-        ),
-        Response::SetLastBlock { code, number, .. } => put_last(*code, *number, out),
-        Response::Action { code, .. } => put_action(*code, out),
-        Response::Exception(exception) => put_exception(*exception, out),
+        } => {
+            put_head(GET_RESPONSE, get_response::WITH_DATABLOCK, *id, out)?;
+            put_refusal(*last, *number, *code, out)
+        }
+        Response::GetList { id, results } => {
+            put_head(GET_RESPONSE, get_response::WITH_LIST, *id, out)?;
+            put_results(results.as_slice(), out)
+        }
+        Response::Set { id, code } => {
+            put_head(SET_RESPONSE, form::NORMAL, *id, out)?;
+            put_code(*code, out)
+        }
+        Response::SetBlock { id, number } => {
+            put_head(SET_RESPONSE, set_response::DATABLOCK, *id, out)?;
+            put_number(*number, out)
+        }
+        Response::SetLastBlock { id, code, number } => {
+            put_head(SET_RESPONSE, set_response::LAST_DATABLOCK, *id, out)?;
+            put_last(*code, *number, out)
+        }
+        Response::Action { id, code } => {
+            put_head(ACTION_RESPONSE, form::NORMAL, *id, out)?;
+            put_action(*code, out)
+        }
+        Response::ActionBlock { id, number } => {
+            put_head(ACTION_RESPONSE, action_response::NEXT_PBLOCK, *id, out)?;
+            put_number(*number, out)
+        }
+        Response::Exception(exception) => {
+            out.push(EXCEPTION_RESPONSE)?;
+            put_exception(*exception, out)
+        }
     }
 }
 
@@ -108,8 +106,7 @@ fn put_response_body(response: &Response, out: &mut Octets) -> Result<(), AllocE
 #[tactic(auto, using(cosem_axdr::proofs::Appending::extends_same, cosem_axdr::proofs::Appending::extends_more))]
 fn put_get_block(block: &DataBlock, out: &mut Octets) -> Result<(), AllocError>
     ensures ok { OnOk result (out.new ≡ out.old
-        ++ (flag_text block.now.last
-        ++ (number_text block.now.number ++ 0x00 ∷ string_text block.now.raw))) }
+        ++ get_block_part.text (block.now.last, (block.now.number, inl block.now.raw))) }
     ensures extends { OnErr result (Extends out.old out.new) }
 {
     put_flag(block.last, out)?;
@@ -127,7 +124,7 @@ fn put_refusal(
     out: &mut Octets,
 ) -> Result<(), AllocError>
     ensures ok { OnOk result (out.new ≡ out.old
-        ++ (flag_text last ++ (number_text number ++ 0x01 ∷ code_of code ∷ []))) }
+        ++ get_block_part.text (last, (number, inr code))) }
     ensures extends { OnErr result (Extends out.old out.new) }
 {
     put_flag(last, out)?;
@@ -139,7 +136,8 @@ fn put_refusal(
 // Appends the result of a SET by block transfer and the number of its last block.
 #[tactic(auto, using(cosem_axdr::proofs::Appending::extends_same, cosem_axdr::proofs::Appending::extends_more))]
 fn put_last(code: ResultCode, number: u32, out: &mut Octets) -> Result<(), AllocError>
-    ensures ok { OnOk result (out.new ≡ out.old ++ code_of code ∷ number_text number) }
+    ensures ok { OnOk result (out.new ≡ out.old
+        ++ (code_part & number_part).text (code, number)) }
     ensures extends { OnErr result (Extends out.old out.new) }
 {
     put_code(code, out)?;
@@ -149,7 +147,7 @@ fn put_last(code: ResultCode, number: u32, out: &mut Octets) -> Result<(), Alloc
 // Appends the result of an ACTION without return parameters.
 #[tactic(auto, using(cosem_axdr::proofs::Appending::extends_same, cosem_axdr::proofs::Appending::extends_more))]
 fn put_action(code: ResultCode, out: &mut Octets) -> Result<(), AllocError>
-    ensures ok { OnOk result (out.new ≡ out.old ++ code_of code ∷ 0x00 ∷ []) }
+    ensures ok { OnOk result (out.new ≡ out.old ++ (code_part & nothing_part).text (code, tt)) }
     ensures extends { OnErr result (Extends out.old out.new) }
 {
     put_code(code, out)?;
@@ -158,7 +156,7 @@ fn put_action(code: ResultCode, out: &mut Octets) -> Result<(), AllocError>
 
 // Appends a Data-Access-Result or an Action-Result.
 fn put_code(code: ResultCode, out: &mut Octets) -> Result<(), AllocError>
-    ensures ok { OnOk result (out.new ≡ out.old ++ code_of code ∷ []) }
+    ensures ok { OnOk result (out.new ≡ out.old ++ code_part.text code) }
     ensures unchanged_on_error { OnErr result (out.new ≡ out.old) }
 {
     out.push(code.code())
@@ -166,7 +164,7 @@ fn put_code(code: ResultCode, out: &mut Octets) -> Result<(), AllocError>
 
 // Appends the state-error and the service-error of an ExceptionResponse.
 fn put_exception(exception: Exception, out: &mut Octets) -> Result<(), AllocError>
-    ensures ok { OnOk result (out.new ≡ out.old ++ exception_text exception) }
+    ensures ok { OnOk result (out.new ≡ out.old ++ exception_part.text exception) }
     ensures unchanged_on_error { OnErr result (out.new ≡ out.old) }
 {
     let (state, service) = match exception {

@@ -1,4 +1,5 @@
-use Rattle.xdlms_apdu.proofs.OneValue.{one_request, one_response}
+use Rattle.xdlms_apdu.proofs.Requests.{one_request}
+use Rattle.xdlms_apdu.proofs.Responses.{one_response}
 use Rattle.xdlms_apdu.proofs.laws.no_spelling_begins_another.Goals as goal
 
 pub returns-clause-request : goal.returns-clause-request

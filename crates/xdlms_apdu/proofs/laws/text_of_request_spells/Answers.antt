@@ -1,7 +1,5 @@
-use Rattle.xdlms_apdu.specs.Text.{request_text}
-use Rattle.xdlms_apdu.proofs.Fitting.{request_text_spells}
-use Rattle.xdlms_apdu.proofs.Requests.{request_again}
-use Rattle.xdlms_apdu.proofs.Texts.{request_spells}
+use Rattle.xdlms_apdu.specs.Requests.{request_text}
+use Rattle.xdlms_apdu.proofs.Requests.{request_again, request_spells, request_text_spells}
 use Rattle.xdlms_apdu.proofs.laws.text_of_request_spells.Goals as goal
 
 pub returns-clause-spelled : goal.returns-clause-spelled

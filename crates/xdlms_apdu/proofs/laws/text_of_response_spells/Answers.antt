@@ -1,7 +1,5 @@
-use Rattle.xdlms_apdu.specs.Text.{response_text}
-use Rattle.xdlms_apdu.proofs.Fitting.{response_text_spells}
-use Rattle.xdlms_apdu.proofs.Responses.{response_again}
-use Rattle.xdlms_apdu.proofs.Texts.{response_spells}
+use Rattle.xdlms_apdu.specs.Responses.{response_text}
+use Rattle.xdlms_apdu.proofs.Responses.{response_again, response_spells, response_text_spells}
 use Rattle.xdlms_apdu.proofs.laws.text_of_response_spells.Goals as goal
 
 pub returns-clause-spelled : goal.returns-clause-spelled

@@ -1,7 +1,8 @@
 use Rattle.std.proofs.Common.{◌≡◌, ◌-◌}
-use Rattle.xdlms_apdu.specs.Reading.{items_at, result_at}
-use Rattle.xdlms_apdu.proofs.Steps.{with_front}
+use Rattle.byte_reading.specs.Format.{items_read}
+use Rattle.byte_reading.proofs.Items.{with_front}
+use Rattle.xdlms_apdu.specs.Parts.{result_part}
 use Rattle.xdlms_apdu.proofs.list_reading.read_result_items.Given as goal
 
 abbrev pub invariant-items : goal.invariant-items
-invariant-items l = with_front l.items.items (items_at result_at (l.count - l.counter) l.reader) ≡ items_at result_at l.count l.initial.reader
+invariant-items l = with_front l.items.items (items_read result_part.read (l.count - l.counter) l.reader) ≡ items_read result_part.read l.count l.initial.reader

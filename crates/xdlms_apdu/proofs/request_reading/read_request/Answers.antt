@@ -1,6 +1,5 @@
 use Rattle.byte_reading.proofs.OutcomeLemmas.{gives_found, gives_only}
-use Rattle.xdlms_apdu.specs.Reading.{request_of}
-use Rattle.xdlms_apdu.specs.Spelling.{SpellsRequest}
+use Rattle.xdlms_apdu.specs.Requests.{request_of, SpellsRequest}
 use Rattle.xdlms_apdu.specs.declared.fault.ApduFault.TheVariants.{Memory}
 use Rattle.xdlms_apdu.specs.declared.request.Request.{Request}
 use Rattle.xdlms_apdu.proofs.Requests.{request_found, request_again}

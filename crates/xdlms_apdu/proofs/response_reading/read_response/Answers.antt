@@ -1,6 +1,5 @@
 use Rattle.byte_reading.proofs.OutcomeLemmas.{gives_found, gives_only}
-use Rattle.xdlms_apdu.specs.Reading.{response_of}
-use Rattle.xdlms_apdu.specs.Spelling.{SpellsResponse}
+use Rattle.xdlms_apdu.specs.Responses.{response_of, SpellsResponse}
 use Rattle.xdlms_apdu.specs.declared.fault.ApduFault.TheVariants.{Memory}
 use Rattle.xdlms_apdu.specs.declared.response.Response.{Response}
 use Rattle.xdlms_apdu.proofs.Responses.{response_found, response_again}

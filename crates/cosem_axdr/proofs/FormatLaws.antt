@@ -1,0 +1,172 @@
+-- The formats of A-XDR are lawful.
+use Rattle.std.proofs.Common.{◌≡◌, ℕ, ◌+◌, ◌-◌, ◌<◌, ◌≤◌, true, false, ◌&&◌, nat_lt, nat_le, List}
+use Rattle.std.proofs.Common.{[], ◌∷◌, ◌++◌, length, take, drop, Result, Ok, Err, refl, sym, ap}
+use Rattle.std.proofs.Common.{subst, ◌∙◌, arith, inl, inr}
+use Rattle.std.specs.List.{flat_map}
+use Rattle.std.proofs.lemmas.Bool.{and_parts, and_from, ltb-true, leb-true, lt-ltb, le-ltb, le-leb}
+use Rattle.std.proofs.lemmas.List.{drop_at, take-append-drop}
+use Rattle.byte_reading.specs.ByteFormats.{IsByte}
+use Rattle.byte_reading.specs.Format.{Format, items_read}
+use Rattle.byte_reading.specs.Reading.{read_as, first_bytes}
+use Rattle.byte_reading.proofs.Agreeing.{Took, AreBytes, then_agrees, bytes_agrees}
+use Rattle.byte_reading.proofs.ByteLaws.{bytes_at}
+use Rattle.byte_reading.proofs.Items.{AreCounted, items_agrees, items_written, items_fit}
+use Rattle.byte_reading.proofs.Lawful.{first_all, others_all, IsLawful, join}
+use Rattle.byte_reading.proofs.OutcomeLemmas.{done, ok_is, bind_ok, guard_ok, chosen}
+use Rattle.cosem_axdr.specs.Formats.{count_read, count, raw, list, front_or, axdr_data}
+use Rattle.cosem_axdr.specs.Reading.{big_endian, first_data}
+use Rattle.cosem_axdr.specs.Spelling.{IsLength, length_text}
+use Rattle.cosem_axdr.specs.View.{tree_of}
+use Rattle.cosem_axdr.specs.declared.value.Data.{Data}
+use Rattle.cosem_axdr.proofs.DataFits.{front_bytes, length_is_short, spelled_data_fits}
+use Rattle.cosem_axdr.proofs.Texts.{length_spells, text_spells}
+use Rattle.cosem_axdr.proofs.Values.{data_found, data_again}
+
+-- ---- lengths and counts
+
+abbrev IsCount : ℕ → List ℕ → Type 0
+IsCount n text = IsLength text n
+
+count_takes : {F : Type 0} (fault : F) (bytes : List ℕ) (x : ℕ × List ℕ) → count_read fault bytes
+    ≡ Ok x → Took ℕ IsCount bytes x
+unfolding count_read
+count_takes fault [] x e = absurd cc
+count_takes {F = F} fault (first ∷ rest) x e =
+    elim (chosen (nat_lt first 0x80) _ _ _ e) [
+      | inl h ↦
+          let below : first < 0x80 = ltb-true first 0x80 h.0 in
+          let made : ℕ × List ℕ = (first, rest) in
+          subst (λ (z : ℕ × List ℕ). Took ℕ IsCount (first ∷ rest) z) (ok_is {F = F} made x h.1)
+          (record { text = first ∷ []; parts = refl; spelled = inl (below, refl, refl) })
+      | inr h ↦
+          let k = first - 0x80 in
+          let g = guard_ok (nat_lt 0x80 first && nat_le first 0x84) fault
+          (read_as big_endian (first_bytes fault k rest)) x h.1 in
+          let both = and_parts _ _ g.0 in
+          let low : 0x80 < first = ltb-true 0x80 first both.0 in
+          let high : first ≤ 0x84 = leb-true first 0x84 both.1 in
+          let b = bind_ok (first_bytes fault k rest) (λ y. done F (big_endian y.0, y.1)) x g.1 in
+          let u = (bytes_agrees fault k).takes rest b.0 b.1 in
+          let made : ℕ × List ℕ = (big_endian b.0.0, b.0.1) in
+          let form : first ≡ 0x80 + length u.text = omega (arith, u.spelled.0) in
+          let spelled : IsCount (big_endian b.0.0) (first ∷ u.text) =
+          inr (omega arith, high, form, ap big_endian u.spelled.1) in
+          subst (λ (z : ℕ × List ℕ). Took ℕ IsCount (first ∷ rest) z) (ok_is made x b.2)
+          (record {
+            text = first ∷ u.text;
+            parts = ap (λ (r : List ℕ). first ∷ r) u.parts;
+            spelled = spelled;
+          })
+    ]
+
+count_again : {F : Type 0} (fault : F) (n : ℕ) (text rest : List ℕ) → IsCount n text
+    → count_read fault (text ++ rest) ≡ Ok (n, rest)
+unfolding count_read
+count_again fault n [] rest none = absurd none
+count_again fault n (first ∷ bytes) rest (inl h) =
+    let short : nat_lt first 0x80 ≡ true = lt-ltb first 0x80 h.0 in
+    rw (short, h.1, h.2) refl
+count_again {F = F} fault n (first ∷ bytes) rest (inr h) =
+    let not_short : nat_lt first 0x80 ≡ false = le-ltb first 0x80 (omega (arith, h.0)) in
+    let form : (nat_lt 0x80 first && nat_le first 0x84) ≡ true =
+    and_from _ _ (lt-ltb 0x80 first (omega (arith, h.0))) (le-leb first 0x84 h.1) in
+    let those : first_bytes fault (first - 0x80) (bytes ++ rest) ≡ Ok (bytes, rest) =
+    (bytes_agrees fault (first - 0x80)).again bytes bytes rest (omega (arith, h.2), refl) in
+    rw (not_short, form, those) (ap (λ (m : ℕ). done F (m, rest)) (sym h.3))
+
+pub count_lawful : {F : Type 0} (fault : F) → IsLawful IsByte (count fault)
+count_lawful fault = record {
+  agrees = record { takes = count_takes fault; again = count_again fault };
+  written = length_spells;
+  fitting = λ n text all s. (length_is_short text n (bytes_at text all) s).0;
+}
+
+-- ---- bytes after their length
+
+pub raw_lawful : {F : Type 0} (fault : F) → IsLawful IsByte (raw fault)
+raw_lawful fault = record {
+  agrees = then_agrees (count_read fault) (first_bytes fault) IsCount AreBytes (raw fault).Spells
+      (count_lawful fault).agrees (bytes_agrees fault)
+      (λ n bytes one other p q.
+      record {
+        length_text = one;
+        parts = ap (λ (s : List ℕ). one ++ s) (sym q.1);
+        is_length =
+            subst (λ (m : ℕ). IsLength one m) (sym q.0 ∙ ap (λ (s : List ℕ). length s) (sym q.1)) p;
+      })
+      (λ bytes text s. (length bytes, s.length_text, bytes, s.parts, s.is_length, (refl, refl)));
+  written = λ bytes fit. record {
+    length_text = length_text (length bytes);
+    parts = refl;
+    is_length = length_spells (length bytes) fit;
+  };
+  fitting = λ bytes text all s. (length_is_short s.length_text (length bytes)
+      (front_bytes s.length_text bytes text s.parts (bytes_at text all)) s.is_length).0;
+}
+
+-- ---- items after their count
+
+pub list_lawful : {F A : Type 0} (fault : F) (item : Format ℕ F A) → IsLawful IsByte item
+    → IsLawful IsByte (list fault item)
+list_lawful {A = A} fault item lawful = record {
+  agrees = then_agrees (count_read fault) (items_read item.read) IsCount (AreCounted item.Spells)
+      (list fault item).Spells (count_lawful fault).agrees
+      (items_agrees item.read item.Spells lawful.agrees)
+      (λ n items one other p q. join one other (subst (λ (m : ℕ). IsLength one m) (sym q.0) p) q.1)
+      (λ items text j. (
+        length items,
+        j.first,
+        j.others,
+        j.parts,
+        j.is_first,
+        (refl, j.are_others),
+      ));
+  written = λ items fit. join (length_text (length items)) (flat_map item.text items)
+      (length_spells (length items) fit.0) (items_written item lawful items fit.1);
+  fitting = λ items text all j. (
+    (count_lawful fault).fitting (length items) j.first
+        (first_all IsByte all j) j.is_first,
+    items_fit IsByte item lawful items j.others (others_all IsByte all j) j.are_others,
+  );
+}
+
+-- ---- a Data
+
+front_ok : {F G A : Type 0} (fault : F) (bytes : List ℕ) (read : Result (A × ℕ) G) (x : A × List ℕ)
+    → front_or fault bytes read ≡ Ok x → (n : ℕ) × (read ≡ Ok (x.0, n)) × (drop n bytes ≡ x.1)
+front_ok {F = F} {G = G} {A = A} fault bytes (Ok y) x e =
+    let same = ok_is {F = F} (y.0, drop y.1 bytes) x e in (
+      y.1,
+      ap (λ (d : A). done G (d, y.1)) (ap (λ (z : A × List ℕ). z.0) same),
+      ap (λ (z : A × List ℕ). z.1) same,
+    )
+front_ok fault bytes (Err other) x e = absurd cc
+
+pub data_lawful : {F : Type 0} (fault : F) → IsLawful IsByte (axdr_data fault)
+data_lawful {F = F} fault = record {
+  agrees = record { takes = takes; again = again };
+  written = λ value fit. text_spells (tree_of value) fit;
+  fitting = λ value text all s. spelled_data_fits text (tree_of value) (bytes_at text all) s;
+}
+  where
+    takes : (bytes : List ℕ) (x : Data × List ℕ) → front_or fault bytes (first_data bytes) ≡ Ok x
+        → Took Data (axdr_data fault).Spells bytes x
+    takes bytes x e =
+        let f = front_ok fault bytes (first_data bytes) x e in
+        let found = data_found bytes (x.0, f.0) f.1 in
+        record {
+          text = take f.0 bytes;
+          parts = sym (take-append-drop f.0 bytes)
+              ∙ ap (λ (r : List ℕ). take f.0 bytes ++ r) f.2;
+          spelled = found.1;
+        }
+
+    again : (value : Data) (text rest : List ℕ) → (axdr_data fault).Spells value text
+        → front_or fault (text ++ rest) (first_data (text ++ rest)) ≡ Ok (value, rest)
+    again value text rest s =
+        let back : drop (length text) (text ++ rest) ≡ rest =
+        drop_at text rest (length text) refl in
+        rw (data_again text rest value s, back) refl
+
+-- what `search` needs to prove that a format made of these is lawful
+pub ruleset axdr_formats = (count_lawful, raw_lawful, list_lawful, data_lawful)

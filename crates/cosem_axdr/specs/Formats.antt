@@ -1,0 +1,64 @@
+-- Parts of an APDU in A-XDR as formats (A-XDR: IEC 61334-6, IEC 62056-5-3).
+--     count, raw, list      a length or count; bytes after their length; items after their count
+--     axdr_data             a Data
+use Rattle.std.specs.Prelude.{ℕ, ◌^◌, ◌<◌, ◌-◌, ◌&&◌, nat_lt, nat_le, if◌then◌else◌, List, ◌++◌}
+use Rattle.std.specs.Prelude.{length, drop, All, Result, Ok, Err}
+use Rattle.std.specs.List.{flat_map}
+use Rattle.byte_reading.specs.Format.{Format, IsJoined, items_read, AreItems}
+use Rattle.byte_reading.specs.Outcome.{◌>>=◌, ◌>>◌, guard}
+use Rattle.byte_reading.specs.Reading.{read_as, first_byte, first_bytes}
+use Rattle.cosem_axdr.specs.Reading.{big_endian, first_data}
+use Rattle.cosem_axdr.specs.Spelling.{IsLength, IsString, IsSpelling, length_text, string_text}
+use Rattle.cosem_axdr.specs.Spelling.{text, IsFit}
+use Rattle.cosem_axdr.specs.View.{tree_of}
+use Rattle.cosem_axdr.specs.declared.value.Data.{Data}
+
+-- a length or count: one byte below 80 hex, or 81 to 84 hex followed by one to four bytes
+unfoldable pub count_read : {F : Type 0} → F → List ℕ → Result (ℕ × List ℕ) F
+count_read fault bytes = do
+  first ← first_byte fault bytes
+  if nat_lt first.0 0x80 then Ok first else do
+    guard (nat_lt 0x80 first.0 && nat_le first.0 0x84) fault
+    read_as big_endian (first_bytes fault (first.0 - 0x80) first.1)
+
+-- a length or count of at most four bytes; the shortest form is written
+abbrev pub count : {F : Type 0} → F → Format ℕ F ℕ
+count fault = record {
+  read = count_read fault;
+  text = length_text;
+  Fits = λ n. n < 2 ^ 32;
+  Spells = λ n bytes. IsLength bytes n;
+}
+
+-- a length followed by that number of bytes
+abbrev pub raw : {F : Type 0} → F → Format ℕ F (List ℕ)
+raw fault = record {
+  read = λ bytes. count_read fault bytes >>= λ n. first_bytes fault n.0 n.1;
+  text = string_text;
+  Fits = λ string. length string < 2 ^ 32;
+  Spells = λ string bytes. IsString bytes string;
+}
+
+-- a count followed by that number of items
+abbrev pub list : {F A : Type 0} → F → Format ℕ F A → Format ℕ F (List A)
+list fault item = record {
+  read = λ bytes. count_read fault bytes >>= λ n. items_read item.read n.0 n.1;
+  text = λ items. length_text (length items) ++ flat_map item.text items;
+  Fits = λ items. (length items < 2 ^ 32) × All item.Fits items;
+  Spells = λ items bytes.
+      IsJoined (λ first. IsLength first (length items)) (AreItems item.Spells items) bytes;
+}
+
+-- what was read from the front of bytes, and the bytes after it; every fault becomes this one
+abbrev pub front_or : {F G A : Type 0} → F → List ℕ → Result (A × ℕ) G → Result (A × List ℕ) F
+front_or fault bytes (Ok x) = Ok (x.0, drop x.1 bytes)
+front_or fault bytes (Err other) = Err fault
+
+-- a Data within the limits of a reader, which count from its own tag
+abbrev pub axdr_data : {F : Type 0} → F → Format ℕ F Data
+axdr_data fault = record {
+  read = λ bytes. front_or fault bytes (first_data bytes);
+  text = λ value. text (tree_of value);
+  Fits = λ value. IsFit (tree_of value);
+  Spells = λ value bytes. IsSpelling bytes (tree_of value);
+}
