@@ -7,8 +7,8 @@ use Rattle.std.proofs.lemmas.Bool.{eqb-true, eq-eqb}
 use Rattle.std.proofs.lemmas.Nat.{from_be_bytes-to_be_bytes_2, from_be_bytes-to_be_bytes_4}
 use Rattle.byte_reading.specs.Reading.{read_as, first_byte, first_bytes}
 use Rattle.byte_reading.specs.Format.{Format}
-use Rattle.byte_reading.specs.Choice.{Choice, Parts, made, is_distinct}
-use Rattle.byte_reading.specs.ByteFormats.{IsByte, same_byte, byte, fixed, number, IsFlag, flag}
+use Rattle.byte_reading.specs.Choice.{Choice, Parts, value_of, is_distinct}
+use Rattle.byte_reading.specs.ByteFormats.{IsByte, same_byte, byte, octets, number, IsFlag, flag}
 use Rattle.byte_reading.specs.ByteFormats.{OptionalSpells, optional, one_of}
 use Rattle.byte_reading.proofs.Agreeing.{Agrees, IsNone, IsMade, AreBytes, none_agrees, then_agrees}
 use Rattle.byte_reading.proofs.Agreeing.{made_agrees, seen_as, byte_agrees, bytes_agrees}
@@ -39,7 +39,7 @@ byte_lawful fault = record {
   fitting = λ n text all s. tt;
 }
 
-pub fixed_lawful : {F : Type 0} (fault : F) (n : ℕ) → IsLawful IsByte (fixed fault n)
+pub fixed_lawful : {F : Type 0} (fault : F) (n : ℕ) → IsLawful IsByte (octets fault n)
 fixed_lawful fault n = record {
   agrees = bytes_agrees fault n;
   written = λ bytes fit. (fit, refl);
@@ -158,13 +158,13 @@ optional_lawful {A = A} fault part lawful = record {
 -- ---- a choice by the next byte
 
 pub one_of_lawful : {F A : Type 0} (missing : F) (c : Choice ℕ F A) (parts : A → Parts c)
-    → ((a : A) → made c (parts a) ≡ a) → ((p : Parts c) → parts (made c p) ≡ p)
+    → ((a : A) → value_of c (parts a) ≡ a) → ((p : Parts c) → parts (value_of c p) ≡ p)
     → is_distinct same_byte c ≡ true → AreLawful IsByte c
     → IsLawful IsByte (one_of missing c parts)
 one_of_lawful missing c parts there back distinct lawful =
     keyed_lawful same_byte byte_equality missing c parts there back distinct lawful
 
--- what `search` needs to prove that a format made of these is lawful
+-- what `search` needs to prove that a format value_of of these is lawful
 pub ruleset byte_formats = (
   byte_lawful,
   flag_lawful,

@@ -3,9 +3,9 @@ use Rattle.std.proofs.Common.{◌≡◌, Bool, true, false, not, List, [], ◌�
 use Rattle.std.proofs.Common.{subst, ◌∙◌, inl, inr}
 use Rattle.std.proofs.lemmas.Bool.{and_parts, or_right}
 use Rattle.byte_reading.specs.Format.{IsTagged}
-use Rattle.byte_reading.specs.Choice.{Choice, otherwise, on, under, Parts, made, keyed_read}
+use Rattle.byte_reading.specs.Choice.{Choice, otherwise, on, under, Parts, value_of, keyed_read}
 use Rattle.byte_reading.specs.Choice.{next_read, keyed_text, KeyedFits, KeyedSpells, has_key}
-use Rattle.byte_reading.specs.Choice.{is_distinct, keyed}
+use Rattle.byte_reading.specs.Choice.{is_distinct, choice_by}
 use Rattle.byte_reading.proofs.Agreeing.{Took}
 use Rattle.byte_reading.proofs.Lawful.{AreAll, IsLawful, IsEquality}
 use Rattle.byte_reading.proofs.OutcomeLemmas.{done, failed, ok_is, bind_ok, chosen}
@@ -24,13 +24,13 @@ record TookPart {T F A : Type 0} (c : Choice T F A) (token : T) (rest : List T)
     (read : A × List T) : Type 0 where
   part : Parts c
   text : List T
-  is_made : made c part ≡ read.0
+  is_made : value_of c part ≡ read.0
   parts : rest ≡ text ++ read.1
   spelled : KeyedSpells c part (token ∷ text)
 
 -- a part of the others is a part of the choice
 among : {T F A : Type 0} {c others : Choice T F A} {token : T} {rest : List T} {x : A × List T}
-    (of : Parts others → Parts c) → ((p : Parts others) → made c (of p) ≡ made others p)
+    (of : Parts others → Parts c) → ((p : Parts others) → value_of c (of p) ≡ value_of others p)
     → ((p : Parts others) (text : List T) → KeyedSpells others p text → KeyedSpells c (of p) text)
     → TookPart others token rest x → TookPart c token rest x
 among {token = token} of is_made spelled t = record {
@@ -157,7 +157,7 @@ other_key same equality key token others none has = decide (same token key) refl
 keyed_again : {T F A : Type 0} (IsToken : T → Type 0) (same : T → T → Bool) → IsEquality same
     → (c : Choice T F A) → is_distinct same c ≡ true → AreLawful IsToken c
     → (p : Parts c) (token : T) (text rest : List T)
-    → KeyedSpells c p (token ∷ text) → keyed_read same c token (text ++ rest) ≡ Ok (made c p, rest)
+    → KeyedSpells c p (token ∷ text) → keyed_read same c token (text ++ rest) ≡ Ok (value_of c p, rest)
 keyed_again IsToken same equality (otherwise fault) distinct lawful p token text rest s = absurd p
 keyed_again IsToken same equality (on key part make others) distinct lawful (inl x) token text rest
     s = let t = tag_is token key text s in
@@ -223,10 +223,10 @@ keyed_fit IsToken (under key missing inner others) lawful (inr p) text all s =
 -- a choice of lawful formats with different first tokens, whose values are taken apart as they are
 -- made
 pub keyed_lawful : {T F A : Type 0} {IsToken : T → Type 0} (same : T → T → Bool) → IsEquality same
-    → (missing : F) (c : Choice T F A) (parts : A → Parts c) → ((a : A) → made c (parts a) ≡ a)
-    → ((p : Parts c) → parts (made c p) ≡ p)
+    → (missing : F) (c : Choice T F A) (parts : A → Parts c) → ((a : A) → value_of c (parts a) ≡ a)
+    → ((p : Parts c) → parts (value_of c p) ≡ p)
     → is_distinct same c ≡ true → AreLawful IsToken c
-    → IsLawful IsToken (keyed same missing c parts)
+    → IsLawful IsToken (choice_by same missing c parts)
 keyed_lawful {T = T} {F = F} {A = A} {IsToken = IsToken} same equality missing c parts there back
     distinct lawful = record {
       agrees = record { takes = takes; again = again };
@@ -235,7 +235,7 @@ keyed_lawful {T = T} {F = F} {A = A} {IsToken = IsToken} same equality missing c
     }
   where
     takes : (tokens : List T) (x : A × List T) → next_read same missing c tokens ≡ Ok x
-        → Took A (keyed same missing c parts).Spells tokens x
+        → Took A (choice_by same missing c parts).Spells tokens x
     takes [] x e = absurd cc
     takes (token ∷ rest) x e =
         let t = keyed_takes IsToken same equality c lawful token rest x e in

@@ -6,8 +6,8 @@
 use Rattle.std.proofs.Common.{◌≡◌, Bool, true, Option, Some, None, List, [], ◌∷◌, ◌++◌, Ok, refl}
 use Rattle.std.proofs.Common.{sym, ap, ap₂, subst, ◌∙◌, append-nil}
 use Rattle.byte_reading.specs.Reading.{read_as, whole_or}
-use Rattle.byte_reading.specs.Format.{Format, IsJoined, seen, empty, ◌&◌, found_or, narrow, exactly}
-use Rattle.byte_reading.specs.Format.{dropped}
+use Rattle.byte_reading.specs.Format.{Format, IsJoined, iso, empty, ◌&◌, found_or, narrow, exactly}
+use Rattle.byte_reading.specs.Format.{placeholder}
 use Rattle.byte_reading.proofs.Agreeing.{Took, Agrees, IsNone, IsMade, none_agrees, then_agrees}
 use Rattle.byte_reading.proofs.Agreeing.{made_agrees, seen_as, all_read, all_taken}
 use Rattle.byte_reading.proofs.OutcomeLemmas.{done, ok_is, bind_ok, guard_ok}
@@ -95,7 +95,7 @@ with_others j r = record {
 
 pub seen_lawful : {T F A B : Type 0} {IsToken : T → Type 0} (to : A → B) (from : B → A)
     (part : Format T F A) → ((b : B) → to (from b) ≡ b) → ((a : A) → from (to a) ≡ a)
-    → IsLawful IsToken part → IsLawful IsToken (seen to from part)
+    → IsLawful IsToken part → IsLawful IsToken (iso to from part)
 seen_lawful {T = T} {B = B} to from part there back lawful = record {
   agrees = seen_as (λ tokens. read_as to (part.read tokens)) (IsMade to part.Spells)
       (λ b tokens. part.Spells (from b) tokens) (made_agrees to part.read part.Spells lawful.agrees)
@@ -203,7 +203,7 @@ exactly_lawful {T = T} {F = F} same fault token equality = record {
 
 -- a part of which only the place is kept
 pub dropped_lawful : {T F A : Type 0} {IsToken : T → Type 0} (sample : A) (part : Format T F A)
-    → part.Fits sample → IsLawful IsToken part → IsLawful IsToken (dropped sample part)
+    → part.Fits sample → IsLawful IsToken part → IsLawful IsToken (placeholder sample part)
 dropped_lawful {T = T} {A = A} sample part fit lawful = record {
   agrees = seen_as (λ tokens. read_as (λ a. tt) (part.read tokens)) (IsMade (λ a. tt) part.Spells)
       (λ nothing tokens. (a : A) × part.Spells a tokens)

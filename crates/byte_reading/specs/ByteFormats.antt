@@ -1,5 +1,5 @@
 -- The formats of bytes that others are made from.
---     byte, fixed, number       one byte, a fixed number of bytes, a number with its highest byte
+--     byte, octets, number      one byte, a fixed number of bytes, a number with its highest byte
 --                               first
 --     flag, optional            whether something holds; a part that may be absent
 --     one_of, read_one_of       a choice by the next byte
@@ -9,7 +9,7 @@ use Rattle.std.specs.Int.{Width, byte_len, from_be_bytes, to_be_bytes}
 use Rattle.byte_reading.specs.Outcome.{◌>>=◌}
 use Rattle.byte_reading.specs.Reading.{read_as, first_byte, first_bytes}
 use Rattle.byte_reading.specs.Format.{Format, IsJoined}
-use Rattle.byte_reading.specs.Choice.{Choice, Parts, next_read, keyed}
+use Rattle.byte_reading.specs.Choice.{Choice, Parts, next_read, choice_by}
 
 -- a number that is a byte
 abbrev pub IsByte : ℕ → Type 0
@@ -29,8 +29,8 @@ byte fault = record {
 }
 
 -- a fixed number of bytes, unchanged
-abbrev pub fixed : {F : Type 0} → F → ℕ → Format ℕ F (List ℕ)
-fixed fault n = record {
+abbrev pub octets : {F : Type 0} → F → ℕ → Format ℕ F (List ℕ)
+octets fault n = record {
   read = first_bytes fault n;
   text = λ bytes. bytes;
   Fits = λ bytes. length bytes ≡ n;
@@ -91,4 +91,4 @@ read_one_of missing c bytes = next_read same_byte missing c bytes
 
 -- the format that a choice states
 abbrev pub one_of : {F A : Type 0} → F → (c : Choice ℕ F A) → (A → Parts c) → Format ℕ F A
-one_of missing c parts = keyed same_byte missing c parts
+one_of missing c parts = choice_by same_byte missing c parts

@@ -1,9 +1,9 @@
 -- A choice of formats by the first tokens.
 --     Choice                    what stands after each first token, and the fault of any other
---     Parts, made               what was read after the first tokens, and the value made of it
+--     Parts, value_of           what was read after the first tokens, and the value made of it
 --     next_read                 reads one of a choice
 --     is_distinct               whether no two formats of a choice have the same first token
---     keyed                     the format that a choice states
+--     choice_by                 the format that a choice states
 use Rattle.std.specs.Prelude.{◌⊎◌, Bool, true, false, not, ◌&&◌, ◌||◌, if◌then◌else◌, List, ◌∷◌}
 use Rattle.std.specs.Prelude.{Result, Err}
 use Rattle.std.proofs.Common.{inl, inr}
@@ -28,12 +28,12 @@ Parts (on key {X = X} part make others) = X ⊎ Parts others
 Parts (under key missing inner others) = Parts inner ⊎ Parts others
 
 -- the value made of it
-abbrev pub made : {T F A : Type 0} → (c : Choice T F A) → Parts c → A
-made (otherwise fault) none = absurd none
-made (on key part make others) (inl x) = make x
-made (on key part make others) (inr p) = made others p
-made (under key missing inner others) (inl p) = made inner p
-made (under key missing inner others) (inr p) = made others p
+abbrev pub value_of : {T F A : Type 0} → (c : Choice T F A) → Parts c → A
+value_of (otherwise fault) none = absurd none
+value_of (on key part make others) (inl x) = make x
+value_of (on key part make others) (inr p) = value_of others p
+value_of (under key missing inner others) (inl p) = value_of inner p
+value_of (under key missing inner others) (inr p) = value_of others p
 
 -- ---- reading
 
@@ -97,10 +97,10 @@ is_distinct same (on key part make others) =
 is_distinct same (under key missing inner others) =
     not (has_key same key others) && is_distinct same inner && is_distinct same others
 
--- the format that a choice states; `parts` takes a value apart as `made` makes it
-abbrev pub keyed : {T F A : Type 0} → (T → T → Bool) → F → (c : Choice T F A) → (A → Parts c)
+-- the format that a choice states; `parts` takes a value apart as `value_of` makes it
+abbrev pub choice_by : {T F A : Type 0} → (T → T → Bool) → F → (c : Choice T F A) → (A → Parts c)
     → Format T F A
-keyed same missing c parts = record {
+choice_by same missing c parts = record {
   read = next_read same missing c;
   text = λ a. keyed_text c (parts a);
   Fits = λ a. KeyedFits c (parts a);

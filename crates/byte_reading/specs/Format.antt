@@ -1,9 +1,9 @@
 -- A format as one value, and formats made from others. A token is a byte, or a word of a line.
 --     Format                    a format: how it is read, written and spelled
 --     IsJoined, IsTagged        two spellings, one after the other; a spelling after one token
---     seen, narrow              the same tokens, as another value; as one of the known values
+--     iso, narrow               the same tokens, as another value; as one of the known values
 --     empty, ◌&◌                no tokens; one format, and then another
---     exactly, dropped          one token; a part whose value is not kept
+--     exactly, placeholder      one token; a part whose value is not kept
 --     items_read, AreItems      a number of consecutive items
 use Rattle.std.specs.Prelude.{◌≡◌, ℕ, zero, suc, Bool, Option, Some, None, List, [], ◌∷◌, ◌++◌}
 use Rattle.std.specs.Prelude.{Result, Ok, Err}
@@ -42,8 +42,8 @@ pub record IsTagged {T : Type 0} (tag : T) (IsContents : List T → Type 0) (tok
 -- ---- formats made from others
 
 -- a part seen as another type, both ways
-abbrev pub seen : {T F A B : Type 0} → (A → B) → (B → A) → Format T F A → Format T F B
-seen to from part = record {
+abbrev pub iso : {T F A B : Type 0} → (A → B) → (B → A) → Format T F A → Format T F B
+iso to from part = record {
   read = λ tokens. read_as to (part.read tokens);
   text = λ b. part.text (from b);
   Fits = λ b. part.Fits (from b);
@@ -93,8 +93,8 @@ exactly same fault token = record {
 }
 
 -- a part of which only the place is kept: any value is read, and the sample is written
-abbrev pub dropped : {T F A : Type 0} → A → Format T F A → Format T F (Unit {0})
-dropped {A = A} sample part = record {
+abbrev pub placeholder : {T F A : Type 0} → A → Format T F A → Format T F (Unit {0})
+placeholder {A = A} sample part = record {
   read = λ tokens. read_as (λ a. tt) (part.read tokens);
   text = λ nothing. part.text sample;
   Fits = λ nothing. Unit {0};

@@ -88,8 +88,8 @@ module _ {T E R O : Type 0} where
     pub seen : known.seen ≡ now.history
     pub not_closed : now.closed ≡ 0
 
-  -- The number of a port that this seat has taken in is the seat's, and is none that the seat's own
-  -- port or a split of it has. The other port had seen all calls of it.
+  -- The number of a port that this seat has taken in is the seat's now, and neither the seat's own
+  -- port nor a split of it has this number. The other port had seen all calls of it.
   pub record OwnsNumber (now : Moment T E R O) (seat : ℕ) (known other : Known E R O) (q : List ℕ)
       : Type 0 where
     pub holder_is : now.holder q ≡ seat

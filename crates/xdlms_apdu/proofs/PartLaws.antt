@@ -2,7 +2,7 @@
 use Rattle.std.proofs.Common.{◌≡◌, ◌⊎◌, ℕ, Bool, true, false, Option, Some, None, List, is_some}
 use Rattle.std.proofs.Common.{refl, inl, inr, arith}
 use Rattle.byte_reading.specs.ByteFormats.{IsByte, one_of}
-use Rattle.byte_reading.specs.Choice.{Parts, made}
+use Rattle.byte_reading.specs.Choice.{Parts, value_of}
 use Rattle.byte_reading.proofs.ByteLaws.{one_of_lawful, byte_formats}
 use Rattle.byte_reading.proofs.Lawful.{IsLawful}
 use Rattle.cosem_axdr.specs.Spelling.{IsFit}
@@ -37,11 +37,11 @@ null_fits = record { within = tt; fine = tt; flat = omega arith; short = omega a
 
 -- ---- a value or a result, and the bytes of a block or a result
 
-result_made : (r : GetResult) → made result_forms (result_parts r) ≡ r
+result_made : (r : GetResult) → value_of result_forms (result_parts r) ≡ r
 result_made (Value value) = refl
 result_made (Code code) = refl
 
-made_result : (p : Parts result_forms) → result_parts (made result_forms p) ≡ p
+made_result : (p : Parts result_forms) → result_parts (value_of result_forms p) ≡ p
 made_result (inl value) = refl
 made_result (inr (inl code)) = refl
 made_result (inr (inr none)) = absurd none
@@ -50,11 +50,11 @@ pub result_part_lawful : IsLawful IsByte result_part
 result_part_lawful = one_of_lawful Unreadable result_forms result_parts result_made made_result refl
     (search (axdr_formats, result_lawful))
 
-raw_made : (r : List ℕ ⊎ ResultCode) → made raw_forms (raw_parts r) ≡ r
+raw_made : (r : List ℕ ⊎ ResultCode) → value_of raw_forms (raw_parts r) ≡ r
 raw_made (inl bytes) = refl
 raw_made (inr code) = refl
 
-made_raw : (p : Parts raw_forms) → raw_parts (made raw_forms p) ≡ p
+made_raw : (p : Parts raw_forms) → raw_parts (value_of raw_forms p) ≡ p
 made_raw (inl bytes) = refl
 made_raw (inr (inl code)) = refl
 made_raw (inr (inr none)) = absurd none
@@ -65,12 +65,12 @@ raw_or_result_lawful = one_of_lawful Unreadable raw_forms raw_parts raw_made mad
 
 -- ---- an exception
 
-exception_made : (x : Exception) → made exception_forms (exception_parts x) ≡ x
+exception_made : (x : Exception) → value_of exception_forms (exception_parts x) ≡ x
 exception_made exception.NotAllowed = refl
 exception_made exception.Unreadable = refl
 exception_made exception.Unknown = refl
 
-made_exception : (p : Parts exception_forms) → exception_parts (made exception_forms p) ≡ p
+made_exception : (p : Parts exception_forms) → exception_parts (value_of exception_forms p) ≡ p
 made_exception (inl (inl p)) = refl
 made_exception (inl (inr (inl p))) = refl
 made_exception (inl (inr (inr none))) = absurd none
@@ -85,7 +85,7 @@ exception_part_lawful =
 
 -- ---- all parts
 
--- what `search` needs to prove that a format made of the parts is lawful
+-- what `search` needs to prove that a format value_of of the parts is lawful
 pub ruleset part_laws = (
   byte_formats,
   axdr_formats,

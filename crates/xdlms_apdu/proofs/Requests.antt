@@ -1,7 +1,7 @@
 -- The laws of requests, by those of their format.
 use Rattle.std.proofs.Common.{◌≡◌, ℕ, List, ◌++◌, [], Ok, refl, inl, inr}
 use Rattle.byte_reading.specs.ByteFormats.{IsByte}
-use Rattle.byte_reading.specs.Choice.{Parts, made}
+use Rattle.byte_reading.specs.Choice.{Parts, value_of}
 use Rattle.byte_reading.proofs.ByteLaws.{one_of_lawful, bytes_all}
 use Rattle.byte_reading.proofs.Lawful.{IsLawful, found, read_again, text_again, only_one}
 use Rattle.cosem_axdr.specs.Spelling.{IsBytes}
@@ -13,7 +13,7 @@ use Rattle.xdlms_apdu.specs.declared.request.Request.{Request}
 use Rattle.xdlms_apdu.specs.declared.request.Request.TheVariants as request
 
 -- a request is made of its parts, and taken apart into them
-parts_made : (r : Request) → made request_forms (request_parts r) ≡ r
+parts_made : (r : Request) → value_of request_forms (request_parts r) ≡ r
 parts_made (request.Get id target) = refl
 parts_made (request.GetNext id number) = refl
 parts_made (request.GetList id targets) = refl
@@ -24,7 +24,7 @@ parts_made (request.Action id method given) = refl
 parts_made (request.ActionFirst id method block) = refl
 parts_made (request.ActionNext id block) = refl
 
-made_parts : (p : Parts request_forms) → request_parts (made request_forms p) ≡ p
+made_parts : (p : Parts request_forms) → request_parts (value_of request_forms p) ≡ p
 made_parts (inl (inl p)) = refl
 made_parts (inl (inr (inl p))) = refl
 made_parts (inl (inr (inr (inl p)))) = refl

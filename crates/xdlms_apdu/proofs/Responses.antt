@@ -1,7 +1,7 @@
 -- The laws of responses, by those of their format.
 use Rattle.std.proofs.Common.{◌≡◌, ℕ, List, ◌++◌, [], Ok, refl, inl, inr}
 use Rattle.byte_reading.specs.ByteFormats.{IsByte}
-use Rattle.byte_reading.specs.Choice.{Parts, made}
+use Rattle.byte_reading.specs.Choice.{Parts, value_of}
 use Rattle.byte_reading.proofs.ByteLaws.{one_of_lawful, bytes_all}
 use Rattle.byte_reading.proofs.Lawful.{IsLawful, found, read_again, text_again, only_one}
 use Rattle.cosem_axdr.specs.Spelling.{IsBytes}
@@ -13,7 +13,7 @@ use Rattle.xdlms_apdu.specs.declared.response.Response.{Response}
 use Rattle.xdlms_apdu.specs.declared.response.Response.TheVariants as response
 
 -- a response is made of its parts, and taken apart into them
-parts_made : (r : Response) → made response_forms (response_parts r) ≡ r
+parts_made : (r : Response) → value_of response_forms (response_parts r) ≡ r
 parts_made (response.Get id result) = refl
 parts_made (response.GetBlock id block) = refl
 parts_made (response.GetBlockRefused id last number code) = refl
@@ -25,7 +25,7 @@ parts_made (response.Action id code) = refl
 parts_made (response.ActionBlock id number) = refl
 parts_made (response.Exception exception) = refl
 
-made_parts : (p : Parts response_forms) → response_parts (made response_forms p) ≡ p
+made_parts : (p : Parts response_forms) → response_parts (value_of response_forms p) ≡ p
 made_parts (inl (inl p)) = refl
 made_parts (inl (inr (inl (id, (last, (number, inl raw)))))) = refl
 made_parts (inl (inr (inl (id, (last, (number, inr code)))))) = refl

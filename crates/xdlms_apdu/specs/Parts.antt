@@ -7,9 +7,9 @@ use Rattle.std.specs.Prelude.{◌≡◌, ℕ, Bool, true, false, ◌⊎◌, Opti
 use Rattle.std.specs.Prelude.{Result, Ok, Err}
 use Rattle.std.proofs.Common.{inl, inr}
 use Rattle.std.specs.Int.{w16, w32}
-use Rattle.byte_reading.specs.ByteFormats.{same_byte, byte, fixed, number, flag, optional, one_of}
+use Rattle.byte_reading.specs.ByteFormats.{same_byte, byte, octets, number, flag, optional, one_of}
 use Rattle.byte_reading.specs.Choice.{Choice, on, under, otherwise, Parts}
-use Rattle.byte_reading.specs.Format.{Format, seen, empty, ◌&◌, exactly, dropped}
+use Rattle.byte_reading.specs.Format.{Format, iso, empty, ◌&◌, exactly, placeholder}
 use Rattle.byte_reading.specs.Outcome.{Fails}
 use Rattle.cosem_axdr.specs.Formats.{raw, list, axdr_data}
 use Rattle.cosem_axdr.specs.declared.value.Data.{Data}
@@ -68,7 +68,7 @@ data_part = axdr_data Unreadable
 
 -- Invoke-Id-And-Priority ::= Unsigned8
 abbrev pub invoke_id_part : Part InvokeId
-invoke_id_part = seen (λ n. record { 0 = n }) (λ id. id.0) byte_part
+invoke_id_part = iso (λ n. record { 0 = n }) (λ id. id.0) byte_part
 
 -- Data-Access-Result ::= ENUMERATED, and Action-Result, which has the same values
 abbrev pub code_part : Part ResultCode
@@ -78,24 +78,24 @@ code_part = result Unreadable
 
 -- Cosem-Class-Id ::= Unsigned16
 abbrev pub class_part : Part ClassId
-class_part = seen (λ n. record { 0 = n }) (λ class. class.0) (number Unreadable w16)
+class_part = iso (λ n. record { 0 = n }) (λ class. class.0) (number Unreadable w16)
 
 -- Cosem-Object-Instance-Id ::= OCTET STRING (SIZE(6))
 abbrev pub name_part : Part Obis
-name_part = seen (λ bytes. record { 0 = bytes }) (λ name. name.0) (fixed Unreadable 6)
+name_part = iso (λ bytes. record { 0 = bytes }) (λ name. name.0) (octets Unreadable 6)
 
 -- Cosem-Attribute-Descriptor ::= SEQUENCE
 --     { class-id Cosem-Class-Id, instance-id Cosem-Object-Instance-Id,
 --       attribute-id Cosem-Object-Attribute-Id }
 abbrev pub attribute_part : Part AttrRef
-attribute_part = seen (λ p. record { class = p.0; name = p.1.0; number = p.1.1 })
+attribute_part = iso (λ p. record { class = p.0; name = p.1.0; number = p.1.1 })
     (λ a. (a.class, (a.name, a.number))) (class_part & name_part & byte_part)
 
 -- Cosem-Method-Descriptor ::= SEQUENCE
 --     { class-id Cosem-Class-Id, instance-id Cosem-Object-Instance-Id,
 --       method-id Cosem-Object-Method-Id }
 abbrev pub method_part : Part MethodRef
-method_part = seen (λ p. record { class = p.0; name = p.1.0; number = p.1.1 })
+method_part = iso (λ p. record { class = p.0; name = p.1.0; number = p.1.1 })
     (λ m. (m.class, (m.name, m.number))) (class_part & name_part & byte_part)
 
 -- a part of which only the presence is kept
@@ -107,13 +107,13 @@ present_if false = None
 -- OPTIONAL, of which only the presence is kept; selector 0 with null-data is written
 abbrev pub selection_part : Part Bool
 selection_part =
-    seen is_some present_if (optional Unreadable (dropped (0, Null) (byte_part & data_part)))
+    iso is_some present_if (optional Unreadable (placeholder (0, Null) (byte_part & data_part)))
 
 -- Cosem-Attribute-Descriptor-With-Selection ::= SEQUENCE
 --     { cosem-attribute-descriptor Cosem-Attribute-Descriptor,
 --       access-selection Selective-Access-Descriptor OPTIONAL }
 abbrev pub target_part : Part AttributeSelection
-target_part = seen (λ p. record { attr = p.0; selected = p.1 }) (λ t. (t.attr, t.selected))
+target_part = iso (λ p. record { attr = p.0; selected = p.1 }) (λ t. (t.attr, t.selected))
     (attribute_part & selection_part)
 
 -- method-invocation-parameters Data OPTIONAL
@@ -129,7 +129,7 @@ nothing_part = exactly same_byte Unreadable 0x00
 -- DataBlock-SA ::= SEQUENCE
 --     { last-block BOOLEAN, block-number Unsigned32, raw-data OCTET STRING }
 abbrev pub block_part : Part DataBlock
-block_part = seen (λ p. record { last = p.0; number = p.1.0; raw = p.1.1 })
+block_part = iso (λ p. record { last = p.0; number = p.1.0; raw = p.1.1 })
     (λ b. (b.last, (b.number, b.raw))) (flag_part & number_part & raw_part)
 
 -- Get-Data-Result ::= CHOICE { data [0] Data, data-access-result [1] Data-Access-Result }
