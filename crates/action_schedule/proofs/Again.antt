@@ -42,14 +42,20 @@ type_again Type5 = refl
 
 -- an entry from its parts
 abbrev with_parts : List ℕ × List ℕ → Result EntryPattern WriteFault
-with_parts parts = ok_or (result_ok (time_of parts.0)) Value >>= λ time. ok_or (result_ok (date_of parts.1)) Value >>= λ date. done WriteFault (record { time = time; date = date })
+with_parts parts = ok_or (result_ok (time_of parts.0)) Value
+    >>= λ time. ok_or (result_ok (date_of parts.1)) Value
+    >>= λ date. done WriteFault (record { time = time; date = date })
 
 -- a written entry reads as itself
 entry_again : (entry : EntryPattern) → IsEntry entry → entry_of (entry_data entry) ≡ Ok entry
 unfolding entry_of entry_data
 entry_again entry fits =
-    ap (λ o. ok_or o Unmatched >>= with_parts) (entry_parts_again (time_bytes entry.time) (date_bytes entry.date) refl (five_bytes entry.date))
-    ∙ ap₂ (λ t d. ok_or (result_ok t) Value >>= λ time. ok_or (result_ok d) Value >>= λ date. done WriteFault (record { time = time; date = date })) (time_again entry.time fits.time) (date_again entry.date fits.date)
+    ap (λ o. ok_or o Unmatched >>= with_parts)
+        (entry_parts_again (time_bytes entry.time) (date_bytes entry.date) refl
+        (five_bytes entry.date))
+    ∙ ap₂ (λ t d. ok_or (result_ok t) Value >>= λ time. ok_or (result_ok d) Value
+        >>= λ date. done WriteFault (record { time = time; date = date }))
+        (time_again entry.time fits.time) (date_again entry.date fits.date)
 
 -- judged entries, read
 abbrev with_items : List Data → Result (List EntryPattern) WriteFault
@@ -63,7 +69,8 @@ entries_again entries fits =
     let items = map entry_data entries in
     let are = all_again entry_of entry_data IsEntry entry_again entries fits.fit in
     ap (λ read. with_items read) (list_of_trees items)
-    ∙ ap (λ r. (r >> guard (nat_le (length items) max_entries) Value) >> done WriteFault (values entry_of items)) (told_again are)
+    ∙ ap (λ r. (r >> guard (nat_le (length items) max_entries) Value) >> done WriteFault
+        (values entry_of items)) (told_again are)
     ∙ ap (λ b. guard b Value >> done WriteFault (values entry_of items)) few
     ∙ ap (λ xs. done WriteFault xs) are.are
   where
@@ -80,17 +87,22 @@ selector_written (Err error) selector is = tt
 pub kind_written : (number : ℕ) (kind : ScheduleType) → number ≡ number_of kind
     → kind_of (Enum number) ≡ Ok kind
 unfolding kind_of
-kind_written number kind is = ap (λ n. ok_or (type_of_number n) Value) is ∙ ap (λ o. ok_or o Value) (type_again kind)
+kind_written number kind is = ap (λ n. ok_or (type_of_number n) Value) is
+    ∙ ap (λ o. ok_or o Value) (type_again kind)
 
 pub entries_written : {E : Type 0} (result : Result Data E) (written entries : List EntryPattern)
     → AreEntries entries → written ≡ entries
-    → IfOk result (λ value. value ≡ entries_data written) → IfOk result (λ value. entries_of value ≡ Ok entries)
-entries_written (Ok value) written entries fits same is = ap entries_of is ∙ ap (λ xs. entries_of (entries_data xs)) same ∙ entries_again entries fits
+    → IfOk result (λ value. value ≡ entries_data written)
+        → IfOk result (λ value. entries_of value ≡ Ok entries)
+entries_written (Ok value) written entries fits same is =
+    ap entries_of is ∙ ap (λ xs. entries_of (entries_data xs)) same ∙ entries_again entries fits
 entries_written (Err error) written entries fits same is = tt
 
 -- an attribute reads as itself, given the attribute asked for and the schedule that a caller sees
 pub reads_back : {E : Type 0} (result : Result Data E) (attribute asked : ScheduleAttribute)
     (inside schedule : Schedule) → asked ≡ attribute → inside ≡ schedule
-    → IfOk result (λ value. ReadsBack attribute value inside) → IfOk result (λ value. ReadsBack asked value schedule)
+    → IfOk result (λ value. ReadsBack attribute value inside)
+        → IfOk result (λ value. ReadsBack asked value schedule)
 reads_back result attribute asked inside schedule is view back =
-    subst (λ a. IfOk result (λ value. ReadsBack a value schedule)) (sym is) (subst (λ s. IfOk result (λ value. ReadsBack attribute value s)) view back)
+    subst (λ a. IfOk result (λ value. ReadsBack a value schedule)) (sym is)
+        (subst (λ s. IfOk result (λ value. ReadsBack attribute value s)) view back)

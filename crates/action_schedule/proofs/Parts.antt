@@ -11,7 +11,8 @@ so_many_again n bytes e = grind (arith, nat_tests, e)
 
 pub entry_parts_again : (time date : List ℕ) → length time ≡ 4 → length date ≡ 5
     → entry_parts_of (structure_with (OctetString time ∷ OctetString date ∷ [])) ≡ Some (time, date)
-entry_parts_again time date four five = ap₂ (λ (o p : Option (List ℕ)). o >>= λ t. p >>= λ d. pair t d) (so_many_again 4 time four) (so_many_again 5 date five)
+entry_parts_again time date four five = ap₂ (λ (o p : Option (List ℕ)). o >>= λ t. p
+    >>= λ d. pair t d) (so_many_again 4 time four) (so_many_again 5 date five)
   where
     pair : List ℕ → List ℕ → Option (List ℕ × List ℕ)
     pair t d = Some (t, d)

@@ -20,7 +20,8 @@ accepting outcome = record { accepted = true; outcome = outcome }
 all_accepting : (verb : Verb) (outcome : Option Outcome) (payloads : List (List ℕ))
     → (after_all verb (accepting outcome) payloads).accepted ≡ true
 all_accepting verb outcome [] = refl
-all_accepting verb None (payload ∷ later) = all_accepting verb (Some (outcome_of_response verb payload)) later
+all_accepting verb None (payload ∷ later) = all_accepting verb
+    (Some (outcome_of_response verb payload)) later
 all_accepting verb (Some outcome) (payload ∷ later) = all_accepting verb (Some outcome) later
 
 ended_accepting : (progress : Progress) (head : Head)

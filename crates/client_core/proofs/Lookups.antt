@@ -37,7 +37,8 @@ opening verb payload = opening_by verb (aare_of payload)
 asking_answered : (verb : Verb) (later : List (List ℕ)) → with_answer verb asking later
     ≡ after_all verb asking later
 asking_answered verb [] = refl
-asking_answered verb (answer ∷ later) = sym (all_settled verb true (outcome_of_response verb answer) later)
+asking_answered verb (answer ∷ later) = sym (all_settled verb true (outcome_of_response verb answer)
+    later)
 
 settled_answered : (verb : Verb) (outcome : Outcome) (later : List (List ℕ))
     → with_answer verb (with_outcome outcome) later ≡ after_all verb (with_outcome outcome) later
@@ -46,21 +47,25 @@ settled_answered verb outcome (answer ∷ later) = sym (all_settled verb false o
 
 opening_answered : (verb : Verb) (p : Progress) (later : List (List ℕ)) → IsOpening p
     → with_answer verb p later ≡ after_all verb p later
-opening_answered verb p later (inl is) = ap (λ (q : Progress). with_answer verb q later) is ∙ asking_answered verb later ∙ sym (ap (λ (q : Progress). after_all verb q later) is)
+opening_answered verb p later (inl is) = ap (λ (q : Progress). with_answer verb q later) is
+    ∙ asking_answered verb later ∙ sym (ap (λ (q : Progress). after_all verb q later) is)
 opening_answered verb p later (inr (outcome, is)) =
-    ap (λ (q : Progress). with_answer verb q later) is ∙ settled_answered verb outcome later ∙ sym (ap (λ (q : Progress). after_all verb q later) is)
+    ap (λ (q : Progress). with_answer verb q later) is ∙ settled_answered verb outcome later
+        ∙ sym (ap (λ (q : Progress). after_all verb q later) is)
 
 -- the two interpretations are equal
 pub said_all : (verb : Verb) (payloads : List (List ℕ)) → said verb payloads
     ≡ after_all verb fresh payloads
 said_all verb [] = refl
-said_all verb (aare ∷ later) = opening_answered verb (after_aare verb aare) later (opening verb aare)
+said_all verb (aare ∷ later) = opening_answered verb (after_aare verb aare) later
+    (opening verb aare)
 
 -- the progress of all bytes is their effect on a client that was fed nothing
 pub progress_goes : (verb : Verb) (bytes : List ℕ) → progress_of verb bytes
     ≡ after_bytes verb fresh bytes
 unfolding progress_of after_bytes
-progress_goes verb bytes = ap (λ (p : Progress). ended_by p (head_of (rest_of bytes))) (said_all verb (payloads_of (frames_of bytes)))
+progress_goes verb bytes = ap (λ (p : Progress). ended_by p (head_of (rest_of bytes)))
+    (said_all verb (payloads_of (frames_of bytes)))
 
 -- the progress of no bytes
 pub nothing_said : (verb : Verb) → progress_of verb [] ≡ fresh

@@ -46,7 +46,8 @@ settled_goes : (verb : Verb) (accepted : Bool) (outcome : Outcome) (bytes : List
     → after_bytes verb (with_outcome accepted outcome) bytes ≡ with_outcome accepted outcome
 settled_goes verb accepted outcome bytes =
     goes_does verb (with_outcome accepted outcome) bytes
-    ∙ ap (λ (p : Progress). ended_by p (head_of (rest_of bytes))) (all_settled verb accepted outcome (payloads_of (frames_of bytes)))
+    ∙ ap (λ (p : Progress). ended_by p (head_of (rest_of bytes)))
+        (all_settled verb accepted outcome (payloads_of (frames_of bytes)))
     ∙ ended_settled accepted outcome (head_of (rest_of bytes))
 
 -- a progress with this outcome
@@ -57,13 +58,16 @@ outcome_as p o = record p { outcome = o }
 pub goes_settled : (verb : Verb) (p : Progress) (outcome : Outcome) (bytes : List ℕ) → p.outcome
     ≡ Some outcome → after_bytes verb p bytes ≡ p
 goes_settled verb p outcome bytes is =
-    let same : with_outcome p.accepted outcome ≡ p = ap (λ (o : Option Outcome). outcome_as p o) (sym is) in
-    subst (λ (q : Progress). after_bytes verb q bytes ≡ q) same (settled_goes verb p.accepted outcome bytes)
+    let same : with_outcome p.accepted outcome ≡ p =
+        ap (λ (o : Option Outcome). outcome_as p o) (sym is) in
+    subst (λ (q : Progress). after_bytes verb q bytes ≡ q) same
+        (settled_goes verb p.accepted outcome bytes)
 
 -- ---- one more frame
 
 frame_cases : (ours : Bool) (verb : Verb) (p : Progress) (payload : List ℕ) (later : List (List ℕ))
-    → after_all verb p (if ours then payload ∷ later else later) ≡ after_all verb (if ours then after verb p payload else p) later
+    → after_all verb p (if ours then payload ∷ later else later)
+        ≡ after_all verb (if ours then after verb p payload else p) later
 frame_cases true verb p payload later = refl
 frame_cases false verb p payload later = refl
 
@@ -73,10 +77,13 @@ pub moves_frame : (verb : Verb) (p : Progress) (old : List ℕ) (frame : Frame) 
 moves_frame verb p old frame new goes_on = record {
   on = λ more.
       goes_does verb p (old ++ more)
-      ∙ ap (λ (frames : List Frame). does verb p frames (head_of (rest_of (old ++ more)))) (goes_on.frames more)
-      ∙ ap (λ (rest : List ℕ). does verb p (frame ∷ frames_of (new ++ more)) (head_of rest)) (goes_on.rest more)
+      ∙ ap (λ (frames : List Frame). does verb p frames (head_of (rest_of (old ++ more))))
+          (goes_on.frames more)
+      ∙ ap (λ (rest : List ℕ). does verb p (frame ∷ frames_of (new ++ more)) (head_of rest))
+          (goes_on.rest more)
       ∙ ap (λ (q : Progress). ended_by q (head_of (rest_of (new ++ more))))
-      (frame_cases (frame.src == 1 && frame.dst == 1) verb p frame.payload (payloads_of (frames_of (new ++ more))))
+      (frame_cases (frame.src == 1 && frame.dst == 1) verb p frame.payload
+          (payloads_of (frames_of (new ++ more))))
       ∙ sym (goes_does verb (after_frame verb p frame) (new ++ more));
 }
 
@@ -103,62 +110,73 @@ part_says verb p bytes part =
 
 pub hears_part : (verb : Verb) (first : Progress) (old : List ℕ) (p : Progress) (bytes : List ℕ)
     → Moves verb first old p bytes → IsPart bytes → Hears verb first old p bytes
-hears_part verb first old p bytes moves part = record { moves = moves; here = part_says verb p bytes part }
+hears_part verb first old p bytes moves part =
+    record { moves = moves; here = part_says verb p bytes part }
 
 -- a wrong header ends the reading
 stops_goes : (verb : Verb) (p : Progress) (front : Head) (bytes more : List ℕ) → Stops front bytes
     → after_bytes verb p (bytes ++ more) ≡ ended_by p front
 stops_goes verb p front bytes more stops =
     goes_does verb p (bytes ++ more)
-    ∙ ap (λ (frames : List Frame). does verb p frames (head_of (rest_of (bytes ++ more)))) (stops.frames more)
+    ∙ ap (λ (frames : List Frame). does verb p frames (head_of (rest_of (bytes ++ more))))
+        (stops.frames more)
     ∙ ap (λ (rest : List ℕ). does verb p [] (head_of rest)) (stops.rest more)
     ∙ ap (λ (at : Head). does verb p [] at) (stops.heads more)
 
 -- an unknown outcome remains
 unknown_goes : (verb : Verb) (p : Progress) (bytes : List ℕ) → after_bytes verb (or_unknown p) bytes
     ≡ or_unknown p
-unknown_goes verb p bytes = goes_settled verb (or_unknown p) (unwrap_or p.outcome Unknown) bytes refl
+unknown_goes verb p bytes = goes_settled verb (or_unknown p)
+    (unwrap_or p.outcome Unknown) bytes refl
 
 -- bytes that begin with a wrong header, whatever is kept of them
 hears_front : (verb : Verb) (p : Progress) (front : Head) (bytes kept : List ℕ) → Stops front bytes
     → ended_by p front ≡ or_unknown p → Hears verb p bytes (or_unknown p) kept
 hears_front verb p front bytes kept stops ends = record {
-  moves = record { on = λ more. stops_goes verb p front bytes more stops ∙ ends ∙ sym (unknown_goes verb p (kept ++ more)) };
+  moves = record { on = λ more. stops_goes verb p front bytes more stops ∙ ends
+      ∙ sym (unknown_goes verb p (kept ++ more)) };
   here = unknown_goes verb p kept;
 }
 
 hears_after : (verb : Verb) (first : Progress) (old : List ℕ) (p : Progress) (bytes : List ℕ)
     (q : Progress) (kept : List ℕ)
     → Moves verb first old p bytes → Hears verb p bytes q kept → Hears verb first old q kept
-hears_after verb first old p bytes q kept moves hears = record { moves = moves_twice verb first old p bytes q kept moves hears.moves; here = hears.here }
+hears_after verb first old p bytes q kept moves hears = record
+    { moves = moves_twice verb first old p bytes q kept moves hears.moves; here = hears.here }
 
 pub hears_version : (verb : Verb) (first : Progress) (old : List ℕ) (p : Progress)
     (bytes kept : List ℕ)
-    → Moves verb first old p bytes → Stops BadVersion bytes → Hears verb first old (or_unknown p) kept
+    → Moves verb first old p bytes → Stops BadVersion bytes
+        → Hears verb first old (or_unknown p) kept
 hears_version verb first old p bytes kept moves stops =
-    hears_after verb first old p bytes (or_unknown p) kept moves (hears_front verb p BadVersion bytes kept stops refl)
+    hears_after verb first old p bytes (or_unknown p) kept moves
+        (hears_front verb p BadVersion bytes kept stops refl)
 
 pub hears_long : (verb : Verb) (first : Progress) (old : List ℕ) (p : Progress)
     (bytes kept : List ℕ)
     → Moves verb first old p bytes → Stops TooLong bytes → Hears verb first old (or_unknown p) kept
 hears_long verb first old p bytes kept moves stops =
-    hears_after verb first old p bytes (or_unknown p) kept moves (hears_front verb p TooLong bytes kept stops refl)
+    hears_after verb first old p bytes (or_unknown p) kept moves
+        (hears_front verb p TooLong bytes kept stops refl)
 
 -- bytes after a wrong header change nothing
 more_stops : (front : Head) (bytes more : List ℕ) → Stops front bytes → Stops front (bytes ++ more)
 more_stops front bytes more stops = record {
   frames = λ others. ap frames_of (append_assoc bytes more others) ∙ stops.frames (more ++ others);
-  rest = λ others. ap rest_of (append_assoc bytes more others) ∙ stops.rest (more ++ others) ∙ sym (append_assoc bytes more others);
+  rest = λ others. ap rest_of (append_assoc bytes more others) ∙ stops.rest (more ++ others)
+      ∙ sym (append_assoc bytes more others);
   heads = λ others. ap head_of (append_assoc bytes more others) ∙ stops.heads (more ++ others);
 }
 
 pub skips_version : (verb : Verb) (p : Progress) (bytes more kept : List ℕ) → Stops BadVersion bytes
     → Hears verb p (bytes ++ more) (or_unknown p) kept
-skips_version verb p bytes more kept stops = hears_front verb p BadVersion (bytes ++ more) kept (more_stops BadVersion bytes more stops) refl
+skips_version verb p bytes more kept stops = hears_front verb p BadVersion (bytes ++ more) kept
+    (more_stops BadVersion bytes more stops) refl
 
 pub skips_long : (verb : Verb) (p : Progress) (bytes more kept : List ℕ) → Stops TooLong bytes
     → Hears verb p (bytes ++ more) (or_unknown p) kept
-skips_long verb p bytes more kept stops = hears_front verb p TooLong (bytes ++ more) kept (more_stops TooLong bytes more stops) refl
+skips_long verb p bytes more kept stops = hears_front verb p TooLong (bytes ++ more) kept
+    (more_stops TooLong bytes more stops) refl
 
 -- after a frame is removed fewer bytes are left
 pub fewer : (old : List ℕ) (frame : Frame) (new : List ℕ) → IsFirst old frame new

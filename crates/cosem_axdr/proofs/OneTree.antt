@@ -8,7 +8,8 @@ pub use Rattle.cosem_axdr.specs.ViewLaws.{data_of-tree_of, tree_of-data_of, one_
 -- Datas converted to items and back are unchanged
 pub list_of_trees : (ds : List Data) → list_of (trees_of (all_trees ds)) ≡ ds
 list_of_trees [] = refl
-list_of_trees (d ∷ ds) = ap₂ (λ (e : Data) (es : List Data). e ∷ es) (data_of-tree_of d) (list_of_trees ds)
+list_of_trees (d ∷ ds) = ap₂ (λ (e : Data) (es : List Data). e ∷ es) (data_of-tree_of d)
+    (list_of_trees ds)
 
 -- items converted to Datas and back are unchanged
 pub trees_of_list : (ts : Trees) → trees_of (all_trees (list_of ts)) ≡ ts
@@ -37,4 +38,5 @@ pub same_items : (r : Bool) (xs ys ds es : List Data) (ts us : Trees) → IsTrue
     ≡ ds → ys ≡ es → trees_of (all_trees ds) ≡ ts → trees_of (all_trees es) ≡ us
     → IsTrue r ↔ (ts ≡ us)
 same_items r xs ys ds es ts us tells x y t u =
-    (λ yes. sym t ∙ ap (λ (l : List Data). trees_of (all_trees l)) (sym x ∙ tells.0 yes ∙ y) ∙ u, λ one. tells.1 (x ∙ one_list ds es (t ∙ one ∙ sym u) ∙ sym y))
+    (λ yes. sym t ∙ ap (λ (l : List Data). trees_of (all_trees l)) (sym x ∙ tells.0 yes ∙ y)
+        ∙ u, λ one. tells.1 (x ∙ one_list ds es (t ∙ one ∙ sym u) ∙ sym y))

@@ -33,7 +33,8 @@ none_then test from middle limit a b = record {
 pub first_then : (test : ℕ → Bool) (from middle limit n : ℕ) → from ≤ middle
     → NonePasses test from middle → IsFirst test middle limit n → IsFirst test from limit n
 first_then test from middle limit n le a b =
-    record { low = omega (arith, b.low); high = b.high; passes = b.passes; before = none_then test from middle n a b.before }
+    record { low = omega (arith, b.low); high = b.high; passes = b.passes;
+        before = none_then test from middle n a b.before }
 
 -- the first in a part is the first in the whole
 pub first_within : (test : ℕ → Bool) (from middle limit n : ℕ) → middle ≤ limit
@@ -58,7 +59,8 @@ minutes = record {
   same = λ from n low high. omega arith;
   low = λ m n h. omega arith;
   high = λ m n h. omega arith;
-  less = λ m s n h lt. elim (cases_order (n / 60) m) [ inl e ↦ inr (e, omega arith) | inr (inl l) ↦ inl l | inr (inr g) ↦ absurd (omega arith) ];
+  less = λ m s n h lt. elim (cases_order (n / 60) m) [ inl e ↦ inr (e, omega arith) | inr
+      (inl l) ↦ inl l | inr (inr g) ↦ absurd (omega arith) ];
   top = λ m s limit lt h. omega arith;
 }
 
@@ -68,7 +70,8 @@ hours = record {
   same = λ from n low high. omega arith;
   low = λ m n h. omega arith;
   high = λ m n h. omega arith;
-  less = λ m s n h lt. elim (cases_order (n / 3600) m) [ inl e ↦ inr (e, omega arith) | inr (inl l) ↦ inl l | inr (inr g) ↦ absurd (omega arith) ];
+  less = λ m s n h lt. elim (cases_order (n / 3600) m) [ inl e ↦ inr (e, omega arith) | inr
+      (inl l) ↦ inl l | inr (inr g) ↦ absurd (omega arith) ];
   top = λ m s limit lt h. omega arith;
 }
 
@@ -86,7 +89,8 @@ pub left_fails : (unit : ℕ) (whole left : ℕ → Bool) (from : ℕ) → 0 < u
     (unit * (from / unit + 1))
 unfolding parts_pass
 left_fails unit whole left from pos u h = record {
-  none = λ n low high. and_false_right _ _ (h.none (n % unit) (u.same from n low high).1 (omega arith));
+  none = λ n low high. and_false_right _ _ (h.none (n % unit) (u.same from n low high).1
+      (omega arith));
 }
 
 -- the first number of this unit that passes
@@ -118,7 +122,8 @@ pub later_fails : (unit : ℕ) (whole left : ℕ → Bool) (first limit : ℕ) �
     (unit * limit)
 unfolding parts_pass
 later_fails unit whole left first limit u h = record {
-  none = λ n low high. and_false_left _ _ (h.none (n / unit) (u.low first n low) (u.high limit n high));
+  none = λ n low high. and_false_left _ _ (h.none (n / unit) (u.low first n low)
+      (u.high limit n high));
 }
 
 -- no number passes if no remainder passes
@@ -168,10 +173,12 @@ pub first_tells : (t : TimeFields) (from to s : ℕ) → to < 86400
     → TellsPassing (time_matches t) from to (nat_le s to)
 first_tells t from to s within h = record {
   found = λ e. (s, (h.low, (at_most s to e, day_parts t s ∙ h.passes)));
-  none = λ e n low high. let past : to < s = over s to e in day_parts t n ∙ h.before.none n low (omega arith);
+  none = λ e n low high. let past : to < s = over s to e in day_parts t n
+      ∙ h.before.none n low (omega arith);
 }
 
 pub none_tells : (t : TimeFields) (from to : ℕ) → to < 86400
     → NonePasses (day_second_holds t) from 86400 → TellsPassing (time_matches t) from to false
 none_tells t from to within h =
-    record { found = λ e. absurd cc; none = λ e n low high. day_parts t n ∙ h.none n low (omega arith) }
+    record { found = λ e. absurd cc; none = λ e n low high. day_parts t n
+        ∙ h.none n low (omega arith) }

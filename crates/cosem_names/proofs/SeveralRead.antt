@@ -11,7 +11,8 @@ use Rattle.cosem_names.specs.declared.write_fault.WriteFault.{WriteFault}
 use Rattle.cosem_names.specs.declared.write_fault.WriteFault.TheVariants.{Unmatched, Value}
 
 -- the values of the first i items
-pub record HasRead {A B : Type 0} (read : A → Result B WriteFault) (P : B → Type 0) (items : List A) (i : ℕ) (found : List B) : Type 0 where
+pub record HasRead {A B : Type 0} (read : A → Result B WriteFault) (P : B → Type 0) (items : List A)
+    (i : ℕ) (found : List B) : Type 0 where
   pub are : found ≡ values read (take i items)
   pub fit : All P found
   pub few : length found ≤ i
@@ -19,17 +20,22 @@ pub record HasRead {A B : Type 0} (read : A → Result B WriteFault) (P : B → 
 -- the values of one more item
 one_more : {A B : Type 0} (read : A → Result B WriteFault) (items : List A) (i : ℕ) (item : A)
     → i < length items → item ≡ get_or items i item
-    → values read (take (i + 1) items) ≡ values read (take i items) ++ cons_option (result_ok (read item)) []
+    → values read (take (i + 1) items) ≡ values read (take i items)
+        ++ cons_option (result_ok (read item)) []
 one_more read items i item within is =
-    ap (values read) (take_more items i item within) ∙ filter_map-append (λ x. result_ok (read x)) (take i items) (get_or items i item ∷ [])
+    ap (values read) (take_more items i item within)
+        ∙ filter_map-append (λ x. result_ok (read x)) (take i items) (get_or items i item ∷ [])
     ∙ ap (λ x. values read (take i items) ++ cons_option (result_ok (read x)) []) (sym is)
 
 -- an item with a fault adds no value
 pub HasRead-none : {A B : Type 0} {read : A → Result B WriteFault} {P : B
     → Type 0} {items : List A} {i : ℕ} {found : List B} → HasRead read P items i found
-    → (item : A) → i < length items → item ≡ get_or items i item → result_ok (read item) ≡ None → HasRead read P items (i + 1) found
+    → (item : A) → i < length items → item ≡ get_or items i item → result_ok (read item) ≡ None
+        → HasRead read P items (i + 1) found
 HasRead-none {read = read} {items = items} {i = i} so_far item within is none = record {
-  are = so_far.are ∙ sym (append-nil (values read (take i items))) ∙ ap (λ o. values read (take i items) ++ cons_option o []) (sym none) ∙ sym (one_more read items i item within is);
+  are = so_far.are ∙ sym (append-nil (values read (take i items)))
+      ∙ ap (λ o. values read (take i items) ++ cons_option o []) (sym none)
+      ∙ sym (one_more read items i item within is);
   fit = so_far.fit;
   few = omega (arith, so_far.few);
 }
@@ -37,15 +43,19 @@ HasRead-none {read = read} {items = items} {i = i} so_far item within is none = 
 -- an item without a fault adds its value
 pub HasRead-one : {A B : Type 0} {read : A → Result B WriteFault} {P : B
     → Type 0} {items : List A} {i : ℕ} {found : List B} → HasRead read P items i found
-    → (item : A) (x : B) → i < length items → item ≡ get_or items i item → result_ok (read item) ≡ Some x → P x → HasRead read P items (i + 1) (found ++ x ∷ [])
-HasRead-one {read = read} {P = P} {items = items} {i = i} {found = found} so_far item x within is some fits = record {
-  are = ap (λ xs. xs ++ x ∷ []) so_far.are ∙ ap (λ o. values read (take i items) ++ cons_option o []) (sym some) ∙ sym (one_more read items i item within is);
+    → (item : A) (x : B) → i < length items → item ≡ get_or items i item → result_ok (read item)
+        ≡ Some x → P x → HasRead read P items (i + 1) (found ++ x ∷ [])
+HasRead-one {read = read} {P = P} {items = items} {i = i} {found = found} so_far item x within is
+    some fits = record {
+  are = ap (λ xs. xs ++ x ∷ []) so_far.are ∙ ap (λ o. values read (take i items)
+      ++ cons_option o []) (sym some) ∙ sym (one_more read items i item within is);
   fit = All-push P found x so_far.fit fits;
   few = omega (arith, so_far.few, length-append found (x ∷ []));
 }
 
 -- no item has a fault, and these are their values
-pub record AreRead {A B : Type 0} (read : A → Result B WriteFault) (items : List A) (xs : List B) : Type 0 where
+pub record AreRead {A B : Type 0} (read : A → Result B WriteFault) (items : List A)
+    (xs : List B) : Type 0 where
   pub typed : list_any (λ item. is_unmatched (read item)) items ≡ false
   pub faultless : list_any (λ item. is_err (read item)) items ≡ false
   pub are : values read items ≡ xs
@@ -68,13 +78,15 @@ all_again read write P again (x ∷ xs) all =
 pub told_again : {A B : Type 0} {read : A → Result B WriteFault} {items : List A} {xs : List B}
     → AreRead read items xs → fault_of_items read items ≡ Ok tt
 unfolding fault_of_items
-told_again are = ap₂ (λ a b. cond a (Err Unmatched) (cond b (Err Value) (done WriteFault tt))) are.typed are.faultless
+told_again are = ap₂ (λ a b. cond a (Err Unmatched) (cond b (Err Value) (done WriteFault tt)))
+    are.typed are.faultless
 
 -- if no fault is reported, no item has one
 pub told_ok : {A B : Type 0} (read : A → Result B WriteFault) (items : List A) (u : Unit {0})
     → fault_of_items read items ≡ Ok u → list_any (λ item. is_err (read item)) items ≡ false
 unfolding fault_of_items
-told_ok read items u e = here (list_any (λ item. is_unmatched (read item)) items) (list_any (λ item. is_err (read item)) items) e
+told_ok read items u e = here (list_any (λ item. is_unmatched (read item)) items)
+    (list_any (λ item. is_err (read item)) items) e
   where
     here : (a b : Bool) → cond a (Err Unmatched) (cond b (Err Value) (done WriteFault tt))
         ≡ Ok u → b ≡ false

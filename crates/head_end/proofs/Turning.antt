@@ -11,7 +11,8 @@ use Rattle.head_end.proofs.Steps.{all_fed}
 use Rattle.head_end.specs.Conversations.{At, AtTurn, GivesUp, SendsAll, Turns, Converses}
 
 -- a client was fed the bytes of one more read
-pub record Feeding (old : Client) (before : Option Forecast) (new : Client) (after : Option Forecast) : Type 0 where
+pub record Feeding (old : Client) (before : Option Forecast) (new : Client)
+    (after : Option Forecast) : Type 0 where
   pub on : (start : Forecast) (verb : Verb) (password : List ℕ) (left : ℕ)
       → At start verb password (suc left) old before → At start verb password left new after
 
@@ -20,16 +21,22 @@ read_now : (start : Forecast) (left count : ℕ) (rest buffer : List ℕ)
     (before after : Option Forecast) → before
     ≡ Some (record { reads = suc left; bytes = rest; stop = start.stop })
     → length buffer ≡ 1024 → count ≢ 0 → ReadTells before (Ok count) buffer after
-    → GivesPiece (record { reads = suc left; bytes = rest; stop = start.stop }) left (take count buffer) after
+    → GivesPiece (record { reads = suc left; bytes = rest; stop = start.stop }) left
+        (take count buffer) after
 read_now start left zero rest buffer before after is size some tells = absurd (some refl)
-read_now start left (suc count) rest buffer before after is size some tells = let told = rw is at tells in told size
+read_now start left (suc count) rest buffer before after is size some tells =
+    let told = rw is at tells in
+    told size
 
 at_fed : (start : Forecast) (verb : Verb) (password : List ℕ) (left count : ℕ) (old new : Client)
     (bytes buffer : List ℕ) (before after : Option Forecast)
-    → length buffer ≡ 1024 → count ≢ 0 → bytes ≡ take count buffer → ReadTells before (Ok count) buffer after → Feeds old bytes new
+    → length buffer ≡ 1024 → count ≢ 0 → bytes ≡ take count buffer
+        → ReadTells before (Ok count) buffer after → Feeds old bytes new
     → At start verb password (suc left) old before → At start verb password left new after
-at_fed start verb password left count old new bytes buffer before after size some bytes_are tells feeds at =
-    let piece = read_now start left count at.follows.rest buffer before after at.follows.now_is size some tells in
+at_fed start verb password left count old new bytes buffer before after size some bytes_are
+    tells feeds at =
+    let piece = read_now start left count at.follows.rest buffer before after at.follows.now_is size
+        some tells in
     record {
       fed = at.fed ++ bytes;
       given = at.given;
@@ -39,7 +46,8 @@ at_fed start verb password left count old new bytes buffer before after size som
         now_is = piece.new_is;
         bytes_are =
             at.follows.bytes_are ∙ ap (λ (t : List ℕ). at.fed ++ t) piece.bytes_are
-            ∙ ap (λ (t : List ℕ). at.fed ++ (t ++ piece.rest)) (sym bytes_are) ∙ sym (append_assoc at.fed bytes piece.rest);
+            ∙ ap (λ (t : List ℕ). at.fed ++ (t ++ piece.rest)) (sym bytes_are)
+                ∙ sym (append_assoc at.fed bytes piece.rest);
         last = piece.last;
       };
     }
@@ -48,7 +56,8 @@ pub feeding : (old new : Client) (count : ℕ) (bytes buffer : List ℕ)
     (before after : Option Forecast) → length buffer ≡ 1024 → count ≢ 0 → bytes ≡ take count buffer
     → ReadTells before (Ok count) buffer after → Feeds old bytes new → Feeding old before new after
 feeding old new count bytes buffer before after size some bytes_are tells feeds = record {
-  on = λ start verb password left at. at_fed start verb password left count old new bytes buffer before after size some bytes_are tells feeds at;
+  on = λ start verb password left at. at_fed start verb password left count old new bytes buffer
+      before after size some bytes_are tells feeds at;
 }
 
 -- ---- a turn
@@ -60,24 +69,29 @@ pub turn_ended : (old new : Client) (buffer : List ℕ) (before told after : Opt
 turn_ended old new buffer before told after outcome size tells gives = record {
   on = λ start verb password left at.
       let none = rw at.follows.now_is at tells in
-      gives.outcome_is start verb password (all_fed start verb password (suc left) at.given old before at.fed at.follows at.stands (none size).0);
+      gives.outcome_is start verb password (all_fed start verb password (suc left) at.given old
+          before at.fed at.follows at.stands (none size).0);
 }
 
 pub turn_failed : (old new : Client) (buffer : List ℕ) (before told after : Option Forecast)
     (fault : StreamFault) (outcome : Outcome) → length buffer ≡ 1024
-    → ReadTells before (Err fault) buffer told → GivesUp old outcome → Turns old before (Some outcome) new after
+    → ReadTells before (Err fault) buffer told → GivesUp old outcome
+        → Turns old before (Some outcome) new after
 turn_failed old new buffer before told after fault outcome size tells gives = record {
   on = λ start verb password left at.
       let none = rw at.follows.now_is at tells in
-      gives.outcome_is start verb password (all_fed start verb password (suc left) at.given old before at.fed at.follows at.stands (none size).0);
+      gives.outcome_is start verb password (all_fed start verb password (suc left) at.given old
+          before at.fed at.follows at.stands (none size).0);
 }
 
 -- a message could not be written
 pub turn_cut : (old mid last new : Client) (before between cut after : Option Forecast)
     (outcome : Outcome) → Feeding old before mid between
-    → SendsAll mid between false last cut → GivesUp last outcome → Turns old before (Some outcome) new after
+    → SendsAll mid between false last cut → GivesUp last outcome
+        → Turns old before (Some outcome) new after
 turn_cut old mid last new before between cut after outcome fed sends gives = record {
-  on = λ start verb password left at. gives.outcome_is start verb password (sends.on start verb password left (fed.on start verb password left at));
+  on = λ start verb password left at. gives.outcome_is start verb password
+      (sends.on start verb password left (fed.on start verb password left at));
 }
 
 -- the outcome is settled, or it is not
@@ -86,7 +100,8 @@ settled_at : (start : Forecast) (verb : Verb) (password : List ℕ) (left : ℕ)
     → At start verb password left client now → AtTurn result start verb password left client now
 settled_at start verb password left client now None tells at = at
 settled_at start verb password left client now (Some outcome) tells at =
-    sym (tells.stays verb password at.fed at.given false at.stands outcome (sym (tells.told verb password at.fed at.given false at.stands)) at.follows.rest)
+    sym (tells.stays verb password at.fed at.given false at.stands outcome
+        (sym (tells.told verb password at.fed at.given false at.stands)) at.follows.rest)
     ∙ ap (outcome_of verb) (sym at.follows.bytes_are)
 
 pub turn_on : (old mid new : Client) (before between after : Option Forecast)
@@ -94,13 +109,15 @@ pub turn_on : (old mid new : Client) (before between after : Option Forecast)
     → SendsAll mid between true new after → Tells new result → Turns old before result new after
 turn_on old mid new before between after result fed sends tells = record {
   on = λ start verb password left at.
-      settled_at start verb password left new after result tells (sends.on start verb password left (fed.on start verb password left at));
+      settled_at start verb password left new after result tells
+          (sends.on start verb password left (fed.on start verb password left at));
 }
 
 -- ---- all turns
 
 -- the given number of turns has not settled the outcome
-pub record Goes (first : Client) (before : Option Forecast) (turns : ℕ) (client : Client) (now : Option Forecast) : Type 0 where
+pub record Goes (first : Client) (before : Option Forecast) (turns : ℕ) (client : Client)
+    (now : Option Forecast) : Type 0 where
   pub on : (start : Forecast) (verb : Verb) (password : List ℕ) (left : ℕ) → left + turns ≡ 65536
       → At start verb password 65536 first before
       → At start verb password left client now
@@ -111,21 +128,24 @@ pub goes_first : (old client : Client) (before now : Option Forecast)
 goes_first old client before now sends = record {
   on = λ start verb password left all at.
       let same : 65536 ≡ left = omega arith in
-      subst (λ (n : ℕ). At start verb password n client now) same (sends.on start verb password 65536 at);
+      subst (λ (n : ℕ). At start verb password n client now) same
+          (sends.on start verb password 65536 at);
 }
 
 pub goes_on : (first old new : Client) (begun before after : Option Forecast) (turns : ℕ)
     → Goes first begun turns old before → Turns old before None new after
     → Goes first begun (turns + 1) new after
 goes_on first old new begun before after turns goes turn = record {
-  on = λ start verb password left all at. turn.on start verb password left (goes.on start verb password (suc left) (omega arith) at);
+  on = λ start verb password left all at. turn.on start verb password left
+      (goes.on start verb password (suc left) (omega arith) at);
 }
 
 -- a write failed before the first turn
 pub converses_cut : (old last : Client) (before now : Option Forecast) (outcome : Outcome)
     → SendsAll old before false last now → GivesUp last outcome → Converses old before outcome
 converses_cut old last before now outcome sends gives = record {
-  outcome_is = λ start verb password at. gives.outcome_is start verb password (sends.on start verb password 65536 at);
+  outcome_is = λ start verb password at. gives.outcome_is start verb password
+      (sends.on start verb password 65536 at);
 }
 
 -- a turn settled the outcome
@@ -146,5 +166,6 @@ converses_last first old begun before turns outcome many goes most gives = recor
   outcome_is = λ start verb password at.
       let here = goes.on start verb password 0 (omega arith) at in
       gives.outcome_is start verb password
-      (all_fed start verb password 0 here.given old before here.fed here.follows here.stands (here.follows.last refl));
+      (all_fed start verb password 0 here.given old before here.fed here.follows here.stands
+          (here.follows.last refl));
 }

@@ -13,10 +13,12 @@ half_sized : (s : List ℕ) (n : ℕ) → n ≡ length s / 2 → decode_sized s 
 half_sized s n half = grind (arith)
 
 abbrev Decoded : Result (List ℕ) FromHexError → Result (Unit {0}) FromHexError → List ℕ → Type 0
-Decoded d result out = MatchResult d (λ bytes. (result ≡ Ok tt) × (out ≡ bytes)) (λ e. result ≡ Err e)
+Decoded d result out = MatchResult d (λ bytes. (result ≡ Ok tt) × (out ≡ bytes))
+    (λ e. result ≡ Err e)
 
 ok_by : (d : Result (List ℕ) FromHexError) (out : List ℕ) → Decoded d (Ok tt) out → d ≡ Ok out
-ok_by (Ok bytes) out is = ap (λ (b : List ℕ). let r : Result (List ℕ) FromHexError = Ok b in r) (sym is.1)
+ok_by (Ok bytes) out is = ap (λ (b : List ℕ). let r : Result (List ℕ) FromHexError = Ok b in r) (sym
+    is.1)
 ok_by (Err e) out is = cc
 
 err_by : (d : Result (List ℕ) FromHexError) (out : List ℕ) (error : FromHexError)
@@ -35,7 +37,8 @@ pub line_undecoded : (s : List ℕ) (n : ℕ) (out : List ℕ) (result : Result 
     → n ≡ length s / 2 → Decoded (decode_sized s n) result out
     → IfErr result (λ error. (error ≡ hex_fault.OutOfMemory) ⊎ (decode_of s ≡ Err error))
 line_undecoded s n out (Ok done) half is = tt
-line_undecoded s n out (Err error) half is = inr (sym (half_sized s n half) ∙ err_by (decode_sized s n) out error is)
+line_undecoded s n out (Err error) half is = inr (sym (half_sized s n half)
+    ∙ err_by (decode_sized s n) out error is)
 
 -- a wrong character is within its line
 pub place_within : (s : List ℕ) (character index : ℕ) → decode_of s
@@ -67,4 +70,5 @@ pub request_wrong : (number : ℕ) (line : List ℕ) (old new : List (List ℕ))
     (given : CommandFault) → decode_of line ≡ Err error
     → given ≡ line_fault number error → AddsRequest {X = Unit {0}} number line old (Err given) new
 request_wrong number line old new error given wrong is =
-    subst (λ (f : CommandFault). AddsRequest {X = Unit {0}} number line old (Err f) new) (sym is) (wrong_by number line old new error wrong)
+    subst (λ (f : CommandFault). AddsRequest {X = Unit {0}} number line old (Err f) new) (sym is)
+        (wrong_by number line old new error wrong)

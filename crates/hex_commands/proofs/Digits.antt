@@ -7,7 +7,8 @@ use Rattle.hex.specs.Hex.{encode_with, encode_lower, encode_upper, lower_digits,
 
 -- the digit of this value is the same letter in both tables
 abbrev is_capital : ℕ → Bool
-is_capital value = to_ascii_uppercase (slice_index lower_digits value) == slice_index upper_digits value
+is_capital value = to_ascii_uppercase (slice_index lower_digits value) == slice_index upper_digits
+    value
 
 abbrev are_capital : ℕ → Bool
 are_capital zero = true
@@ -27,7 +28,8 @@ capital_below (suc n) k h lt =
 capital_digit : (value : ℕ) → value < 16 → to_ascii_uppercase (slice_index lower_digits value)
     ≡ slice_index upper_digits value
 capital_digit value lt =
-    eqb-true (to_ascii_uppercase (slice_index lower_digits value)) (slice_index upper_digits value) (capital_below 16 value refl lt)
+    eqb-true (to_ascii_uppercase (slice_index lower_digits value)) (slice_index upper_digits value)
+        (capital_below 16 value refl lt)
 
 -- the digits of bytes, each in its capital
 pub capitals : (bytes : List ℕ) → All (λ b. b < 256) bytes
@@ -37,4 +39,5 @@ capitals [] small = refl
 capitals (byte ∷ bytes) small =
     let here : byte < 256 = All-head (λ b. b < 256) byte bytes small in
     ap₂ (λ (digit : ℕ) (digits : List ℕ). digit ∷ digits) (capital_digit (byte / 16) (omega arith))
-    (ap₂ (λ (digit : ℕ) (digits : List ℕ). digit ∷ digits) (capital_digit (byte % 16) (omega arith)) (capitals bytes (All-tail (λ b. b < 256) byte bytes small)))
+    (ap₂ (λ (digit : ℕ) (digits : List ℕ). digit ∷ digits) (capital_digit (byte % 16) (omega arith))
+        (capitals bytes (All-tail (λ b. b < 256) byte bytes small)))

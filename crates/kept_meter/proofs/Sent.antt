@@ -22,19 +22,22 @@ use Rattle.relay_recorder.specs.contracts.recorder.Recorder.TheInside as inside
 use Rattle.kept_meter.specs.contracts.kept.RecordedEvent as kept
 
 event_field_send : IsSend (event.the_field).row
-event_field_send = search (sendable, crosses, send-Data, send-Items, octets_send, selection_send, block_send) depth 40 fits 100000
+event_field_send = search (sendable, crosses, send-Data, send-Items, octets_send, selection_send,
+    block_send) depth 40 fits 100000
 
 ring_over : (T : RattleType) → IsSend T → IsSend (ring.the_row T Heap.the_row ghosts)
 ring_over T s = search (sendable, crosses, cells_send, deed_send) depth 20
 
 event_within : IsSend event_inside.the_row
-event_within = recorded_send (event_inside.the_field).row _ _ (event_inside.the_type).to_one (struct_send (shape event_inside.the_type) (event_field_send, (parts_field_send, tt)))
+event_within = recorded_send (event_inside.the_field).row _ _ (event_inside.the_type).to_one
+    (struct_send (shape event_inside.the_type) (event_field_send, (parts_field_send, tt)))
 
 kept_event_send : IsSend kept_event.the_row
 kept_event_send = search (sendable, crosses, event_within) depth 40 fits 100000
 
 inside_send : IsSend inside.the_row
-inside_send = search (sendable, crosses, core_field_send, ring_over, kept_event_send) depth 40 fits 100000
+inside_send = search (sendable, crosses, core_field_send, ring_over, kept_event_send) depth 40 fits
+    100000
 
 recorder_send : IsSend recorder.the_row
 recorder_send = search (sendable, crosses, inside_send) depth 40 fits 100000

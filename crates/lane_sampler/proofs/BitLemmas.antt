@@ -26,12 +26,14 @@ answer_at : (test : ℕ → Bool) (values : List ℕ) (i : ℕ) →
 answer_at test [] i = grind (arith, nat_tests)
 answer_at test (v ∷ values) zero = grind (arith, nat_tests)
 answer_at test (v ∷ values) (suc i) =
-    let same : nat_lt i (length values) ≡ nat_lt (suc i) (suc (length values)) = lt_suc i (length values) in
+    let same : nat_lt i (length values) ≡ nat_lt (suc i) (suc (length values)) =
+        lt_suc i (length values) in
     answer_at test values i ∙ ap (λ b. b && test (get_or values i 0)) same
 
 -- an answer for a value of one word
 answer_in_part : (test : ℕ → Bool) (values : List ℕ) (start j : ℕ) → j < 64 →
-    get_or (map test (take 64 (drop start values))) j false ≡ get_or (map test values) (start + j) false
+    get_or (map test (take 64 (drop start values))) j false
+        ≡ get_or (map test values) (start + j) false
 answer_in_part test values start j lt =
     ap (λ bs. get_or bs j false) (sym (take-map test 64 (drop start values)))
     ∙ get_or-take 64 (map test (drop start values)) j false lt
@@ -46,7 +48,8 @@ words_of-bits test values = record {
       let word = ap (λ w. w / 2 ^ (i % 64) % 2) (words_at test values (i / 64) (omega arith)) in
       let answer = answer_in_part test values (64 * (i / 64)) (i % 64) (omega arith) in
       word ∙ bit_mask_l (map test (take 64 (drop (64 * (i / 64)) values))) (i % 64)
-      ∙ ap (λ b. cond b 1 0) (answer ∙ ap (λ n. get_or (map test values) n false) place ∙ answer_at test values i);
+      ∙ ap (λ b. cond b 1 0) (answer ∙ ap (λ n. get_or (map test values) n false) place
+          ∙ answer_at test values i);
 }
 
 -- the masks of values are right bit by bit
@@ -61,4 +64,5 @@ masks_of-bits values threshold = record {
 -- masks that are equal to those of the values are right bit by bit
 pub bits_from_words : (values : List ℕ) (threshold : ℕ) (masks : Masks) →
     masks ≡ masks_of values threshold → AreMasks values threshold masks
-bits_from_words values threshold masks e = subst (AreMasks values threshold) (sym e) (masks_of-bits values threshold)
+bits_from_words values threshold masks e = subst (AreMasks values threshold) (sym e)
+    (masks_of-bits values threshold)

@@ -35,22 +35,28 @@ number_again number small = ap (λ b. guard b Unmatched >> done WriteFault numbe
 pub number_small : (value : Data) (number : ℕ) → number_of value ≡ Ok number → number < 4294967296
 unfolding number_of
 number_small value number e =
-    let found = bind_ok (ok_or (double_long_unsigned_of value) Unmatched) (λ n. guard (nat_lt n (2 ^ 32)) Unmatched >> done WriteFault n) number e in
-    let fits = guard_ok (nat_lt found.0 (2 ^ 32)) Unmatched (done WriteFault found.0) number found.2 in
+    let found = bind_ok (ok_or (double_long_unsigned_of value) Unmatched)
+        (λ n. guard (nat_lt n (2 ^ 32)) Unmatched >> done WriteFault n) number e in
+    let fits = guard_ok (nat_lt found.0 (2 ^ 32)) Unmatched (done WriteFault found.0) number found.2
+        in
     let same : found.0 ≡ number = ok_is {F = WriteFault} found.0 number fits.1 in
     grind (arith, nat_tests, same, fits.0)
 
 -- a profile of its parts
 abbrev with_parts : ℕ × List ℕ × ℕ → Result Profile WriteFault
-with_parts parts = ok_or (result_ok (date_time_of parts.1)) Value >>= λ start. done WriteFault (record { id = parts.0; start = start; duration = parts.2 })
+with_parts parts = ok_or (result_ok (date_time_of parts.1)) Value
+    >>= λ start. done WriteFault (record { id = parts.0; start = start; duration = parts.2 })
 
 -- a profile that was written reads as itself
 pub profile_again : (profile : Profile) → IsDateTimeFields profile.start
     → profile_of (profile_data profile) ≡ Ok profile
 unfolding profile_of
 profile_again profile fits =
-    ap (λ o. ok_or o Unmatched >>= with_parts) (profile_parts_again profile.id profile.duration (date_time_bytes profile.start) (twelve_bytes profile.start))
-    ∙ ap (λ r. ok_or (result_ok r) Value >>= λ start. done WriteFault (record { id = profile.id; start = start; duration = profile.duration })) (date_time_again profile.start fits)
+    ap (λ o. ok_or o Unmatched >>= with_parts) (profile_parts_again profile.id profile.duration
+        (date_time_bytes profile.start) (twelve_bytes profile.start))
+    ∙ ap (λ r. ok_or (result_ok r) Value >>= λ start. done WriteFault
+        (record { id = profile.id; start = start; duration = profile.duration }))
+        (date_time_again profile.start fits)
 
 -- actions that were written read as themselves
 pub actions_again : (actions : Actions) → actions_of (actions_data actions) ≡ Ok actions
@@ -77,7 +83,8 @@ unfolding groups_of groups_data judged_groups
 groups_again ids few =
     let items = map LongUnsigned ids in
     ap (λ read. with_items read) (list_of_trees items)
-    ∙ ap₂ (λ typed within. (guard typed Unmatched >> guard within Value) >> done WriteFault (filter_map long_unsigned_of items)) (ids_typed ids) within
+    ∙ ap₂ (λ typed within. (guard typed Unmatched >> guard within Value) >> done WriteFault
+        (filter_map long_unsigned_of items)) (ids_typed ids) within
     ∙ ap (λ xs. done WriteFault xs) (ids_again ids)
   where
     within : nat_le (length (map LongUnsigned ids)) max_groups ≡ true

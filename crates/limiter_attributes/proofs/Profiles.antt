@@ -10,8 +10,10 @@ start_again : (bytes : List ℕ) → length bytes ≡ 12 → date_time_bytes_of 
 start_again bytes twelve = ap (λ (n : ℕ). cond (n == 12) (Some bytes) None) twelve
 
 pub profile_parts_again : (id duration : ℕ) (bytes : List ℕ) → length bytes ≡ 12
-    → profile_parts_of (structure_with (LongUnsigned id ∷ OctetString bytes ∷ DoubleLongUnsigned duration ∷ [])) ≡ Some (id, bytes, duration)
-profile_parts_again id duration bytes twelve = ap (λ (o : Option (List ℕ)). o >>= next) (start_again bytes twelve)
+    → profile_parts_of (structure_with (LongUnsigned id ∷ OctetString bytes
+        ∷ DoubleLongUnsigned duration ∷ [])) ≡ Some (id, bytes, duration)
+profile_parts_again id duration bytes twelve =
+    ap (λ (o : Option (List ℕ)). o >>= next) (start_again bytes twelve)
   where
     next : List ℕ → Option (ℕ × List ℕ × ℕ)
     next b = Some (id, b, duration)

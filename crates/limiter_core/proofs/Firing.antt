@@ -33,22 +33,26 @@ pub reaches_past : (side : Side) (row : Row) (rows : List Row) → is_past side 
     → reaches side (row ∷ rows) ≡ nat_le (need side row) (suc (run side rows))
 unfolding reaches
 reaches_past side row rows e =
-    ap (λ r. nat_lt 0 r && nat_le (need side row) r) (run_past side row rows e) ∙ long_enough (need side row) (run side rows)
+    ap (λ r. nat_lt 0 r && nat_le (need side row) r) (run_past side row rows e)
+        ∙ long_enough (need side row) (run side rows)
 
 reaches_other : (side : Side) (row : Row) (rows : List Row) → is_past side row ≡ false
     → reaches side (row ∷ rows) ≡ false
 unfolding reaches
-reaches_other side row rows e = ap (λ r. nat_lt 0 r && nat_le (need side row) r) (run_other side row rows e)
+reaches_other side row rows e = ap (λ r. nat_lt 0 r && nat_le (need side row) r)
+    (run_other side row rows e)
 
 pub has_fired_past : (side : Side) (row : Row) (rows : List Row) → is_past side row ≡ true
     → has_fired side (row ∷ rows) ≡ (reaches side (row ∷ rows) || has_fired side rows)
 unfolding has_fired any_below
-has_fired_past side row rows e = ap (any_below (λ k. reaches side (drop k (row ∷ rows)))) (run_past side row rows e)
+has_fired_past side row rows e = ap (any_below (λ k. reaches side (drop k (row ∷ rows))))
+    (run_past side row rows e)
 
 has_fired_other : (side : Side) (row : Row) (rows : List Row) → is_past side row ≡ false
     → has_fired side (row ∷ rows) ≡ false
 unfolding has_fired any_below
-has_fired_other side row rows e = ap (any_below (λ k. reaches side (drop k (row ∷ rows)))) (run_other side row rows e)
+has_fired_other side row rows e = ap (any_below (λ k. reaches side (drop k (row ∷ rows))))
+    (run_other side row rows e)
 
 more_capped : (r : ℕ) → min (suc r) cap ≡ min (min r cap + 1) cap
 more_capped r = omega arith
@@ -65,7 +69,8 @@ or_swap false false = refl
 reaches_capped : (side : Side) (row : Row) (rows : List Row) → is_past side row ≡ true
     → need side row ≤ cap → reaches side (row ∷ rows)
     ≡ nat_le (need side row) (min (min (run side rows) cap + 1) cap)
-reaches_capped side row rows e h = reaches_past side row rows e ∙ need_capped (need side row) (run side rows) h
+reaches_capped side row rows e h = reaches_past side row rows e
+    ∙ need_capped (need side row) (run side rows) h
 
 pub counted_by : (b : Bool) (side : Side) (row : Row) (rows : List Row) → is_past side row ≡ b
     → (is_past side row ≡ true → need side row ≤ cap) → count_of side (row ∷ rows)
@@ -76,7 +81,8 @@ counted_by true side row rows e h =
     (ap (λ r. min r cap) (run_past side row rows e) ∙ more_capped (run side rows))
     (has_fired_past side row rows e
     ∙ ap (λ b. b || has_fired side rows) (reaches_capped side row rows e (h e))
-    ∙ or_swap (nat_le (need side row) (min (min (run side rows) cap + 1) cap)) (has_fired side rows))
+    ∙ or_swap (nat_le (need side row) (min (min (run side rows) cap + 1) cap))
+        (has_fired side rows))
 counted_by false side row rows e h =
     same_count (count_of side (row ∷ rows)) no_run
     (ap (λ r. min r cap) (run_other side row rows e))
@@ -92,14 +98,17 @@ fires_by : (b : Bool) (side : Side) (row : Row) (rows : List Row) → is_past si
     → (is_past side row ≡ true → need side row ≤ cap) → fires side (row ∷ rows)
     ≡ fires_at b (need side row) (count_of side rows)
 unfolding count_of fires
-fires_by true side row rows e h = ap (λ b. b && not (has_fired side rows)) (reaches_capped side row rows e (h e))
-fires_by false side row rows e h = ap (λ b. b && not (has_fired side rows)) (reaches_other side row rows e)
+fires_by true side row rows e h = ap (λ b. b && not (has_fired side rows))
+    (reaches_capped side row rows e (h e))
+fires_by false side row rows e h = ap (λ b. b && not (has_fired side rows))
+    (reaches_other side row rows e)
 
 -- a row that is not past its threshold does not fire
 pub fires_other : (side : Side) (row : Row) (rows : List Row) → is_past side row ≡ false
     → fires side (row ∷ rows) ≡ false
 unfolding fires
-fires_other side row rows e = ap (λ b. b && not (has_fired side rows)) (reaches_other side row rows e)
+fires_other side row rows e = ap (λ b. b && not (has_fired side rows))
+    (reaches_other side row rows e)
 
 -- a row fires exactly if its count does
 pub fires_counted : (side : Side) (row : Row) (rows : List Row)
@@ -111,12 +120,17 @@ fires_counted side row rows h = fires_by (is_past side row) side row rows refl h
 pub fire_counted : (row : Row) (rows : List Row)
     → (is_past OverThreshold row ≡ true → need OverThreshold row ≤ cap)
     → (is_past UnderThreshold row ≡ true → need UnderThreshold row ≤ cap) →
-    fire_of (row ∷ rows) ≡ (if fires_at (is_past OverThreshold row) (need OverThreshold row) (count_of OverThreshold rows) then Over
-    else if fires_at (is_past UnderThreshold row) (need UnderThreshold row) (count_of UnderThreshold rows) then Under else Quiet)
+    fire_of (row ∷ rows) ≡ (if fires_at (is_past OverThreshold row) (need OverThreshold row)
+        (count_of OverThreshold rows) then Over
+    else if fires_at (is_past UnderThreshold row) (need UnderThreshold row)
+        (count_of UnderThreshold rows) then Under else Quiet)
 unfolding fire_of
 fire_counted row rows over under =
-    ap (λ b. if b then Over else if fires UnderThreshold (row ∷ rows) then Under else Quiet) (fires_counted OverThreshold row rows over)
-    ∙ ap (λ b. if fires_at (is_past OverThreshold row) (need OverThreshold row) (count_of OverThreshold rows) then Over else if b then Under else Quiet) (fires_counted UnderThreshold row rows under)
+    ap (λ b. if b then Over else if fires UnderThreshold (row ∷ rows) then Under else Quiet)
+        (fires_counted OverThreshold row rows over)
+    ∙ ap (λ b. if fires_at (is_past OverThreshold row) (need OverThreshold row)
+        (count_of OverThreshold rows) then Over else if b then Under else Quiet)
+        (fires_counted UnderThreshold row rows under)
 
 -- before the first row, and at an entry into Connected, both runs are empty
 pub count_of_none : (side : Side) → count_of side [] ≡ no_run

@@ -7,8 +7,10 @@ use Rattle.limiter_core.specs.State.{IsFit, IsFitCount, is_fit_count, are_fit}
 
 count_fits : (run : ℕ) (fired : Bool) → is_fit_count (record { run = run; fired = fired }) ≡ true
     → IsFitCount (record { run = run; fired = fired })
-count_fits run true e = record { within = grind (arith, nat_tests); none = λ z. grind (arith, nat_tests); full = λ f. refl }
-count_fits run false e = record { within = grind (arith, nat_tests); none = λ z. refl; full = λ f. grind (arith, nat_tests) }
+count_fits run true e = record { within = grind (arith, nat_tests);
+    none = λ z. grind (arith, nat_tests); full = λ f. refl }
+count_fits run false e = record { within = grind (arith, nat_tests); none = λ z. refl;
+    full = λ f. grind (arith, nat_tests) }
 
 fit_counts : (run : ℕ) (fired : Bool) → IsFitCount (record { run = run; fired = fired })
     → is_fit_count (record { run = run; fired = fired }) ≡ true
@@ -46,11 +48,16 @@ below_most last under e some = grind (arith, nat_tests)
 above_again : (last over under : ℕ) → (0 < over → under ≡ 0) → (0 < over → 0 < last)
     → above_fits last over under ≡ true
 above_again last zero under one above = refl
-above_again last (suc over) under one above = let none : under ≡ 0 = one (omega arith) in let some : 0 < last = above (omega arith) in grind (arith, nat_tests)
+above_again last (suc over) under one above =
+    let none : under ≡ 0 = one (omega arith) in
+    let some : 0 < last = above (omega arith) in
+    grind (arith, nat_tests)
 
 below_again : (last under : ℕ) → (0 < under → last < 4294967295) → below_fits last under ≡ true
 below_again last zero below = refl
-below_again last (suc under) below = let less : last < 4294967295 = below (omega arith) in grind (arith, nat_tests)
+below_again last (suc under) below =
+    let less : last < 4294967295 = below (omega arith) in
+    grind (arith, nat_tests)
 
 pub test_means : (last : ℕ) (over under : Count) → are_fit last over under ≡ true
     → IsFit last over under
@@ -80,5 +87,7 @@ means_test last over under fits =
     let f = above_fits last over.run under.run in
     let g = below_fits last under.run in
     both_hold ((a && b) && f) g
-    (both_hold (a && b) f (both_hold a b (fit_counts over.run over.fired fits.over_fits) (fit_counts under.run under.fired fits.under_fits)) (above_again last over.run under.run fits.one fits.above))
+    (both_hold (a && b) f (both_hold a b (fit_counts over.run over.fired fits.over_fits)
+        (fit_counts under.run under.fired fits.under_fits))
+        (above_again last over.run under.run fits.one fits.above))
     (below_again last under.run fits.below)

@@ -20,7 +20,8 @@ unfolding any_below
 below_some p zero e = cc
 below_some p (suc n) e = elim (either (p 0) (any_below (λ k. p (suc k)) n) e) [
   | inl here ↦ (0, omega arith, here)
-  | inr later ↦ let found : (k : ℕ) × (k < n) × (p (suc k) ≡ true) = below_some (λ k. p (suc k)) n later in
+  | inr later ↦ let found : (k : ℕ) × (k < n) × (p (suc k) ≡ true) =
+      below_some (λ k. p (suc k)) n later in
       let less : found.0 < n = found.1 in (suc found.0, omega (arith, less), found.2)
 ]
 
@@ -28,7 +29,8 @@ some_below : (p : ℕ → Bool) (n k : ℕ) → k < n → p k ≡ true → any_b
 unfolding any_below
 some_below p zero k less e = absurd (omega arith)
 some_below p (suc n) zero less e = first_of_two (p 0) (any_below (λ k. p (suc k)) n) e
-some_below p (suc n) (suc k) less e = second_of_two (p 0) (any_below (λ j. p (suc j)) n) (some_below (λ j. p (suc j)) n k (omega arith) e)
+some_below p (suc n) (suc k) less e = second_of_two (p 0) (any_below (λ j. p (suc j)) n)
+    (some_below (λ j. p (suc j)) n k (omega arith) e)
 
 pub fired_at_some : (side : Side) (rows : List Row) → has_fired side rows ≡ true → (k : ℕ)
     × (k < run side rows) × (reaches side (drop k rows) ≡ true)
@@ -38,7 +40,8 @@ fired_at_some side rows e = below_some (λ k. reaches side (drop k rows)) (run s
 pub some_fired : (side : Side) (rows : List Row) (k : ℕ) → k < run side rows
     → reaches side (drop k rows) ≡ true → has_fired side rows ≡ true
 unfolding has_fired
-some_fired side rows k less e = some_below (λ j. reaches side (drop j rows)) (run side rows) k less e
+some_fired side rows k less e = some_below (λ j. reaches side (drop j rows))
+    (run side rows) k less e
 
 fires_past_if : (b : Bool) (side : Side) (row : Row) (rows : List Row) → is_past side row ≡ b
     → fires side (row ∷ rows) ≡ true → is_past side row ≡ true
@@ -55,7 +58,9 @@ unfolding fires reaches
 not_both_sides [] over under = cc
 not_both_sides (Entry ∷ rows) over under = let past = fires_past OverThreshold Entry rows over in cc
 not_both_sides (Sample value threshold need_over need_under ∷ rows) over under =
-    let above : nat_lt threshold value ≡ true = fires_past OverThreshold (Sample value threshold need_over need_under) rows over in
-    let below : nat_lt value threshold ≡ true = fires_past UnderThreshold (Sample value threshold need_over need_under) rows under in
+    let above : nat_lt threshold value ≡ true =
+        fires_past OverThreshold (Sample value threshold need_over need_under) rows over in
+    let below : nat_lt value threshold ≡ true =
+        fires_past UnderThreshold (Sample value threshold need_over need_under) rows under in
     let apart : nat_lt value threshold ≡ false = not_both threshold value above in
     cc

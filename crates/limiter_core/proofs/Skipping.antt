@@ -48,9 +48,11 @@ not_both t v h = grind (arith, nat_tests)
 pub past_is : (kind : Kind) (side : Side) (limits : Limits) (value : ℕ)
     → kind_of limits.threshold value ≡ kind → is_past side (row_of limits value) ≡ past kind side
 past_is kind OverThreshold limits value e =
-    (kind_bits kind (nat_lt limits.threshold value) (nat_lt value limits.threshold) (not_both limits.threshold value) e).0
+    (kind_bits kind (nat_lt limits.threshold value) (nat_lt value limits.threshold)
+        (not_both limits.threshold value) e).0
 past_is kind UnderThreshold limits value e =
-    (kind_bits kind (nat_lt limits.threshold value) (nat_lt value limits.threshold) (not_both limits.threshold value) e).1
+    (kind_bits kind (nat_lt limits.threshold value) (nat_lt value limits.threshold)
+        (not_both limits.threshold value) e).1
 
 -- n more samples past the threshold do not fire
 abbrev pub Room : ℕ → ℕ → Count → Type 0
@@ -68,9 +70,12 @@ late n need run h = grind (arith, nat_tests)
 taken_quiet : (n need : ℕ) (count : Count) → Room (suc n) need count → count_after true need count
     ≡ count_after_run 1 count
 taken_quiet n need count (inl e) =
-    same_count (count_after true need count) (count_after_run 1 count) refl (or_left count.fired (nat_le need (min (count.run + 1) cap)) e)
+    same_count (count_after true need count) (count_after_run 1 count) refl
+        (or_left count.fired (nat_le need (min (count.run + 1) cap)) e)
 taken_quiet n need count (inr h) =
-    same_count (count_after true need count) (count_after_run 1 count) refl (or_none count.fired (nat_le need (min (count.run + 1) cap)) h.0 (late n need count.run h.1))
+    same_count (count_after true need count) (count_after_run 1 count) refl
+        (or_none count.fired (nat_le need (min (count.run + 1) cap)) h.0
+        (late n need count.run h.1))
 
 and_none : (a b : Bool) → a ≡ false → (a && b) ≡ false
 and_none a b e = ap (λ v. v && b) e
@@ -81,7 +86,8 @@ and_not false b e = refl
 
 still : (n need : ℕ) (count : Count) → Room (suc n) need count → fires_at true need count ≡ false
 still n need count (inl e) = and_not (nat_le need (min (count.run + 1) cap)) count.fired e
-still n need count (inr h) = and_none (nat_le need (min (count.run + 1) cap)) (not count.fired) (late n need count.run h.1)
+still n need count (inr h) = and_none (nat_le need (min (count.run + 1) cap)) (not count.fired)
+    (late n need count.run h.1)
 
 less_room : (n need run : ℕ) → suc n ≤ need - 1 - run → n ≤ need - 1 - min (run + 1) cap
 less_room n need run h = omega arith
@@ -96,34 +102,47 @@ skipped_more n run = omega arith
 
 -- n more samples fire on neither side
 abbrev pub HasRoom : Kind → Limits → ℕ → List Row → Type 0
-HasRoom kind limits n rows = (side : Side) → past kind side ≡ true → Room n (needed side limits) (count_of side rows)
+HasRoom kind limits n rows = (side : Side) → past kind side ≡ true
+    → Room n (needed side limits) (count_of side rows)
 
 module _ (kind : Kind) (limits : Limits) (counted_needs : AreCounted kind limits) where
   need_counted : (side : Side) (value : ℕ) → kind_of limits.threshold value ≡ kind
       → is_past side (row_of limits value) ≡ true → need side (row_of limits value) ≤ cap
-  need_counted OverThreshold value k e = counted_needs OverThreshold (sym (past_is kind OverThreshold limits value k) ∙ e)
-  need_counted UnderThreshold value k e = counted_needs UnderThreshold (sym (past_is kind UnderThreshold limits value k) ∙ e)
+  need_counted OverThreshold value k e = counted_needs OverThreshold
+      (sym (past_is kind OverThreshold limits value k) ∙ e)
+  need_counted UnderThreshold value k e = counted_needs UnderThreshold
+      (sym (past_is kind UnderThreshold limits value k) ∙ e)
 
   pub one_counted : (side : Side) (value : ℕ) (rows : List Row) → kind_of limits.threshold value
       ≡ kind → count_of side (row_of limits value ∷ rows)
       ≡ count_after (past kind side) (needed side limits) (count_of side rows)
   one_counted OverThreshold value rows k =
       counted OverThreshold (row_of limits value) rows (need_counted OverThreshold value k)
-      ∙ ap (λ b. count_after b (needed OverThreshold limits) (count_of OverThreshold rows)) (past_is kind OverThreshold limits value k)
+      ∙ ap (λ b. count_after b (needed OverThreshold limits) (count_of OverThreshold rows))
+          (past_is kind OverThreshold limits value k)
   one_counted UnderThreshold value rows k =
       counted UnderThreshold (row_of limits value) rows (need_counted UnderThreshold value k)
-      ∙ ap (λ b. count_after b (needed UnderThreshold limits) (count_of UnderThreshold rows)) (past_is kind UnderThreshold limits value k)
+      ∙ ap (λ b. count_after b (needed UnderThreshold limits) (count_of UnderThreshold rows))
+          (past_is kind UnderThreshold limits value k)
 
   -- what one more sample fires
   pub one_fire : (value : ℕ) (rows : List Row) → kind_of limits.threshold value ≡ kind →
-      fire_of (row_of limits value ∷ rows) ≡ (if fires_at (past kind OverThreshold) (needed OverThreshold limits) (count_of OverThreshold rows) then fire_past OverThreshold
-      else if fires_at (past kind UnderThreshold) (needed UnderThreshold limits) (count_of UnderThreshold rows) then fire_past UnderThreshold else Quiet)
+      fire_of (row_of limits value ∷ rows) ≡ (if fires_at (past kind OverThreshold)
+          (needed OverThreshold limits) (count_of OverThreshold rows) then fire_past OverThreshold
+      else if fires_at (past kind UnderThreshold) (needed UnderThreshold limits)
+          (count_of UnderThreshold rows) then fire_past UnderThreshold else Quiet)
   one_fire value rows k =
-      fire_counted (row_of limits value) rows (need_counted OverThreshold value k) (need_counted UnderThreshold value k)
-      ∙ ap (λ b. if fires_at b (needed OverThreshold limits) (count_of OverThreshold rows) then fire_past OverThreshold
-      else if fires_at (is_past UnderThreshold (row_of limits value)) (needed UnderThreshold limits) (count_of UnderThreshold rows) then fire_past UnderThreshold else Quiet) (past_is kind OverThreshold limits value k)
-      ∙ ap (λ b. if fires_at (past kind OverThreshold) (needed OverThreshold limits) (count_of OverThreshold rows) then fire_past OverThreshold
-      else if fires_at b (needed UnderThreshold limits) (count_of UnderThreshold rows) then fire_past UnderThreshold else Quiet) (past_is kind UnderThreshold limits value k)
+      fire_counted (row_of limits value) rows (need_counted OverThreshold value k)
+          (need_counted UnderThreshold value k)
+      ∙ ap (λ b. if fires_at b (needed OverThreshold limits) (count_of OverThreshold rows)
+          then fire_past OverThreshold
+      else if fires_at (is_past UnderThreshold (row_of limits value)) (needed UnderThreshold limits)
+          (count_of UnderThreshold rows) then fire_past UnderThreshold else Quiet)
+          (past_is kind OverThreshold limits value k)
+      ∙ ap (λ b. if fires_at (past kind OverThreshold) (needed OverThreshold limits)
+          (count_of OverThreshold rows) then fire_past OverThreshold
+      else if fires_at b (needed UnderThreshold limits) (count_of UnderThreshold rows)
+          then fire_past UnderThreshold else Quiet) (past_is kind UnderThreshold limits value k)
 
   still_at : (b : Bool) (n : ℕ) (side : Side) (rows : List Row) → past kind side ≡ b
       → HasRoom kind limits (suc n) rows → fires_at b (needed side limits)
@@ -134,59 +153,73 @@ module _ (kind : Kind) (limits : Limits) (counted_needs : AreCounted kind limits
   neither : (a b : Bool) → a ≡ false → b ≡ false
       → (if a then fire_past OverThreshold else if b then fire_past UnderThreshold
       else Quiet) ≡ Quiet
-  neither a b e f = ap (λ v. if v then fire_past OverThreshold else if b then fire_past UnderThreshold else Quiet) e ∙ ap (λ v. if v then fire_past UnderThreshold else Quiet) f
+  neither a b e f = ap (λ v. if v then fire_past OverThreshold else if b then fire_past
+      UnderThreshold else Quiet) e ∙ ap (λ v. if v then fire_past UnderThreshold else Quiet) f
 
   one_quiet : (n value : ℕ) (rows : List Row) → kind_of limits.threshold value ≡ kind
       → HasRoom kind limits (suc n) rows → fire_of (row_of limits value ∷ rows) ≡ Quiet
   one_quiet n value rows k room =
       one_fire value rows k
-      ∙ neither (fires_at (past kind OverThreshold) (needed OverThreshold limits) (count_of OverThreshold rows)) (fires_at (past kind UnderThreshold) (needed UnderThreshold limits) (count_of UnderThreshold rows))
-      (still_at (past kind OverThreshold) n OverThreshold rows refl room) (still_at (past kind UnderThreshold) n UnderThreshold rows refl room)
+      ∙ neither (fires_at (past kind OverThreshold) (needed OverThreshold limits)
+          (count_of OverThreshold rows)) (fires_at (past kind UnderThreshold)
+          (needed UnderThreshold limits) (count_of UnderThreshold rows))
+      (still_at (past kind OverThreshold) n OverThreshold rows refl room)
+          (still_at (past kind UnderThreshold) n UnderThreshold rows refl room)
 
   one_skipped : (n : ℕ) (side : Side) (value : ℕ) (rows : List Row) → kind_of limits.threshold value
       ≡ kind → past kind side ≡ true → HasRoom kind limits (suc n) rows
       → count_of side (row_of limits value ∷ rows) ≡ count_after_run 1 (count_of side rows)
   one_skipped n side value rows k e room =
       one_counted side value rows k
-      ∙ (ap (λ b. count_after b (needed side limits) (count_of side rows)) e ∙ taken_quiet n (needed side limits) (count_of side rows) (room side e))
+      ∙ (ap (λ b. count_after b (needed side limits) (count_of side rows)) e
+          ∙ taken_quiet n (needed side limits) (count_of side rows) (room side e))
 
   room_next : (n value : ℕ) (rows : List Row) → kind_of limits.threshold value ≡ kind
       → HasRoom kind limits (suc n) rows → HasRoom kind limits n (row_of limits value ∷ rows)
   room_next n value rows k room side e =
       let P : Count → Type 0 = λ c. Room n (needed side limits) c in
-      subst P (sym (one_skipped n side value rows k e room)) (room_after n (needed side limits) (count_of side rows) (room side e))
+      subst P (sym (one_skipped n side value rows k e room))
+          (room_after n (needed side limits) (count_of side rows) (room side e))
 
   -- samples that `HasRoom` allows do not fire
   pub are_quiet : (values : List ℕ) (rows : List Row) → AreOfKind kind limits.threshold values
       → HasRoom kind limits (length values) rows → IsQuiet limits values rows
   are_quiet [] rows k room = tt
   are_quiet (value ∷ values) rows k room =
-      (one_quiet (length values) value rows k.0 room, are_quiet values (row_of limits value ∷ rows) k.1 (room_next (length values) value rows k.0 room))
+      (one_quiet (length values) value rows k.0 room, are_quiet values (row_of limits value
+          ∷ rows) k.1 (room_next (length values) value rows k.0 room))
 
   none_skipped : (side : Side) (rows : List Row) → count_of side rows
       ≡ count_after_run 0 (count_of side rows)
   unfolding count_of
-  none_skipped side rows = same_count (count_of side rows) (count_after_run 0 (count_of side rows)) (omega arith) refl
+  none_skipped side rows = same_count (count_of side rows) (count_after_run 0 (count_of side rows))
+      (omega arith) refl
 
   more_skipped : (n : ℕ) (count : Count) → count_after_run n (count_after_run 1 count)
       ≡ count_after_run (suc n) count
-  more_skipped n count = same_count (count_after_run n (count_after_run 1 count)) (count_after_run (suc n) count) (skipped_more n count.run) refl
+  more_skipped n count = same_count (count_after_run n (count_after_run 1 count))
+      (count_after_run (suc n) count) (skipped_more n count.run) refl
 
   -- a run continues
   pub run_after : (values : List ℕ) (rows : List Row) (side : Side) → past kind side ≡ true
       → AreOfKind kind limits.threshold values → HasRoom kind limits (length values) rows →
-      count_of side (rows_after limits values rows) ≡ count_after_run (length values) (count_of side rows)
+      count_of side (rows_after limits values rows)
+          ≡ count_after_run (length values) (count_of side rows)
   run_after [] rows side e k room = none_skipped side rows
   run_after (value ∷ values) rows side e k room =
-      run_after values (row_of limits value ∷ rows) side e k.1 (room_next (length values) value rows k.0 room)
-      ∙ (ap (count_after_run (length values)) (one_skipped (length values) side value rows k.0 e room) ∙ more_skipped (length values) (count_of side rows))
+      run_after values (row_of limits value ∷ rows) side e k.1
+          (room_next (length values) value rows k.0 room)
+      ∙ (ap (count_after_run (length values))
+          (one_skipped (length values) side value rows k.0 e room)
+          ∙ more_skipped (length values) (count_of side rows))
 
   ended : (values : List ℕ) (rows : List Row) (side : Side) → past kind side ≡ false
       → AreOfKind kind limits.threshold values → count_of side rows ≡ no_run
       → count_of side (rows_after limits values rows) ≡ no_run
   ended [] rows side e k none = none
   ended (value ∷ values) rows side e k none =
-      ended values (row_of limits value ∷ rows) side e k.1 (one_counted side value rows k.0 ∙ ap (λ b. count_after b (needed side limits) (count_of side rows)) e)
+      ended values (row_of limits value ∷ rows) side e k.1 (one_counted side value rows k.0
+          ∙ ap (λ b. count_after b (needed side limits) (count_of side rows)) e)
 
   -- a run of the other side ends at the first sample
   pub none_after : (values : List ℕ) (rows : List Row) (side : Side) → past kind side ≡ false
@@ -194,7 +227,8 @@ module _ (kind : Kind) (limits : Limits) (counted_needs : AreCounted kind limits
       → count_of side (rows_after limits values rows) ≡ no_run
   none_after [] rows side e k some = absurd (omega arith)
   none_after (value ∷ values) rows side e k some =
-      ended values (row_of limits value ∷ rows) side e k.1 (one_counted side value rows k.0 ∙ ap (λ b. count_after b (needed side limits) (count_of side rows)) e)
+      ended values (row_of limits value ∷ rows) side e k.1 (one_counted side value rows k.0
+          ∙ ap (λ b. count_after b (needed side limits) (count_of side rows)) e)
 
 are_counted : (kind : Kind) (state : State) → IsLimiter state → AreCounted kind (limits_of state)
 are_counted kind state fit OverThreshold e = let small = fit.over_duration in omega (arith, small)
@@ -213,10 +247,14 @@ room_before n need count other same few =
 
 room_of : (kind : Kind) (state : State) (rows : List Row) (n : ℕ) → Keeps state rows
     → n ≤ quiet_count kind state → HasRoom kind (limits_of state) n rows
-room_of Over state rows n keeps few OverThreshold e = room_before n (need_of state.settings.min_over_threshold_duration) state.over (count_of OverThreshold rows) keeps.over few
+room_of Over state rows n keeps few OverThreshold e = room_before n
+    (need_of state.settings.min_over_threshold_duration) state.over (count_of OverThreshold rows)
+    keeps.over few
 room_of Over state rows n keeps few UnderThreshold e = cc
 room_of Under state rows n keeps few OverThreshold e = cc
-room_of Under state rows n keeps few UnderThreshold e = room_before n (need_of state.settings.min_under_threshold_duration) state.under (count_of UnderThreshold rows) keeps.under few
+room_of Under state rows n keeps few UnderThreshold e = room_before n
+    (need_of state.settings.min_under_threshold_duration) state.under (count_of UnderThreshold rows)
+    keeps.under few
 room_of Equal state rows n keeps few side e = cc
 
 -- as many samples as `quiet_count` says do not fire
@@ -224,7 +262,8 @@ pub quiet_up_to : (kind : Kind) (state : State) (rows : List Row) (values : List
     → IsLimiter state → Keeps state rows → AreOfKind kind (limits_of state).threshold values →
     length values ≤ quiet_count kind state → IsQuiet (limits_of state) values rows
 quiet_up_to kind state rows values fit keeps k few =
-    are_quiet kind (limits_of state) (are_counted kind state fit) values rows k (room_of kind state rows (length values) keeps few)
+    are_quiet kind (limits_of state) (are_counted kind state fit) values rows k
+        (room_of kind state rows (length values) keeps few)
 
 fired_if : (b : Bool) (need : ℕ) (count : Count) → count.fired ≡ b → need ≤ cap
     → (if b then 2 ^ 64 - 1 else need - 1 - count.run) ≡ 2 ^ 64 - 1 → count.fired ≡ true
@@ -240,11 +279,14 @@ room_always n need count other same small all =
 room_for_all : (kind : Kind) (state : State) (rows : List Row) (n : ℕ) → IsLimiter state
     → Keeps state rows → quiet_count kind state ≡ 2 ^ 64 - 1 → HasRoom kind (limits_of state) n rows
 room_for_all Over state rows n fit keeps all OverThreshold e =
-    room_always n (need_of state.settings.min_over_threshold_duration) state.over (count_of OverThreshold rows) keeps.over (are_counted Over state fit OverThreshold e) all
+    room_always n (need_of state.settings.min_over_threshold_duration) state.over
+        (count_of OverThreshold rows) keeps.over (are_counted Over state fit OverThreshold e) all
 room_for_all Over state rows n fit keeps all UnderThreshold e = cc
 room_for_all Under state rows n fit keeps all OverThreshold e = cc
 room_for_all Under state rows n fit keeps all UnderThreshold e =
-    room_always n (need_of state.settings.min_under_threshold_duration) state.under (count_of UnderThreshold rows) keeps.under (are_counted Under state fit UnderThreshold e) all
+    room_always n (need_of state.settings.min_under_threshold_duration) state.under
+        (count_of UnderThreshold rows) keeps.under
+        (are_counted Under state fit UnderThreshold e) all
 room_for_all Equal state rows n fit keeps all side e = cc
 
 -- if no sample would ever fire, any number of them does not
@@ -252,7 +294,8 @@ pub quiet_for_ever : (kind : Kind) (state : State) (rows : List Row) (values : L
     → IsLimiter state → Keeps state rows → AreOfKind kind (limits_of state).threshold values →
     quiet_count kind state ≡ 2 ^ 64 - 1 → IsQuiet (limits_of state) values rows
 quiet_for_ever kind state rows values fit keeps k all =
-    are_quiet kind (limits_of state) (are_counted kind state fit) values rows k (room_for_all kind state rows (length values) fit keeps all)
+    are_quiet kind (limits_of state) (are_counted kind state fit) values rows k
+        (room_for_all kind state rows (length values) fit keeps all)
 
 unfired_if : (b : Bool) (n need : ℕ) (count : Count) → count.fired ≡ b → n
     ≡ (if b then 2 ^ 64 - 1 else need - 1 - count.run) → n < 2 ^ 64 - 1 → (count.fired ≡ false)
@@ -272,56 +315,80 @@ fires_then : (n need : ℕ) (count other : Count) → count ≡ other → need �
     → n < 2 ^ 64 - 1 → fires_at true need (count_after_run n other) ≡ true
 fires_then n need count other same small is few =
     let P : Count → Type 0 = λ c. fires_at true need (count_after_run n c) ≡ true in
-    let found : (count.fired ≡ false) × (n ≡ need - 1 - count.run) = unfired_if count.fired n need count refl is few in
-    subst P same (and_both (nat_le need (min (min (count.run + n) cap + 1) cap)) count.fired (at_last n need count.run small found.1) found.0)
+    let found : (count.fired ≡ false) × (n ≡ need - 1 - count.run) =
+        unfired_if count.fired n need count refl is few in
+    subst P same (and_both (nat_le need (min (min (count.run + n) cap + 1) cap)) count.fired
+        (at_last n need count.run small found.1) found.0)
 
 -- one sample more than those that do not fire
 pub fires_next : (kind : Kind) (state : State) (rows : List Row) (values : List ℕ) (value : ℕ)
     → IsLimiter state → Keeps state rows → AreOfKind kind (limits_of state).threshold values →
-    kind_of (limits_of state).threshold value ≡ kind → length values ≡ quiet_count kind state → length values < 2 ^ 64 - 1 →
-    fire_of (row_of (limits_of state) value ∷ rows_after (limits_of state) values rows) ≡ fire_on kind
+    kind_of (limits_of state).threshold value ≡ kind → length values ≡ quiet_count kind state
+        → length values < 2 ^ 64 - 1 →
+    fire_of (row_of (limits_of state) value ∷ rows_after (limits_of state) values rows)
+        ≡ fire_on kind
 fires_next Over state rows values value fit keeps k last all few =
     let limits : Limits = limits_of state in
     let small : AreCounted Over limits = are_counted Over state fit in
-    let room : HasRoom Over limits (length values) rows = room_of Over state rows (length values) keeps (omega (arith, all)) in
-    let count : count_of OverThreshold (rows_after limits values rows) ≡ count_after_run (length values) (count_of OverThreshold rows) = run_after Over limits small values rows OverThreshold refl k room in
-    let fires : fires_at true (needed OverThreshold limits) (count_of OverThreshold (rows_after limits values rows)) ≡ true =
+    let room : HasRoom Over limits (length values) rows =
+        room_of Over state rows (length values) keeps (omega (arith, all)) in
+    let count : count_of OverThreshold (rows_after limits values rows)
+        ≡ count_after_run (length values) (count_of OverThreshold rows) =
+        run_after Over limits small values rows OverThreshold refl k room in
+    let fires : fires_at true (needed OverThreshold limits)
+        (count_of OverThreshold (rows_after limits values rows)) ≡ true =
     ap (fires_at true (needed OverThreshold limits)) count
-    ∙ fires_then (length values) (needed OverThreshold limits) state.over (count_of OverThreshold rows) keeps.over (small OverThreshold refl) all few in
-    one_fire Over limits small value (rows_after limits values rows) last ∙ ap (λ b. if b then fire_past OverThreshold else Quiet) fires
+    ∙ fires_then (length values) (needed OverThreshold limits) state.over
+        (count_of OverThreshold rows) keeps.over (small OverThreshold refl) all few in
+    one_fire Over limits small value (rows_after limits values rows) last
+        ∙ ap (λ b. if b then fire_past OverThreshold else Quiet) fires
 fires_next Under state rows values value fit keeps k last all few =
     let limits : Limits = limits_of state in
     let small : AreCounted Under limits = are_counted Under state fit in
-    let room : HasRoom Under limits (length values) rows = room_of Under state rows (length values) keeps (omega (arith, all)) in
-    let count : count_of UnderThreshold (rows_after limits values rows) ≡ count_after_run (length values) (count_of UnderThreshold rows) = run_after Under limits small values rows UnderThreshold refl k room in
-    let fires : fires_at true (needed UnderThreshold limits) (count_of UnderThreshold (rows_after limits values rows)) ≡ true =
+    let room : HasRoom Under limits (length values) rows =
+        room_of Under state rows (length values) keeps (omega (arith, all)) in
+    let count : count_of UnderThreshold (rows_after limits values rows)
+        ≡ count_after_run (length values) (count_of UnderThreshold rows) =
+        run_after Under limits small values rows UnderThreshold refl k room in
+    let fires : fires_at true (needed UnderThreshold limits)
+        (count_of UnderThreshold (rows_after limits values rows)) ≡ true =
     ap (fires_at true (needed UnderThreshold limits)) count
-    ∙ fires_then (length values) (needed UnderThreshold limits) state.under (count_of UnderThreshold rows) keeps.under (small UnderThreshold refl) all few in
-    one_fire Under limits small value (rows_after limits values rows) last ∙ ap (λ b. if b then fire_past UnderThreshold else Quiet) fires
+    ∙ fires_then (length values) (needed UnderThreshold limits) state.under
+        (count_of UnderThreshold rows) keeps.under (small UnderThreshold refl) all few in
+    one_fire Under limits small value (rows_after limits values rows) last
+        ∙ ap (λ b. if b then fire_past UnderThreshold else Quiet) fires
 fires_next Equal state rows values value fit keeps k last all few = absurd (omega (arith, all))
 
 over_after : (kind : Kind) (state : State) (rows : List Row) (values : List ℕ) (side : Side)
     → past kind side ≡ true → IsLimiter state → Keeps state rows
     → AreOfKind kind (limits_of state).threshold values →
-    length values ≤ quiet_count kind state → count_of side (rows_after (limits_of state) values rows) ≡ count_after_run (length values) (count_of side rows)
+    length values ≤ quiet_count kind state → count_of side
+        (rows_after (limits_of state) values rows)
+        ≡ count_after_run (length values) (count_of side rows)
 over_after kind state rows values side e fit keeps k few =
-    run_after kind (limits_of state) (are_counted kind state fit) values rows side e k (room_of kind state rows (length values) keeps few)
+    run_after kind (limits_of state) (are_counted kind state fit) values rows side e k
+        (room_of kind state rows (length values) keeps few)
 
 other_after : (kind : Kind) (state : State) (rows : List Row) (values : List ℕ) (side : Side)
     → past kind side ≡ false → IsLimiter state → AreOfKind kind (limits_of state).threshold values →
     0 < length values → no_run ≡ count_of side (rows_after (limits_of state) values rows)
-other_after kind state rows values side e fit k some = sym (none_after kind (limits_of state) (are_counted kind state fit) values rows side e k some)
+other_after kind state rows values side e fit k some =
+    sym (none_after kind (limits_of state) (are_counted kind state fit) values rows side e k some)
 
 jumped_keeps : (kind : Kind) (state : State) (rows : List Row) (values : List ℕ) (last : ℕ)
     → IsLimiter state → Keeps state rows → AreOfKind kind (limits_of state).threshold values →
-    0 < length values → length values ≤ quiet_count kind state → Keeps (state_after_run kind (length values) last state) (rows_after (limits_of state) values rows)
+    0 < length values → length values ≤ quiet_count kind state
+        → Keeps (state_after_run kind (length values) last state)
+        (rows_after (limits_of state) values rows)
 jumped_keeps Over state rows values last fit keeps k some few = record {
-  over = ap (count_after_run (length values)) keeps.over ∙ sym (over_after Over state rows values OverThreshold refl fit keeps k few);
+  over = ap (count_after_run (length values)) keeps.over
+      ∙ sym (over_after Over state rows values OverThreshold refl fit keeps k few);
   under = other_after Over state rows values UnderThreshold refl fit k some;
 }
 jumped_keeps Under state rows values last fit keeps k some few = record {
   over = other_after Under state rows values OverThreshold refl fit k some;
-  under = ap (count_after_run (length values)) keeps.under ∙ sym (over_after Under state rows values UnderThreshold refl fit keeps k few);
+  under = ap (count_after_run (length values)) keeps.under
+      ∙ sym (over_after Under state rows values UnderThreshold refl fit keeps k few);
 }
 jumped_keeps Equal state rows values last fit keeps k some few = record {
   over = other_after Equal state rows values OverThreshold refl fit k some;
@@ -331,10 +398,12 @@ jumped_keeps Equal state rows values last fit keeps k some few = record {
 -- the counts after a run that does not fire are those of its samples
 pub keeps_after : (kind : Kind) (state new : State) (rows : List Row) (values : List ℕ) (n last : ℕ)
     → IsLimiter state → Keeps state rows → AreOfKind kind (limits_of state).threshold values →
-    length values ≡ n → 0 < n → n ≤ quiet_count kind state → new ≡ state_after_run kind n last state → Keeps new (rows_after (limits_of state) values rows)
+    length values ≡ n → 0 < n → n ≤ quiet_count kind state → new ≡ state_after_run kind n last state
+        → Keeps new (rows_after (limits_of state) values rows)
 keeps_after kind state new rows values n last fit keeps k e some few is =
     let P : State → Type 0 = λ v. Keeps v (rows_after (limits_of state) values rows) in
-    subst P (ap (λ m. state_after_run kind m last state) e ∙ sym is) (jumped_keeps kind state rows values last fit keeps k (omega arith) (omega arith))
+    subst P (ap (λ m. state_after_run kind m last state) e ∙ sym is)
+        (jumped_keeps kind state rows values last fit keeps k (omega arith) (omega arith))
 
 fits_if : (b : Bool) (n need : ℕ) (count : Count) → count.fired ≡ b → 0 < n → need ≤ cap
     → n ≤ (if b then 2 ^ 64 - 1 else need - 1 - count.run) → IsFitCount count
@@ -362,7 +431,8 @@ one_small false x y a b = b
 threshold_small : (s : Settings) (moment : Option ℕ) → s.threshold_normal < 2 ^ 32
     → s.threshold_emergency < 2 ^ 32 → active_threshold s moment < 2 ^ 32
 unfolding active_threshold
-threshold_small s moment normal emergency = one_small (is_active s moment) s.threshold_emergency s.threshold_normal emergency normal
+threshold_small s moment normal emergency = one_small (is_active s moment) s.threshold_emergency
+    s.threshold_normal emergency normal
 
 below_threshold : (t v : ℕ) → t < 2 ^ 32 → nat_lt v t ≡ true → v < 4294967295
 below_threshold t v small e = grind (arith, nat_tests)
@@ -373,14 +443,18 @@ pub jumped_under : (state : State) (n last : ℕ) → 0 < n → n ≤ quiet_coun
     → IsLimiter (state_after_run Under n last state)
 jumped_under state n last some few k fit =
     let limits : Limits = limits_of state in
-    let small : limits.threshold < 2 ^ 32 = threshold_small state.settings state.moment fit.threshold_normal fit.threshold_emergency in
+    let small : limits.threshold < 2 ^ 32 = threshold_small state.settings state.moment
+        fit.threshold_normal fit.threshold_emergency in
     record {
       counts = record {
-        over_fits = record { within = omega arith; none = λ zero. refl; full = λ full. absurd (omega (arith, full)) };
-        under_fits = skip_fits n (needed UnderThreshold limits) state.under some (are_counted Under state fit UnderThreshold refl) few fit.counts.under_fits;
+        over_fits = record { within = omega arith; none = λ zero. refl;
+            full = λ full. absurd (omega (arith, full)) };
+        under_fits = skip_fits n (needed UnderThreshold limits) state.under some
+            (are_counted Under state fit UnderThreshold refl) few fit.counts.under_fits;
         one = λ over. absurd (omega (arith, over));
         above = λ over. absurd (omega (arith, over));
-        below = λ under. below_threshold limits.threshold last small (past_is Under UnderThreshold limits last k);
+        below = λ under. below_threshold limits.threshold last small
+            (past_is Under UnderThreshold limits last k);
       };
       threshold_normal = fit.threshold_normal;
       threshold_emergency = fit.threshold_emergency;
@@ -392,10 +466,14 @@ jumped_under state n last some few k fit =
 -- a limiter stays one, given its fields and its new counts separately
 pub jump_under : (inside state : State) (over under : Count) (n last : ℕ) → inside ≡ state → over
     ≡ no_run → under ≡ count_after_run n inside.under → 0 < n → n ≤ quiet_count Under state →
-    kind_of (limits_of state).threshold last ≡ Under → IsLimiter inside → IsLimiter (record { settings = inside.settings; moment = inside.moment; last = last; over = over; under = under })
+    kind_of (limits_of state).threshold last ≡ Under → IsLimiter inside
+        → IsLimiter (record { settings = inside.settings; moment = inside.moment; last = last;
+        over = over; under = under })
 jump_under inside state over under n last is none skip some few k fit =
     let Few : State → Type 0 = λ v. n ≤ quiet_count Under v in
     let IsUnder : State → Type 0 = λ v. kind_of (limits_of v).threshold last ≡ Under in
-    let make : Count → Count → State = λ a b. record { settings = inside.settings; moment = inside.moment; last = last; over = a; under = b } in
-    subst IsLimiter (ap (λ a. make a (count_after_run n inside.under)) (sym none) ∙ ap (make over) (sym skip))
+    let make : Count → Count → State = λ a b. record { settings = inside.settings;
+        moment = inside.moment; last = last; over = a; under = b } in
+    subst IsLimiter (ap (λ a. make a (count_after_run n inside.under)) (sym none)
+        ∙ ap (make over) (sym skip))
     (jumped_under inside n last some (subst Few (sym is) few) (subst IsUnder (sym is) k) fit)

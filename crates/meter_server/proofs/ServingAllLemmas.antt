@@ -34,7 +34,8 @@ pub whole_blocks : (told : Option (List Samples)) (own back : MeterPort) (events
     → HandsBlocks told own back × ReadsBetween told own back → AllBlocks told events
 whole_blocks None own back events e fresh hands = tt
 whole_blocks (Some blocks) own back events e fresh hands =
-    let those : hands.1.events ≡ events = sym (e ∙ hands.1.handed ∙ ap (λ xs. xs ++ hands.1.events) fresh) in
+    let those : hands.1.events ≡ events = sym (e ∙ hands.1.handed
+        ∙ ap (λ xs. xs ++ hands.1.events) fresh) in
     let P : List Event → Type 0 = λ xs. AreOfBlocks 0 blocks xs in (
       ap unread e ∙ hands.0 ∙ ap (λ xs. unread xs ++ map event.Samples blocks) fresh,
       subst P those hands.1.are,
@@ -43,15 +44,18 @@ whole_blocks (Some blocks) own back events e fresh hands =
 pub whole_moments : (told : Option (List ℕ)) (own back : MeterPort) (events : List Event) → events
     ≡ own_events back → own_events own ≡ [] → HandsMoments told own back → AllMoments told events
 whole_moments None own back events e fresh hands = tt
-whole_moments (Some moments) own back events e fresh hands = e ∙ hands ∙ ap (λ xs. xs ++ map event.Moment moments) fresh
+whole_moments (Some moments) own back events e fresh hands =
+    e ∙ hands ∙ ap (λ xs. xs ++ map event.Moment moments) fresh
 
 pub whole_presses : (told : Option ℕ) (own back : MeterPort) (events : List Event) → events
     ≡ own_events back → own_events own ≡ [] → HandsPresses told own back → AllPresses told events
 whole_presses None own back events e fresh hands = tt
-whole_presses (Some count) own back events e fresh hands = e ∙ hands ∙ ap (λ xs. xs ++ replicate count event.Button) fresh
+whole_presses (Some count) own back events e fresh hands =
+    e ∙ hands ∙ ap (λ xs. xs ++ replicate count event.Button) fresh
 
 -- a worker's work that ends well
-abbrev Did : {W : Type 0} → (W → MeterPort → MeterPort → Type 0) → W → MeterPort → MeterPort → Result (Unit {0}) CallFault → Type 0
+abbrev Did : {W : Type 0} → (W → MeterPort → MeterPort → Type 0) → W → MeterPort → MeterPort
+    → Result (Unit {0}) CallFault → Type 0
 Did hands worker p q end = IsSame p q × OnOk end (hands worker p q) × IfErr end (WorkerStops q)
 
 -- the work of the worker whose port was returned
@@ -59,7 +63,8 @@ did_all : {W : Type 0} (hands : W → MeterPort → MeterPort → Type 0) (worke
     (own back : MeterPort) (end : Option (Result (Unit {0}) CallFault))
     → Ended (Did hands worker) own back end → end ≡ Some (Ok tt) → hands worker own back
 did_all hands worker own back end ended is =
-    let E : Option (Result (Unit {0}) CallFault) → Type 0 = λ e. Ended (Did hands worker) own back e in
+    let E : Option (Result (Unit {0}) CallFault) → Type 0 =
+        λ e. Ended (Did hands worker) own back e in
     (subst E is ended).1
 
 acted_as : (own back q : MeterPort) (Whole : List Event → Type 0) → IsSame own back
@@ -73,17 +78,21 @@ acted_as own back q Whole same joined whole =
 their_events : (own back before q : MeterPort) → IsSame own back → TakesIn before back q
     → events_by own.known.number q ≡ own_events back
 their_events own back before q same taken =
-    ap (map (λ (call : Entry Event Reply). call.event)) (ap (λ n. calls_by n q.known.seen) (sym same.number) ∙ taken.theirs)
+    ap (map (λ (call : Entry Event Reply). call.event))
+        (ap (λ n. calls_by n q.known.seen) (sym same.number) ∙ taken.theirs)
 
 -- the worker whose port was returned did all its work, if it came to its end
 acted_own : {W : Type 0} (hands : W → MeterPort → MeterPort → Type 0) (worker : W)
     (own before q : MeterPort) (end : Option (Result (Unit {0}) CallFault))
     (Whole : List Event → Type 0)
-    → ((begun back : MeterPort) (events : List Event) → events ≡ own_events back → own_events begun ≡ [] → hands worker begun back → Whole events)
-    → ComesBack (Did hands worker) own end before q → calls_by own.known.number own.known.seen ≡ [] → end ≡ Some (Ok tt) → Acted q own.known.number Whole
+    → ((begun back : MeterPort) (events : List Event) → events ≡ own_events back → own_events begun
+        ≡ [] → hands worker begun back → Whole events)
+    → ComesBack (Did hands worker) own end before q → calls_by own.known.number own.known.seen ≡ []
+        → end ≡ Some (Ok tt) → Acted q own.known.number Whole
 acted_own hands worker own before q end Whole whole back fresh is =
     acted_as own back.back q Whole back.same back.taken.joined
-    (whole own back.back _ (their_events own back.back before q back.same back.taken) (fresh_handed own fresh) (did_all hands worker own back.back end back.ended is))
+    (whole own back.back _ (their_events own back.back before q back.same back.taken)
+        (fresh_handed own fresh) (did_all hands worker own back.back end back.ended is))
 
 -- a property of a port's number is preserved
 acted_on : (p q : MeterPort) (number : List ℕ) (Whole : List Event → Type 0) → GoesOn p q
@@ -92,7 +101,8 @@ acted_on p q number Whole goes acted =
     let P : List Event → Type 0 = λ events. Whole events in
     record {
       joined = goes.joined number acted.joined;
-      whole = subst P (sym (ap (map (λ (call : Entry Event Reply). call.event)) (goes.own number (inr acted.joined)))) acted.whole;
+      whole = subst P (sym (ap (map (λ (call : Entry Event Reply). call.event))
+          (goes.own number (inr acted.joined)))) acted.whole;
     }
 
 -- the same fact for an equal number
@@ -105,7 +115,8 @@ joined_on : (q last : MeterPort) (from : ℕ) → GoesOn q last → last.known.s
     → AreJoined from q → AreJoined from last
 joined_on q last from goes splits joined i low high =
     let J : List ℕ → Type 0 = λ n. IsAmong n last.known.joined in
-    subst J (ap (λ n. child n i) (sym goes.number)) (goes.joined _ (joined i low (omega (arith, high, splits))))
+    subst J (ap (λ n. child n i) (sym goes.number))
+        (goes.joined _ (joined i low (omega (arith, high, splits))))
 
 -- one more port was split off before the others
 joined_more : (p own lent last : MeterPort) → SplitsOff p own lent → GoesOn lent last
@@ -115,7 +126,8 @@ joined_more p own lent last off goes joined mine i low high =
     let number = goes.number ∙ off.goes.number in
     let J : List ℕ → Type 0 = λ n. IsAmong n last.known.joined in
     elim (cases_eq i p.known.splits) [
-      | inl same ↦ subst J (off.number ∙ ap (λ n. child n p.known.splits) (sym number) ∙ ap (λ k. child last.known.number k) (sym same)) mine
+      | inl same ↦ subst J (off.number ∙ ap (λ n. child n p.known.splits) (sym number)
+          ∙ ap (λ k. child last.known.number k) (sym same)) mine
       | inr other ↦ joined i (omega (arith, low, other, off.splits)) high
     ]
 
@@ -169,7 +181,8 @@ on_end : (served result : Result Served ServeFault) (end : Option (Result (Unit 
     → OnEnded result X
 on_end served result end X is f =
     let O : Result Served ServeFault → Type 0 = λ r. OnEnded r X in
-    subst O (sym is) (ended_first served (worker_fault end) X ⊤ (quiet end X) (any_ended served) (λ none any. f (no_fault end none)))
+    subst O (sym is) (ended_first served (worker_fault end) X ⊤ (quiet end X) (any_ended served)
+        (λ none any. f (no_fault end none)))
 
 ok_first : (served : Result Served ServeFault) (worker : Option ServeFault) (P : Served → Type 0)
     → IfOk served P → IfOk (first_of served worker) P
@@ -203,7 +216,9 @@ served_on served result end from splits later is same so =
 -- the same fact for an equal count of splits
 served_from : (result : Result Served ServeFault) (from before later : ℕ) → from ≡ before
     → IfOk result (IsServed from later) → IfOk result (IsServed before later)
-served_from result from before later same so = let O : ℕ → Type 0 = λ n. IfOk result (IsServed n later) in subst O same so
+served_from result from before later same so =
+    let O : ℕ → Type 0 = λ n. IfOk result (IsServed n later) in
+    subst O same so
 
 stops_for : (A B F : Type 0) (f : ServeFault) → (A → B) → StopsFor A F f → StopsFor B F f
 stops_for A B F fault.Memory so why = tt
@@ -242,10 +257,12 @@ worker_stops (Some (Err call.Exhausted)) B F spent = spent refl
 -- the server stops for the reason of the clients, or because the worker's port is spent
 stops_by : (served result : Result Served ServeFault) (end : Option (Result (Unit {0}) CallFault))
     (A B F : Type 0) → result ≡ first_of served (worker_fault end)
-    → IfErr served (StopsFor A F) → (A → B) → (end ≡ Some (Err call.Exhausted) → B) → IfErr result (StopsFor B F)
+    → IfErr served (StopsFor A F) → (A → B) → (end ≡ Some (Err call.Exhausted) → B)
+        → IfErr result (StopsFor B F)
 stops_by served result end A B F is why so spent =
     let O : Result Served ServeFault → Type 0 = λ r. IfErr r (StopsFor B F) in
-    subst O (sym is) (stops_first served (worker_fault end) (StopsFor B F) (worker_stops end B F spent) (map_stops served A B F why so))
+    subst O (sym is) (stops_first served (worker_fault end) (StopsFor B F)
+        (worker_stops end B F spent) (map_stops served A B F why so))
 
 -- a worker was refused a call, so the port into which its port was joined is spent
 spent_by : {W : Type 0} (hands : W → MeterPort → MeterPort → Type 0) (worker : W)
@@ -253,9 +270,11 @@ spent_by : {W : Type 0} (hands : W → MeterPort → MeterPort → Type 0) (work
     → ComesBack (Did hands worker) own end before q
     → GoesOn begun before → own.bound ≡ begun.bound → end ≡ Some (Err call.Exhausted) → IsSpent q
 spent_by hands worker own begun before q end back goes bound is =
-    let E : Option (Result (Unit {0}) CallFault) → Type 0 = λ e. Ended (Did hands worker) own back.back e in
+    let E : Option (Result (Unit {0}) CallFault) → Type 0 =
+        λ e. Ended (Did hands worker) own back.back e in
     let spent : back.back.bound ≤ back.back.known.drawn = (subst E is back.ended).2 in
-    let same : q.bound ≡ back.back.bound = back.taken.goes.bound ∙ goes.bound ∙ sym bound ∙ sym back.same.bound in
+    let same : q.bound ≡ back.back.bound = back.taken.goes.bound ∙ goes.bound ∙ sym bound
+        ∙ sym back.same.bound in
     omega (arith, spent, same, back.taken.drawn)
 
 -- a spent port remains spent
@@ -264,8 +283,10 @@ spent_on p q goes spent = omega (arith, goes.bound, goes.drawn, spent)
 
 -- A port was split off for a worker, the clients were served, and then the worker's port was joined
 -- in
-module _ {did : MeterPort → MeterPort → Result (Unit {0}) CallFault → Type 0} {p own lent mid last : MeterPort} {served result : Result Served ServeFault}
-    (off : SplitsOff p own lent) (goes : GoesOn lent mid) (ends : EndsWith did own served result mid last) where
+module _ {did : MeterPort → MeterPort → Result (Unit {0}) CallFault
+    → Type 0} {p own lent mid last : MeterPort} {served result : Result Served ServeFault}
+    (off : SplitsOff p own lent) (goes : GoesOn lent mid)
+        (ends : EndsWith did own served result mid last) where
   since : GoesOn lent last
   since = goes_trans lent mid last goes ends.back.taken.goes
 
@@ -275,7 +296,8 @@ module _ {did : MeterPort → MeterPort → Result (Unit {0}) CallFault → Type
   pub joined_beside : AreJoined lent.known.splits mid → AreJoined p.known.splits last
   joined_beside joined =
       let J : List ℕ → Type 0 = λ n. IsAmong n last.known.joined in
-      joined_more p own lent last off since (joined_on mid last _ ends.back.taken.goes ends.back.taken.splits joined) (subst J ends.back.same.number ends.back.taken.joined)
+      joined_more p own lent last off since (joined_on mid last _ ends.back.taken.goes
+          ends.back.taken.splits joined) (subst J ends.back.same.number ends.back.taken.joined)
 
   pub limit_beside : (P : Served → Type 0) → IfOk served P → IfOk result P
   limit_beside P so = if_ok served result ends.end P ends.first so
@@ -283,14 +305,16 @@ module _ {did : MeterPort → MeterPort → Result (Unit {0}) CallFault → Type
   pub served_beside : (from before : ℕ) → from ≡ before
       → IfOk served (IsServed from mid.known.splits)
       → IfOk result (IsServed before last.known.splits)
-  served_beside from before same so = served_from result from before _ same (served_on served result ends.end from _ _ ends.first ends.back.taken.splits so)
+  served_beside from before same so = served_from result from before _ same
+      (served_on served result ends.end from _ _ ends.first ends.back.taken.splits so)
 
   -- facts about sessions are preserved
   pub sessions_beside : (password : List ℕ) (from before : ℕ) → from ≡ before
       → lent.known.splits ≤ from → AreJoined lent.known.splits mid
       → AreSessions password from mid → AreSessions password before last
   sessions_beside password from before same early joined sessions =
-      sessions_on password lent.known.splits from before mid last same early ends.back.taken.goes ends.back.taken.splits joined sessions
+      sessions_on password lent.known.splits from before mid last same early ends.back.taken.goes
+          ends.back.taken.splits joined sessions
 
   -- facts about another worker are preserved
   pub acted_beside : (i j : ℕ) (Whole : List Event → Type 0) → i ≡ j
@@ -298,22 +322,29 @@ module _ {did : MeterPort → MeterPort → Result (Unit {0}) CallFault → Type
       → OnEnded result (Acted last (child p.known.number j) Whole)
   acted_beside i j Whole same so =
       on_ok served result ends.end _ _ ends.first so
-      (λ acted. acted_by last _ _ Whole (ap (λ n. child n i) off.goes.number ∙ ap (λ k. child p.known.number k) same) (acted_on mid last _ Whole ends.back.taken.goes acted))
+      (λ acted. acted_by last _ _ Whole (ap (λ n. child n i) off.goes.number
+          ∙ ap (λ k. child p.known.number k) same)
+          (acted_on mid last _ Whole ends.back.taken.goes acted))
 
-module _ {W : Type 0} (hands : W → MeterPort → MeterPort → Type 0) (worker : W) {p own lent mid last : MeterPort} {served result : Result Served ServeFault}
-    (off : SplitsOff p own lent) (goes : GoesOn lent mid) (ends : EndsWith (Did hands worker) own served result mid last) where
+module _ {W : Type 0} (hands : W → MeterPort → MeterPort → Type 0)
+    (worker : W) {p own lent mid last : MeterPort} {served result : Result Served ServeFault}
+    (off : SplitsOff p own lent) (goes : GoesOn lent mid)
+        (ends : EndsWith (Did hands worker) own served result mid last) where
   -- the work of the worker, for an equal worker
   pub acted_itself : (All : W → List Event → Type 0) (given : W) → worker ≡ given
-      → ((begun back : MeterPort) (events : List Event) → events ≡ own_events back → own_events begun ≡ [] → hands worker begun back → All worker events)
+      → ((begun back : MeterPort) (events : List Event) → events ≡ own_events back
+          → own_events begun ≡ [] → hands worker begun back → All worker events)
       → OnEnded result (Acted last (child p.known.number p.known.splits) (All given))
   acted_itself All given same whole =
       let P : W → Type 0 = λ w. Acted last (child p.known.number p.known.splits) (All w) in
       on_end served result ends.end _ ends.first
-      (λ is. subst P same (acted_by last _ _ (All worker) off.number (acted_own hands worker own mid last ends.end (All worker) whole ends.back off.fresh is)))
+      (λ is. subst P same (acted_by last _ _ (All worker) off.number
+          (acted_own hands worker own mid last ends.end (All worker) whole ends.back off.fresh is)))
 
   pub stops_beside : (A F : Type 0) → IfErr served (StopsFor A F) → (A → IsSpent mid)
       → IfErr result (StopsFor (IsSpent last) F)
   stops_beside A F why so =
       stops_by served result ends.end A _ F ends.first why
       (λ spent. spent_on mid last ends.back.taken.goes (so spent))
-      (λ refused. spent_by hands worker own lent mid last ends.end ends.back goes (off.bound ∙ sym off.goes.bound) refused)
+      (λ refused. spent_by hands worker own lent mid last ends.end ends.back goes (off.bound
+          ∙ sym off.goes.bound) refused)

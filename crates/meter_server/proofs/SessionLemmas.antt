@@ -34,7 +34,8 @@ entries_events by p (event ∷ events) (reply ∷ replies) q (next, step, rest) 
     ap (λ (es : List Event). event ∷ es) (entries_events by next events replies q rest)
 
 replied_events : (p : MeterPort) (events : List Event) (replies : List Reply) (q : MeterPort)
-    → RepliesTo PortSteps p events replies q → events_by p.known.number q ≡ events_by p.known.number p ++ events
+    → RepliesTo PortSteps p events replies q → events_by p.known.number q
+        ≡ events_by p.known.number p ++ events
 replied_events p events replies q replied =
     let by : List ℕ = p.known.number in
     ap (map event_of) (entered p events replies q replied)
@@ -43,7 +44,8 @@ replied_events p events replies q replied =
 
 by_replied : (password seen : List ℕ) (p : MeterPort) (events later : List Event)
     (replies : List Reply) (q : MeterPort)
-    → Asks password seen ≡ events ++ later → RepliesTo PortSteps p events replies q → AsksThrough password p q
+    → Asks password seen ≡ events ++ later → RepliesTo PortSteps p events replies q
+        → AsksThrough password p q
 by_replied password seen p events later replies q all replied = record {
   asked = events;
   are = record { input = seen; later = later; all = all };
@@ -52,42 +54,55 @@ by_replied password seen p events later replies q all replied = record {
 
 by_refused : (password seen : List ℕ) (p : MeterPort) (events later : List Event)
     (replies : List Reply) (refusal : CallFault) (q : MeterPort)
-    → Asks password seen ≡ events ++ later → RefusesLast PortSteps p events replies refusal q → AsksThrough password p q
+    → Asks password seen ≡ events ++ later → RefusesLast PortSteps p events replies refusal q
+        → AsksThrough password p q
 by_refused password seen p events later replies refusal q all r =
-    let same = replied_on PortSteps IsSame is_same same_on step_same p r.taken replies r.before r.replied in
+    let same = replied_on PortSteps IsSame is_same same_on step_same p r.taken replies r.before
+        r.replied in
     let N : List ℕ → Type 0 = λ n. events_by n q ≡ events_by n r.before in
     let still : events_by p.known.number q ≡ events_by p.known.number r.before =
-    subst N same.number (ap (map event_of) (r.refused.calls.0.sees.own_calls r.before.known.number (inl refl))) in record {
+    subst N same.number (ap (map event_of) (r.refused.calls.0.sees.own_calls r.before.known.number
+        (inl refl))) in record {
       asked = r.taken;
       are = record {
         input = seen;
         later = r.event ∷ later;
-        all = all ∙ ap (λ (es : List Event). es ++ later) r.all ∙ append_assoc r.taken (r.event ∷ []) later;
+        all = all ∙ ap (λ (es : List Event). es ++ later) r.all
+            ∙ append_assoc r.taken (r.event ∷ []) later;
       };
       entered = still ∙ replied_events p r.taken replies r.before r.replied;
     }
 
 effect_asks : (password seen : List ℕ) (before : Sides MeterPort)
     (result : Result SessionEnd ServeFault) (after : Sides MeterPort)
-    → HasEffect PortSteps (plan_of password) seen before result after → AsksThrough password before.outlets.meter after.outlets.meter
+    → HasEffect PortSteps (plan_of password) seen before result after
+        → AsksThrough password before.outlets.meter after.outlets.meter
 effect_asks password seen before (Ok end) after effect =
-    by_replied password seen before.outlets.meter _ [] effect.0.replies after.outlets.meter (sym (append-nil (Asks password seen))) effect.0.replied
+    by_replied password seen before.outlets.meter _ [] effect.0.replies after.outlets.meter
+        (sym (append-nil (Asks password seen))) effect.0.replied
 effect_asks password seen before (Err fault.Read) after effect =
-    by_replied password seen before.outlets.meter _ [] effect.0.replies after.outlets.meter (sym (append-nil (Asks password seen))) effect.0.replied
+    by_replied password seen before.outlets.meter _ [] effect.0.replies after.outlets.meter
+        (sym (append-nil (Asks password seen))) effect.0.replied
 effect_asks password seen before (Err fault.Write) after effect =
-    by_replied password seen before.outlets.meter effect.asked effect.later effect.replies after.outlets.meter effect.all_asked effect.replied
+    by_replied password seen before.outlets.meter effect.asked effect.later effect.replies
+        after.outlets.meter effect.all_asked effect.replied
 effect_asks password seen before (Err fault.Memory) after effect =
-    ⊎_elim (by_replied password seen before.outlets.meter effect.asked effect.later effect.replies after.outlets.meter effect.all_asked)
-    (by_refused password seen before.outlets.meter effect.asked effect.later effect.replies _ after.outlets.meter effect.all_asked) effect.replied
+    ⊎_elim (by_replied password seen before.outlets.meter effect.asked effect.later effect.replies
+        after.outlets.meter effect.all_asked)
+    (by_refused password seen before.outlets.meter effect.asked effect.later effect.replies _
+        after.outlets.meter effect.all_asked) effect.replied
 effect_asks password seen before (Err fault.Exhausted) after effect =
-    by_refused password seen before.outlets.meter effect.asked effect.later effect.replies _ after.outlets.meter effect.all_asked effect.refused
+    by_refused password seen before.outlets.meter effect.asked effect.later effect.replies _
+        after.outlets.meter effect.all_asked effect.refused
 effect_asks password seen before (Err fault.Listen) after effect = absurd effect
 
 -- a port that served a session made the calls of the session
 pub served_asks : (password : List ℕ) (before : Sides MeterPort)
     (result : Result SessionEnd ServeFault) (after : Sides MeterPort)
-    → ServesSession PortSteps password before result after → AsksThrough password before.outlets.meter after.outlets.meter
-served_asks password before result after served = effect_asks password served.seen before result after served.effect
+    → ServesSession PortSteps password before result after
+        → AsksThrough password before.outlets.meter after.outlets.meter
+served_asks password before result after served =
+    effect_asks password served.seen before result after served.effect
 
 abbrev Session : List ℕ → MeterPort → MeterPort → Type 0
 Session password p q = IsSame p q × AsksThrough password p q
@@ -100,18 +115,23 @@ calls_asked password number calls c =
     let none : map event_of (calls_by number c.lent.known.seen) ≡ [] = ap (map event_of) c.fresh in
     elim c.returned [
       | inl unused ↦
-          let empty : map event_of calls ≡ [] = ap (map event_of) c.calls_are ∙ ap (λ (x : MeterPort). events_by number x) unused ∙ none in
+          let empty : map event_of calls ≡ [] = ap (map event_of) c.calls_are
+              ∙ ap (λ (x : MeterPort). events_by number x) unused ∙ none in
           subst A (sym empty) record { input = []; later = Asks password []; all = refl }
       | inr session ↦
-          let N : List ℕ → Type 0 = λ n. events_by n c.back ≡ events_by n c.lent ++ session.1.asked in
-          let mine : events_by number c.back ≡ events_by number c.lent ++ session.1.asked = subst N c.named session.1.entered in
-          let those : map event_of calls ≡ session.1.asked = ap (map event_of) c.calls_are ∙ mine ∙ ap (λ (es : List Event). es ++ session.1.asked) none in
+          let N : List ℕ → Type 0 = λ n. events_by n c.back ≡ events_by n c.lent
+              ++ session.1.asked in
+          let mine : events_by number c.back ≡ events_by number c.lent ++ session.1.asked =
+              subst N c.named session.1.entered in
+          let those : map event_of calls ≡ session.1.asked = ap (map event_of) c.calls_are ∙ mine
+              ∙ ap (λ (es : List Event). es ++ session.1.asked) none in
           subst A (sym those) session.1.are
     ]
 
 pub are_sessions : (password : List ℕ) (from : ℕ) (port : MeterPort)
     → AreServed (Session password) from port → AreSessions password from port
-are_sessions password from port served i low high = calls_asked password (child port.known.number i) _ (served i low high)
+are_sessions password from port served i low high =
+    calls_asked password (child port.known.number i) _ (served i low high)
 
 -- no port was split off
 pub no_sessions : (password : List ℕ) (from : ℕ) (port : MeterPort) → port.known.splits ≤ from
@@ -128,5 +148,6 @@ sessions_on password first from before p q same early goes splits joined session
     let number = child p.known.number i in
     let A : List Event → Type 0 = λ es. AreAsked password es in
     let N : List ℕ → Type 0 = λ n. AreAsked password (events_by (child n i) q) in
-    let kept : events_by number q ≡ events_by number p = ap (map event_of) (goes.own number (inr (joined i (omega (arith, early, late)) within))) in
+    let kept : events_by number q ≡ events_by number p =
+        ap (map event_of) (goes.own number (inr (joined i (omega (arith, early, late)) within))) in
     subst N (sym goes.number) (subst A (sym kept) (sessions i late within))

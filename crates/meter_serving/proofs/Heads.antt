@@ -12,7 +12,8 @@ pub grows_on : (a b c : List ℕ) (l m n : Option (List ℕ)) → Grows a l b m 
 grows_on a b c l m n first then = record {
   bytes = first.bytes ++ then.bytes;
   read = Consumes-trans l m n first.bytes then.bytes first.read then.read;
-  added = then.added ∙ ap (λ (xs : List ℕ). xs ++ then.bytes) first.added ∙ append_assoc a first.bytes then.bytes;
+  added = then.added ∙ ap (λ (xs : List ℕ). xs ++ then.bytes) first.added
+      ∙ append_assoc a first.bytes then.bytes;
 }
 
 -- no read at all

@@ -46,23 +46,31 @@ opening_laid p version opening q e =
       opening = behind.rows;
       told = line.read ∙ ap (λ (v : Version). Ok v) version_is;
       before = ap (λ (n : ℕ). suc n) behind.long ∙ with_version b.0.0 ∙ ap lines_before version_is;
-      rows = line.took.lines ∙ ap (λ (rows : List Row). line.row ∷ rows) (behind.took.lines ∙ ap (λ (place : Place). behind.rows ++ place.rows) place_is);
-      unended = sym (ap (λ (place : Place). place.unended) place_is) ∙ behind.took.unended ∙ line.took.unended;
+      rows = line.took.lines ∙ ap (λ (rows : List Row). line.row ∷ rows) (behind.took.lines
+          ∙ ap (λ (place : Place). behind.rows ++ place.rows) place_is);
+      unended = sym (ap (λ (place : Place). place.unended) place_is) ∙ behind.took.unended
+          ∙ line.took.unended;
     }
 
 events_takes : (version : Version) (count : ℕ) (place : Place)
     → Takes count place (events_at version count place)
 unfolding events_at
 events_takes version zero place = takes_none _ _
-events_takes version (suc count) place = counted (takes_then 1 count _ _ _ (takes_line _ place) (λ event.
-    counted_none (takes_then count 0 _ _ _ (events_takes version count event.1) (λ others. takes_none _ _))))
+events_takes version (suc count) place = counted
+    (takes_then 1 count _ _ _ (takes_line _ place) (λ event.
+    counted_none (takes_then count 0 _ _ _ (events_takes version count event.1)
+        (λ others. takes_none _ _))))
   where
     counted : {X : Type 0} {r : ReadLines X} → Takes (1 + count) place r → Takes (suc count) place r
-    counted takes x q e = let t = takes x q e in record { rows = t.rows; long = omega (arith, t.long); took = t.took }
+    counted takes x q e =
+        let t = takes x q e in
+        record { rows = t.rows; long = omega (arith, t.long); took = t.took }
 
     counted_none : {X : Type 0} {r : ReadLines X} {p : Place} → Takes (count + 0) p r
         → Takes count p r
-    counted_none takes x q e = let t = takes x q e in record { rows = t.rows; long = omega (arith, t.long); took = t.took }
+    counted_none takes x q e =
+        let t = takes x q e in
+        record { rows = t.rows; long = omega (arith, t.long); took = t.took }
 
 -- nothing is left after the last line
 nothing_is_left : {X : Type 0} (number : ℕ) (rows : List Row) (unended : List ℕ) (x y : X)
@@ -94,7 +102,8 @@ trace_laid text trace e =
       events_row = line.row;
       events = events.rows;
       rows = opened.rows ∙ ap (λ (rows : List Row). opened.first ∷ (opened.opening ++ rows))
-          (line.took.lines ∙ ap (λ (rows : List Row). line.row ∷ rows) (events.took.lines ∙ ap (λ (rows : List Row). events.rows ++ rows) end.0));
+          (line.took.lines ∙ ap (λ (rows : List Row). line.row ∷ rows) (events.took.lines
+              ∙ ap (λ (rows : List Row). events.rows ++ rows) end.0));
       ended = sym opened.unended ∙ sym line.took.unended ∙ sym events.took.unended ∙ end.1;
       told = opened.told;
       before = opened.before;
@@ -105,4 +114,5 @@ trace_laid text trace e =
 -- the text of a trace has as many lines as a trace has
 pub laid_out : (text : List ℕ) (trace : Trace) → trace_of text ≡ Ok trace → IsLaidOut text
 unfolding trace_of
-laid_out text trace e = trace_laid text trace (refused_ok _ _ (trace_from (place_of text)) trace e).1
+laid_out text trace e = trace_laid text trace
+    (refused_ok _ _ (trace_from (place_of text)) trace e).1

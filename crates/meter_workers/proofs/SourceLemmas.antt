@@ -6,7 +6,8 @@ use Rattle.meter_workers.specs.Sources.{Gives, Presses}
 
 -- What was passed on at first, followed by the source's whole list then, equals what is passed on
 -- now, followed by the source's list now.
-abbrev pub Leaves : {X : Type 0} → (X → Event) → Option (List X) → List Event → Option (List X) → List Event → Type 0
+abbrev pub Leaves : {X : Type 0} → (X → Event) → Option (List X) → List Event → Option (List X)
+    → List Event → Type 0
 Leaves {X} event told before left after = (xs : List X) → told ≡ Some xs
     → (ys : List X) × (left ≡ Some ys) × (before ++ map event xs ≡ after ++ map event ys)
 
@@ -24,21 +25,25 @@ module _ {X : Type 0} (event : X → Event) where
       → after' ≡ after ++ event x ∷ [] → left ≡ Some ys → all ≡ after ++ map event ys
       → (zs : List X) × (next ≡ Some zs) × (all ≡ after' ++ map event zs)
   handed_on None next x all after after' ys gives more is whole = cc
-  handed_on (Some []) next x all after after' ys gives more is whole = let none : Some x ≡ None = gives.0 in cc
+  handed_on (Some []) next x all after after' ys gives more is whole =
+      let none : Some x ≡ None = gives.0 in
+      cc
   handed_on (Some (y ∷ zs)) next x all after after' ys gives more is whole =
       let given : Some x ≡ Some y = gives.0 in
       let same : x ≡ y = cc in
       let parts : ys ≡ y ∷ zs = cc in (
         zs,
         gives.1,
-        whole ∙ ap (λ (l : List X). after ++ map event l) (parts ∙ ap (λ (z : X). z ∷ zs) (sym same)) ∙ one_more after x zs
+        whole ∙ ap (λ (l : List X). after ++ map event l) (parts
+            ∙ ap (λ (z : X). z ∷ zs) (sym same)) ∙ one_more after x zs
             ∙ ap (λ (l : List Event). l ++ map event zs) (sym more),
       )
 
   -- one more item was returned and passed on
   pub leaves_on : (told left next : Option (List X)) (x : X) (before after after' : List Event)
       → Leaves event told before left after
-      → Gives left (Some x) next → after' ≡ after ++ event x ∷ [] → Leaves event told before next after'
+      → Gives left (Some x) next → after' ≡ after ++ event x ∷ []
+          → Leaves event told before next after'
   leaves_on told left next x before after after' leaves gives more xs is =
       let had = leaves xs is in
       handed_on left next x (before ++ map event xs) after after' had.0 gives more had.1 had.2
@@ -50,7 +55,9 @@ module _ {X : Type 0} (event : X → Event) where
   all_handed (Some []) next all after ys gives is whole =
       let none : ys ≡ [] = cc in
       sym (whole ∙ ap (λ (l : List X). after ++ map event l) none ∙ append-nil after)
-  all_handed (Some (y ∷ zs)) next all after ys gives is whole = let some : None ≡ Some y = gives.0 in cc
+  all_handed (Some (y ∷ zs)) next all after ys gives is whole =
+      let some : None ≡ Some y = gives.0 in
+      cc
 
   -- no item is left
   pub leaves_none : (told left next : Option (List X)) (before after : List Event)
@@ -71,14 +78,18 @@ presses_first told before n is = (n, is, refl)
 
 pressed_on : (left next : Option ℕ) (all after after' : List Event) (m : ℕ) → Presses left true next
     → after' ≡ after ++ Button ∷ []
-    → left ≡ Some m → all ≡ after ++ replicate m Button → (k : ℕ) × (next ≡ Some k) × (all ≡ after' ++ replicate k Button)
+    → left ≡ Some m → all ≡ after ++ replicate m Button → (k : ℕ) × (next ≡ Some k)
+        × (all ≡ after' ++ replicate k Button)
 pressed_on None next all after after' m presses more is whole = cc
-pressed_on (Some zero) next all after after' m presses more is whole = let none : true ≡ false = presses.0 in cc
+pressed_on (Some zero) next all after after' m presses more is whole =
+    let none : true ≡ false = presses.0 in
+    cc
 pressed_on (Some (suc k)) next all after after' m presses more is whole =
     let count : m ≡ suc k = cc in (
       k,
       presses.1,
-      whole ∙ ap (λ (n : ℕ). after ++ replicate n Button) count ∙ sym (append_assoc after (Button ∷ []) (replicate k Button))
+      whole ∙ ap (λ (n : ℕ). after ++ replicate n Button) count
+          ∙ sym (append_assoc after (Button ∷ []) (replicate k Button))
           ∙ ap (λ (l : List Event). l ++ replicate k Button) (sym more),
     )
 
@@ -96,7 +107,9 @@ all_pressed None next all after m presses is whole = cc
 all_pressed (Some zero) next all after m presses is whole =
     let none : m ≡ 0 = cc in
     sym (whole ∙ ap (λ (n : ℕ). after ++ replicate n Button) none ∙ append-nil after)
-all_pressed (Some (suc k)) next all after m presses is whole = let some : false ≡ true = presses.0 in cc
+all_pressed (Some (suc k)) next all after m presses is whole =
+    let some : false ≡ true = presses.0 in
+    cc
 
 pub presses_none : (told left next : Option ℕ) (before after : List Event)
     → LeavesPresses told before left after

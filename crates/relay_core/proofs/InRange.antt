@@ -33,14 +33,20 @@ setting_in_range : (value : Data) (a : LimiterAttribute)
 unfolding setting_of
 setting_in_range value attribute.MonitoredValue = tt
 setting_in_range value attribute.ThresholdActive = tt
-setting_in_range value attribute.ThresholdNormal = set_by (number_of value) (λ n. setting.ThresholdNormal n) (λ n e. tt)
-setting_in_range value attribute.ThresholdEmergency = set_by (number_of value) (λ n. setting.ThresholdEmergency n) (λ n e. tt)
-setting_in_range value attribute.MinOverThresholdDuration = set_by (number_of value) (λ n. setting.MinOverThresholdDuration n) (λ n e. number_small value n e)
-setting_in_range value attribute.MinUnderThresholdDuration = set_by (number_of value) (λ n. setting.MinUnderThresholdDuration n) (λ n e. number_small value n e)
-setting_in_range value attribute.EmergencyProfile = set_by (profile_of value) (λ p. setting.Profile p) (λ p e. tt)
+setting_in_range value attribute.ThresholdNormal =
+    set_by (number_of value) (λ n. setting.ThresholdNormal n) (λ n e. tt)
+setting_in_range value attribute.ThresholdEmergency =
+    set_by (number_of value) (λ n. setting.ThresholdEmergency n) (λ n e. tt)
+setting_in_range value attribute.MinOverThresholdDuration = set_by (number_of value)
+    (λ n. setting.MinOverThresholdDuration n) (λ n e. number_small value n e)
+setting_in_range value attribute.MinUnderThresholdDuration = set_by (number_of value)
+    (λ n. setting.MinUnderThresholdDuration n) (λ n e. number_small value n e)
+setting_in_range value attribute.EmergencyProfile =
+    set_by (profile_of value) (λ p. setting.Profile p) (λ p e. tt)
 setting_in_range value attribute.EmergencyProfileGroupIdList = tt
 setting_in_range value attribute.EmergencyProfileActive = tt
-setting_in_range value attribute.Actions = set_by (actions_of value) (λ a. setting.Actions a) (λ a e. tt)
+setting_in_range value attribute.Actions = set_by (actions_of value)
+    (λ a. setting.Actions a) (λ a e. tt)
 
 pub value_in_range : (value : Data) → IsValue value
 value_in_range value = record {

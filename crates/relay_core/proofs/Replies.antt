@@ -41,5 +41,6 @@ reply_fits (Set level attr selected value) w = tt
 reply_fits (Execute level method parameter) w = tt
 reply_fits Button w = tt
 reply_fits (Samples block) w =
-    sampled_fits block.export (after_samples (measurements block) (record { world = w; firings = no_firings })).firings
+    sampled_fits block.export (after_samples (measurements block)
+        (record { world = w; firings = no_firings })).firings
 reply_fits (Moment now) w = moment_fits w.moment now w

@@ -30,10 +30,13 @@ numbered which w make read = at_setting_form which (read >>= λ number. Ok (Some
 
 -- a write of an emergency profile, by what its Data was read as
 abbrev written : Which → World → Result Profile WriteFault → Outcome
-written which w read = at_setting_form which (read >>= λ profile. Ok (Some (setting.Profile profile))) w
+written which w read = at_setting_form which (read
+    >>= λ profile. Ok (Some (setting.Profile profile))) w
 
 pub step_is_request : (s : Step) (w : World) → IsStep s → at_step Remote s w ≡ at_request s w
-unfolding at_request at_set at_execute at_write at_method at_step target_of rights_of may_execute_of attribute_of method_of object_of class_attribute_of class_method_of attribute_numbered setting_of mode_form switch_trigger
+unfolding at_request at_set at_execute at_write at_method at_step target_of rights_of may_execute_of
+    attribute_of method_of object_of class_attribute_of class_method_of attribute_numbered
+    setting_of mode_form switch_trigger
 step_is_request (step.WriteMode Mode0) w fits = refl
 step_is_request (step.WriteMode Mode1) w fits = refl
 step_is_request (step.WriteMode Mode2) w fits = refl
@@ -41,15 +44,25 @@ step_is_request (step.WriteMode Mode3) w fits = refl
 step_is_request (step.WriteMode Mode4) w fits = refl
 step_is_request (step.WriteMode Mode5) w fits = refl
 step_is_request (step.WriteMode Mode6) w fits = refl
-step_is_request (step.WriteNormal Import watts) w fits = sym (ap (numbered Import w (λ n. setting.ThresholdNormal n)) (number_again watts fits))
-step_is_request (step.WriteNormal Export watts) w fits = sym (ap (numbered Export w (λ n. setting.ThresholdNormal n)) (number_again watts fits))
-step_is_request (step.WriteEmergency Import watts) w fits = sym (ap (numbered Import w (λ n. setting.ThresholdEmergency n)) (number_again watts fits))
-step_is_request (step.WriteEmergency Export watts) w fits = sym (ap (numbered Export w (λ n. setting.ThresholdEmergency n)) (number_again watts fits))
-step_is_request (step.WriteMinOver Import seconds) w fits = sym (ap (numbered Import w (λ n. setting.MinOverThresholdDuration n)) (number_again seconds fits))
-step_is_request (step.WriteMinOver Export seconds) w fits = sym (ap (numbered Export w (λ n. setting.MinOverThresholdDuration n)) (number_again seconds fits))
-step_is_request (step.WriteMinUnder Import seconds) w fits = sym (ap (numbered Import w (λ n. setting.MinUnderThresholdDuration n)) (number_again seconds fits))
-step_is_request (step.WriteMinUnder Export seconds) w fits = sym (ap (numbered Export w (λ n. setting.MinUnderThresholdDuration n)) (number_again seconds fits))
-step_is_request (step.WriteProfile Import profile) w fits = sym (ap (written Import w) (profile_again profile fits))
-step_is_request (step.WriteProfile Export profile) w fits = sym (ap (written Export w) (profile_again profile fits))
+step_is_request (step.WriteNormal Import watts) w fits =
+    sym (ap (numbered Import w (λ n. setting.ThresholdNormal n)) (number_again watts fits))
+step_is_request (step.WriteNormal Export watts) w fits =
+    sym (ap (numbered Export w (λ n. setting.ThresholdNormal n)) (number_again watts fits))
+step_is_request (step.WriteEmergency Import watts) w fits =
+    sym (ap (numbered Import w (λ n. setting.ThresholdEmergency n)) (number_again watts fits))
+step_is_request (step.WriteEmergency Export watts) w fits =
+    sym (ap (numbered Export w (λ n. setting.ThresholdEmergency n)) (number_again watts fits))
+step_is_request (step.WriteMinOver Import seconds) w fits = sym
+    (ap (numbered Import w (λ n. setting.MinOverThresholdDuration n)) (number_again seconds fits))
+step_is_request (step.WriteMinOver Export seconds) w fits = sym
+    (ap (numbered Export w (λ n. setting.MinOverThresholdDuration n)) (number_again seconds fits))
+step_is_request (step.WriteMinUnder Import seconds) w fits = sym
+    (ap (numbered Import w (λ n. setting.MinUnderThresholdDuration n)) (number_again seconds fits))
+step_is_request (step.WriteMinUnder Export seconds) w fits = sym
+    (ap (numbered Export w (λ n. setting.MinUnderThresholdDuration n)) (number_again seconds fits))
+step_is_request (step.WriteProfile Import profile) w fits =
+    sym (ap (written Import w) (profile_again profile fits))
+step_is_request (step.WriteProfile Export profile) w fits =
+    sym (ap (written Export w) (profile_again profile fits))
 step_is_request step.Disconnect w fits = refl
 step_is_request step.Reconnect w fits = refl

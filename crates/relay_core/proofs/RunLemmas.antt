@@ -23,7 +23,8 @@ world_after-append (x ∷ xs) ys w = world_after-append xs ys (at_event x w).wor
 pub lines_of-append : (xs ys : List Event) (w : World) → lines_of (xs ++ ys) w ≡ lines_of xs w
     ++ lines_of ys (world_after xs w)
 lines_of-append [] ys w = refl
-lines_of-append (x ∷ xs) ys w = ap (λ lines. line_at x w ∷ lines) (lines_of-append xs ys (at_event x w).world)
+lines_of-append (x ∷ xs) ys w = ap (λ lines. line_at x w ∷ lines)
+    (lines_of-append xs ys (at_event x w).world)
 
 -- a run with one more event
 pub ran_more : (old now next : RelayCore) (events : List Event) (event : Event) (lines : List Line)
@@ -33,11 +34,13 @@ pub ran_more : (old now next : RelayCore) (events : List Event) (event : Event) 
     → ((w : World) → StandsFor now w → line ≡ line_at event w)
     → Runs old next (events ++ event ∷ []) (lines ++ line ∷ [])
 ran_more old now next events event lines line ran goes answers = record {
-  world = λ w stands. subst (λ (v : World). StandsFor next v) (sym (world_after-append events (event ∷ []) w))
+  world = λ w stands. subst (λ (v : World). StandsFor next v)
+      (sym (world_after-append events (event ∷ []) w))
       (goes (world_after events w) (ran.world w stands));
   answered = λ w stands.
       ap (λ done. done ++ line ∷ []) (ran.answered w stands)
-      ∙ ap (λ one. lines_of events w ++ one ∷ []) (answers (world_after events w) (ran.world w stands))
+      ∙ ap (λ one. lines_of events w ++ one ∷ [])
+          (answers (world_after events w) (ran.world w stands))
       ∙ sym (lines_of-append events (event ∷ []) w);
 }
 
@@ -57,11 +60,14 @@ ran_further old now next events i event lines line below is ran goes answers =
 
 -- a line equals the line of a step if its parts do
 pub same_line : (reply : Reply) (state : ControlState) (output : Bool) (s : Stepped)
-    → reply ≡ s.reply → state ≡ s.world.control.state → output ≡ is_state s.world.control.state Connected
+    → reply ≡ s.reply → state ≡ s.world.control.state → output
+        ≡ is_state s.world.control.state Connected
     → record { reply = reply; state = state; output = output } ≡ line_of s
 same_line reply state output s e1 e2 e3 =
-    let made : Reply → ControlState → Bool → Line = λ r st o. record { reply = r; state = st; output = o } in
-    ap (λ r. made r state output) e1 ∙ ap (λ st. made s.reply st output) e2 ∙ ap (λ o. made s.reply s.world.control.state o) e3
+    let made : Reply → ControlState → Bool → Line =
+        λ r st o. record { reply = r; state = st; output = o } in
+    ap (λ r. made r state output) e1 ∙ ap (λ st. made s.reply st output) e2
+        ∙ ap (λ o. made s.reply s.world.control.state o) e3
 
 -- a Boolean that can't be true is false
 pub refuted : (b : Bool) → (IsTrue b → false ≡ true) → b ≡ false
@@ -81,5 +87,6 @@ stops_at old now next events i event lines below is ran same unsure = record {
   count = i;
   within = omega arith;
   ran = subst (λ (core : RelayCore). Runs old core (take i events) lines) (sym same) ran;
-  cause = inr (event, slice_get_read events (length events) i event refl below is, refuted (is_sure event) unsure);
+  cause = inr (event, slice_get_read events (length events) i event refl below is,
+      refuted (is_sure event) unsure);
 }

@@ -48,12 +48,18 @@ parts_again step.Reconnect = refl
 -- the parameter of a written step reads as that step
 parameter_again : (s : Step) → IsStep s → step_with (action_of s) (parameter_of s) ≡ Ok s
 unfolding step_with mode_form
-parameter_again (step.WriteMode mode) fits = ap (λ o. ok_or o Value >>= λ m. done WriteFault (step.WriteMode m)) (mode_found mode)
-parameter_again (step.WriteNormal which watts) fits = ap (λ r. r >>= λ n. done WriteFault (step.WriteNormal which n)) (number_again watts fits)
-parameter_again (step.WriteEmergency which watts) fits = ap (λ r. r >>= λ n. done WriteFault (step.WriteEmergency which n)) (number_again watts fits)
-parameter_again (step.WriteMinOver which seconds) fits = ap (λ r. r >>= λ n. done WriteFault (step.WriteMinOver which n)) (number_again seconds fits)
-parameter_again (step.WriteMinUnder which seconds) fits = ap (λ r. r >>= λ n. done WriteFault (step.WriteMinUnder which n)) (number_again seconds fits)
-parameter_again (step.WriteProfile which profile) fits = ap (λ r. r >>= λ p. done WriteFault (step.WriteProfile which p)) (profile_again profile fits)
+parameter_again (step.WriteMode mode) fits = ap (λ o. ok_or o Value
+    >>= λ m. done WriteFault (step.WriteMode m)) (mode_found mode)
+parameter_again (step.WriteNormal which watts) fits =
+    ap (λ r. r >>= λ n. done WriteFault (step.WriteNormal which n)) (number_again watts fits)
+parameter_again (step.WriteEmergency which watts) fits =
+    ap (λ r. r >>= λ n. done WriteFault (step.WriteEmergency which n)) (number_again watts fits)
+parameter_again (step.WriteMinOver which seconds) fits =
+    ap (λ r. r >>= λ n. done WriteFault (step.WriteMinOver which n)) (number_again seconds fits)
+parameter_again (step.WriteMinUnder which seconds) fits =
+    ap (λ r. r >>= λ n. done WriteFault (step.WriteMinUnder which n)) (number_again seconds fits)
+parameter_again (step.WriteProfile which profile) fits =
+    ap (λ r. r >>= λ p. done WriteFault (step.WriteProfile which p)) (profile_again profile fits)
 parameter_again step.Disconnect fits = refl
 parameter_again step.Reconnect fits = refl
 
@@ -65,17 +71,21 @@ with_action parts = ok_or (action_at parts.0) Value >>= λ a. step_with a parts.
 step_again : (s : Step) → IsStep s → step_of (step_data s) ≡ Ok s
 unfolding step_of
 step_again s fits =
-    ap (λ o. ok_or o Unmatched >>= with_action) (parts_again s) ∙ ap (λ o. ok_or o Value >>= λ a. step_with a (parameter_of s)) (action_again (action_of s)) ∙ parameter_again s fits
+    ap (λ o. ok_or o Unmatched >>= with_action) (parts_again s)
+        ∙ ap (λ o. ok_or o Value >>= λ a. step_with a (parameter_of s)) (action_again (action_of s))
+        ∙ parameter_again s fits
 
 -- the parts of a written script
 script_parts_again : (s : Script) → script_parts_of (script_data s)
     ≡ Some (s.identifier, map step_data s.steps)
 unfolding script_data
-script_parts_again s = ap (λ items. Some (s.identifier, items)) (list_of_trees (map step_data s.steps))
+script_parts_again s = ap (λ items. Some (s.identifier, items))
+    (list_of_trees (map step_data s.steps))
 
 -- a script's parts, judged
 abbrev judged_with : ℕ × List Data → Result (ℕ × List Data) WriteFault
-judged_with parts = fault_of_items step_of parts.1 >> (guard (not (parts.0 == 0) && nat_le (length parts.1) max_steps) Value >> Ok parts)
+judged_with parts = fault_of_items step_of parts.1 >>
+    (guard (not (parts.0 == 0) && nat_le (length parts.1) max_steps) Value >> Ok parts)
 
 -- the limits of a script hold of its parts
 within : (s : Script) → IsScript s → not (s.identifier == 0)
@@ -84,7 +94,8 @@ within s fits = grind (arith, nat_tests, fits.named, fits.few, length-map)
 
 -- a script from its parts
 abbrev as_script : Result (ℕ × List Data) WriteFault → Result Script WriteFault
-as_script judged = judged >>= λ parts. Ok (record { identifier = parts.0; steps = values step_of parts.1 })
+as_script judged = judged >>= λ parts. Ok (record { identifier = parts.0;
+    steps = values step_of parts.1 })
 
 -- a written script reads as itself
 script_again : (s : Script) → IsScript s → script_of (script_data s) ≡ Ok s
@@ -93,16 +104,19 @@ script_again s fits =
     let parts : ℕ × List Data = (s.identifier, map step_data s.steps) in
     let are = all_again step_of step_data IsStep step_again s.steps fits.fit in
     ap (λ o. as_script (ok_or o Unmatched >>= judged_with)) (script_parts_again s)
-    ∙ ap (λ r. as_script (r >> (guard (not (parts.0 == 0) && nat_le (length parts.1) max_steps) Value >> done WriteFault parts))) (told_again are)
+    ∙ ap (λ r. as_script (r >> (guard (not (parts.0 == 0) && nat_le (length parts.1) max_steps)
+        Value >> done WriteFault parts))) (told_again are)
     ∙ ap (λ b. as_script (guard b Value >> done WriteFault parts)) (within s fits)
     ∙ ap (λ steps. done WriteFault (record { identifier = s.identifier; steps = steps })) are.are
 
 -- the limits of a table hold of its Data
 table_within : (scripts : List Script) → IsTable scripts
     → AreRead script_of (map script_data scripts) scripts
-    → nat_le (length (map script_data scripts)) max_scripts && are_distinct identifier_of (map script_data scripts) ≡ true
+    → nat_le (length (map script_data scripts)) max_scripts
+        && are_distinct identifier_of (map script_data scripts) ≡ true
 table_within scripts fits are =
-    ap₂ (λ a b. a && b) few (same_distinct (map script_data scripts) are.faultless ∙ ap (λ xs. are_distinct (λ script. script.identifier) xs) are.are ∙ fits.distinct)
+    ap₂ (λ a b. a && b) few (same_distinct (map script_data scripts) are.faultless
+        ∙ ap (λ xs. are_distinct (λ script. script.identifier) xs) are.are ∙ fits.distinct)
   where
     few : nat_le (length (map script_data scripts)) max_scripts ≡ true
     few = grind (arith, nat_tests, fits.few, length-map)
@@ -119,14 +133,18 @@ table_again scripts fits =
     let items = map script_data scripts in
     let are = all_again script_of script_data IsScript script_again scripts fits.fit in
     ap (λ read. with_items read) (list_of_trees items)
-    ∙ ap (λ r. (r >> guard (nat_le (length items) max_scripts && are_distinct identifier_of items) Value) >> done WriteFault (values script_of items)) (told_again are)
-    ∙ ap (λ b. guard b Value >> done WriteFault (values script_of items)) (table_within scripts fits are)
+    ∙ ap (λ r. (r >> guard (nat_le (length items) max_scripts && are_distinct identifier_of items)
+        Value) >> done WriteFault (values script_of items)) (told_again are)
+    ∙ ap (λ b. guard b Value >> done WriteFault (values script_of items))
+        (table_within scripts fits are)
     ∙ ap (λ xs. done WriteFault xs) are.are
 
 -- a table whose writing did not run out of memory reads as itself
 pub written_again : {E : Type 0} (result : Result Data E) (written scripts table : List Script)
     → IsTable scripts → written ≡ scripts → scripts ≡ table
-    → IfOk result (λ value. value ≡ data_of written) → IfOk result (λ value. table_of value ≡ Ok table)
+    → IfOk result (λ value. value ≡ data_of written)
+        → IfOk result (λ value. table_of value ≡ Ok table)
 written_again (Ok value) written scripts table fits same view is =
-    ap table_of is ∙ ap (λ xs. table_of (data_of xs)) same ∙ table_again scripts fits ∙ ap (λ xs. Ok xs) view
+    ap table_of is ∙ ap (λ xs. table_of (data_of xs)) same ∙ table_again scripts fits
+        ∙ ap (λ xs. Ok xs) view
 written_again (Err error) written scripts table fits same view is = tt

@@ -28,7 +28,8 @@ seconds_of : (parameter : Data) (make : ℕ → Step) (s : Step)
     → (number_of parameter >>= λ n. done WriteFault (make n)) ≡ Ok s → IsStepInRange s
 seconds_of parameter make s small e =
     let found = bind_ok (number_of parameter) (λ n. done WriteFault (make n)) s e in
-    subst IsStepInRange (ok_is {F = WriteFault} (make found.0) s found.2) (small found.0 (number_small parameter found.0 found.1))
+    subst IsStepInRange (ok_is {F = WriteFault} (make found.0) s found.2)
+        (small found.0 (number_small parameter found.0 found.1))
 
 -- a number or a profile that becomes no duration
 no_seconds : {A : Type 0} (read : Result A WriteFault) (make : A → Step) (s : Step)
@@ -41,19 +42,28 @@ no_seconds read make s none e =
 with_in_range : (a : Action) (parameter : Data) (s : Step) → step_with a parameter ≡ Ok s
     → IsStepInRange s
 unfolding step_with
-with_in_range action.Mode parameter s e = no_seconds (mode_form parameter) (λ mode. step.WriteMode mode) s (λ mode. tt) e
-with_in_range (action.Normal which) parameter s e = no_seconds (number_of parameter) (λ n. step.WriteNormal which n) s (λ n. tt) e
-with_in_range (action.Emergency which) parameter s e = no_seconds (number_of parameter) (λ n. step.WriteEmergency which n) s (λ n. tt) e
-with_in_range (action.MinOver which) parameter s e = seconds_of parameter (λ n. step.WriteMinOver which n) s (λ n small. small) e
-with_in_range (action.MinUnder which) parameter s e = seconds_of parameter (λ n. step.WriteMinUnder which n) s (λ n small. small) e
-with_in_range (action.Profile which) parameter s e = no_seconds (profile_of parameter) (λ p. step.WriteProfile which p) s (λ p. tt) e
-with_in_range action.Disconnect parameter s e = no_seconds (method_parameter_of parameter) (λ u. step.Disconnect) s (λ u. tt) e
-with_in_range action.Reconnect parameter s e = no_seconds (method_parameter_of parameter) (λ u. step.Reconnect) s (λ u. tt) e
+with_in_range action.Mode parameter s e = no_seconds (mode_form parameter)
+    (λ mode. step.WriteMode mode) s (λ mode. tt) e
+with_in_range (action.Normal which) parameter s e =
+    no_seconds (number_of parameter) (λ n. step.WriteNormal which n) s (λ n. tt) e
+with_in_range (action.Emergency which) parameter s e =
+    no_seconds (number_of parameter) (λ n. step.WriteEmergency which n) s (λ n. tt) e
+with_in_range (action.MinOver which) parameter s e =
+    seconds_of parameter (λ n. step.WriteMinOver which n) s (λ n small. small) e
+with_in_range (action.MinUnder which) parameter s e =
+    seconds_of parameter (λ n. step.WriteMinUnder which n) s (λ n small. small) e
+with_in_range (action.Profile which) parameter s e =
+    no_seconds (profile_of parameter) (λ p. step.WriteProfile which p) s (λ p. tt) e
+with_in_range action.Disconnect parameter s e =
+    no_seconds (method_parameter_of parameter) (λ u. step.Disconnect) s (λ u. tt) e
+with_in_range action.Reconnect parameter s e =
+    no_seconds (method_parameter_of parameter) (λ u. step.Reconnect) s (λ u. tt) e
 
 step_in_range : (value : Data) (s : Step) → step_of value ≡ Ok s → IsStepInRange s
 unfolding step_of
 step_in_range value s e =
-    let parts = bind_ok (ok_or (step_parts_of value) Unmatched) (λ p. ok_or (action_at p.0) Value >>= λ a. step_with a p.1) s e in
+    let parts = bind_ok (ok_or (step_parts_of value) Unmatched) (λ p. ok_or (action_at p.0) Value
+        >>= λ a. step_with a p.1) s e in
     let acts = bind_ok (ok_or (action_at parts.0.0) Value) (λ a. step_with a parts.0.1) s parts.2 in
     with_in_range acts.0 parts.0.1 s acts.2
 
@@ -66,7 +76,8 @@ one_step (Err fault) others first rest = rest
 
 steps_in_range : (items : List Data) → AreStepsInRange (values step_of items)
 steps_in_range [] = tt
-steps_in_range (item ∷ items) = one_step (step_of item) (values step_of items) (λ s e. step_in_range item s e) (steps_in_range items)
+steps_in_range (item ∷ items) = one_step (step_of item) (values step_of items)
+    (λ s e. step_in_range item s e) (steps_in_range items)
 
 -- ---- a script
 
@@ -74,8 +85,10 @@ script_in_range : (value : Data) (script : Script) → script_of value ≡ Ok sc
     → AreStepsInRange script.steps
 unfolding script_of
 script_in_range value script e =
-    let b = bind_ok (judged_script value) (λ parts. done WriteFault (record { identifier = parts.0; steps = values step_of parts.1 })) script e in
-    let same = ok_is {F = WriteFault} (record { identifier = b.0.0; steps = values step_of b.0.1 }) script b.2 in
+    let b = bind_ok (judged_script value) (λ parts. done WriteFault
+        (record { identifier = parts.0; steps = values step_of parts.1 })) script e in
+    let same = ok_is {F = WriteFault} (record { identifier = b.0.0; steps = values step_of b.0.1 })
+        script b.2 in
     subst (λ (s : Script). AreStepsInRange s.steps) same (steps_in_range b.0.1)
 
 one_script : (r : Result Script WriteFault) (others : List Script)
@@ -86,13 +99,17 @@ one_script (Err fault) others first rest = rest
 
 scripts_in_range : (items : List Data) → AreScriptsInRange (values script_of items)
 scripts_in_range [] = tt
-scripts_in_range (item ∷ items) = one_script (script_of item) (values script_of items) (λ s e. script_in_range item s e) (scripts_in_range items)
+scripts_in_range (item ∷ items) = one_script (script_of item) (values script_of items)
+    (λ s e. script_in_range item s e) (scripts_in_range items)
 
 -- the scripts of a table that is read
 pub table_in_range : (value : Data) (scripts : List Script) → table_of value ≡ Ok scripts
     → AreScriptsInRange scripts
 unfolding table_of
 table_in_range value scripts e =
-    let items = bind_ok (ok_or (array_of value) Unmatched) (λ items. judged_scripts items >> done WriteFault (values script_of items)) scripts e in
-    let judged = bind_ok (judged_scripts items.0) (λ _. done WriteFault (values script_of items.0)) scripts items.2 in
-    subst AreScriptsInRange (ok_is {F = WriteFault} (values script_of items.0) scripts judged.2) (scripts_in_range items.0)
+    let items = bind_ok (ok_or (array_of value) Unmatched)
+        (λ items. judged_scripts items >> done WriteFault (values script_of items)) scripts e in
+    let judged = bind_ok (judged_scripts items.0) (λ _. done WriteFault (values script_of items.0))
+        scripts items.2 in
+    subst AreScriptsInRange (ok_is {F = WriteFault} (values script_of items.0) scripts judged.2)
+        (scripts_in_range items.0)

@@ -32,18 +32,29 @@ step_listed step = action_again (action_of step)
 
 -- the address of each step is in the table of the meter's objects
 pub step_in_table : (step : Step) → IsInTable step
-unfolding object_of class_attribute_of class_method_of attribute_of method_of rights_of may_execute_of
+unfolding object_of class_attribute_of class_method_of attribute_of method_of rights_of
+    may_execute_of
 step_in_table (variant.WriteMode mode) = record { named = refl; classed = refl; allowed = refl }
-step_in_table (variant.WriteNormal Import watts) = record { named = refl; classed = refl; allowed = refl }
-step_in_table (variant.WriteNormal Export watts) = record { named = refl; classed = refl; allowed = refl }
-step_in_table (variant.WriteEmergency Import watts) = record { named = refl; classed = refl; allowed = refl }
-step_in_table (variant.WriteEmergency Export watts) = record { named = refl; classed = refl; allowed = refl }
-step_in_table (variant.WriteMinOver Import seconds) = record { named = refl; classed = refl; allowed = refl }
-step_in_table (variant.WriteMinOver Export seconds) = record { named = refl; classed = refl; allowed = refl }
-step_in_table (variant.WriteMinUnder Import seconds) = record { named = refl; classed = refl; allowed = refl }
-step_in_table (variant.WriteMinUnder Export seconds) = record { named = refl; classed = refl; allowed = refl }
-step_in_table (variant.WriteProfile Import profile) = record { named = refl; classed = refl; allowed = refl }
-step_in_table (variant.WriteProfile Export profile) = record { named = refl; classed = refl; allowed = refl }
+step_in_table (variant.WriteNormal Import watts) =
+    record { named = refl; classed = refl; allowed = refl }
+step_in_table (variant.WriteNormal Export watts) =
+    record { named = refl; classed = refl; allowed = refl }
+step_in_table (variant.WriteEmergency Import watts) =
+    record { named = refl; classed = refl; allowed = refl }
+step_in_table (variant.WriteEmergency Export watts) =
+    record { named = refl; classed = refl; allowed = refl }
+step_in_table (variant.WriteMinOver Import seconds) =
+    record { named = refl; classed = refl; allowed = refl }
+step_in_table (variant.WriteMinOver Export seconds) =
+    record { named = refl; classed = refl; allowed = refl }
+step_in_table (variant.WriteMinUnder Import seconds) =
+    record { named = refl; classed = refl; allowed = refl }
+step_in_table (variant.WriteMinUnder Export seconds) =
+    record { named = refl; classed = refl; allowed = refl }
+step_in_table (variant.WriteProfile Import profile) =
+    record { named = refl; classed = refl; allowed = refl }
+step_in_table (variant.WriteProfile Export profile) =
+    record { named = refl; classed = refl; allowed = refl }
 step_in_table variant.Disconnect = record { named = refl; classed = refl; allowed = refl }
 step_in_table variant.Reconnect = record { named = refl; classed = refl; allowed = refl }
 

@@ -27,7 +27,8 @@ few_if false false false w x y z e p q r = cc
 -- the length of a block is encoded in at most three bytes
 length_few : (n : ℕ) → n ≤ greatest_raw → length (length_text n) ≤ 3
 length_few n h =
-    few_if (nat_lt n 0x80) (nat_lt n (2 ^ 8)) (nat_lt n (2 ^ 16)) (n ∷ []) (0x81 ∷ bytes_high_first 1 n) (0x82 ∷ bytes_high_first 2 n) _
+    few_if (nat_lt n 0x80) (nat_lt n (2 ^ 8)) (nat_lt n (2 ^ 16)) (n ∷ []) (0x81
+        ∷ bytes_high_first 1 n) (0x82 ∷ bytes_high_first 2 n) _
     (le-leb (suc n) (2 ^ 16) (omega arith)) (lit≤ tt) (lit≤ tt) (lit≤ tt)
 
 short_aare : (result diagnostic : ℕ) (i : Info)
@@ -53,7 +54,9 @@ short : (r : Response) → IsSmall r → length (response_text r) ≤ greatest_p
 unfolding response_text
 short (response.Get id (Value value)) small = absurd small
 short (response.Get id (Code code)) small = lit≤ tt
-short (response.GetBlock id block) small = let few = length_few (length block.raw) small in omega (arith, length-append (length_text (length block.raw)) block.raw)
+short (response.GetBlock id block) small =
+    let few = length_few (length block.raw) small in
+    omega (arith, length-append (length_text (length block.raw)) block.raw)
 short (response.GetBlockRefused id last number code) small = lit≤ tt
 short (response.GetList id results) small = absurd small
 short (response.Set id code) small = lit≤ tt

@@ -36,7 +36,8 @@ replies_are old new (e ∷ events) (r ∷ replies) w (next, one, ran) stands =
 fed_all : (password input : List ℕ) (s fed : Session) (before : Outlets RelayCore)
     → Owes password s → Feeds s input fed
     → HasDone CoreSteps hex_line (plan_of password) before input fed before
-fed_all password input s fed before owes feeds = reached_fed [] input s fed before (reached_new password s before owes) feeds
+fed_all password input s fed before owes feeds =
+    reached_fed [] input s fed before (reached_new password s before owes) feeds
 
 -- everything was written
 pub on_all : (password input : List ℕ) (s fed : Session) (before after : Outlets RelayCore)
@@ -44,7 +45,8 @@ pub on_all : (password input : List ℕ) (s fed : Session) (before after : Outle
     → DoesAll CoreSteps hex_line (work_for (remaining_plan fed) []) before after
     → DoesAll CoreSteps hex_line (work_for (plan_of password) input) before after
 on_all password input s fed before after owes feeds all =
-    subst (λ (seen : List ℕ). DoesAll CoreSteps hex_line (work_for (plan_of password) seen) before after) (append-nil input)
+    subst (λ (seen : List ℕ). DoesAll CoreSteps hex_line (work_for (plan_of password) seen) before
+        after) (append-nil input)
     (does_all_on input [] fed before after (fed_all password input s fed before owes feeds) all)
 
 -- the session ran out of memory
@@ -53,8 +55,10 @@ on_short : (password input : List ℕ) (s fed : Session) (before after : Outlets
     → StopsShort CoreSteps hex_line (work_for (remaining_plan fed) []) before after
     → StopsShort CoreSteps hex_line (work_for (plan_of password) input) before after
 on_short password input s fed before after owes feeds stops =
-    subst (λ (seen : List ℕ). StopsShort CoreSteps hex_line (work_for (plan_of password) seen) before after) (append-nil input)
-    (stops_on input [] fed before after fault.Memory (fed_all password input s fed before owes feeds) refl stops)
+    subst (λ (seen : List ℕ). StopsShort CoreSteps hex_line (work_for (plan_of password) seen)
+        before after) (append-nil input)
+    (stops_on input [] fed before after fault.Memory
+        (fed_all password input s fed before owes feeds) refl stops)
 
 -- a fault that is out of memory, in the session
 pub on_short_by : (password input : List ℕ) (s fed : Session) (before after : Outlets RelayCore)
@@ -64,21 +68,29 @@ pub on_short_by : (password input : List ℕ) (s fed : Session) (before after : 
     → StopsShort CoreSteps hex_line (work_for (plan_of password) input) before after
 on_short_by password input s fed before after f is owes feeds stops =
     on_short password input s fed before after owes feeds
-    (subst (λ (g : ServeFault). Stops CoreSteps hex_line (work_for (remaining_plan fed) []) before g after) is stops)
+    (subst (λ (g : ServeFault). Stops CoreSteps hex_line (work_for (remaining_plan fed) []) before g
+        after) is stops)
 
 -- the result for a meter that was new
 pub played_new : (device password input : List ℕ) (core core' : RelayCore) (before after : Output)
     (result : Result (Unit {0}) HexFault)
-    → StandsFor core (new_world device) → PlaysOn password input (pair before core) result (pair after core')
+    → StandsFor core (new_world device) → PlaysOn password input (pair before core) result
+        (pair after core')
     → PlaysNew device password input before result after
 played_new device password input core core' before after (Ok done) is_new all =
-    subst (λ (replies : List Reply). Appends before.written after.written (flat_map hex_line (Answers password input replies)))
-    (replies_are core core' (Asks password input) all.replies (new_world device) all.replied is_new) all.wrote
-played_new device password input core core' before after (Err hex_fault.Digits) is_new none = absurd none
-played_new device password input core core' before after (Err hex_fault.TooLong) is_new none = absurd none
-played_new device password input core core' before after (Err hex_fault.Read) is_new none = absurd none
+    subst (λ (replies : List Reply). Appends before.written after.written
+        (flat_map hex_line (Answers password input replies)))
+    (replies_are core core' (Asks password input) all.replies (new_world device) all.replied is_new)
+        all.wrote
+played_new device password input core core' before after (Err hex_fault.Digits) is_new none = absurd
+    none
+played_new device password input core core' before after (Err hex_fault.TooLong) is_new
+    none = absurd none
+played_new device password input core core' before after (Err hex_fault.Read) is_new none = absurd
+    none
 played_new device password input core core' before after (Err hex_fault.Write) is_new fails = fails
-played_new device password input core core' before after (Err hex_fault.Memory) is_new (inl nothing) = inl nothing
+played_new device password input core core' before after (Err hex_fault.Memory) is_new
+    (inl nothing) = inl nothing
 played_new device password input core core' before after (Err hex_fault.Memory) is_new (inr stops) =
     inr (record { core = core; core' = core'; is_new = is_new; stops = stops })
 

@@ -30,15 +30,18 @@ kept false rest later more e = absurd cc
 
 one_taken : (c : ℕ) (blank : Bool) (digits : List ℕ) (later : Bool)
     → (list_all is_hex_digit digits ≡ true → later ≡ true)
-    → list_all is_hex_digit (cond (not blank) (c ∷ digits) digits) ≡ true → ((is_hex_digit c || blank) && later) ≡ true
+    → list_all is_hex_digit (cond (not blank) (c ∷ digits) digits) ≡ true
+        → ((is_hex_digit c || blank) && later) ≡ true
 one_taken c true digits later more e = skipped (is_hex_digit c) later (more e)
-one_taken c false digits later more e = kept (is_hex_digit c) (list_all is_hex_digit digits) later more e
+one_taken c false digits later more e = kept (is_hex_digit c) (list_all is_hex_digit digits) later
+    more e
 
 -- where all that is not skipped is a digit, each character is taken
 all_taken : (text : List ℕ) → list_all is_hex_digit (filter keeps text) ≡ true
     → list_all is_taken text ≡ true
 all_taken [] e = refl
-all_taken (c ∷ text) e = one_taken c (is_blank c) (filter keeps text) (list_all is_taken text) (all_taken text) e
+all_taken (c ∷ text) e = one_taken c (is_blank c) (filter keeps text) (list_all is_taken text)
+    (all_taken text) e
 
 clash : (b : Bool) → not b ≡ true → b ≡ true → ⊥
 clash true e f = absurd cc
@@ -48,7 +51,8 @@ no_hex : (text : List ℕ) (index : ℕ) → position is_wrong text ≡ Some ind
     → IsHex text input → ⊥
 no_hex text index found input hex =
     let digits = decode_of-ok (filter keeps text) input hex in
-    let taken = AllPass-from_list_all is_taken text (all_taken text (list_all-from_AllPass is_hex_digit (filter keeps text) digits.1)) in
+    let taken = AllPass-from_list_all is_taken text
+        (all_taken text (list_all-from_AllPass is_hex_digit (filter keeps text) digits.1)) in
     let place = position-Some is_wrong text index 0 found in
     clash (is_taken (get_or text index 0)) place.1 (taken index 0 place.0)
 
@@ -75,9 +79,13 @@ undecoded_odd text error none e = (sym (ap fault_at none), no_bytes (bytes_of te
 
 -- a whole text that was read and not decoded
 pub undecoded : (text : List ℕ) (before after : Input) (f : TextFault)
-    → Consumes before.left after.left text → IsAtEnd after.left → length text ≤ most_characters → IsUndecoded text f → StopsReading before f after
-undecoded text before after (text_fault.Digit character) read at_end within wrong = record { text = text; read = read; cause = (wrong, within, at_end) }
-undecoded text before after text_fault.OddDigits read at_end within wrong = record { text = text; read = read; cause = (wrong, within, at_end) }
+    → Consumes before.left after.left text → IsAtEnd after.left → length text ≤ most_characters
+        → IsUndecoded text f → StopsReading before f after
+undecoded text before after (text_fault.Digit character) read at_end within wrong =
+    record { text = text; read = read; cause = (wrong, within, at_end) }
+undecoded text before after text_fault.OddDigits read at_end within wrong =
+    record { text = text; read = read; cause = (wrong, within, at_end) }
 undecoded text before after text_fault.TooLong read at_end within wrong = absurd wrong
 undecoded text before after text_fault.Read read at_end within wrong = absurd wrong
-undecoded text before after text_fault.Memory read at_end within wrong = record { text = text; read = read; cause = tt }
+undecoded text before after text_fault.Memory read at_end within wrong =
+    record { text = text; read = read; cause = tt }

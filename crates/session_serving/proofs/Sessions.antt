@@ -99,12 +99,14 @@ pieces_so_far seen count before after short most counted = record {
   counted = counted;
 }
 
-module _ {M : Type 0} (steps : M → Event → Result Reply CallFault → M → Type 0) (written_as : List ℕ → List ℕ) where
+module _ {M : Type 0} (steps : M → Event → Result Reply CallFault → M → Type 0) (written_as : List ℕ
+    → List ℕ) where
   -- the effect of a session, stated for its password
   owed : (password seen : List ℕ) (old s : Session) (before after : Outlets M) → Owes password old
       → HasDone steps written_as (remaining_plan old) before seen s after
       → HasDone steps written_as (plan_of password) before seen s after
-  owed password seen old s before after owes r = reached_on [] seen old s before after (reached_new password old before owes) r
+  owed password seen old s before after owes r =
+      reached_on [] seen old s before after (reached_new password old before owes) r
 
   pub stands_new : (s : Session) (before : Sides M) → IsSettled s
       → EndsWithInput (still_ends s []) → is_asking s ≡ false
@@ -187,11 +189,13 @@ module _ {M : Type 0} (steps : M → Event → Result Reply CallFault → M → 
   served_none password before (Err f) is = record {
     seen = [];
     read = Consumes-nil before.input.left;
-    stops = record { earlier = []; last = []; all = refl; short = omega arith; ends = nothing_ends };
+    stops = record { earlier = []; last = []; all = refl; short = omega arith;
+        ends = nothing_ends };
     pieces = record { count = 0; most = omega arith; short = omega arith; counted = omega arith };
     effect = did_stop (plan_of password) [] before before f
         (subst
-        (λ (g : ServeFault). Stops steps as_bytes (work_for (plan_of password) []) before.outlets g before.outlets)
+        (λ (g : ServeFault). Stops steps as_bytes (work_for (plan_of password) []) before.outlets g
+            before.outlets)
         (sym is)
         (record {
           asked = [];
@@ -257,14 +261,16 @@ module _ {M : Type 0} (steps : M → Event → Result Reply CallFault → M → 
       → Consumes now.input.left after.input.left [] → IsAtEnd after.input.left
       → count < most_reads → after.input.reads ≡ before.input.reads + (count + 1)
       → now.outlets.output.failures ≡ before.outlets.output.failures
-      → OnOk result (DoesAll steps as_bytes (work_for (remaining_plan s) []) now.outlets after.outlets)
+      → OnOk result (DoesAll steps as_bytes (work_for (remaining_plan s) []) now.outlets
+          after.outlets)
       → IfOk result (λ end. end ≡ still_ends s [])
       → IfErr result
       (λ f. Stops steps as_bytes (work_for (remaining_plan s) []) now.outlets f after.outlets)
       → ServesSession steps password before result after
   served_end password count old s before now after (Ok end) owes st consumed at_end few counted even
       all so stop =
-      let far = owed steps as_bytes password st.seen old s before.outlets now.outlets owes st.reached in
+      let far = owed steps as_bytes password st.seen old s before.outlets now.outlets owes
+          st.reached in
       record {
         seen = st.seen ++ [];
         read = Consumes-trans before.input.left now.input.left after.input.left st.seen [] st.read
@@ -296,7 +302,8 @@ module _ {M : Type 0} (steps : M → Event → Result Reply CallFault → M → 
       → ServesSession steps password before (Ok end) after
   served_over password bytes count old s new before now after end owes st consumed piece few counted
       settled early =
-      let far = owed steps as_bytes password (st.seen ++ bytes) old new before.outlets after.outlets owes
+      let far = owed steps as_bytes password (st.seen ++ bytes) old new before.outlets after.outlets
+          owes
       (reached_on st.seen bytes s new now.outlets after.outlets st.reached settled.reached) in
       record {
         seen = (st.seen ++ bytes) ++ [];
@@ -305,7 +312,8 @@ module _ {M : Type 0} (steps : M → Event → Result Reply CallFault → M → 
             (Consumes-trans before.input.left now.input.left after.input.left st.seen bytes st.read
             consumed);
         effect = (
-          does_all (st.seen ++ bytes) [] new after.outlets far settled.settled.asks settled.settled.sends,
+          does_all (st.seen ++ bytes) [] new after.outlets far settled.settled.asks
+              settled.settled.sends,
           sym (far.ends_rest [] ∙ settled.done.ends []),
           early,
         );
@@ -327,7 +335,8 @@ module _ {M : Type 0} (steps : M → Event → Result Reply CallFault → M → 
       → ServesSession steps password before (Err fault.Read)
       (record { input = input; outlets = now.outlets })
   served_unread password count old s before now input owes st consumed most counted cause =
-      let far = owed steps as_bytes password st.seen old s before.outlets now.outlets owes st.reached in
+      let far = owed steps as_bytes password st.seen old s before.outlets now.outlets owes
+          st.reached in
       record {
         seen = st.seen ++ [];
         read = Consumes-trans before.input.left now.input.left input.left st.seen [] st.read

@@ -31,14 +31,16 @@ pub counted_on : (before mid after : Option ℕ) (count later : ℕ)
     → later < 18446744073709551615 → RisesBy before later after
 counted_on before mid after count later first next counted rises below =
     let few : count < 18446744073709551615 = omega (arith, rises, below) in
-    subst (λ n. RisesBy before n after) (sym (counted few)) (rises_on before mid after count (first few) next)
+    subst (λ n. RisesBy before n after) (sym (counted few))
+        (rises_on before mid after count (first few) next)
 
 rises_still : (before mid after : Option ℕ) (count : ℕ) → RisesBy before count mid
     → RisesBy mid 0 after
     → RisesBy before count after
 rises_still None mid after count first next = tt
 rises_still (Some number) mid after count first next =
-    let same_count : after ≡ Some (number + count + 0) = subst (λ m. RisesBy m 0 after) first next in
+    let same_count : after ≡ Some (number + count + 0) =
+        subst (λ m. RisesBy m 0 after) first next in
     let same : number + count + 0 ≡ number + count = omega arith in
     same_count ∙ ap (λ n. Some n) same
 
@@ -46,4 +48,5 @@ rises_still (Some number) mid after count first next =
 pub counted_still : (before mid after : Option ℕ) (count : ℕ)
     → (count < 18446744073709551615 → RisesBy before count mid) → RisesBy mid 0 after
     → count < 18446744073709551615 → RisesBy before count after
-counted_still before mid after count first next below = rises_still before mid after count (first below) next
+counted_still before mid after count first next below =
+    rises_still before mid after count (first below) next

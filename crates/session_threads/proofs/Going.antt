@@ -27,7 +27,8 @@ among_at e (k ∷ ms) ns = inr (among_at e ms ns)
 module _ {E R O : Type 0} where
   own_later : (p q : ShownPort E R O) → GoesOn p q → (n : List ℕ) → IsOwn p.known n
       → IsOwn q.known n
-  own_later p q s n h = elim h [ inl e ↦ inl (e ∙ sym s.number) | inr among ↦ inr (s.joined n among) ]
+  own_later p q s n h = elim h [ inl e ↦ inl (e ∙ sym s.number) | inr among ↦ inr
+      (s.joined n among) ]
 
   pub goes_refl : (p : ShownPort E R O) → GoesOn p p
   goes_refl p =
@@ -69,7 +70,8 @@ module _ {E R O : Type 0} where
         splits = omega (arith, ap (λ k. k.splits) known);
         drawn = omega (arith, ap (λ k. k.drawn) known);
         seen = ([], ap (λ k. k.seen) known ∙ sym (append-nil p.known.seen));
-        joined = λ n among. let Q : Known E R O → Type 0 = λ k. IsAmong n k.joined in subst Q (sym known) among;
+        joined = λ n among. let Q : Known E R O → Type 0 =
+            λ k. IsAmong n k.joined in subst Q (sym known) among;
         own = λ n own. ap (λ k. calls_by n k.seen) known;
       }
 
@@ -85,6 +87,7 @@ module _ {E R O : Type 0} where
         splits = omega (arith, joins.sees.splits);
         drawn = joins.sees.drawn;
         seen = joins.sees.seen;
-        joined = λ n among. rw joins.joined (among_front n p.known.joined (u.number ∷ u.joined) among);
+        joined = λ n among. rw joins.joined (among_front n p.known.joined (u.number
+            ∷ u.joined) among);
         own = joins.sees.own_calls;
       }

@@ -60,7 +60,8 @@ verb_again OfMoment = refl
 -- ---- attributes and methods
 
 attribute_again : (attr : AttrRef) (words : Row) → IsNamed attr.class.0 attr.name.0 attr.number
-    → attribute_from (decimal attr.class.0) (encode_upper attr.name.0 ∷ decimal attr.number ∷ words) ≡ Ok (attr, words)
+    → attribute_from (decimal attr.class.0) (encode_upper attr.name.0 ∷ decimal attr.number ∷ words)
+        ≡ Ok (attr, words)
 attribute_again attr words named =
     let class = number_word_again 65535 attr.class.0 named.class_fits (omega arith) in
     let name = name_again attr.name named.name_fits named.name_bytes in
@@ -78,7 +79,8 @@ method_again method words named =
 
 selection_again : (item : AttributeSelection) (words : Row)
     → IsNamed item.attr.class.0 item.attr.name.0 item.attr.number
-    → selection_from (decimal item.attr.class.0) (encode_upper item.attr.name.0 ∷ decimal item.attr.number ∷ decimal (flag_number item.selected) ∷ words) ≡ Ok (item, words)
+    → selection_from (decimal item.attr.class.0) (encode_upper item.attr.name.0
+        ∷ decimal item.attr.number ∷ decimal (flag_number item.selected) ∷ words) ≡ Ok (item, words)
 unfolding selection_from
 selection_again item words named =
     let attr = attribute_again item.attr (decimal (flag_number item.selected) ∷ words) named in
@@ -128,21 +130,25 @@ firsts : (imports exports : List ℕ) → length imports ≡ length exports
     → map (λ (pair : ℕ × ℕ). pair.0) (zip imports exports) ≡ imports
 firsts [] exports even = refl
 firsts (import ∷ imports) [] even = absurd (omega arith)
-firsts (import ∷ imports) (export ∷ exports) even = ap (λ (rest : List ℕ). import ∷ rest) (firsts imports exports (omega arith))
+firsts (import ∷ imports) (export ∷ exports) even =
+    ap (λ (rest : List ℕ). import ∷ rest) (firsts imports exports (omega arith))
 
 seconds : (imports exports : List ℕ) → length imports ≡ length exports
     → map (λ (pair : ℕ × ℕ). pair.1) (zip imports exports) ≡ exports
 seconds [] [] even = refl
 seconds [] (export ∷ exports) even = absurd (omega arith)
 seconds (import ∷ imports) [] even = absurd (omega arith)
-seconds (import ∷ imports) (export ∷ exports) even = ap (λ (rest : List ℕ). export ∷ rest) (seconds imports exports (omega arith))
+seconds (import ∷ imports) (export ∷ exports) even =
+    ap (λ (rest : List ℕ). export ∷ rest) (seconds imports exports (omega arith))
 
 -- ---- events
 
 -- `-`, the word of no parameter, is not the word of a Data
 no_hyphen : (value : Data) → IsHeld value → pointwise nat_eq (data_word value) (codes "-") ≡ false
 no_hyphen value held =
-    unequal nat_eq (data_word value) (codes "-") (λ e. let long : length (data_word value) ≡ 2 * length (text (tree_of value)) = length-encode_with upper_digits (text (tree_of value)) in absurd (omega (arith, e, long)))
+    unequal nat_eq (data_word value) (codes "-") (λ e. let long : length (data_word value)
+        ≡ 2 * length (text (tree_of value)) =
+        length-encode_with upper_digits (text (tree_of value)) in absurd (omega (arith, e, long)))
 
 parameter_again : (parameter : Option Data) → IfSome parameter IsHeld
     → parameter_in (parameter_word parameter) ≡ Ok parameter
@@ -154,9 +160,12 @@ parameter_again (Some value) held =
 
 block_again : (imports : List ℕ) (exports : Option (List ℕ)) → length imports ≤ 256
     → AreSamples imports → AreExports imports exports
-    → event_from Two (samples_kind exports) (samples_words imports exports) ≡ Ok (Samples (record { import = imports; export = exports }))
+    → event_from Two (samples_kind exports) (samples_words imports exports)
+        ≡ Ok (Samples (record { import = imports; export = exports }))
 unfolding event_from samples_from pairs_from
-block_again imports None few are others = let read = values_again imports 256 few are in rw read refl
+block_again imports None few are others =
+    let read = values_again imports 256 few are in
+    rw read refl
 block_again imports (Some exports) few are others =
     let read = pairs_again imports exports 256 few others.0 are others.1 in
     rw (read, firsts imports exports others.0, seconds imports exports others.0) refl
@@ -176,7 +185,8 @@ words_again (GetList level items) traced =
     rw (port, count, read, same) refl
 words_again (Set level attr selected value) traced =
     let port = level_again level in
-    let item = selection_again (record { attr = attr; selected = selected }) (data_word value ∷ []) traced.0 in
+    let item = selection_again (record { attr = attr; selected = selected }) (data_word value
+        ∷ []) traced.0 in
     let read = data_word_again value traced.1 in
     rw (port, item, read) refl
 words_again (Execute level method parameter) traced =
@@ -185,8 +195,11 @@ words_again (Execute level method parameter) traced =
     let last = parameter_again parameter traced.1 in
     rw (port, read, last) refl
 words_again Button traced = refl
-words_again (Samples block) traced = block_again block.import block.export traced.0 traced.1 traced.2
-words_again (Moment now) traced = let read = number_word_again 4294967295 now traced (omega arith) in rw read refl
+words_again (Samples block) traced = block_again block.import block.export traced.0
+    traced.1 traced.2
+words_again (Moment now) traced =
+    let read = number_word_again 4294967295 now traced (omega arith) in
+    rw read refl
 
 pub event_again : (event : Event) → IsTraced event → event_of Two (event_row event) ≡ Ok event
 unfolding event_of
@@ -204,5 +217,8 @@ events_again count le =
     labelled_again (codes "events") (number_in 65536) (decimal count) count read
 
 pub event_count_again : (count number : ℕ) (rows : List Row) (unended : List ℕ) → count ≤ 65536
-    → line_as events_from (record { number = number; rows = number_row (codes "events") count ∷ rows; unended = unended }) ≡ Ok (count, record { number = suc number; rows = rows; unended = unended })
-event_count_again count number rows unended le = line_again events_from (number_row (codes "events") count) count number rows unended (events_again count le)
+    → line_as events_from (record { number = number; rows = number_row (codes "events") count
+        ∷ rows; unended = unended }) ≡ Ok (count, record { number = suc number; rows =
+        rows; unended = unended })
+event_count_again count number rows unended le = line_again events_from
+    (number_row (codes "events") count) count number rows unended (events_again count le)

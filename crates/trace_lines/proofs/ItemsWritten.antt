@@ -12,7 +12,8 @@ pub selection_stands : Stands AttributeSelection selection_words
 selection_stands item words = blanked-append (selection_words item []) words
 
 pub result_stands : Stands GetResult result_words
-result_stands (result.Value value) words = blanked-append (result_words (result.Value value) []) words
+result_stands (result.Value value) words = blanked-append
+    (result_words (result.Value value) []) words
 result_stands (result.Code code) words = blanked-append (result_words (result.Code code) []) words
 
 -- pairs that were written, joined with those still to be written from a place on
@@ -22,7 +23,8 @@ pub record LeftPairs (xs ys : List ℕ) (i : ℕ) (out total : List ℕ) : Type 
 -- one more pair is written
 pub pair_more : (xs ys : List ℕ) (i : ℕ) (out middle new total : List ℕ) → i < length xs → length xs
     ≡ length ys
-    → middle ≡ out ++ 32 ∷ decimal (get_or xs i 0) → new ≡ middle ++ 32 ∷ decimal (get_or ys i 0) → LeftPairs xs ys i out total → LeftPairs xs ys (i + 1) new total
+    → middle ≡ out ++ 32 ∷ decimal (get_or xs i 0) → new ≡ middle ++ 32 ∷ decimal (get_or ys i 0)
+        → LeftPairs xs ys i out total → LeftPairs xs ys (i + 1) new total
 unfolding pairs_words
 pair_more xs ys i out middle new total lt even first second left =
     let ly : i < length ys = omega arith in
@@ -30,8 +32,10 @@ pair_more xs ys i out middle new total lt even first second left =
     let a : List ℕ = 32 ∷ decimal (get_or xs i 0) in
     let b : List ℕ = 32 ∷ decimal (get_or ys i 0) in
     let one : out ++ words_after_blanks (pairs_words (drop i xs) (drop i ys)) ≡ new ++ rest =
-    ap (λ (zs : List ℕ). out ++ words_after_blanks (pairs_words zs (drop i ys))) (drop-cons xs i 0 lt)
-    ∙ ap (λ (zs : List ℕ). out ++ words_after_blanks (pairs_words (get_or xs i 0 ∷ drop (suc i) xs) zs)) (drop-cons ys i 0 ly)
+    ap (λ (zs : List ℕ). out ++ words_after_blanks (pairs_words zs (drop i ys)))
+        (drop-cons xs i 0 lt)
+    ∙ ap (λ (zs : List ℕ). out ++ words_after_blanks
+        (pairs_words (get_or xs i 0 ∷ drop (suc i) xs) zs)) (drop-cons ys i 0 ly)
     ∙ sym (append_assoc out a (b ++ rest))
     ∙ sym (append_assoc (out ++ a) b rest)
     ∙ ap (λ (bs : List ℕ). (bs ++ b) ++ rest) (sym first)
@@ -44,5 +48,6 @@ unfolding pairs_words
 all_pairs_written xs ys i out total lx ly left =
     sym (append-nil out)
     ∙ ap (λ (zs : List ℕ). out ++ words_after_blanks (pairs_words zs [])) (sym (behind_all xs i lx))
-    ∙ ap (λ (zs : List ℕ). out ++ words_after_blanks (pairs_words (drop i xs) zs)) (sym (behind_all ys i ly))
+    ∙ ap (λ (zs : List ℕ). out ++ words_after_blanks (pairs_words (drop i xs) zs))
+        (sym (behind_all ys i ly))
     ∙ left.all

@@ -57,9 +57,13 @@ device_again device some few are =
     rw (read, short) refl
 
 state_again : (state : ControlState) → state_in (decimal (state_number state)) ≡ Ok state
-state_again Disconnected = let read = number_word_again 2 0 (omega arith) (omega arith) in rw read refl
+state_again Disconnected =
+    let read = number_word_again 2 0 (omega arith) (omega arith) in
+    rw read refl
 state_again Connected = let read = number_word_again 2 1 (omega arith) (omega arith) in rw read refl
-state_again ReadyForReconnection = let read = number_word_again 2 2 (omega arith) (omega arith) in rw read refl
+state_again ReadyForReconnection =
+    let read = number_word_again 2 2 (omega arith) (omega arith) in
+    rw read refl
 
 mode_fits : (mode : ControlMode) (state : ControlState) → (mode ≡ Mode0 → state ≡ Connected)
     → is_mode_fit mode state ≡ true
@@ -126,7 +130,8 @@ table_word_again scripts fits traced =
 
 entries_again : (entries : List EntryPattern) → AreEntries entries
     → entries_of (entries_data entries) ≡ Ok entries
-entries_again entries fits = entries_written {E = ℕ} (Ok (entries_data entries)) entries entries fits refl refl
+entries_again entries fits = entries_written {E = ℕ} (Ok (entries_data entries)) entries entries
+    fits refl refl
 
 entries_word_again : (entries : List EntryPattern) → AreEntries entries
     → IsHeld (entries_data entries) → entries_in (data_word (entries_data entries)) ≡ Ok entries
@@ -142,7 +147,8 @@ start_again : (p : DateTimeFields) → IsDateTimeFields p
     → start_in (encode_upper (date_time_bytes p)) ≡ Ok p
 unfolding start_in
 start_again p fits =
-    let read = bytes_word_again (date_time_bytes p) (date_time_has_bytes p) (date_time_is_bytes p fits) in
+    let read = bytes_word_again (date_time_bytes p) (date_time_has_bytes p)
+        (date_time_is_bytes p fits) in
     let found = date_time_again p fits in
     rw (read, found) refl
 
@@ -155,36 +161,45 @@ version_again =
 pub device_line_again : (device : List ℕ) → 1 ≤ length device → length device ≤ 16 → IsBytes device
     → labelled_value (codes "device") device_in (codes "device" ∷ encode_upper device
     ∷ []) ≡ Ok device
-device_line_again device some few are = labelled_again (codes "device") device_in (encode_upper device) device (device_again device some few are)
+device_line_again device some few are = labelled_again (codes "device")
+    device_in (encode_upper device) device (device_again device some few are)
 
 pub state_line_again : (state : ControlState)
     → labelled_value (codes "state") state_in (number_row (codes "state") (state_number state)) ≡ Ok
     state
-state_line_again state = labelled_again (codes "state") state_in (decimal (state_number state)) state (state_again state)
+state_line_again state = labelled_again (codes "state") state_in (decimal (state_number state))
+    state (state_again state)
 
 pub mode_line_again : (mode : ControlMode) (state : ControlState)
     → (mode ≡ Mode0 → state ≡ Connected)
-    → labelled_value (codes "mode") (mode_in state) (number_row (codes "mode") (mode_number mode)) ≡ Ok mode
-mode_line_again mode state fit = labelled_again (codes "mode") (mode_in state) (decimal (mode_number mode)) mode (mode_again mode state fit)
+    → labelled_value (codes "mode") (mode_in state) (number_row (codes "mode") (mode_number mode))
+        ≡ Ok mode
+mode_line_again mode state fit = labelled_again (codes "mode") (mode_in state)
+    (decimal (mode_number mode)) mode (mode_again mode state fit)
 
 pub moment_line_again : (moment : Option ℕ) → IfSome moment (λ m. m ≤ 4294967295)
     → labelled_value (codes "now") moment_in (codes "now" ∷ moment_word moment ∷ []) ≡ Ok moment
-moment_line_again moment le = labelled_again (codes "now") moment_in (moment_word moment) moment (moment_again moment le)
+moment_line_again moment le = labelled_again (codes "now") moment_in (moment_word moment) moment
+    (moment_again moment le)
 
 pub value_line_again : (name : Word) (value : ℕ) → value ≤ 4294967295
     → labelled_value name value_in (number_row name value) ≡ Ok value
-value_line_again name value le = labelled_again name value_in (decimal value) value (number_word_again 4294967295 value le (omega arith))
+value_line_again name value le = labelled_again name value_in (decimal value) value
+    (number_word_again 4294967295 value le (omega arith))
 
 pub table_line_again : (scripts : List Script) → IsTable scripts → All IsTracedScript scripts
-    → labelled_value (codes "scripts") table_in (codes "scripts" ∷ data_word (data_of scripts) ∷ []) ≡ Ok scripts
-table_line_again scripts fits traced = labelled_again (codes "scripts") table_in (data_word (data_of scripts)) scripts (table_word_again scripts fits traced)
+    → labelled_value (codes "scripts") table_in (codes "scripts" ∷ data_word (data_of scripts) ∷ [])
+        ≡ Ok scripts
+table_line_again scripts fits traced = labelled_again (codes "scripts")
+    table_in (data_word (data_of scripts)) scripts (table_word_again scripts fits traced)
 
 pub profile_again : (which : Which) (profile : Profile) → profile.id ≤ 65535
     → IsDateTimeFields profile.start → profile.duration ≤ 4294967295
     → profile_from which (profile_row which profile) ≡ Ok profile
 unfolding profile_from
 profile_again which profile id_fits start_fits duration_fits =
-    let first = behind_again (label which (codes "profile")) (decimal profile.id ∷ encode_upper (date_time_bytes profile.start) ∷ decimal profile.duration ∷ []) in
+    let first = behind_again (label which (codes "profile")) (decimal profile.id
+        ∷ encode_upper (date_time_bytes profile.start) ∷ decimal profile.duration ∷ []) in
     let id = number_word_again 65535 profile.id id_fits (omega arith) in
     let start = start_again profile.start start_fits in
     let duration = number_word_again 4294967295 profile.duration duration_fits (omega arith) in
@@ -211,10 +226,12 @@ groups_again which groups few are =
 
 pub actions_again : (which : Which) (actions : Actions) → actions.over ≤ 65535
     → actions.under ≤ 65535
-    → actions_from which (label which (codes "actions") ∷ decimal actions.over ∷ decimal actions.under ∷ []) ≡ Ok actions
+    → actions_from which (label which (codes "actions") ∷ decimal actions.over
+        ∷ decimal actions.under ∷ []) ≡ Ok actions
 unfolding actions_from
 actions_again which actions over_fits under_fits =
-    let first = behind_again (label which (codes "actions")) (decimal actions.over ∷ decimal actions.under ∷ []) in
+    let first = behind_again (label which (codes "actions")) (decimal actions.over
+        ∷ decimal actions.under ∷ []) in
     let over = number_word_again 65535 actions.over over_fits (omega arith) in
     let under = number_word_again 65535 actions.under under_fits (omega arith) in
     rw (first, over, under) refl
@@ -230,7 +247,8 @@ count_again name count within =
 
 -- runs pass the test exactly if samples can give them
 abbrev pub FitRunsMean : Type 0
-FitRunsMean = (last : ℕ) (over under : Count) → IsTrue (are_fit last over under) ↔ IsFit last over under
+FitRunsMean = (last : ℕ) (over under : Count) → IsTrue (are_fit last over under)
+    ↔ IsFit last over under
 
 -- the run over the threshold fits the last value even without the run under it
 over_fits : (last : ℕ) (over under : Count) → IsFit last over under → IsFit last over no_run
@@ -248,7 +266,8 @@ pub over_again : FitRunsMean → (which : Which) (last : ℕ) (over under : Coun
 unfolding over_from
 over_again mean which last over under fits =
     let read = count_again (label which (codes "over")) over fits.over_fits.within in
-    let fit : are_fit last over no_run ≡ true = (mean last over no_run).1 (over_fits last over under fits) in
+    let fit : are_fit last over no_run ≡ true =
+        (mean last over no_run).1 (over_fits last over under fits) in
     rw (read, fit) refl
 
 pub under_again : FitRunsMean → (which : Which) (last : ℕ) (over under : Count)
@@ -264,10 +283,12 @@ pub schedule_again : (number : ℕ) (schedule : Schedule) → number ≤ 3 → I
     → schedule_from number (schedule_row number schedule) ≡ Ok schedule
 unfolding schedule_from
 schedule_again number schedule le traced =
-    let first = behind_again (codes "schedule") (decimal number ∷ decimal schedule.selector ∷ decimal (number_of schedule.kind) ∷ data_word (entries_data schedule.entries) ∷ []) in
+    let first = behind_again (codes "schedule") (decimal number ∷ decimal schedule.selector
+        ∷ decimal (number_of schedule.kind) ∷ data_word (entries_data schedule.entries) ∷ []) in
     let found = number_word_again 3 number le (omega arith) in
     let same : (number == number) ≡ true = eq-eqb number number refl in
     let selector = number_word_again 65535 schedule.selector traced.selector (omega arith) in
     let kind = type_again schedule.kind in
-    let entries = entries_word_again schedule.entries traced.entries (entries_are_held schedule.entries traced.entries) in
+    let entries = entries_word_again schedule.entries traced.entries
+        (entries_are_held schedule.entries traced.entries) in
     rw (first, found, same, selector, kind, entries) refl

@@ -36,27 +36,34 @@ use Rattle.trace_words.proofs.LabelsBack.{behind_back, IsRowBack, labelled_back}
 
 pub version_back : IsRowBack Version version_from
     (λ version. number_row (codes "RELAYTRACE") (version_number version))
-version_back row version e = labelled_back Version (codes "RELAYTRACE") version_in (λ v. decimal (version_number v)) version_word_back row version e
+version_back row version e = labelled_back Version
+    (codes "RELAYTRACE") version_in (λ v. decimal (version_number v)) version_word_back row version
+    e
 
 pub device_line_back : IsRowBack (List ℕ) (labelled_value (codes "device") device_in)
     (λ device. codes "device" ∷ encode_upper device ∷ [])
-device_line_back row device e = labelled_back (List ℕ) (codes "device") device_in encode_upper device_back row device e
+device_line_back row device e = labelled_back (List ℕ) (codes "device") device_in encode_upper
+    device_back row device e
 
 pub state_line_back : IsRowBack ControlState (labelled_value (codes "state") state_in)
     (λ state. number_row (codes "state") (state_number state))
-state_line_back row state e = labelled_back ControlState (codes "state") state_in (λ s. decimal (state_number s)) state_back row state e
+state_line_back row state e = labelled_back ControlState
+    (codes "state") state_in (λ s. decimal (state_number s)) state_back row state e
 
 pub mode_line_back : (state : ControlState) → IsRowBack ControlMode
     (labelled_value (codes "mode") (mode_in state))
     (λ mode. number_row (codes "mode") (mode_number mode))
-mode_line_back state row mode e = labelled_back ControlMode (codes "mode") (mode_in state) (λ m. decimal (mode_number m)) (mode_back state) row mode e
+mode_line_back state row mode e = labelled_back ControlMode (codes "mode") (mode_in state)
+    (λ m. decimal (mode_number m)) (mode_back state) row mode e
 
 pub moment_line_back : IsRowBack (Option ℕ) (labelled_value (codes "now") moment_in)
     (λ moment. codes "now" ∷ moment_word moment ∷ [])
-moment_line_back row moment e = labelled_back (Option ℕ) (codes "now") moment_in moment_word moment_back row moment e
+moment_line_back row moment e = labelled_back (Option ℕ) (codes "now") moment_in moment_word
+    moment_back row moment e
 
 pub value_line_back : (name : Word) → IsRowBack ℕ (labelled_value name value_in) (number_row name)
-value_line_back name row value e = labelled_back ℕ name value_in decimal (number_back 4294967295 (omega arith)) row value e
+value_line_back name row value e = labelled_back ℕ name value_in decimal
+    (number_back 4294967295 (omega arith)) row value e
 
 pub profile_back : (which : Which) → IsRowBack Profile (profile_from which) (profile_row which)
 unfolding profile_from
@@ -70,20 +77,26 @@ profile_back which row profile e =
     ∙ ap (λ (ws : Row). name ∷ ws) (
     next_number_back 65535 (omega arith) words.0.1 id.0.1 id.0.0 id.1
     ∙ ap (λ (ws : Row). decimal id.0.0 ∷ ws) (
-    next_back DateTimeFields start_in (λ s. encode_upper (date_time_bytes s)) start_back id.0.1 start.0.1 start.0.0 start.1
-    ∙ ap (λ (ws : Row). encode_upper (date_time_bytes start.0.0) ∷ ws) (last_number_back 4294967295 (omega arith) start.0.1 duration.0 duration.1)))
-    ∙ ap (profile_row which) (ok_is (record { id = id.0.0; start = start.0.0; duration = duration.0 }) profile duration.2)
+    next_back DateTimeFields start_in (λ s. encode_upper (date_time_bytes s)) start_back id.0.1
+        start.0.1 start.0.0 start.1
+    ∙ ap (λ (ws : Row). encode_upper (date_time_bytes start.0.0)
+        ∷ ws) (last_number_back 4294967295 (omega arith) start.0.1 duration.0 duration.1)))
+    ∙ ap (profile_row which) (ok_is (record { id = id.0.0; start = start.0.0;
+        duration = duration.0 }) profile duration.2)
 
 pub groups_back : (which : Which) → IsRowBack (List ℕ) (groups_from which) (groups_row which)
 unfolding groups_from
 groups_back which row groups e =
     let name = label which (codes "groups") in
     let words = bind_ok (behind name row) _ groups e in
-    behind_back name row words.0.0 words.0.1 words.1 ∙ ap (λ (ws : Row). name ∷ ws) (all_back ℕ id_from value_words id_back 32 words.0.1 groups words.2)
+    behind_back name row words.0.0 words.0.1 words.1
+        ∙ ap (λ (ws : Row). name ∷ ws) (all_back ℕ id_from value_words id_back 32 words.0.1 groups
+        words.2)
 
 -- the line of a limiter's actions
 abbrev pub actions_row : Which → Actions → Row
-actions_row which actions = label which (codes "actions") ∷ decimal actions.over ∷ decimal actions.under ∷ []
+actions_row which actions = label which (codes "actions") ∷ decimal actions.over
+    ∷ decimal actions.under ∷ []
 
 pub actions_back : (which : Which) → IsRowBack Actions (actions_from which) (actions_row which)
 unfolding actions_from
@@ -95,7 +108,8 @@ actions_back which row actions e =
     behind_back name row words.0.0 words.0.1 words.1
     ∙ ap (λ (ws : Row). name ∷ ws) (
     next_number_back 65535 (omega arith) words.0.1 over.0.1 over.0.0 over.1
-    ∙ ap (λ (ws : Row). decimal over.0.0 ∷ ws) (last_number_back 65535 (omega arith) over.0.1 under.0 under.1))
+    ∙ ap (λ (ws : Row). decimal over.0.0 ∷ ws)
+        (last_number_back 65535 (omega arith) over.0.1 under.0 under.1))
     ∙ ap (actions_row which) (ok_is (record { over = over.0.0; under = under.0 }) actions under.2)
 
 count_back : (name : Word) → IsRowBack Count (count_from name) (count_row name)
@@ -107,7 +121,9 @@ count_back name row count e =
     behind_back name row words.0.0 words.0.1 words.1
     ∙ ap (λ (ws : Row). name ∷ ws) (
     next_number_back cap (omega arith) words.0.1 run.0.1 run.0.0 run.1
-    ∙ ap (λ (ws : Row). decimal run.0.0 ∷ ws) (last_back Bool flag_in (λ flag. decimal (flag_number flag)) flag_back run.0.1 fired.0 fired.1))
+    ∙ ap (λ (ws : Row). decimal run.0.0 ∷ ws)
+        (last_back Bool flag_in (λ flag. decimal (flag_number flag)) flag_back run.0.1
+        fired.0 fired.1))
     ∙ ap (count_row name) (ok_is (record { run = run.0.0; fired = fired.0 }) count fired.2)
 
 pub over_back : (which : Which) (last : ℕ) → IsRowBack Count (over_from which last)
@@ -116,7 +132,8 @@ unfolding over_from
 over_back which last row count e =
     let read = bind_ok (count_from (label which (codes "over")) row) _ count e in
     let fit = guard_ok (are_fit last read.0 no_run) Wrong _ count read.2 in
-    count_back (label which (codes "over")) row read.0 read.1 ∙ ap (count_row (label which (codes "over"))) (ok_is read.0 count fit.1)
+    count_back (label which (codes "over")) row read.0 read.1
+        ∙ ap (count_row (label which (codes "over"))) (ok_is read.0 count fit.1)
 
 pub under_back : (which : Which) (last : ℕ) (over : Count)
     → IsRowBack Count (under_from which last over) (count_row (label which (codes "under")))
@@ -124,14 +141,17 @@ unfolding under_from
 under_back which last over row count e =
     let read = bind_ok (count_from (label which (codes "under")) row) _ count e in
     let fit = guard_ok (are_fit last over read.0) Wrong _ count read.2 in
-    count_back (label which (codes "under")) row read.0 read.1 ∙ ap (count_row (label which (codes "under"))) (ok_is read.0 count fit.1)
+    count_back (label which (codes "under")) row read.0 read.1
+        ∙ ap (count_row (label which (codes "under"))) (ok_is read.0 count fit.1)
 
 -- the words of a schedule's line, one after the other
 schedule_line : (row a b c d : Row) (found number : ℕ) (word : Word) (selector : ℕ)
     (kind : ScheduleType) (entries : List EntryPattern) (form : Data)
-    → row ≡ codes "schedule" ∷ a → a ≡ decimal found ∷ b → found ≡ number → b ≡ decimal selector ∷ c → c ≡ decimal (number_of kind) ∷ d → d ≡ word ∷ [] → word ≡ data_word form
+    → row ≡ codes "schedule" ∷ a → a ≡ decimal found ∷ b → found ≡ number → b ≡ decimal selector ∷ c
+        → c ≡ decimal (number_of kind) ∷ d → d ≡ word ∷ [] → word ≡ data_word form
     → row ≡ entries_row number (record { selector = selector; kind = kind; entries = entries }) form
-schedule_line row a b c d found number word selector kind entries form is_row is_a is_number is_b is_c is_d is_word =
+schedule_line row a b c d found number word selector kind entries form is_row is_a is_number is_b
+    is_c is_d is_word =
     is_row ∙ ap (λ (ws : Row). codes "schedule" ∷ ws) (
     is_a ∙ ap (λ (n : ℕ). decimal n ∷ b) is_number ∙ ap (λ (ws : Row). decimal number ∷ ws) (
     is_b ∙ ap (λ (ws : Row). decimal selector ∷ ws) (
@@ -141,7 +161,8 @@ schedule_line row a b c d found number word selector kind entries form is_row is
 -- a schedule, and a Data that is read as its entries
 pub schedule_read : (number : ℕ) (row : Row) (schedule : Schedule) → schedule_from number row
     ≡ Ok schedule
-    → (form : Data) × (entries_of form ≡ Ok schedule.entries) × (row ≡ entries_row number schedule form)
+    → (form : Data) × (entries_of form ≡ Ok schedule.entries)
+        × (row ≡ entries_row number schedule form)
 unfolding schedule_from
 schedule_read number row schedule e =
     let name = codes "schedule" in
@@ -151,22 +172,27 @@ schedule_read number row schedule e =
     let selector = bind_ok (next_as (number_in 65535) found.0.1) _ schedule same.1 in
     let kind = bind_ok (next_as type_in selector.0.1) _ schedule selector.2 in
     let entries = bind_ok (last_as entries_in kind.0.1) _ schedule kind.2 in
-    let is = ok_is (record { selector = selector.0.0; kind = kind.0.0; entries = entries.0 }) schedule entries.2 in
+    let is = ok_is (record { selector = selector.0.0; kind = kind.0.0; entries = entries.0 })
+        schedule entries.2 in
     let word = last_read (List EntryPattern) entries_in kind.0.1 entries.0 entries.1 in
     let form = entries_read word.0 entries.0 word.2 in
     let line =
-    schedule_line row words.0.1 found.0.1 selector.0.1 kind.0.1 found.0.0 number word.0 selector.0.0 kind.0.0 entries.0 form.0
+    schedule_line row words.0.1 found.0.1 selector.0.1 kind.0.1 found.0.0 number word.0 selector.0.0
+        kind.0.0 entries.0 form.0
     (behind_back name row words.0.0 words.0.1 words.1)
     (next_number_back 3 (omega arith) words.0.1 found.0.1 found.0.0 found.1)
     (eqb-true found.0.0 number same.0)
     (next_number_back 65535 (omega arith) found.0.1 selector.0.1 selector.0.0 selector.1)
-    (next_back ScheduleType type_in (λ k. decimal (number_of k)) type_back selector.0.1 kind.0.1 kind.0.0 kind.1)
+    (next_back ScheduleType type_in (λ k. decimal (number_of k)) type_back selector.0.1 kind.0.1
+        kind.0.0 kind.1)
     word.1 form.2 in
-    (form.0, subst (λ (s : Schedule). entries_of form.0 ≡ Ok s.entries) is form.1, subst (λ (s : Schedule). row ≡ entries_row number s form.0) is line)
+    (form.0, subst (λ (s : Schedule). entries_of form.0 ≡ Ok s.entries) is form.1,
+        subst (λ (s : Schedule). row ≡ entries_row number s form.0) is line)
 
 -- ---- at a place
 
 pub value_back : (which : Which) (name : Word) (place : Place) (x : ℕ) (behind : Place)
     → line_as (labelled_value (label which name) value_in) place ≡ Ok (x, behind)
     → Took (number_row (label which name) x ∷ []) place behind
-value_back which name place x behind e = line_back ℕ (labelled_value (label which name) value_in) (number_row (label which name)) (value_line_back (label which name)) place x behind e
+value_back which name place x behind e = line_back ℕ (labelled_value (label which name) value_in)
+    (number_row (label which name)) (value_line_back (label which name)) place x behind e

@@ -55,7 +55,8 @@ state_small ReadyForReconnection = omega arith
 moment_is_row : (moment : Option ℕ) → IfSome moment (λ m. m ≤ 4294967295)
     → is_row (codes "now" ∷ moment_word moment ∷ []) ≡ true
 moment_is_row None le = refl
-moment_is_row (Some m) le = more (codes "now") (decimal m ∷ []) refl (more (decimal m) [] (number_is_word m (omega arith)) refl)
+moment_is_row (Some m) le = more (codes "now") (decimal m ∷ []) refl
+    (more (decimal m) [] (number_is_word m (omega arith)) refl)
 
 -- ---- a limiter
 
@@ -63,50 +64,76 @@ profile_is_row : (which : Which) (o : LimiterOpening) → IsTracedLimiter o
     → is_row (profile_row which o.settings.profile) ≡ true
 profile_is_row which o traced =
     let id : o.settings.profile.id ≤ 42949672950 = omega (arith, traced.profile_id) in
-    let duration : o.settings.profile.duration ≤ 42949672950 = omega (arith, traced.profile_duration) in
-    let start = hex_is_word (date_time_bytes o.settings.profile.start) (date_time_has_bytes o.settings.profile.start) (date_time_is_bytes o.settings.profile.start traced.profile_start) in
-    more (label which (codes "profile")) (decimal o.settings.profile.id ∷ encode_upper (date_time_bytes o.settings.profile.start) ∷ decimal o.settings.profile.duration ∷ []) (label_is_word which (codes "profile") refl)
-    (more (decimal o.settings.profile.id) (encode_upper (date_time_bytes o.settings.profile.start) ∷ decimal o.settings.profile.duration ∷ []) (number_is_word o.settings.profile.id id)
-    (more (encode_upper (date_time_bytes o.settings.profile.start)) (decimal o.settings.profile.duration ∷ []) start (more (decimal o.settings.profile.duration) [] (number_is_word o.settings.profile.duration duration) refl)))
+    let duration : o.settings.profile.duration ≤ 42949672950 =
+        omega (arith, traced.profile_duration) in
+    let start = hex_is_word (date_time_bytes o.settings.profile.start)
+        (date_time_has_bytes o.settings.profile.start)
+        (date_time_is_bytes o.settings.profile.start traced.profile_start) in
+    more (label which (codes "profile")) (decimal o.settings.profile.id
+        ∷ encode_upper (date_time_bytes o.settings.profile.start)
+        ∷ decimal o.settings.profile.duration ∷ []) (label_is_word which (codes "profile") refl)
+    (more (decimal o.settings.profile.id) (encode_upper (date_time_bytes o.settings.profile.start)
+        ∷ decimal o.settings.profile.duration ∷ []) (number_is_word o.settings.profile.id id)
+    (more (encode_upper (date_time_bytes o.settings.profile.start))
+        (decimal o.settings.profile.duration ∷ []) start
+        (more (decimal o.settings.profile.duration) []
+        (number_is_word o.settings.profile.duration duration) refl)))
 
 ids_are_words : (ids : List ℕ) → AreIds ids → AreWords (all_words value_words ids)
 unfolding all_words
 ids_are_words [] are = refl
-ids_are_words (id ∷ ids) are = more (decimal id) (all_words value_words ids) (number_is_word id (omega (arith, are.0))) (ids_are_words ids are.1)
+ids_are_words (id ∷ ids) are = more (decimal id) (all_words value_words ids)
+    (number_is_word id (omega (arith, are.0))) (ids_are_words ids are.1)
 
 groups_is_row : (which : Which) (groups : List ℕ) → AreIds groups → is_row (groups_row which groups)
     ≡ true
-groups_is_row which groups are = more (label which (codes "groups")) (all_words value_words groups) (label_is_word which (codes "groups") refl) (ids_are_words groups are)
+groups_is_row which groups are = more (label which (codes "groups")) (all_words value_words groups)
+    (label_is_word which (codes "groups") refl) (ids_are_words groups are)
 
 two_numbers_are_row : (name : Word) (one other : ℕ) → is_word name ≡ true → one ≤ 42949672950
     → other ≤ 42949672950 → is_row (name ∷ decimal one ∷ decimal other ∷ []) ≡ true
 two_numbers_are_row name one other is le less =
-    more name (decimal one ∷ decimal other ∷ []) is (more (decimal one) (decimal other ∷ []) (number_is_word one le) (more (decimal other) [] (number_is_word other less) refl))
+    more name (decimal one ∷ decimal other ∷ []) is
+        (more (decimal one) (decimal other ∷ []) (number_is_word one le)
+        (more (decimal other) [] (number_is_word other less) refl))
 
 count_is_row : (name : Word) (count : Count) → is_word name ≡ true → count.run ≤ cap
     → is_row (count_row name count) ≡ true
 count_is_row name count is within =
     more name (decimal count.run ∷ decimal (flag_number count.fired) ∷ []) is
-    (more (decimal count.run) (decimal (flag_number count.fired) ∷ []) (number_is_word count.run within) (more (decimal (flag_number count.fired)) [] (flag_is_word count.fired) refl))
+    (more (decimal count.run) (decimal (flag_number count.fired)
+        ∷ []) (number_is_word count.run within)
+        (more (decimal (flag_number count.fired)) [] (flag_is_word count.fired) refl))
 
 limiter_are_rows : (which : Which) (o : LimiterOpening) (rows : List Row) → IsFitLimiterOpening o
     → IsTracedLimiter o → AreRows rows → AreRows (limiter_rows which o ++ rows)
 limiter_are_rows which o rows fit traced are =
-    let normal = number_is_row (label which (codes "normal")) o.settings.threshold_normal (label_is_word which (codes "normal") refl) (omega (arith, traced.threshold_normal)) in
-    let emergency = number_is_row (label which (codes "emergency")) o.settings.threshold_emergency (label_is_word which (codes "emergency") refl) (omega (arith, traced.threshold_emergency)) in
-    let minover = number_is_row (label which (codes "minover")) o.settings.min_over_threshold_duration (label_is_word which (codes "minover") refl) (omega (arith, traced.min_over_threshold_duration)) in
-    let minunder = number_is_row (label which (codes "minunder")) o.settings.min_under_threshold_duration (label_is_word which (codes "minunder") refl) (omega (arith, traced.min_under_threshold_duration)) in
+    let normal = number_is_row (label which (codes "normal")) o.settings.threshold_normal
+        (label_is_word which (codes "normal") refl) (omega (arith, traced.threshold_normal)) in
+    let emergency = number_is_row (label which (codes "emergency")) o.settings.threshold_emergency
+        (label_is_word which (codes "emergency") refl) (omega (arith, traced.threshold_emergency))
+        in
+    let minover = number_is_row (label which (codes "minover"))
+        o.settings.min_over_threshold_duration (label_is_word which (codes "minover") refl)
+        (omega (arith, traced.min_over_threshold_duration)) in
+    let minunder = number_is_row (label which (codes "minunder"))
+        o.settings.min_under_threshold_duration (label_is_word which (codes "minunder") refl)
+        (omega (arith, traced.min_under_threshold_duration)) in
     let profile = profile_is_row which o traced in
     let groups = groups_is_row which o.settings.groups traced.groups in
-    let actions = two_numbers_are_row (label which (codes "actions")) o.settings.actions.over o.settings.actions.under (label_is_word which (codes "actions") refl)
+    let actions = two_numbers_are_row (label which (codes "actions")) o.settings.actions.over
+        o.settings.actions.under (label_is_word which (codes "actions") refl)
     (omega (arith, traced.over_selector)) (omega (arith, traced.under_selector)) in
-    let over = count_is_row (label which (codes "over")) o.over (label_is_word which (codes "over") refl) fit.runs.over_fits.within in
-    let under = count_is_row (label which (codes "under")) o.under (label_is_word which (codes "under") refl) fit.runs.under_fits.within in
+    let over = count_is_row (label which (codes "over")) o.over
+        (label_is_word which (codes "over") refl) fit.runs.over_fits.within in
+    let under = count_is_row (label which (codes "under")) o.under
+        (label_is_word which (codes "under") refl) fit.runs.under_fits.within in
     rw (normal, emergency, minover, minunder, profile, groups, actions, over, under) are
 
 value_is_row : (which : Which) (o : LimiterOpening) → IsTracedLimiter o → is_row (value_row which o)
     ≡ true
-value_is_row which o traced = number_is_row (label which (codes "value")) o.value (label_is_word which (codes "value") refl) (omega (arith, traced.value))
+value_is_row which o traced = number_is_row (label which (codes "value")) o.value
+    (label_is_word which (codes "value") refl) (omega (arith, traced.value))
 
 -- ---- all of it
 
@@ -116,10 +143,16 @@ schedule_is_row number schedule le traced =
     let value = data_word (entries_data schedule.entries) in
     let selector : schedule.selector ≤ 42949672950 = omega (arith, traced.selector) in
     let kind : number_of schedule.kind ≤ 42949672950 = omega (arith, type_small schedule.kind) in
-    more (codes "schedule") (decimal number ∷ decimal schedule.selector ∷ decimal (number_of schedule.kind) ∷ value ∷ []) refl
-    (more (decimal number) (decimal schedule.selector ∷ decimal (number_of schedule.kind) ∷ value ∷ []) (number_is_word number (omega arith))
-    (more (decimal schedule.selector) (decimal (number_of schedule.kind) ∷ value ∷ []) (number_is_word schedule.selector selector)
-    (more (decimal (number_of schedule.kind)) (value ∷ []) (number_is_word (number_of schedule.kind) kind) (more value [] (data_is_word (entries_data schedule.entries) (entries_are_held schedule.entries traced.entries)) refl))))
+    more (codes "schedule") (decimal number ∷ decimal schedule.selector
+        ∷ decimal (number_of schedule.kind) ∷ value ∷ []) refl
+    (more (decimal number) (decimal schedule.selector ∷ decimal (number_of schedule.kind) ∷ value
+        ∷ []) (number_is_word number (omega arith))
+    (more (decimal schedule.selector) (decimal (number_of schedule.kind) ∷ value
+        ∷ []) (number_is_word schedule.selector selector)
+    (more (decimal (number_of schedule.kind)) (value
+        ∷ []) (number_is_word (number_of schedule.kind) kind)
+        (more value [] (data_is_word (entries_data schedule.entries)
+        (entries_are_held schedule.entries traced.entries)) refl))))
 
 schedules_are_rows : (schedules : Schedules) → IsTracedSchedule schedules.first
     → IsTracedSchedule schedules.second → IsTracedSchedule schedules.third
@@ -136,21 +169,40 @@ head_are_rows : (o : Opening) (rows : List Row) → IsWritable o → AreRows row
     → AreRows (head_rows o ++ rows)
 head_are_rows o rows writable are =
     let version = number_is_row (codes "RELAYTRACE") 2 refl (omega arith) in
-    let device = more (codes "device") (encode_upper o.device ∷ []) refl (more (encode_upper o.device) [] (hex_is_word o.device (omega (arith, writable.fit.device_some)) writable.device) refl) in
-    let state = number_is_row (codes "state") (state_number o.state) refl (omega (arith, state_small o.state)) in
-    let mode = number_is_row (codes "mode") (mode_number o.mode) refl (omega (arith, mode_small o.mode)) in
+    let device = more (codes "device") (encode_upper o.device ∷ []) refl
+        (more (encode_upper o.device) [] (hex_is_word o.device
+        (omega (arith, writable.fit.device_some)) writable.device) refl) in
+    let state = number_is_row (codes "state") (state_number o.state) refl
+        (omega (arith, state_small o.state)) in
+    let mode = number_is_row (codes "mode") (mode_number o.mode) refl
+        (omega (arith, mode_small o.mode)) in
     rw (version, device, state, mode) are
 
 pub opening_are_rows : (o : Opening) → IsWritable o → list_all is_row (opening_rows o) ≡ true
 unfolding opening_rows
 opening_are_rows o writable =
-    let table : is_row (codes "scripts" ∷ data_word (data_of o.scripts) ∷ []) ≡ true = more (codes "scripts") (data_word (data_of o.scripts) ∷ []) refl (more (data_word (data_of o.scripts)) [] (data_is_word (data_of o.scripts) (scripts_are_held o.scripts writable.scripts writable.script_numbers)) refl) in
-    let table_rows : List Row = (codes "scripts" ∷ data_word (data_of o.scripts) ∷ []) ∷ schedule_rows o.schedules in
-    let last = more_rows (codes "scripts" ∷ data_word (data_of o.scripts) ∷ []) (schedule_rows o.schedules) table (schedules_are_rows o.schedules writable.first writable.second writable.third writable.fourth) in
-    let exports = limiter_are_rows Export o.export table_rows writable.fit.export writable.export last in
-    let export_rows : List Row = value_row Export o.export ∷ (limiter_rows Export o.export ++ table_rows) in
-    let imports = limiter_are_rows Import o.import export_rows writable.fit.import writable.import (more_rows (value_row Export o.export) (limiter_rows Export o.export ++ table_rows) (value_is_row Export o.export writable.export) exports) in
+    let table : is_row (codes "scripts" ∷ data_word (data_of o.scripts) ∷ [])
+        ≡ true = more (codes "scripts") (data_word (data_of o.scripts) ∷ []) refl
+        (more (data_word (data_of o.scripts)) []
+        (data_is_word (data_of o.scripts) (scripts_are_held o.scripts writable.scripts
+        writable.script_numbers)) refl) in
+    let table_rows : List Row = (codes "scripts" ∷ data_word (data_of o.scripts) ∷ [])
+        ∷ schedule_rows o.schedules in
+    let last = more_rows (codes "scripts" ∷ data_word (data_of o.scripts)
+        ∷ []) (schedule_rows o.schedules) table
+        (schedules_are_rows o.schedules writable.first writable.second writable.third
+        writable.fourth) in
+    let exports = limiter_are_rows Export o.export table_rows writable.fit.export
+        writable.export last in
+    let export_rows : List Row = value_row Export o.export
+        ∷ (limiter_rows Export o.export ++ table_rows) in
+    let imports = limiter_are_rows Import o.import export_rows writable.fit.import writable.import
+        (more_rows (value_row Export o.export) (limiter_rows Export o.export ++ table_rows)
+        (value_is_row Export o.export writable.export) exports) in
     let import_rows : List Row = limiter_rows Import o.import ++ export_rows in
     let moment_row : Row = codes "now" ∷ moment_word o.moment ∷ [] in
-    let behind = more_rows moment_row import_rows (moment_is_row o.moment writable.moment) imports in
-    head_are_rows o (value_row Import o.import ∷ moment_row ∷ import_rows) writable (more_rows (value_row Import o.import) (moment_row ∷ import_rows) (value_is_row Import o.import writable.import) behind)
+    let behind = more_rows moment_row import_rows (moment_is_row o.moment writable.moment) imports
+        in
+    head_are_rows o (value_row Import o.import ∷ moment_row ∷ import_rows) writable
+        (more_rows (value_row Import o.import) (moment_row ∷ import_rows)
+        (value_is_row Import o.import writable.import) behind)

@@ -13,7 +13,9 @@ use Rattle.trace_words.proofs.WordsBack.{wanted_is}
 
 -- a word in hexadecimal has at least one byte
 pub bytes_some : (word bytes : List ℕ) → bytes_in word ≡ Ok bytes → 1 ≤ length bytes
-bytes_some word bytes e = let h = (bytes_only word bytes (wanted_is (bytes_of word) bytes e)).3 in omega (arith, h)
+bytes_some word bytes e =
+    let h = (bytes_only word bytes (wanted_is (bytes_of word) bytes e)).3 in
+    omega (arith, h)
 
 -- a group id is read
 pub id_is : (word : Word) (words : Row) (n : ℕ) → number_in 65535 word ≡ Ok n → id_from word words
@@ -23,4 +25,5 @@ id_is word words n e = ap (λ (r : Result ℕ RowFault). r >>= λ (id : ℕ). do
 -- a word that is not a group id is refused
 pub id_fails : (word : Word) (words : Row) (fault : RowFault) → number_in 65535 word ≡ Err fault
     → Fails Memory fault (id_from word words)
-id_fails word words fault e = inr (ap (λ (r : Result ℕ RowFault). r >>= λ (id : ℕ). done RowFault (id, words)) e)
+id_fails word words fault e = inr (ap (λ (r : Result ℕ RowFault). r
+    >>= λ (id : ℕ). done RowFault (id, words)) e)

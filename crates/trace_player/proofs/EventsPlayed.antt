@@ -40,7 +40,8 @@ lines_length [] w = refl
 lines_length (event ∷ events) w = ap suc (lines_length events (at_event event w).world)
 
 -- the first i of the events were read and applied, and their lines written
-pub record Underway (version : Version) (count i : ℕ) (start place : Place) (old now : RelayCore) (out : List ℕ) : Type 0 where
+pub record Underway (version : Version) (count i : ℕ) (start place : Place) (old now : RelayCore)
+    (out : List ℕ) : Type 0 where
   pub events : List Event
   pub read : EventsRead version count i events place (events_at version count start)
   pub counted : i ≡ length events
@@ -53,27 +54,35 @@ pub none_played : (version : Version) (count : ℕ) (start : Place) (core : Rela
     → Underway version count 0 start start core core []
 unfolding lines_text
 none_played version count start core =
-    record { events = []; read = none_read version count start; counted = refl; within = omega arith; world = λ w stands. stands; wrote = λ w stands. refl }
+    record { events = []; read = none_read version count start; counted = refl;
+        within = omega arith; world = λ w stands. stands; wrote = λ w stands. refl }
 
 -- one more event was
 pub event_played : (version : Version) (count i number : ℕ) (start place after : Place)
     (old now next : RelayCore) (out out' : List ℕ) → i < count → number ≡ i + 1
-    → PlaysEvent version number place after now next out out' → Underway version count i start place old now out → Underway version count (i + 1) start after old next out'
+    → PlaysEvent version number place after now next out out'
+        → Underway version count i start place old now out
+        → Underway version count (i + 1) start after old next out'
 event_played version count i number start place after old now next out out' lt numbered one so_far =
     let front = so_far.events in
     let event = one.event in
     record {
       events = front ++ event ∷ [];
-      read = event_read version count i front (front ++ event ∷ []) place after event (events_at version count start) lt one.read refl so_far.read;
+      read = event_read version count i front (front ++ event ∷ []) place after event
+          (events_at version count start) lt one.read refl so_far.read;
       counted = omega (arith, length-append front (event ∷ []), so_far.counted);
       within = omega arith;
-      world = λ w stands. subst (λ (v : World). StandsFor next v) (sym (world_after-append front (event ∷ []) w)) (one.world (world_after front w) (so_far.world w stands));
+      world = λ w stands. subst (λ (v : World). StandsFor next v)
+          (sym (world_after-append front (event ∷ []) w))
+          (one.world (world_after front w) (so_far.world w stands));
       wrote = λ w stands.
           let before = world_after front w in
           let line = line_at event before in
-          let at : length (lines_of front w) + 1 ≡ number = omega (arith, lines_length front w, so_far.counted, numbered) in
+          let at : length (lines_of front w) + 1 ≡ number =
+              omega (arith, lines_length front w, so_far.counted, numbered) in
           one.wrote before (so_far.world w stands)
-          ∙ ap (λ (bytes : List ℕ). bytes ++ line_text number line ++ 10 ∷ []) (so_far.wrote w stands)
+          ∙ ap (λ (bytes : List ℕ). bytes ++ line_text number line ++ 10
+              ∷ []) (so_far.wrote w stands)
           ∙ ap (λ (n : ℕ). lines_text 1 (lines_of front w) ++ line_text n line ++ 10 ∷ []) (sym at)
           ∙ sym (lines_text-push 1 (lines_of front w) line)
           ∙ ap (lines_text 1) (sym (lines_of-append front (event ∷ []) w));
@@ -86,7 +95,8 @@ pub events_played : (version : Version) (count i : ℕ) (start place : Place) (o
 events_played version count i start place old now out le so_far =
     record {
       events = so_far.events;
-      read = events_read version count i so_far.events place (events_at version count start) le so_far.read;
+      read = events_read version count i so_far.events place (events_at version count start) le
+          so_far.read;
       counted = omega (arith, so_far.counted, so_far.within);
       wrote = so_far.wrote;
     }

@@ -17,7 +17,8 @@ use Rattle.trace_lines.specs.Events.{events_from}
 use Rattle.trace_player.specs.Traces.{most_bytes, trace_behind, trace_from}
 
 -- the events of a trace are in the last bytes of its text
-pub record IsHeld (text rest : List ℕ) (version : Version) (count : ℕ) (opening : Opening) (number : ℕ) : Type 0 where
+pub record IsHeld (text rest : List ℕ) (version : Version) (count : ℕ) (opening : Opening)
+    (number : ℕ) : Type 0 where
   pub within : length rest ≤ length text
   pub counted : number + length text < 2 ^ 64
   pub is : trace_behind version count opening
@@ -35,32 +36,42 @@ trace_is start middle behind version opening count opened counted = rw (opened, 
 pub held_behind : (text bytes rest : List ℕ) (version : Version) (opening : Opening)
     (count number : ℕ) (start middle behind : Place) → length text ≤ most_bytes → start
     ≡ place_of bytes → bytes ≡ text
-    → opening_from start ≡ Ok ((version, opening), middle) → line_as events_from middle ≡ Ok (count, behind) → number ≡ behind.number → place_at behind.number rest ≡ behind
+    → opening_from start ≡ Ok ((version, opening), middle) → line_as events_from middle
+        ≡ Ok (count, behind) → number ≡ behind.number → place_at behind.number rest ≡ behind
     → IsHeld text rest version count opening number
-held_behind text bytes rest version opening count number start middle behind short is_start is_text opened counted numbered at =
+held_behind text bytes rest version opening count number start middle behind short is_start is_text
+    opened counted numbered at =
     let place : start ≡ place_of text = is_start ∙ ap place_of is_text in
     let from_text = ap opening_from (sym place) ∙ opened in
     let front = opening_stands (place_of text) (version, opening) middle from_text in
     let line = line_read ℕ events_from middle count behind counted in
     let rows : List Row = front.0 ++ line.row ∷ [] in
-    let took : Took rows (place_of text) behind = then front.0 (line.row ∷ []) (place_of text) middle behind front.1 line.took in
+    let took : Took rows (place_of text) behind =
+        then front.0 (line.row ∷ []) (place_of text) middle behind front.1 line.took in
     let is = text_behind 1 behind.number text rest rows behind took at in
     let end = behind_front text (rows_text rows) rest is in
-    let long : length text ≡ length (rows_text rows) + length rest = ap (λ (them : List ℕ). length them) is ∙ length-append (rows_text rows) rest in
+    let long : length text ≡ length (rows_text rows) + length rest =
+        ap (λ (them : List ℕ). length them) is ∙ length-append (rows_text rows) rest in
     let few = rows_are_few rows in
     let lines = took.number in
     record {
       within = end.0;
       counted = omega (arith, short, long, few, lines, numbered);
-      is = ap (trace_behind version count opening) (ap (λ (n : ℕ). place_at n (drop (length text - length rest) text)) numbered ∙ ap (place_at behind.number) end.1 ∙ at)
+      is = ap (trace_behind version count opening)
+          (ap (λ (n : ℕ). place_at n (drop (length text - length rest) text)) numbered
+          ∙ ap (place_at behind.number) end.1 ∙ at)
           ∙ trace_is (place_of text) middle behind version opening count from_text counted;
     }
 
 -- the number of the events cannot be read
 pub count_fails : (text bytes : List ℕ) (version : Version) (opening : Opening)
     (start middle : Place) (fault : TraceFault) → start ≡ place_of bytes → bytes ≡ text
-    → opening_from start ≡ Ok ((version, opening), middle) → Fails Memory fault (line_as events_from middle) → Fails Memory fault (trace_from (place_of text))
+    → opening_from start ≡ Ok ((version, opening), middle)
+        → Fails Memory fault (line_as events_from middle)
+        → Fails Memory fault (trace_from (place_of text))
 unfolding trace_from
-count_fails text bytes version opening start middle fault is_start is_text opened (inl memory) = inl memory
+count_fails text bytes version opening start middle fault is_start is_text opened
+    (inl memory) = inl memory
 count_fails text bytes version opening start middle fault is_start is_text opened (inr fails) =
-    let from_text = ap opening_from (sym (is_start ∙ ap place_of is_text)) ∙ opened in inr (rw (from_text, fails) refl)
+    let from_text = ap opening_from (sym (is_start ∙ ap place_of is_text)) ∙ opened in
+    inr (rw (from_text, fails) refl)

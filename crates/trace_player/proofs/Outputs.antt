@@ -13,13 +13,15 @@ use Rattle.trace_player.specs.Traces.{trace_behind}
 use Rattle.trace_player.proofs.Ends.{ended_as, unended_as}
 
 -- a trace of this opening and of the events that were played
-abbrev trace_with : {version : Version} {count : ℕ} {place after : Place} {core : RelayCore} {out : List ℕ} → Opening → PlaysEvents version count place after core out → Trace
+abbrev trace_with : {version : Version} {count : ℕ} {place after : Place} {core : RelayCore}
+    {out : List ℕ} → Opening → PlaysEvents version count place after core out → Trace
 trace_with opening played = record { opening = opening; events = played.events }
 
 -- nothing is left after the events
 pub played_behind : (version : Version) (count : ℕ) (opening : Opening) (place after : Place)
     (core : RelayCore) (out : List ℕ) → PlaysEvents version count place after core out
-    → StandsFor core (world_of_opening opening) → ended_at {X = Unit {0}} after tt ≡ Ok tt → PlaysTrace (trace_behind version count opening place) out count
+    → StandsFor core (world_of_opening opening) → ended_at {X = Unit {0}} after tt ≡ Ok tt
+        → PlaysTrace (trace_behind version count opening place) out count
 played_behind version count opening place after core out played stands ended =
     record {
       trace = trace_with opening played;
@@ -31,5 +33,7 @@ played_behind version count opening place after core out played stands ended =
 -- something is left after the events
 pub surplus_behind : (version : Version) (count : ℕ) (opening : Opening) (place after : Place)
     (core : RelayCore) (out : List ℕ) (fault : TraceFault)
-    → PlaysEvents version count place after core out → ended_at {X = Unit {0}} after tt ≡ Err fault → trace_behind version count opening place ≡ Err fault
-surplus_behind version count opening place after core out fault played left = rw played.read (unended_as after (trace_with opening played) fault left)
+    → PlaysEvents version count place after core out → ended_at {X = Unit {0}} after tt ≡ Err fault
+        → trace_behind version count opening place ≡ Err fault
+surplus_behind version count opening place after core out fault played left =
+    rw played.read (unended_as after (trace_with opening played) fault left)

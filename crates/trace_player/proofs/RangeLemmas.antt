@@ -16,7 +16,9 @@ ReadsAgain event = FitsLine event → IsTraced event
 are_traced : (events : List Event) → All ReadsAgain events → All FitsLine events → AreTraced events
 are_traced [] again fit = tt
 are_traced (event ∷ events) again fit =
-    (All-head ReadsAgain event events again (All-head FitsLine event events fit), are_traced events (All-tail ReadsAgain event events again) (All-tail FitsLine event events fit))
+    (All-head ReadsAgain event events again (All-head FitsLine event events fit),
+        are_traced events (All-tail ReadsAgain event events again)
+        (All-tail FitsLine event events fit))
 
 pub is_writable : (trace : Trace) → (IsFitOpening trace.opening → IsWritable trace.opening)
     → All (λ event. FitsLine event → IsTraced event) trace.events
@@ -31,4 +33,5 @@ is_writable trace opening events fits short = record {
 pub is_short : (trace : Trace) → (IsFitOpening trace.opening → IsWritable trace.opening)
     → All (λ event. FitsLine event → IsTraced event) trace.events
     → FitsText trace → length trace.events ≤ 1024 → length (trace_text trace) ≤ most_bytes
-is_short trace opening events fits few = few_are_short trace (opening fits.fit) (are_traced trace.events events fits.events) few
+is_short trace opening events fits few = few_are_short trace (opening fits.fit)
+    (are_traced trace.events events fits.events) few

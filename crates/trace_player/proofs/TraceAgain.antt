@@ -26,7 +26,8 @@ use Rattle.trace_text.specs.Lines.{is_row}
 -- the lines of an opening are read back, whatever lines follow, and are lines of words
 abbrev pub OpensAgain : Type 0
 OpensAgain = (opening : Opening) (rows : List Row) (unended : List ℕ) → IsWritable opening
-    → opening_from (record { number = 1; rows = opening_rows opening ++ rows; unended = unended }) ≡ Ok ((Two, opening), record { number = 31; rows = rows; unended = unended })
+    → opening_from (record { number = 1; rows = opening_rows opening ++ rows; unended = unended })
+        ≡ Ok ((Two, opening), record { number = 31; rows = rows; unended = unended })
 
 abbrev pub HasRows : Type 0
 HasRows = (opening : Opening) → IsWritable opening → list_all is_row (opening_rows opening) ≡ true
@@ -39,7 +40,8 @@ both_true a b ea eb = rw (ea, eb) refl
 -- the lines of events are lines of words
 are_rows : (events : List Event) → AreTraced events → list_all is_row (map event_row events) ≡ true
 are_rows [] are = refl
-are_rows (event ∷ events) (one, are) = both_true (is_row (event_row event)) (list_all is_row (map event_row events)) (event_is_row event one) (are_rows events are)
+are_rows (event ∷ events) (one, are) = both_true (is_row (event_row event))
+    (list_all is_row (map event_row events)) (event_is_row event one) (are_rows events are)
 
 -- all lines of a trace are lines of words
 rows_are : HasRows → (trace : Trace) → IsWritableTrace trace
@@ -48,8 +50,10 @@ rows_are has trace is =
     let count : Row = number_row (codes "events") (length trace.events) in
     let others : List Row = map event_row trace.events in
     list_all-append is_row (opening_rows trace.opening) (count ∷ others)
-    ∙ both_true (list_all is_row (opening_rows trace.opening)) (list_all is_row (count ∷ others)) (has trace.opening is.opening)
-    (both_true (is_row count) (list_all is_row others) (event_count_is_row (length trace.events) is.few) (are_rows trace.events is.events))
+    ∙ both_true (list_all is_row (opening_rows trace.opening)) (list_all is_row (count ∷ others))
+        (has trace.opening is.opening)
+    (both_true (is_row count) (list_all is_row others)
+        (event_count_is_row (length trace.events) is.few) (are_rows trace.events is.events))
 
 -- ---- reading
 
@@ -66,13 +70,17 @@ events_again : (events : List Event) (number : ℕ) → AreTraced events
     ≡ Ok (events, events_place (behind_events number events) [])
 unfolding events_at line_as
 events_again [] number are = refl
-events_again (event ∷ events) number (one, are) = let h = event_again event one in let others = events_again events (suc number) are in rw (h, others) refl
+events_again (event ∷ events) number (one, are) =
+    let h = event_again event one in
+    let others = events_again events (suc number) are in
+    rw (h, others) refl
 
 from_again : OpensAgain → (trace : Trace) → IsWritableTrace trace
     → trace_from (record { number = 1; rows = trace_rows trace; unended = [] }) ≡ Ok trace
 unfolding trace_from ended_at
 from_again opens trace is =
-    let h = opens trace.opening (number_row (codes "events") (length trace.events) ∷ map event_row trace.events) [] is.opening in
+    let h = opens trace.opening (number_row (codes "events") (length trace.events)
+        ∷ map event_row trace.events) [] is.opening in
     let count = event_count_again (length trace.events) 31 (map event_row trace.events) [] is.few in
     let events = events_again trace.events 32 is.events in
     rw (h, count, events) refl
@@ -82,8 +90,10 @@ from_again opens trace is =
 place_is : HasRows → (trace : Trace) → IsWritableTrace trace → place_of (trace_text trace)
     ≡ record { number = 1; rows = trace_rows trace; unended = [] }
 place_is has trace is =
-    let made : List Row → List ℕ → Place = λ rows unended. record { number = 1; rows = rows; unended = unended } in
-    ap₂ made (rows_whole (trace_rows trace) (rows_are has trace is)) (rows_ended (trace_rows trace) (rows_are has trace is))
+    let made : List Row → List ℕ → Place = λ rows unended. record { number = 1; rows = rows;
+        unended = unended } in
+    ap₂ made (rows_whole (trace_rows trace) (rows_are has trace is))
+        (rows_ended (trace_rows trace) (rows_are has trace is))
 
 short_enough : (n : ℕ) → n ≤ most_bytes → nat_lt most_bytes n ≡ false
 short_enough n le = grind (arith, nat_tests)
@@ -93,5 +103,7 @@ pub trace_again : OpensAgain → HasRows → (trace : Trace) → IsWritableTrace
 unfolding trace_of
 trace_again opens has trace is =
     let short = short_enough (length (trace_text trace)) is.short in
-    let choice : Bool → Result Trace TraceFault = λ long. if long then Err TooLong else trace_from (place_of (trace_text trace)) in
-    ap choice short ∙ ap (λ (place : Place). trace_from place) (place_is has trace is) ∙ from_again opens trace is
+    let choice : Bool → Result Trace TraceFault =
+        λ long. if long then Err TooLong else trace_from (place_of (trace_text trace)) in
+    ap choice short ∙ ap (λ (place : Place). trace_from place) (place_is has trace is)
+        ∙ from_again opens trace is

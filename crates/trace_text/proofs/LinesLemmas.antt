@@ -34,21 +34,26 @@ unended_whole text e = ap last_of e
 lines_cut : (text line rest : List ℕ) → parts_at 10 text ≡ line ∷ parts_at 10 rest → lines_of text
     ≡ line ∷ lines_of rest
 unfolding lines_of
-lines_cut text line rest e = ap all_but_last e ∙ all_but_last-cons line (parts_at 10 rest) (parts_some 10 rest)
+lines_cut text line rest e = ap all_but_last e
+    ∙ all_but_last-cons line (parts_at 10 rest) (parts_some 10 rest)
 
 unended_cut : (text line rest : List ℕ) → parts_at 10 text ≡ line ∷ parts_at 10 rest
     → unended_of text ≡ unended_of rest
 unfolding unended_of
-unended_cut text line rest e = ap last_of e ∙ last_of-cons line (parts_at 10 rest) (parts_some 10 rest)
+unended_cut text line rest e = ap last_of e ∙ last_of-cons line (parts_at 10 rest)
+    (parts_some 10 rest)
 
 pub split_lines : (text : List ℕ) (r : Option (Bor (List ℕ) × Bor (List ℕ)))
-    → MatchOption r (parts_at 10 text ≡ text ∷ []) (λ parts. parts_at 10 text ≡ parts.0.now ∷ parts_at 10 parts.1.now)
-    → MatchOption r (lines_of text ≡ []) (λ parts. lines_of text ≡ parts.0.now ∷ lines_of parts.1.now)
+    → MatchOption r (parts_at 10 text ≡ text ∷ []) (λ parts. parts_at 10 text ≡ parts.0.now
+        ∷ parts_at 10 parts.1.now)
+    → MatchOption r (lines_of text ≡ []) (λ parts. lines_of text ≡ parts.0.now
+        ∷ lines_of parts.1.now)
 split_lines text None e = lines_whole text e
 split_lines text (Some parts) e = lines_cut text parts.0.now parts.1.now e
 
 pub split_unended : (text : List ℕ) (r : Option (Bor (List ℕ) × Bor (List ℕ)))
-    → MatchOption r (parts_at 10 text ≡ text ∷ []) (λ parts. parts_at 10 text ≡ parts.0.now ∷ parts_at 10 parts.1.now)
+    → MatchOption r (parts_at 10 text ≡ text ∷ []) (λ parts. parts_at 10 text ≡ parts.0.now
+        ∷ parts_at 10 parts.1.now)
     → MatchOption r (unended_of text ≡ text) (λ parts. unended_of text ≡ unended_of parts.1.now)
 split_unended text None e = unended_whole text e
 split_unended text (Some parts) e = unended_cut text parts.0.now parts.1.now e
@@ -58,11 +63,13 @@ split_unended text (Some parts) e = unended_cut text parts.0.now parts.1.now e
 -- the first line of a text
 pub lines_of-line : (line rest : List ℕ) → HasNo 10 line → lines_of (line ++ 10 ∷ rest) ≡ line
     ∷ lines_of rest
-lines_of-line line rest none = lines_cut (line ++ 10 ∷ rest) line rest (slice_split_at (is_byte 10) line 10 rest none refl)
+lines_of-line line rest none = lines_cut (line ++ 10 ∷ rest) line rest
+    (slice_split_at (is_byte 10) line 10 rest none refl)
 
 pub unended_of-line : (line rest : List ℕ) → HasNo 10 line → unended_of (line ++ 10 ∷ rest)
     ≡ unended_of rest
-unended_of-line line rest none = unended_cut (line ++ 10 ∷ rest) line rest (slice_split_at (is_byte 10) line 10 rest none refl)
+unended_of-line line rest none = unended_cut (line ++ 10 ∷ rest) line rest
+    (slice_split_at (is_byte 10) line 10 rest none refl)
 
 -- an empty text has no line
 pub lines_of-nil : lines_of [] ≡ []
@@ -89,7 +96,8 @@ joined_text (part ∷ parts) some = parts_text part parts
 
 pub text_of-lines_of : (text : List ℕ) → text_of (lines_of text) ++ unended_of text ≡ text
 unfolding lines_of unended_of
-text_of-lines_of text = sym (joined_text (parts_at 10 text) (parts_some 10 text)) ∙ join_with_byte-slice_split 10 text
+text_of-lines_of text = sym (joined_text (parts_at 10 text) (parts_some 10 text))
+    ∙ join_with_byte-slice_split 10 text
 
 -- ---- lines of words
 
@@ -115,7 +123,8 @@ rows_text-append (row ∷ rows) others =
 
 -- the text of one line
 pub rows_text-one : (row : List (List ℕ)) → rows_text (row ∷ []) ≡ line_of row ++ 10 ∷ []
-rows_text-one row = rows_text-cons row [] ∙ ap (λ (rest : List ℕ). line_of row ++ 10 ∷ rest) rows_text-nil
+rows_text-one row = rows_text-cons row [] ∙ ap (λ (rest : List ℕ). line_of row ++ 10
+    ∷ rest) rows_text-nil
 
 -- the words of the first line
 rows_of-line : (line rest : List ℕ) → HasNo 10 line → rows_of (line ++ 10 ∷ rest) ≡ words_of line
@@ -142,7 +151,8 @@ rows_again (row ∷ rows) rest all =
     ap (λ (text : List ℕ). rows_of (text ++ rest)) (rows_text-cons row rows)
     ∙ ap rows_of (append_assoc (line_of row) (10 ∷ rows_text rows) rest)
     ∙ rows_of-line (line_of row) (rows_text rows ++ rest) (row_has_no_end row both.0)
-    ∙ ap (λ (words : List (List ℕ)). words ∷ rows_of (rows_text rows ++ rest)) (words_again row both.0)
+    ∙ ap (λ (words : List (List ℕ)). words ∷ rows_of (rows_text rows ++ rest))
+        (words_again row both.0)
     ∙ ap (λ (others : List (List (List ℕ))). row ∷ others) (rows_again rows rest both.1)
 
 pub unended_again : (rows : List (List (List ℕ))) (rest : List ℕ) → list_all is_row rows ≡ true
@@ -159,7 +169,9 @@ unended_again (row ∷ rows) rest all =
 pub rows_of-rows_text : (rows : List (List (List ℕ))) → list_all is_row rows ≡ true
     → (rows_of (rows_text rows) ≡ rows) × (unended_of (rows_text rows) ≡ [])
 rows_of-rows_text rows all = (
-  ap rows_of (sym (append-nil (rows_text rows))) ∙ rows_again rows [] all ∙ ap (λ (rest : List (List (List ℕ))). rows ++ rest) (rows_of-none [] lines_of-nil) ∙ append-nil rows,
+  ap rows_of (sym (append-nil (rows_text rows))) ∙ rows_again rows [] all
+      ∙ ap (λ (rest : List (List (List ℕ))). rows ++ rest) (rows_of-none [] lines_of-nil)
+      ∙ append-nil rows,
   ap unended_of (sym (append-nil (rows_text rows))) ∙ unended_again rows [] all ∙ unended_of-nil,
 )
 
@@ -171,4 +183,5 @@ lines_of_words (line ∷ lines) = rw (line_of-words_of line, lines_of_words line
 -- each text is the text of its lines of words, followed by the text after them
 pub rows_text-rows_of : (text : List ℕ) → rows_text (rows_of text) ++ unended_of text ≡ text
 unfolding rows_text rows_of
-rows_text-rows_of text = ap (λ (lines : List (List ℕ)). text_of lines ++ unended_of text) (lines_of_words (lines_of text)) ∙ text_of-lines_of text
+rows_text-rows_of text = ap (λ (lines : List (List ℕ)). text_of lines ++ unended_of text)
+    (lines_of_words (lines_of text)) ∙ text_of-lines_of text

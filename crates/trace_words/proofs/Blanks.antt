@@ -9,37 +9,47 @@ pub line_of_first : (word : Word) (words : Row) → line_of (word ∷ words) ≡
     ++ words_after_blanks words
 unfolding line_of
 line_of_first word [] = sym (append-nil word)
-line_of_first word (next ∷ words) = ap (λ (rest : List ℕ). word ++ 32 ∷ rest) (line_of_first next words)
+line_of_first word (next ∷ words) = ap (λ (rest : List ℕ). word ++ 32 ∷ rest)
+    (line_of_first next words)
 
 -- words followed by others
 pub blanked-append : (words others : Row) → words_after_blanks (words ++ others)
     ≡ words_after_blanks words ++ words_after_blanks others
 blanked-append [] others = refl
-blanked-append (word ∷ words) others = ap (λ (rest : List ℕ). (32 ∷ word) ++ rest) (blanked-append words others) ∙ sym (append_assoc (32 ∷ word) (words_after_blanks words) (words_after_blanks others))
+blanked-append (word ∷ words) others = ap (λ (rest : List ℕ). (32 ∷ word) ++ rest)
+    (blanked-append words others) ∙ sym (append_assoc (32 ∷ word) (words_after_blanks words)
+    (words_after_blanks others))
 
 -- the words of a value before others are those of the value, followed by the others
 abbrev pub Stands : (X : Type 0) → (X → Row → Row) → Type 0
-Stands X item = (x : X) (words : Row) → words_after_blanks (item x words) ≡ words_after_blanks (item x []) ++ words_after_blanks words
+Stands X item = (x : X) (words : Row) → words_after_blanks (item x words)
+    ≡ words_after_blanks (item x []) ++ words_after_blanks words
 
 pub value_stands : Stands ℕ value_words
 value_stands value words = blanked-append (value_words value []) words
 
 -- what was written, joined with what is still to be written from a place on
-pub record Left (X : Type 0) (item : X → Row → Row) (xs : List X) (i : ℕ) (out total : List ℕ) : Type 0 where
+pub record Left (X : Type 0) (item : X → Row → Row) (xs : List X) (i : ℕ)
+    (out total : List ℕ) : Type 0 where
   pub all : out ++ words_after_blanks (all_words item (drop i xs)) ≡ total
 
 -- one more value is written
 pub one_more : {X : Type 0} (item : X → Row → Row) → Stands X item
     → (xs : List X) (i : ℕ) (x d : X) (out new total : List ℕ) → i < length xs → x ≡ get_or xs i d
-    → new ≡ out ++ words_after_blanks (item x []) → Left X item xs i out total → Left X item xs (i + 1) new total
+    → new ≡ out ++ words_after_blanks (item x []) → Left X item xs i out total
+        → Left X item xs (i + 1) new total
 unfolding all_words
 one_more {X} item stands xs i x d out new total lt is written left =
-    let next : drop i xs ≡ x ∷ drop (suc i) xs = drop-cons xs i d lt ∙ ap (λ (y : X). y ∷ drop (suc i) xs) (sym is) in
-    let one : out ++ words_after_blanks (all_words item (drop i xs)) ≡ new ++ words_after_blanks (all_words item (drop (suc i) xs)) =
+    let next : drop i xs ≡ x ∷ drop (suc i) xs =
+        drop-cons xs i d lt ∙ ap (λ (y : X). y ∷ drop (suc i) xs) (sym is) in
+    let one : out ++ words_after_blanks (all_words item (drop i xs)) ≡ new
+        ++ words_after_blanks (all_words item (drop (suc i) xs)) =
     ap (λ (ys : List X). out ++ words_after_blanks (all_words item ys)) next
     ∙ ap (λ (bs : List ℕ). out ++ bs) (stands x (all_words item (drop (suc i) xs)))
-    ∙ sym (append_assoc out (words_after_blanks (item x [])) (words_after_blanks (all_words item (drop (suc i) xs))))
-    ∙ ap (λ (bs : List ℕ). bs ++ words_after_blanks (all_words item (drop (suc i) xs))) (sym written) in
+    ∙ sym (append_assoc out (words_after_blanks (item x []))
+        (words_after_blanks (all_words item (drop (suc i) xs))))
+    ∙ ap (λ (bs : List ℕ). bs ++ words_after_blanks (all_words item (drop (suc i) xs)))
+        (sym written) in
     record { all = rw add-one (sym one ∙ left.all) }
 
 -- nothing is written yet
@@ -58,4 +68,6 @@ behind_all (x ∷ xs) (suc i) le = behind_all xs i (omega arith)
 pub all_written : {X : Type 0} (item : X → Row → Row) (xs : List X) (i : ℕ) (out total : List ℕ)
     → length xs ≤ i → Left X item xs i out total → out ≡ total
 unfolding all_words
-all_written {X} item xs i out total le left = sym (append-nil out) ∙ ap (λ (ys : List X). out ++ words_after_blanks (all_words item ys)) (sym (behind_all xs i le)) ∙ left.all
+all_written {X} item xs i out total le left = sym (append-nil out)
+    ∙ ap (λ (ys : List X). out ++ words_after_blanks (all_words item ys)) (sym (behind_all xs i le))
+    ∙ left.all

@@ -22,7 +22,8 @@ use Rattle.trace_words.specs.declared.fault.RowFault.{RowFault}
 
 pub number_word_again : (limit n : ℕ) → n ≤ limit → limit < 2 ^ 64
     → number_in limit (decimal n) ≡ Ok n
-number_word_again limit n le small = ap (λ (o : Option ℕ). or_wrong o) (number_again limit n le small)
+number_word_again limit n le small = ap (λ (o : Option ℕ). or_wrong o)
+    (number_again limit n le small)
 
 pub flag_again : (flag : Bool) → flag_in (decimal (flag_number flag)) ≡ Ok flag
 flag_again true = let h = number_word_again 1 1 (omega arith) (omega arith) in rw h refl
@@ -30,7 +31,8 @@ flag_again false = let h = number_word_again 1 0 (omega arith) (omega arith) in 
 
 pub bytes_word_again : (bytes : List ℕ) → 0 < length bytes → IsBytes bytes
     → bytes_in (encode_upper bytes) ≡ Ok bytes
-bytes_word_again bytes some are = ap (λ (o : Option (List ℕ)). or_wrong o) (bytes_again bytes some are)
+bytes_word_again bytes some are = ap (λ (o : Option (List ℕ)). or_wrong o)
+    (bytes_again bytes some are)
 
 -- a list of bytes equals itself
 pub same_bytes : (bytes : List ℕ) → pointwise nat_eq bytes bytes ≡ true
@@ -41,7 +43,8 @@ unfolding data_in
 data_word_again value held =
     let bytes = text (tree_of value) in
     let h = bytes_word_again bytes (omega arith) (text_is_bytes (tree_of value) held.fits) in
-    let whole : first_data bytes ≡ Ok (value, length bytes) = ap first_data (sym (append-nil bytes)) ∙ text_again value [] held.fits in
+    let whole : first_data bytes ≡ Ok (value, length bytes) = ap first_data (sym (append-nil bytes))
+        ∙ text_again value [] held.fits in
     let same = same_bytes bytes in
     rw (h, whole, same) refl
 
@@ -69,7 +72,8 @@ flag_is_word true = number_is_word 1 (omega arith)
 flag_is_word false = number_is_word 0 (omega arith)
 
 pub data_is_word : (value : Data) → IsHeld value → is_word (data_word value) ≡ true
-data_is_word value held = hex_is_word (text (tree_of value)) (omega arith) (text_is_bytes (tree_of value) held.fits)
+data_is_word value held = hex_is_word (text (tree_of value)) (omega arith)
+    (text_is_bytes (tree_of value) held.fits)
 
 -- one more word
 pub more : (word : List ℕ) (words : Row) → is_word word ≡ true → AreWords words
@@ -78,4 +82,5 @@ more word words is are = rw is are
 
 pub number_is_row : (name : Word) (n : ℕ) → is_word name ≡ true → n ≤ 42949672950
     → is_row (number_row name n) ≡ true
-number_is_row name n is le = more name (decimal n ∷ []) is (more (decimal n) [] (number_is_word n le) refl)
+number_is_row name n is le = more name (decimal n ∷ []) is
+    (more (decimal n) [] (number_is_word n le) refl)

@@ -30,16 +30,19 @@ IsWrittenBack X value_in word_of = (word : Word) (x : X) → value_in word ≡ O
 
 -- the words from which a value of several words is read, before others, are those written for it
 abbrev pub AreWrittenBack : (X : Type 0) → (Word → Row → Read X) → (X → Row → Row) → Type 0
-AreWrittenBack X item_from words_of = (word : Word) (words : Row) (x : X) (rest : Row) → item_from word words ≡ Ok (x, rest) → word ∷ words ≡ words_of x rest
+AreWrittenBack X item_from words_of = (word : Word) (words : Row) (x : X) (rest : Row)
+    → item_from word words ≡ Ok (x, rest) → word ∷ words ≡ words_of x rest
 
 -- ---- single words
 
 pub number_back : (limit : ℕ) → limit < 2 ^ 64 → IsWrittenBack ℕ (number_in limit) decimal
-number_back limit small word n e = (number_only limit n word small (wanted_is (number_of limit word) n e)).0
+number_back limit small word n e =
+    (number_only limit n word small (wanted_is (number_of limit word) n e)).0
 
 pub number_limited : (limit : ℕ) → limit < 2 ^ 64 → (word : Word) (n : ℕ) → number_in limit word
     ≡ Ok n → n ≤ limit
-number_limited limit small word n e = (number_only limit n word small (wanted_is (number_of limit word) n e)).1
+number_limited limit small word n e =
+    (number_only limit n word small (wanted_is (number_of limit word) n e)).1
 
 flag_is : (n : ℕ) (flag : Bool) → n ≤ 1 → done RowFault (n == 1) ≡ Ok flag → n ≡ flag_number flag
 flag_is n true le e = let is : (n == 1) ≡ true = cc in grind (arith, nat_tests)
@@ -48,7 +51,9 @@ flag_is n false le e = let is : (n == 1) ≡ false = cc in grind (arith, nat_tes
 pub flag_back : IsWrittenBack Bool flag_in (λ flag. decimal (flag_number flag))
 flag_back word flag e =
     let read = bind_ok (number_in 1 word) _ flag e in
-    number_back 1 (omega arith) word read.0 read.1 ∙ ap decimal (flag_is read.0 flag (number_limited 1 (omega arith) word read.0 read.1) read.2)
+    number_back 1 (omega arith) word read.0 read.1
+        ∙ ap decimal (flag_is read.0 flag (number_limited 1 (omega arith) word read.0
+        read.1) read.2)
 
 pub bytes_back : IsWrittenBack (List ℕ) bytes_in encode_upper
 bytes_back word bytes e = (bytes_only word bytes (wanted_is (bytes_of word) bytes e)).0
@@ -65,7 +70,8 @@ unfolding data_in
 data_back word value e =
     let bytes = bind_ok (bytes_in word) _ value e in
     let read = bind_ok (or_wrong (result_ok (first_data bytes.0))) _ value bytes.2 in
-    let spelled = guard_ok (pointwise nat_eq (text (tree_of read.0.0)) bytes.0) Wrong _ value read.2 in
+    let spelled = guard_ok (pointwise nat_eq (text (tree_of read.0.0)) bytes.0) Wrong _ value read.2
+        in
     bytes_back word bytes.0 bytes.1
     ∙ ap encode_upper (sym (same_is (text (tree_of read.0.0)) bytes.0 spelled.0))
     ∙ ap data_word (ok_is read.0.0 value spelled.1)
@@ -78,11 +84,13 @@ pub next_back : (X : Type 0) (value_in : Word → Result X RowFault) (word_of : 
 next_back X value_in word_of back [] rest x e = absurd cc
 next_back X value_in word_of back (word ∷ words) rest x e =
     let read = bind_ok (value_in word) _ (x, rest) e in
-    ap (λ (w : Word). w ∷ words) (back word read.0 read.1) ∙ ap (λ (p : X × Row). word_of p.0 ∷ p.1) (ok_is (read.0, words) (x, rest) read.2)
+    ap (λ (w : Word). w ∷ words) (back word read.0 read.1)
+        ∙ ap (λ (p : X × Row). word_of p.0 ∷ p.1) (ok_is (read.0, words) (x, rest) read.2)
 
 pub next_number_back : (limit : ℕ) → limit < 2 ^ 64 → (words rest : Row) (n : ℕ)
     → next_as (number_in limit) words ≡ Ok (n, rest) → words ≡ decimal n ∷ rest
-next_number_back limit small words rest n e = next_back ℕ (number_in limit) decimal (number_back limit small) words rest n e
+next_number_back limit small words rest n e =
+    next_back ℕ (number_in limit) decimal (number_back limit small) words rest n e
 
 -- a value after which no word is left
 pub ended_back : (X : Type 0) (words : Row) (x y : X) → if_last words x ≡ Ok y
@@ -106,12 +114,14 @@ last_back X value_in word_of back words x e =
 
 pub last_number_back : (limit : ℕ) → limit < 2 ^ 64 → (words : Row) (n : ℕ)
     → last_as (number_in limit) words ≡ Ok n → words ≡ decimal n ∷ []
-last_number_back limit small words n e = last_back ℕ (number_in limit) decimal (number_back limit small) words n e
+last_number_back limit small words n e = last_back ℕ (number_in limit) decimal
+    (number_back limit small) words n e
 
 -- values up to the end of the line
 pub all_back : (X : Type 0) (item_from : Word → Row → Read X) (words_of : X → Row → Row)
     → AreWrittenBack X item_from words_of
-    → (room : ℕ) (words : Row) (xs : List X) → all_at item_from room words ≡ Ok xs → words ≡ all_words words_of xs
+    → (room : ℕ) (words : Row) (xs : List X) → all_at item_from room words ≡ Ok xs → words
+        ≡ all_words words_of xs
 unfolding all_at all_words
 all_back X item_from words_of back zero [] xs e = ap (all_words words_of) (ok_is [] xs e)
 all_back X item_from words_of back (suc room) [] xs e = ap (all_words words_of) (ok_is [] xs e)

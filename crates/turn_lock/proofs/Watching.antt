@@ -14,7 +14,9 @@ module _ {E R O : Type 0} {legal : O → List (Entry E R) → Type 0} where
   -- taking no step is watching
   pub watches_refl : (k : Known E R O) → IsLegal legal k → Watches legal k k
   watches_refl k lawful = record {
-    sees = record { origin = refl; number = refl; splits = refl; drawn = le_refl k.drawn; served = le_refl k.served; seen = starts_refl k.seen; lawful = lawful; own_calls = λ q o. refl };
+    sees = record { origin = refl; number = refl; splits = refl; drawn = le_refl k.drawn;
+        served = le_refl k.served; seen = starts_refl k.seen; lawful = lawful; own_calls =
+        λ q o. refl };
     joined = refl;
   }
 
@@ -30,7 +32,8 @@ module _ {E R O : Type 0} {legal : O → List (Entry E R) → Type 0} where
       served = omega (arith, s.served, t.served);
       seen = starts_trans m.seen l.seen k.seen t.seen s.seen;
       lawful = t.lawful;
-      own_calls = λ q o. t.own_calls q (⊎_elim (λ e. inl (e ∙ sym s.number)) (λ x. inr (subst (IsAmong q) (sym a.joined) x)) o) ∙ s.own_calls q o;
+      own_calls = λ q o. t.own_calls q (⊎_elim (λ e. inl (e ∙ sym s.number))
+          (λ x. inr (subst (IsAmong q) (sym a.joined) x)) o) ∙ s.own_calls q o;
     };
     joined = b.joined ∙ a.joined;
   }
@@ -47,7 +50,9 @@ module _ {E R O : Type 0} {legal : O → List (Entry E R) → Type 0} where
       served = subst (λ n. k.served ≤ n) (sym (ap (λ x. x.known.served) is)) t.served;
       seen = starts_trans w.known.seen v.known.seen k.seen ([], ap (λ x. x.known.seen) is) t.seen;
       lawful = ended.lawful;
-      own_calls = λ q o. ⊎_elim (λ e. subst (λ p. calls_by p w.known.seen ≡ calls_by p v.known.seen) (sym (e ∙ sym t.number)) (ended.own_calls ∙ append-nil (calls_by v.known.number v.known.seen)))
+      own_calls = λ q o. ⊎_elim (λ e. subst (λ p. calls_by p w.known.seen ≡ calls_by p v.known.seen)
+          (sym (e ∙ sym t.number)) (ended.own_calls
+          ∙ append-nil (calls_by v.known.number v.known.seen)))
           (λ x. ended.joined_calls q (subst (IsAmong q) (sym a.joined) x)) o ∙ t.own_calls q o;
     };
     joined = ap (λ x. x.known.joined) is ∙ a.joined;
@@ -64,8 +69,13 @@ module _ {E R O : Type 0} {legal : O → List (Entry E R) → Type 0} where
     joined = ap (λ x. x.known.joined) is ∙ a.joined;
     drawn = subst (λ n. k.drawn ≤ n) (sym (ap (λ x. x.known.drawn) is)) t.drawn;
     served = subst (λ n. k.served ≤ n) (sym (ap (λ x. x.known.served) is)) t.served;
-    seen = (t.seen.0, ap (λ x. x.known.seen) is ∙ (ap (λ s. s ++ entry v.known.number e.value r.value ∷ []) t.seen.1 ∙ ap (λ p. (k.seen ++ t.seen.0) ++ entry p e.value r.value ∷ []) t.number));
+    seen = (t.seen.0, ap (λ x. x.known.seen) is
+        ∙ (ap (λ s. s ++ entry v.known.number e.value r.value ∷ []) t.seen.1
+        ∙ ap (λ p. (k.seen ++ t.seen.0) ++ entry p e.value r.value ∷ []) t.number));
     lawful = ended.lawful;
-    own_calls = subst (λ p. calls_by p w.known.seen ≡ calls_by p v.known.seen ++ entry p e.value r.value ∷ []) t.number ended.own_calls ∙ ap (λ s. s ++ entry k.number e.value r.value ∷ []) (t.own_calls k.number (inl refl));
-    joined_calls = λ q x. ended.joined_calls q (subst (IsAmong q) (sym a.joined) x) ∙ t.own_calls q (inr x);
+    own_calls = subst (λ p. calls_by p w.known.seen ≡ calls_by p v.known.seen
+        ++ entry p e.value r.value ∷ []) t.number ended.own_calls
+        ∙ ap (λ s. s ++ entry k.number e.value r.value ∷ []) (t.own_calls k.number (inl refl));
+    joined_calls = λ q x. ended.joined_calls q (subst (IsAmong q) (sym a.joined) x)
+        ∙ t.own_calls q (inr x);
   }

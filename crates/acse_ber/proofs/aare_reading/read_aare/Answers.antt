@@ -13,7 +13,8 @@ found_by P (Ok a) given e all = all a (sym e)
 found_by P (Err fault) given e all = tt
 
 pub returns-clause-found : goal.returns-clause-found
-returns-clause-found c = found_by (SpellsAare c.args.bytes.now) c.read_whole.result (aare_of c.args.bytes.now) c.read_whole.ensures (aare_found c.args.bytes.now)
+returns-clause-found c = found_by (SpellsAare c.args.bytes.now) c.read_whole.result
+    (aare_of c.args.bytes.now) c.read_whole.ensures (aare_found c.args.bytes.now)
 
 pub returns-clause-only : goal.returns-clause-only
 returns-clause-only c = λ a s. c.read_whole.ensures ∙ aare_again c.args.bytes.now a s

@@ -4,7 +4,8 @@ use Rattle.acse_ber.proofs.Steps.{Remaining, still}
 use Rattle.acse_ber.proofs.field.find_field.Given as goal
 
 abbrev pub invariant-fields : goal.invariant-fields
-invariant-fields l = Remaining l.tag (option_map (λ contents. contents.now) l.found) l.reader (still l.tag None (fields_of l.body))
+invariant-fields l = Remaining l.tag (option_map (λ contents. contents.now) l.found) l.reader
+    (still l.tag None (fields_of l.body))
 
 abbrev pub decreases-fields : goal.decreases-fields
 decreases-fields l = length l.reader

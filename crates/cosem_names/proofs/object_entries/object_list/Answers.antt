@@ -11,4 +11,5 @@ pub returns : goal.returns
 unfolding object_list_of
 returns c =
     ap (λ (items : Trees). Array items)
-    (c.from_vec.ensures.trees ∙ ap (λ (entries : List Data). trees_of (all_trees entries)) c.in_ok-entries.ensures)
+    (c.from_vec.ensures.trees ∙ ap (λ (entries : List Data). trees_of (all_trees entries))
+        c.in_ok-entries.ensures)

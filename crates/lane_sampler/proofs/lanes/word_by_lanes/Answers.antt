@@ -11,7 +11,8 @@ loop-at-preserved c =
       record {
         over = word_more (is_over c.args.threshold) c.args.values.now c.loop-at.at 16 _ _ within few
             c.loop-at.invariant.1.over c.lanes_at-lanes.ensures.over;
-        under = word_more (is_under c.args.threshold) c.args.values.now c.loop-at.at 16 _ _ within few
+        under = word_more (is_under c.args.threshold) c.args.values.now c.loop-at.at 16 _
+            _ within few
             c.loop-at.invariant.1.under c.lanes_at-lanes.ensures.under;
       },
     )

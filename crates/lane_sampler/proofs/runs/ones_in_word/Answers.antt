@@ -10,7 +10,8 @@ run c =
     let word = get_or c.args.words.now (c.args.at / 64) 0 in
     let found : c.trailing_ones.result ≡ trailing_ones w64 (word / 2 ^ (c.args.at % 64)) =
     c.trailing_ones.ensures
-    ∙ ap (λ k. trailing_ones w64 (get_or c.args.words.now k 0 / 2 ^ (c.args.at % 64))) c.from.ensures in
+    ∙ ap (λ k. trailing_ones w64 (get_or c.args.words.now k 0 / 2 ^ (c.args.at % 64)))
+        c.from.ensures in
     subst (RunInWord word (c.args.at % 64)) (sym found)
     (run_in_word word (c.args.at % 64) (c.fits-words (c.args.at / 64)) (omega arith))
 

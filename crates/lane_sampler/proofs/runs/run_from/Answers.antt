@@ -9,7 +9,8 @@ run : (c : goal.After-saturating_sub) → IsRun c.args.words.now c.args.len c.ar
 run c = search rules
 
 pub returns-clause-passing : goal.returns-clause-passing
-returns-clause-passing c test values mask long = run_passes _ _ _ _ c.requires (run c) test values mask long
+returns-clause-passing c test values mask long =
+    run_passes _ _ _ _ c.requires (run c) test values mask long
 
 pub returns-clause-all : goal.returns-clause-all
 returns-clause-all c test values mask = all_pass _ _ _ _ c.requires (run c) test values mask

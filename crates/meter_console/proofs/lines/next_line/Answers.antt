@@ -4,7 +4,8 @@ use Rattle.meter_console.proofs.lines.next_line.Goals as goal
 use Rattle.meter_console.proofs.lines.next_line.Goals.{then-len-lt-MAX_KEPT+in-Ok, else-len-lt-MAX_KEPT}
 
 pub returns-in-Ok-None-clause-end : goal.returns-in-Ok-None-clause-end
-returns-in-Ok-None-clause-end g c = λ _. ended c.bytes.invariant.read (rw c.in-Ok-None.field-0-is at c.in-Ok-None.ensures.none)
+returns-in-Ok-None-clause-end g c = λ _. ended c.bytes.invariant.read
+    (rw c.in-Ok-None.field-0-is at c.in-Ok-None.ensures.none)
 
 pub returns-then-is_long-clause-too_long : goal.returns-then-is_long-clause-too_long
 returns-then-is_long-clause-too_long g c =
@@ -22,10 +23,12 @@ bytes-preserved g c =
     elim c.if-len-lt-MAX_KEPT.branch [
       | then-len-lt-MAX_KEPT+in-Ok w ↦ record {
         room = search rules;
-        read = keeps c.bytes.invariant.read read c.if-byte-eq-LINE_END.false (search rules) (search rules) w.is_long-is;
+        read = keeps c.bytes.invariant.read read c.if-byte-eq-LINE_END.false (search rules)
+            (search rules) w.is_long-is;
       }
       | else-len-lt-MAX_KEPT w ↦ record {
         room = search rules;
-        read = skips c.bytes.invariant.read read c.if-byte-eq-LINE_END.false (search rules) (search rules) w.is_long-is;
+        read = skips c.bytes.invariant.read read c.if-byte-eq-LINE_END.false (search rules)
+            (search rules) w.is_long-is;
       }
     ]

@@ -12,21 +12,26 @@ lines-preserved g c =
       | in-Passed w ↦ record {
         room = c.pass_line.ensures.room;
         few = omega (arith, w.lost-is);
-        hands = hands_on c.lines.invariant.hands (w.in-Passed.ensures.passed refl) (omega (arith, w.lost-is));
+        hands = hands_on c.lines.invariant.hands (w.in-Passed.ensures.passed refl)
+            (omega (arith, w.lost-is));
       }
       | in-Lost w ↦ record {
         room = c.pass_line.ensures.room;
         few = omega (arith, w.lost-is);
-        hands = hands_on c.lines.invariant.hands (w.in-Lost.ensures.lost refl) (omega (arith, w.lost-is));
+        hands = hands_on c.lines.invariant.hands (w.in-Lost.ensures.lost refl)
+            (omega (arith, w.lost-is));
       }
     ]
 
 pub returns-in-End : goal.returns-in-End
-returns-in-End g c = ends_all _ c.lines.invariant.hands (c.in-End.ensures.end refl) (c.in-End.ensures.end_taken refl) refl
+returns-in-End g c = ends_all _ c.lines.invariant.hands (c.in-End.ensures.end refl)
+    (c.in-End.ensures.end_taken refl) refl
 
 pub returns : goal.returns
 returns g c =
     elim c.lines-test.branch [
-      | else-lines-test w ↦ ends_some _ c.lines.invariant.hands (ap g.S.EventSink.taken w.sink-is) refl refl
-      | then-lines-test+in-Failed w ↦ ends_some _ c.lines.invariant.hands (ap g.S.EventSink.taken w.sink-is ∙ w.in-Failed.ensures.failed refl) refl refl
+      | else-lines-test w ↦ ends_some _ c.lines.invariant.hands (ap g.S.EventSink.taken w.sink-is)
+          refl refl
+      | then-lines-test+in-Failed w ↦ ends_some _ c.lines.invariant.hands
+          (ap g.S.EventSink.taken w.sink-is ∙ w.in-Failed.ensures.failed refl) refl refl
     ]

@@ -12,5 +12,6 @@ invariant-lines g l = record {
   ahead : (whole rest : List ℕ) (front rows : List Row) → length front ≡ l.count
       → Ahead whole rest (front ++ rows) l.initial.text.items
       (left_in g.I.Read.remaining l.initial.input)
-      → Ahead whole rest (drop l.counter front ++ rows) l.text.items (left_in g.I.Read.remaining l.input);
+      → Ahead whole rest (drop l.counter front ++ rows) l.text.items
+          (left_in g.I.Read.remaining l.input);
 }

@@ -6,4 +6,5 @@ pub returns-clause-line : goal.returns-clause-line
 returns-clause-line c = λ w stands.
     let after = at_event c.args.event.now w in
     let goes = c.in_ok-reply.ensures.world w stands in
-    same_line _ _ _ after (c.in_ok-reply.ensures.reply w stands) (c.state.ensures after.world goes) (c.output.ensures after.world goes)
+    same_line _ _ _ after (c.in_ok-reply.ensures.reply w stands) (c.state.ensures after.world goes)
+        (c.output.ensures after.world goes)

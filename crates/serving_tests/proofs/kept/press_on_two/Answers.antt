@@ -6,7 +6,9 @@ use Rattle.serving_tests.proofs.kept.press_on_two.Goals as goal
 
 pub join-port-requires-send-F : goal.join-port-requires-send-F
 join-port-requires-send-F g c κs within =
-    let s = c.type_bounds.sync-R in search (sendable, crosses, port_send, kept_send) depth 20 fits 100000
+    let s = c.type_bounds.sync-R in
+    search (sendable, crosses, port_send, kept_send) depth 20 fits 100000
 
 pub join-port-requires-send-A : goal.join-port-requires-send-A
-join-port-requires-send-A g c κs within = search (sendable, crosses, port_send, kept_send) depth 20 fits 100000
+join-port-requires-send-A g c κs within = search (sendable, crosses, port_send, kept_send) depth 20
+    fits 100000

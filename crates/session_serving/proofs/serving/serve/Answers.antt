@@ -38,10 +38,12 @@ returns-then-count-eq0-clause-served g c = λ password owes.
     served_end g.M.Meter.steps password c.reads.counter
     c.args.session.now c.reads.session _ _ _ c.end_input.result owes c.reads.invariant.stands
     (rw c.if-count-eq0.true at c.in-Ok.ensures.bytes.0)
-    (c.in-Ok.ensures.bytes.1 c.if-count-eq0.true (omega (arith, c.read.auto.buffer, c.reads.invariant.room)))
+    (c.in-Ok.ensures.bytes.1 c.if-count-eq0.true
+        (omega (arith, c.read.auto.buffer, c.reads.invariant.room)))
     (omega (arith, c.reads-test.true))
     (omega (arith, c.in-Ok.ensures.counted, c.reads.invariant.counted))
-    c.reads.invariant.write_even c.end_input.ensures.ok c.end_input.ensures.end c.end_input.ensures.err
+    c.reads.invariant.write_even c.end_input.ensures.ok c.end_input.ensures.end
+        c.end_input.ensures.err
 
 pub returns-in_err-end-clause-served : goal.returns-in_err-end-clause-served
 returns-in_err-end-clause-served g c = λ password owes.

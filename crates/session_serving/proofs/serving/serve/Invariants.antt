@@ -12,7 +12,8 @@ invariant-reads g l = record {
   stands : IsCaughtUp g.M.Meter.steps as_bytes l.initial.session
       (record {
         input = input_of g.R.Reader.remaining g.R.Reader.reads g.R.Reader.failures l.initial.reader;
-        outlets = outlets_of g.W.Writer.contents g.W.Writer.failures l.initial.writer l.initial.meter;
+        outlets = outlets_of g.W.Writer.contents g.W.Writer.failures l.initial.writer
+            l.initial.meter;
       })
       l.counter l.session
       (record {

@@ -8,7 +8,9 @@ use Rattle.session_threads.proofs.serving.accept_all.Goals as goal
 pub returns-in_default-clause-tends : goal.returns-in_default-clause-tends
 returns-in_default-clause-tends g c =
     let conn = g.L.Connection.Connection in
-    tends_trans port_of (terms_of conn.terms) conn.hands_back _ _ _ _ _ _ _ c.connections.invariant.tends (tends_by port_of (terms_of conn.terms) conn.hands_back _ _ _ _ _ _ c.connections.invariant.terms c.take_next.ensures.tends)
+    tends_trans port_of (terms_of conn.terms) conn.hands_back _ _ _ _ _ _ _
+        c.connections.invariant.tends (tends_by port_of (terms_of conn.terms) conn.hands_back _ _ _
+        _ _ _ c.connections.invariant.terms c.take_next.ensures.tends)
 
 pub connections-preserved : goal.connections-preserved
 connections-preserved g c =
@@ -16,13 +18,18 @@ connections-preserved g c =
       can_next = tt;
       is_finite = tt;
       tends = let conn = g.L.Connection.Connection in
-          tends_trans port_of (terms_of conn.terms) conn.hands_back _ _ _ _ _ _ _ c.connections.invariant.tends (tends_by port_of (terms_of conn.terms) conn.hands_back _ _ _ _ _ _ c.connections.invariant.terms c.take_next.ensures.tends);
+          tends_trans port_of (terms_of conn.terms) conn.hands_back _ _ _ _ _ _ _
+              c.connections.invariant.tends (tends_by port_of (terms_of conn.terms) conn.hands_back
+              _ _ _ _ _ _ c.connections.invariant.terms c.take_next.ensures.tends);
       terms = c.take_next.ensures.terms ∙ c.connections.invariant.terms;
-      served = c.count.ensures.served _ _ _ c.connections.invariant.served c.in-Some-take_next.ensures.splits;
+      served = c.count.ensures.served _ _ _ c.connections.invariant.served
+          c.in-Some-take_next.ensures.splits;
       going = c.count.ensures.failed ∙ c.connections.invariant.going;
       borrowed = c.take_next.ensures.borrowed ∙ c.connections.invariant.borrowed;
-      counted = counted_on _ _ _ _ _ c.connections.invariant.counted c.in-Some-take_next.ensures.accepted c.count.ensures.counted c.count.ensures.rises;
-      within = count_on c.args.limit _ _ c.ranges.limit.fits (λ reached. false≢true (c.if-has_reached.ensures.1 reached)) c.count.ensures.counted;
+      counted = counted_on _ _ _ _ _ c.connections.invariant.counted
+          c.in-Some-take_next.ensures.accepted c.count.ensures.counted c.count.ensures.rises;
+      within = count_on c.args.limit _ _ c.ranges.limit.fits
+          (λ reached. false≢true (c.if-has_reached.ensures.1 reached)) c.count.ensures.counted;
     }
 
 pub returns-in_default-clause-counted : goal.returns-in_default-clause-counted

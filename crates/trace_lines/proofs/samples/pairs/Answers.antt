@@ -10,14 +10,19 @@ pub returns-then-len-eq-MAX_VALUES : goal.returns-then-len-eq-MAX_VALUES
 returns-then-len-eq-MAX_VALUES c =
     let is : c.items.words ≡ c.in-Some.word.now ∷ c.next.new.self = search rules in
     let full : length c.items.pairs.items ≡ MAX_VALUES = omega arith in
-    inr (too_many pair_from MAX_VALUES c.items.pairs.items c.items.words c.in-Some.word.now c.next.new.self (all_at pair_from MAX_VALUES c.args.words.now) is full c.items.invariant.so_far)
+    inr (too_many pair_from MAX_VALUES c.items.pairs.items c.items.words c.in-Some.word.now
+        c.next.new.self (all_at pair_from MAX_VALUES c.args.words.now) is full
+        c.items.invariant.so_far)
 
 pub returns-in_err-pair_from : goal.returns-in_err-pair_from
 returns-in_err-pair_from c =
     let is : c.items.words ≡ c.in-Some.word.now ∷ c.next.new.self = search rules in
     let more : length c.items.pairs.items ≢ MAX_VALUES = omega arith in
     let p = err_from_is_err_and c.from_residual.result c.from_residual.ensures.1 in
-    rw (p.1, p.2) (refused pair_from MAX_VALUES c.in_err-pair_from.field-0.0 c.items.pairs.items c.items.words c.in-Some.word.now c.next.new.self (all_at pair_from MAX_VALUES c.args.words.now) is more c.in_err-pair_from.ensures c.items.invariant.so_far)
+    rw (p.1, p.2) (refused pair_from MAX_VALUES c.in_err-pair_from.field-0.0 c.items.pairs.items
+        c.items.words c.in-Some.word.now c.next.new.self
+        (all_at pair_from MAX_VALUES c.args.words.now) is more
+        c.in_err-pair_from.ensures c.items.invariant.so_far)
 
 pub items-preserved : goal.items-preserved
 items-preserved c =
@@ -25,8 +30,13 @@ items-preserved c =
     let more : length c.items.pairs.items ≢ MAX_VALUES = omega arith in
     record {
       terms = (tt, tt);
-      so_far = rw c.in_ok-push.ensures.items (goes_on pair_from MAX_VALUES c.items.pairs.items c.items.words c.in-Some.word.now c.next.new.self c.in_ok-pair_from.field-0 c.pair_from.new.words (all_at pair_from MAX_VALUES c.args.words.now) is more c.in_ok-pair_from.ensures c.items.invariant.so_far);
+      so_far = rw c.in_ok-push.ensures.items (goes_on pair_from MAX_VALUES c.items.pairs.items
+          c.items.words c.in-Some.word.now c.next.new.self c.in_ok-pair_from.field-0
+          c.pair_from.new.words (all_at pair_from MAX_VALUES c.args.words.now) is more
+          c.in_ok-pair_from.ensures c.items.invariant.so_far);
     }
 
 pub returns : goal.returns
-returns c = is_done pair_from MAX_VALUES c.items.pairs.items c.items.words (all_at pair_from MAX_VALUES c.args.words.now) c.in_default.ensures.steps.0 c.items.invariant.so_far
+returns c = is_done pair_from MAX_VALUES c.items.pairs.items c.items.words
+    (all_at pair_from MAX_VALUES c.args.words.now) c.in_default.ensures.steps.0
+    c.items.invariant.so_far

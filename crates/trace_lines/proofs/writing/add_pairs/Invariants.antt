@@ -5,4 +5,5 @@ use Rattle.trace_lines.proofs.ItemsWritten.{LeftPairs}
 use Rattle.trace_lines.proofs.writing.add_pairs.Given as goal
 
 abbrev pub invariant-loop-i : goal.invariant-loop-i
-invariant-loop-i l = LeftPairs l.imports l.exports l.i l.out.items (l.initial.out.items ++ words_after_blanks (pairs_words l.imports l.exports))
+invariant-loop-i l = LeftPairs l.imports l.exports l.i l.out.items (l.initial.out.items
+    ++ words_after_blanks (pairs_words l.imports l.exports))

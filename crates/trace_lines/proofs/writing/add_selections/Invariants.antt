@@ -5,4 +5,5 @@ use Rattle.trace_words.proofs.Blanks.{Left}
 use Rattle.trace_lines.proofs.writing.add_selections.Given as goal
 
 abbrev pub invariant-loop-item : goal.invariant-loop-item
-invariant-loop-item l = Left _ selection_words l.items l.item-index l.out.items (l.initial.out.items ++ words_after_blanks (all_words selection_words l.items))
+invariant-loop-item l = Left _ selection_words l.items l.item-index l.out.items (l.initial.out.items
+    ++ words_after_blanks (all_words selection_words l.items))

@@ -6,4 +6,5 @@ use Rattle.trace_player.proofs.writing.add_events.Given as goal
 use Rattle.trace_text.specs.Lines.{rows_text}
 
 abbrev pub invariant-events : goal.invariant-events
-invariant-events l = EventsLeft l.events l.event-index l.out.items (l.initial.out.items ++ rows_text (map event_row l.events))
+invariant-events l = EventsLeft l.events l.event-index l.out.items (l.initial.out.items
+    ++ rows_text (map event_row l.events))

@@ -5,4 +5,5 @@ use Rattle.xdlms_apdu.specs.Parts.{result_part}
 use Rattle.xdlms_apdu.proofs.list_reading.read_result_items.Given as goal
 
 abbrev pub invariant-items : goal.invariant-items
-invariant-items l = with_front l.items.items (items_read result_part.read (l.count - l.counter) l.reader) ≡ items_read result_part.read l.count l.initial.reader
+invariant-items l = with_front l.items.items (items_read result_part.read
+    (l.count - l.counter) l.reader) ≡ items_read result_part.read l.count l.initial.reader

@@ -5,4 +5,5 @@ use Rattle.xdlms_apdu.specs.Parts.{target_part}
 use Rattle.xdlms_apdu.proofs.list_reading.read_target_items.Given as goal
 
 abbrev pub invariant-items : goal.invariant-items
-invariant-items l = with_front l.items.items (items_read target_part.read (l.count - l.counter) l.reader) ≡ items_read target_part.read l.count l.initial.reader
+invariant-items l = with_front l.items.items (items_read target_part.read
+    (l.count - l.counter) l.reader) ≡ items_read target_part.read l.count l.initial.reader

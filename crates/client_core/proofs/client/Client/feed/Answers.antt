@@ -6,7 +6,8 @@ pub returns-then-self-clause-ok : goal.returns-then-self-clause-ok
 returns-then-self-clause-ok c = feeds_over c.args.self.now c.args.bytes.now c.if-self.true
 
 pub returns-then-is_some-clause-ok : goal.returns-then-is_some-clause-ok
-returns-then-is_some-clause-ok c = feeds_settled c.args.self.now c.args.bytes.now (sym c.if-is_some.ensures)
+returns-then-is_some-clause-ok c = feeds_settled c.args.self.now c.args.bytes.now
+    (sym c.if-is_some.ensures)
 
 pub returns-clause-ok : goal.returns-clause-ok
 returns-clause-ok c =

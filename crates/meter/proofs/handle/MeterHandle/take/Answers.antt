@@ -8,4 +8,5 @@ held_some None is = absurd cc
 held_some (Some x) is = (x, refl)
 
 pub into_parts-requires : goal.into_parts-requires
-into_parts-requires c = held_some _ (c.replace-slot.result.agrees ∙ ap (λ (m : MeterHandle). m.is_open) c.replace-slot.ensures.value ∙ c.if-not-self.false)
+into_parts-requires c = held_some _ (c.replace-slot.result.agrees
+    ∙ ap (λ (m : MeterHandle). m.is_open) c.replace-slot.ensures.value ∙ c.if-not-self.false)

@@ -8,7 +8,8 @@ use Rattle.relay_core.proofs.relay.RelayCore.take_values.Goals as goal
 
 pub samples-init : goal.samples-init
 samples-init c = record {
-  takes = subst (λ (f : FiringCounts). Takes c.args.self.now c.args.self.now no_firings f []) (sym c.none-firings.ensures.firings)
+  takes = subst (λ (f : FiringCounts). Takes c.args.self.now c.args.self.now no_firings f [])
+      (sym c.none-firings.ensures.firings)
       (takes_none c.args.self.now no_firings);
   within = omega arith;
   right = c.scan_at-scan.ensures.right;
@@ -26,8 +27,10 @@ pub samples-preserved : goal.samples-preserved
 samples-preserved c =
     let taken = c.take_stretch-at.ensures in
     record {
-      takes = takes_values_on c.args.self.now c.samples.self c.take_stretch-at.new.self no_firings c.samples.firings c.take_stretch-at.new.firings
-          c.args.values.now c.samples.at c.take_stretch-at.result c.samples.invariant.takes taken.takes;
+      takes = takes_values_on c.args.self.now c.samples.self c.take_stretch-at.new.self no_firings
+          c.samples.firings c.take_stretch-at.new.firings
+          c.args.values.now c.samples.at c.take_stretch-at.result c.samples.invariant.takes
+              taken.takes;
       within = taken.within;
       right = c.scan_at-scan-in-samples.ensures.right;
       counted = taken.counted;
@@ -35,5 +38,6 @@ samples-preserved c =
 
 pub returns : goal.returns
 returns c =
-    let P : List ℕ → Type 0 = λ values. Takes c.args.self.now c.samples.self no_firings c.samples.firings (imports values) in
+    let P : List ℕ → Type 0 = λ values. Takes c.args.self.now c.samples.self no_firings
+        c.samples.firings (imports values) in
     subst P (take_all c.samples.at c.args.values.now c.samples-test.false) c.samples.invariant.takes

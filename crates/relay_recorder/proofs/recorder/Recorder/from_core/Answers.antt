@@ -8,8 +8,11 @@ use Rattle.relay_recorder.proofs.recorder.Recorder.from_core.Goals as goal
 
 pub invariant_of-result : goal.invariant_of-result
 invariant_of-result c =
-    let empty = ap (λ (b : Buffer Event). b.items) (rw c.in-Ok-with_capacity.is at c.with_capacity.ensures) in (
+    let empty = ap (λ (b : Buffer Event). b.items)
+        (rw c.in-Ok-with_capacity.is at c.with_capacity.ensures) in
+    (
       Prim.search (rules, common_steps),
-      begins c.args.core c.in-Ok.opening c.in-Ok-with_capacity.kept (world_of_opening (opening_of c.args.core))
+      begins c.args.core c.in-Ok.opening c.in-Ok-with_capacity.kept
+          (world_of_opening (opening_of c.args.core))
           c.stands_for_its_opening.ensures (rw c.in-Ok.is at c.try_copy.ensures) empty,
     )

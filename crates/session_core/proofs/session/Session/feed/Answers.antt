@@ -6,15 +6,20 @@ pub returns-then-self-clause-ok : goal.returns-then-self-clause-ok
 returns-then-self-clause-ok c = feeds_after_end c.args.self.now c.args.bytes.now c.if-self.true
 
 pub returns-in-Ok-clause-ok : goal.returns-in-Ok-clause-ok
-returns-in-Ok-clause-ok c = feeds_any c.args.self.now c.args.bytes.now c.feed.new.self c.if-self.false c.in-Ok.ensures.ok
+returns-in-Ok-clause-ok c = feeds_any c.args.self.now c.args.bytes.now c.feed.new.self
+    c.if-self.false c.in-Ok.ensures.ok
 
 pub returns-in-Err-Version-clause-ok : goal.returns-in-Err-Version-clause-ok
 returns-in-Err-Version-clause-ok c =
-    feeds_behind_version c.args.self.now c.args.bytes.now c.feed.new.self c.if-self.false c.in-Err-Version.ensures.err (bad_version _ _ c.in-Err-Version.field-0-is c.in-Err-Version.ensures.stops)
+    feeds_behind_version c.args.self.now c.args.bytes.now c.feed.new.self c.if-self.false
+        c.in-Err-Version.ensures.err (bad_version _ _ c.in-Err-Version.field-0-is
+        c.in-Err-Version.ensures.stops)
 
 pub returns-in-Err-TooLong-clause-ok : goal.returns-in-Err-TooLong-clause-ok
 returns-in-Err-TooLong-clause-ok c =
-    feeds_behind_length c.args.self.now c.args.bytes.now c.feed.new.self c.if-self.false c.in-Err-TooLong.ensures.err (too_long _ _ c.in-Err-TooLong.field-0-is c.in-Err-TooLong.ensures.stops)
+    feeds_behind_length c.args.self.now c.args.bytes.now c.feed.new.self c.if-self.false
+        c.in-Err-TooLong.ensures.err (too_long _ _ c.in-Err-TooLong.field-0-is
+        c.in-Err-TooLong.ensures.stops)
 
 pub returns-in-Some-clause-ok : goal.returns-in-Some-clause-ok
 returns-in-Some-clause-ok c =

@@ -4,7 +4,8 @@ use Rattle.session_core.specs.Remaining.{is_asking, load}
 use Rattle.session_core.proofs.session.Session.next.Given as goal
 
 abbrev pub invariant-tasks : goal.invariant-tasks
-invariant-tasks l = Steps l.initial.self [] [] l.self × ((is_asking l.self ≡ false) × (load l.self ≤ load l.initial.self))
+invariant-tasks l = Steps l.initial.self [] [] l.self
+    × ((is_asking l.self ≡ false) × (load l.self ≤ load l.initial.self))
 
 abbrev pub decreases-tasks : goal.decreases-tasks
 decreases-tasks l = load l.self

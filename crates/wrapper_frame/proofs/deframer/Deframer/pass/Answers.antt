@@ -5,7 +5,9 @@ use Rattle.wrapper_frame.proofs.FrontLemmas.{whole_parts}
 use Rattle.wrapper_frame.proofs.deframer.Deframer.pass.Goals as goal
 
 pub overflow_add-size : goal.overflow_add-size
-overflow_add-size c = let w = whole_parts c.args.self.now c.args.size c.requires in omega (arith, w.small)
+overflow_add-size c =
+    let w = whole_parts c.args.self.now c.args.size c.requires in
+    omega (arith, w.small)
 
 pub returns-clause-goes_on : goal.returns-clause-goes_on
 returns-clause-goes_on c = goes_on_as _ _ _ c.requires (grind (arith, common_steps))
