@@ -5,7 +5,7 @@ use Rattle.std.specs.Io.KnownBytes.{Consumes, IsAtEnd}
 use Rattle.std.proofs.KnownBytes.{Appends-nil, Consumes-nil, Consumes-trans}
 use Rattle.session_serving.proofs.Reaching.{reached_new, reached_none, reached_on, does_all, does_all_on, stops_on}
 use Rattle.session_serving.specs.Serving.{Plan, DoesAll, Stops, EndsBefore, ReadsNoMore, StopsAtHeader, Pieces, HasEffect, ServesSession, as_bytes, most_reads, longest_piece, plan_of, remaining_plan, work_for}
-use Rattle.session_serving.specs.Sides.{Input, Outlets, Sides}
+use Rattle.session_serving.specs.Sides.{Input, Outlets, Sides, input_of, outlets_of}
 use Rattle.session_serving.specs.Settling.{IsSettled, IsWrongHeader, MayContinue, HasDone, Settles, IsCaughtUp}
 use Rattle.session_serving.specs.declared.fault.ServeFault.{ServeFault}
 use Rattle.session_serving.specs.declared.fault.ServeFault.TheVariants as fault
@@ -164,6 +164,15 @@ module _ {M : Type 0} (steps : M → Event → Result Reply CallFault → M → 
       =
       stands_on old s new before now after count bytes (Some end) st consumed piece settled
       (subst EndsWithInput (sym (settled.done.ends [])) continues)
+
+-- a reader, a writer and a meter, by the ghost members of their types
+abbrev pub sides : {R W M : Type 0} → (R → Option (List ℕ)) → (R → ℕ) → (R → ℕ)
+    → (W → Option (List ℕ)) → (W → ℕ) → R → W → M → Sides M
+sides remaining reads read_failures contents write_failures reader writer meter =
+    record {
+      input = input_of remaining reads read_failures reader;
+      outlets = outlets_of contents write_failures writer meter;
+    }
 
 -- a read into a buffer of 1,024 bytes returns at most 1,024
 pub piece_of : (buffer : List ℕ) (count : ℕ) → count ≤ length buffer → length buffer ≡ longest_piece

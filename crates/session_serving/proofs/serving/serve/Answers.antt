@@ -3,12 +3,14 @@ use Rattle.std.proofs.KnownBytes.{Consumes-nil, Consumes-kept}
 use Rattle.session_serving.specs.Serving.{as_bytes}
 use Rattle.session_serving.specs.Sides.{input_of}
 use Rattle.session_serving.proofs.Ordering.{texts_after, waits_new, waits_next, has_read, at_end, stops_here, in_order_unread, in_order_stop, in_order_waiting}
-use Rattle.session_serving.proofs.Sessions.{stands_new, stands_next, wrong_ends, piece_of, served_stop_by, served_end, served_over, served_unread}
+use Rattle.session_serving.proofs.Sessions.{sides, stands_new, stands_next, wrong_ends, piece_of, served_stop_by, served_end, served_over, served_unread}
 use Rattle.session_serving.proofs.serving.serve.Goals as goal
 
 pub reads-init : goal.reads-init
 reads-init g c = record {
-  stands = stands_new g.M.Meter.steps as_bytes c.args.session.now _
+  stands = stands_new g.M.Meter.steps as_bytes c.args.session.now
+      (sides g.R.Reader.remaining g.R.Reader.reads g.R.Reader.failures g.W.Writer.contents
+          g.W.Writer.failures c.args.reader.now c.args.writer.now c.args.meter.now)
       c.requires.settled c.requires.ends c.requires.not_asking;
   readable = c.requires.readable;
   counted = sym (add-zero (g.R.Reader.reads c.args.reader.now));
@@ -23,7 +25,11 @@ reads-init g c = record {
 pub returns-in-Err-clause-served : goal.returns-in-Err-clause-served
 returns-in-Err-clause-served g c = λ password owes.
     let left = g.R.Reader.remaining c.reads.reader in
-    served_unread g.M.Meter.steps password c.reads.counter c.args.session.now c.reads.session _ _
+    served_unread g.M.Meter.steps password c.reads.counter c.args.session.now c.reads.session
+    (sides g.R.Reader.remaining g.R.Reader.reads g.R.Reader.failures g.W.Writer.contents
+        g.W.Writer.failures c.args.reader.now c.args.writer.now c.args.meter.now)
+    (sides g.R.Reader.remaining g.R.Reader.reads g.R.Reader.failures g.W.Writer.contents
+        g.W.Writer.failures c.reads.reader c.reads.writer c.reads.meter)
     (input_of g.R.Reader.remaining g.R.Reader.reads g.R.Reader.failures c.read.new.reader)
     owes c.reads.invariant.stands
     (Consumes-kept left left (g.R.Reader.remaining c.read.new.reader) [] (Consumes-nil left)
@@ -36,7 +42,14 @@ returns-in-Err-clause-served g c = λ password owes.
 pub returns-then-count-eq0-clause-served : goal.returns-then-count-eq0-clause-served
 returns-then-count-eq0-clause-served g c = λ password owes.
     served_end g.M.Meter.steps password c.reads.counter
-    c.args.session.now c.reads.session _ _ _ c.end_input.result owes c.reads.invariant.stands
+    c.args.session.now c.reads.session
+    (sides g.R.Reader.remaining g.R.Reader.reads g.R.Reader.failures g.W.Writer.contents
+        g.W.Writer.failures c.args.reader.now c.args.writer.now c.args.meter.now)
+    (sides g.R.Reader.remaining g.R.Reader.reads g.R.Reader.failures g.W.Writer.contents
+        g.W.Writer.failures c.reads.reader c.reads.writer c.reads.meter)
+    (sides g.R.Reader.remaining g.R.Reader.reads g.R.Reader.failures g.W.Writer.contents
+        g.W.Writer.failures c.read.new.reader c.end_input.new.writer c.end_input.new.meter)
+    c.end_input.result owes c.reads.invariant.stands
     (rw c.if-count-eq0.true at c.in-Ok.ensures.bytes.0)
     (c.in-Ok.ensures.bytes.1 c.if-count-eq0.true
         (omega (arith, c.read.auto.buffer, c.reads.invariant.room)))
@@ -49,7 +62,13 @@ pub returns-in_err-end-clause-served : goal.returns-in_err-end-clause-served
 returns-in_err-end-clause-served g c = λ password owes.
     served_stop_by g.M.Meter.steps password
     (take c.in-Ok.count c.read.new.buffer) c.reads.counter c.args.session.now c.reads.session
-    _ _ _ c.in_err-end.field-0.0 c.from_residual.result
+    (sides g.R.Reader.remaining g.R.Reader.reads g.R.Reader.failures g.W.Writer.contents
+        g.W.Writer.failures c.args.reader.now c.args.writer.now c.args.meter.now)
+    (sides g.R.Reader.remaining g.R.Reader.reads g.R.Reader.failures g.W.Writer.contents
+        g.W.Writer.failures c.reads.reader c.reads.writer c.reads.meter)
+    (sides g.R.Reader.remaining g.R.Reader.reads g.R.Reader.failures g.W.Writer.contents
+        g.W.Writer.failures c.read.new.reader c.take_in.new.writer c.take_in.new.meter)
+    c.in_err-end.field-0.0 c.from_residual.result
     owes c.reads.invariant.stands c.in-Ok.ensures.bytes.0
     (piece_of c.read.new.buffer c.in-Ok.count c.in-Ok.ensures.bound.0
     (c.read.auto.buffer ∙ c.reads.invariant.room))
@@ -61,7 +80,14 @@ pub returns-in-Some-clause-served : goal.returns-in-Some-clause-served
 returns-in-Some-clause-served g c = λ password owes.
     served_over g.M.Meter.steps password
     (take c.in-Ok.count c.read.new.buffer) c.reads.counter c.args.session.now c.reads.session
-    c.take_in.new.session _ _ _ c.in-Some.end
+    c.take_in.new.session
+    (sides g.R.Reader.remaining g.R.Reader.reads g.R.Reader.failures g.W.Writer.contents
+        g.W.Writer.failures c.args.reader.now c.args.writer.now c.args.meter.now)
+    (sides g.R.Reader.remaining g.R.Reader.reads g.R.Reader.failures g.W.Writer.contents
+        g.W.Writer.failures c.reads.reader c.reads.writer c.reads.meter)
+    (sides g.R.Reader.remaining g.R.Reader.reads g.R.Reader.failures g.W.Writer.contents
+        g.W.Writer.failures c.read.new.reader c.take_in.new.writer c.take_in.new.meter)
+    c.in-Some.end
     owes c.reads.invariant.stands c.in-Ok.ensures.bytes.0
     (piece_of c.read.new.buffer c.in-Ok.count c.in-Ok.ensures.bound.0
     (c.read.auto.buffer ∙ c.reads.invariant.room))
@@ -73,7 +99,13 @@ returns-in-Some-clause-served g c = λ password owes.
 pub reads-preserved : goal.reads-preserved
 reads-preserved g c = record {
   stands = stands_next g.M.Meter.steps as_bytes c.args.session.now c.reads.session
-      c.take_in.new.session _ _ _
+      c.take_in.new.session
+      (sides g.R.Reader.remaining g.R.Reader.reads g.R.Reader.failures g.W.Writer.contents
+          g.W.Writer.failures c.args.reader.now c.args.writer.now c.args.meter.now)
+      (sides g.R.Reader.remaining g.R.Reader.reads g.R.Reader.failures g.W.Writer.contents
+          g.W.Writer.failures c.reads.reader c.reads.writer c.reads.meter)
+      (sides g.R.Reader.remaining g.R.Reader.reads g.R.Reader.failures g.W.Writer.contents
+          g.W.Writer.failures c.read.new.reader c.take_in.new.writer c.take_in.new.meter)
       c.reads.counter (take c.in-Ok.count c.read.new.buffer) c.in_ok-end.end
       c.reads.invariant.stands c.in-Ok.ensures.bytes.0
       (piece_of c.read.new.buffer c.in-Ok.count c.in-Ok.ensures.bound.0
@@ -103,7 +135,11 @@ reads-preserved g c = record {
 
 pub returns-clause-served : goal.returns-clause-served
 returns-clause-served g c = λ password owes.
-    served_unread g.M.Meter.steps password c.reads.counter c.args.session.now c.reads.session _ _
+    served_unread g.M.Meter.steps password c.reads.counter c.args.session.now c.reads.session
+    (sides g.R.Reader.remaining g.R.Reader.reads g.R.Reader.failures g.W.Writer.contents
+        g.W.Writer.failures c.args.reader.now c.args.writer.now c.args.meter.now)
+    (sides g.R.Reader.remaining g.R.Reader.reads g.R.Reader.failures g.W.Writer.contents
+        g.W.Writer.failures c.reads.reader c.reads.writer c.reads.meter)
     (input_of g.R.Reader.remaining g.R.Reader.reads g.R.Reader.failures c.reads.reader)
     owes c.reads.invariant.stands (Consumes-nil (g.R.Reader.remaining c.reads.reader))
     (omega (arith, c.reads-test.false, c.reads.auto.counter-end)) c.reads.invariant.counted
