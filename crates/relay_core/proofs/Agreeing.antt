@@ -15,7 +15,7 @@ use Rattle.limiter_core.specs.declared.settings.Settings.{Settings}
 use Rattle.limiter_core.specs.Counting.{cap, count_of, count_after, fires_at}
 use Rattle.limiter_core.specs.Rows.{Row, Entry, OverThreshold, UnderThreshold, is_past, need, fire_of}
 use Rattle.limiter_core.specs.Settings.{limits_at, row_of, need_of}
-use Rattle.limiter_core.proofs.Firing.{with_firing as row_counted, fire_counted, count_of_entry}
+use Rattle.limiter_core.proofs.Firing.{counted as row_counted, fire_counted, count_of_entry}
 use Rattle.relay_core.specs.declared.scripts.Origin.{Origin}
 use Rattle.relay_core.specs.declared.scripts.Origin.TheVariants.{Local}
 use Rattle.relay_core.specs.Agreeing.{AreCountedAlike, with_rows, Agree, AreInRange, IsSettingInRange, IsWorld}

@@ -4,7 +4,7 @@ use Rattle.disconnect_control.specs.Control.{Control}
 use Rattle.limiter_core.specs.declared.settings.Settings.{Settings}
 use Rattle.limiter_core.specs.Opening.{opened_rows}
 use Rattle.limiter_core.specs.State.{State, IsFit}
-use Rattle.limiter_core.proofs.Opening.{world_of_opening as rows_opened}
+use Rattle.limiter_core.proofs.Opening.{opened as rows_opened}
 use Rattle.relay_core.specs.declared.relay.RelayCore.{RelayCore}
 use Rattle.relay_core.specs.declared.schedules.Schedules.{Schedules}
 use Rattle.relay_core.specs.Agreeing.{AreCountedAlike, Agree}
