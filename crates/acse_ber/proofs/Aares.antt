@@ -28,10 +28,18 @@ unfolding byte_behind
 behind_agrees expected =
     seen_as (byte_behind expected) (IsThen (IsLiteral expected) (λ u. IsByte)) (IsBehind expected)
     (then_agrees (literal_at expected) (λ u. byte_at) (IsLiteral expected) (λ u. IsByte)
-        (literal_agrees expected) (λ u. byte_agrees Unreadable))
+    (literal_agrees expected) (λ u. byte_agrees Unreadable))
     (λ b text s. let j = s.1 in j.parts ∙ rw (j.is_first, j.are_others) refl)
-    (λ b text s. (tt, record { first = expected; others = b ∷ []; parts = s; is_first = refl;
-        are_others = refl }))
+    (λ b text s. (
+      tt,
+      record {
+        first = expected;
+        others = b ∷ [];
+        parts = s;
+        is_first = refl;
+        are_others = refl;
+      },
+    ))
 
 result_agrees : Agrees ℕ result_at IsResult
 unfolding result_at
@@ -51,7 +59,7 @@ integer_head = 0x03 ∷ 0x02 ∷ 0x01 ∷ []
 source_of : (source : ℕ) → is_source source ≡ true → (source ≡ 0xA1) ⊎ (source ≡ 0xA2)
 source_of source e =
     elim (either (source == 0xA1) (source == 0xA2) e)
-        [ inl h ↦ inl (eqb-true source 0xA1 h) | inr h ↦ inr (eqb-true source 0xA2 h) ]
+    [ inl h ↦ inl (eqb-true source 0xA1 h) | inr h ↦ inr (eqb-true source 0xA2 h) ]
 
 source_is : (source : ℕ) → (source ≡ 0xA1) ⊎ (source ≡ 0xA2) → is_source source ≡ true
 source_is source (inl e) = rw e refl
@@ -61,16 +69,28 @@ diagnostic_agrees : Agrees ℕ diagnostic_at IsDiagnostic
 unfolding diagnostic_at
 diagnostic_agrees =
     seen_as diagnostic_at (IsThen IsByte (λ source. IsGuarded (is_source source)
-        (IsBehind integer_head))) IsDiagnostic
+    (IsBehind integer_head))) IsDiagnostic
     (then_agrees byte_at (λ source rest. guard (is_source source) Unreadable >> byte_behind
-        integer_head rest) IsByte (λ source. IsGuarded (is_source source) (IsBehind integer_head))
-        (byte_agrees Unreadable)
+    integer_head rest) IsByte (λ source. IsGuarded (is_source source) (IsBehind integer_head))
+    (byte_agrees Unreadable)
     (λ source. guard_agrees (is_source source) (byte_behind integer_head) (IsBehind integer_head)
-        (behind_agrees integer_head)))
-    (λ d text s. let j = s.1 in (s.0, source_of s.0 j.are_others.0, byte_before s.0 text j
-        ∙ ap (λ (o : List ℕ). s.0 ∷ o) j.are_others.1))
-    (λ d text s. (s.0, record { first = s.0 ∷ []; others = 0x03 ∷ 0x02 ∷ 0x01 ∷ d ∷ []; parts = s.2;
-        is_first = refl; are_others = (source_is s.0 s.1, refl) }))
+    (behind_agrees integer_head)))
+    (λ d text s. let j = s.1 in (
+      s.0,
+      source_of s.0 j.are_others.0,
+      byte_before s.0 text j
+          ∙ ap (λ (o : List ℕ). s.0 ∷ o) j.are_others.1,
+    ))
+    (λ d text s. (
+      s.0,
+      record {
+        first = s.0 ∷ [];
+        others = 0x03 ∷ 0x02 ∷ 0x01 ∷ d ∷ [];
+        parts = s.2;
+        is_first = refl;
+        are_others = (source_is s.0 s.1, refl);
+      },
+    ))
 
 -- ---- user information
 
@@ -93,27 +113,43 @@ skipped_to text present others u e (inr h) =
     inr (h.1.1.0, e ∙ rw (one, value) refl)
 
 skipped_from : (u : Unit {0}) (text : List ℕ) → IsOptionalByte text → IsThen IsByte IsMaybe u text
-skipped_from u text (inl e) = (0, record { first = 0 ∷ []; others = []; parts = e; is_first = refl;
-    are_others = inl (refl, (refl, refl)) })
-skipped_from u text (inr h) = (1, record { first = 1 ∷ []; others = h.0 ∷ []; parts = h.1;
-    is_first = refl; are_others = inr (refl, (refl, (h.0, refl, refl))) })
+skipped_from u text (inl e) = (
+  0,
+  record {
+    first = 0 ∷ [];
+    others = [];
+    parts = e;
+    is_first = refl;
+    are_others = inl (refl, (refl, refl));
+  },
+)
+skipped_from u text (inr h) = (
+  1,
+  record {
+    first = 1 ∷ [];
+    others = h.0 ∷ [];
+    parts = h.1;
+    is_first = refl;
+    are_others = inr (refl, (refl, (h.0, refl, refl)));
+  },
+)
 
 skipped_agrees : Agrees (Unit {0}) optional_byte_at IsSkipped
 unfolding optional_byte_at
 skipped_agrees =
     seen_as optional_byte_at (IsThen IsByte IsMaybe) IsSkipped
     (then_agrees byte_at (λ present rest. cond (present == 0) (Ok (tt, rest))
-        (guard (present == 1) Unreadable >> read_as (λ byte. tt) (byte_at rest))) IsByte IsMaybe
-        (byte_agrees Unreadable)
+    (guard (present == 1) Unreadable >> read_as (λ byte. tt) (byte_at rest))) IsByte IsMaybe
+    (byte_agrees Unreadable)
     (λ present.
     choice_agrees (present == 0) (λ rest. Ok (tt, rest))
-        (λ rest. guard (present == 1) Unreadable >> read_as (λ byte. tt) (byte_at rest)) _ _
-        (none_agrees tt)
+    (λ rest. guard (present == 1) Unreadable >> read_as (λ byte. tt) (byte_at rest)) _ _
+    (none_agrees tt)
     (guard_agrees (present == 1) (λ rest. read_as (λ byte. tt) (byte_at rest))
-        (IsMade (λ (byte : ℕ). tt) IsByte) (made_agrees (λ (byte : ℕ). tt) byte_at IsByte
-        (byte_agrees Unreadable)))))
+    (IsMade (λ (byte : ℕ). tt) IsByte) (made_agrees (λ (byte : ℕ). tt) byte_at IsByte
+    (byte_agrees Unreadable)))))
     (λ u text s. skipped_to text s.0 s.1.others u (byte_before s.0 text s.1) s.1.are_others)
-        skipped_from
+    skipped_from
 
 abbrev block_head : List ℕ
 block_head = 0x5F ∷ 0x1F ∷ 0x04 ∷ 0x00 ∷ []
@@ -130,17 +166,29 @@ block_agrees : Agrees ℕ conformance_at IsBlock
 unfolding conformance_at
 block_agrees =
     seen_as conformance_at (IsThen (IsLiteral block_head)
-        (λ u. IsMade bits_of (AreBytes 3))) IsBlock
+    (λ u. IsMade bits_of (AreBytes 3))) IsBlock
     (then_agrees (literal_at block_head) (λ u rest. read_as bits_of (bytes_at 3 rest))
-        (IsLiteral block_head) (λ u. IsMade bits_of (AreBytes 3)) (literal_agrees block_head)
+    (IsLiteral block_head) (λ u. IsMade bits_of (AreBytes 3)) (literal_agrees block_head)
     (λ u. made_agrees bits_of (bytes_at 3) (AreBytes 3) (bytes_agrees Unreadable 3)))
     (λ n text s.
     let j = s.1 in
-    let m = j.are_others in
-    (j.others, j.parts ∙ ap (λ (f : List ℕ). f ++ j.others) j.is_first, m.2.0, sym m.1
-        ∙ ap bits_of m.2.1))
-    (λ n text s. (tt, record { first = block_head; others = s.0; parts = s.1; is_first = refl;
-        are_others = (s.0, sym s.3, (s.2, refl)) }))
+    let m = j.are_others in (
+      j.others,
+      j.parts ∙ ap (λ (f : List ℕ). f ++ j.others) j.is_first,
+      m.2.0,
+      sym m.1
+          ∙ ap bits_of m.2.1,
+    ))
+    (λ n text s. (
+      tt,
+      record {
+        first = block_head;
+        others = s.0;
+        parts = s.1;
+        is_first = refl;
+        are_others = (s.0, sym s.3, (s.2, refl));
+      },
+    ))
 
 -- a response and nothing after it
 abbrev IsReply : Info → List ℕ → Type 0
@@ -185,14 +233,14 @@ replied_agrees : Agrees Info response_at Replied
 unfolding response_at
 replied_agrees =
     then_agrees (literal_at (0x08 ∷ [])) (λ u. qualified_at) (IsLiteral (0x08 ∷ []))
-        (λ u. Qualified) (literal_agrees (0x08 ∷ [])) (λ u.
+    (λ u. Qualified) (literal_agrees (0x08 ∷ [])) (λ u.
     then_agrees optional_byte_at (λ u. versioned_at) IsSkipped (λ u. Versioned) skipped_agrees (λ u.
     then_agrees byte_at (λ version. blocked_at) IsByte (λ version. Blocked) (byte_agrees Unreadable)
-        (λ version.
+    (λ version.
     then_agrees conformance_at sized_at IsBlock Sized block_agrees (λ bits.
     then_agrees size_at (named_at bits) IsSize (Named bits) size_agrees (λ size.
     made_agrees (λ (name : List ℕ). Response bits size) (bytes_at 2) (AreBytes 2)
-        (bytes_agrees Unreadable 2))))))
+    (bytes_agrees Unreadable 2))))))
 
 reply_to : (info : Info) (text : List ℕ) → Replied info text → IsReply info text
 reply_to info text s =
@@ -208,16 +256,16 @@ reply_to info text s =
     let block : b.first ≡ block_head ++ b.is_first.0 = b.is_first.1 in
     let after_size : b.others ≡ z.first ++ z.others = z.parts in
     let after_version : v.others ≡ 0x5F ∷ 0x1F ∷ 0x04 ∷ 0x00
-        ∷ (b.is_first.0 ++ (z.first ++ z.others)) = b.parts ∙ rw (block, after_size) refl in
+    ∷ (b.is_first.0 ++ (z.first ++ z.others)) = b.parts ∙ rw (block, after_size) refl in
     let after_quality : q.others ≡ version ∷ 0x5F ∷ 0x1F ∷ 0x04 ∷ 0x00
-        ∷ (b.is_first.0 ++ (z.first ++ z.others)) =
+    ∷ (b.is_first.0 ++ (z.first ++ z.others)) =
     byte_before version q.others v ∙ ap (λ (o : List ℕ). version ∷ o) after_version in
     let after_head : h.others ≡ q.first ++ (version ∷ 0x5F ∷ 0x1F ∷ 0x04 ∷ 0x00
-        ∷ (b.is_first.0 ++ (z.first ++ z.others))) = q.parts
-        ∙ ap (λ (o : List ℕ). q.first ++ o) after_quality in
+    ∷ (b.is_first.0 ++ (z.first ++ z.others))) = q.parts
+    ∙ ap (λ (o : List ℕ). q.first ++ o) after_quality in
     let head : h.first ≡ 0x08 ∷ [] = h.is_first in
     let parts : text ≡ 0x08 ∷ (q.first ++ (version ∷ 0x5F ∷ 0x1F ∷ 0x04 ∷ 0x00
-        ∷ (b.is_first.0 ++ (z.first ++ z.others)))) = h.parts ∙ rw (head, after_head) refl in
+    ∷ (b.is_first.0 ++ (z.first ++ z.others)))) = h.parts ∙ rw (head, after_head) refl in
     subst (λ (i : Info). IsReply i text) n.1 (record {
       quality = q.first;
       version = version;
@@ -306,8 +354,8 @@ error_agrees : Agrees Info initiate_error_at IsError
 error_agrees =
     seen_as initiate_error_at (IsMade InitiateError (IsBehind (0x0E ∷ 0x01 ∷ 0x06 ∷ []))) IsError
     (made_agrees InitiateError (byte_behind (0x0E ∷ 0x01 ∷ 0x06 ∷ []))
-        (IsBehind (0x0E ∷ 0x01 ∷ 0x06 ∷ [])) (behind_agrees (0x0E ∷ 0x01 ∷ 0x06 ∷ [])))
-        error_to error_from
+    (IsBehind (0x0E ∷ 0x01 ∷ 0x06 ∷ [])) (behind_agrees (0x0E ∷ 0x01 ∷ 0x06 ∷ [])))
+    error_to error_from
 
 -- a result is a value or a fault
 told : {X : Type 0} (r : Result X AcseFault) → ((x : X) × (r ≡ Ok x))
@@ -381,9 +429,9 @@ info_again (Response bits limit) text s = rw (all_read Unreadable response_at Is
     (Response bits limit) text s) refl
 info_again (InitiateError error) text s =
     let none : whole (response_at text) ≡ Err Unreadable =
-        ap (λ (t : List ℕ). whole (response_at t)) s ∙ no_reply error in
+    ap (λ (t : List ℕ). whole (response_at t)) s ∙ no_reply error in
     let one : whole (initiate_error_at text) ≡ Ok (InitiateError error) =
-        all_read Unreadable initiate_error_at IsError error_agrees (InitiateError error) text s in
+    all_read Unreadable initiate_error_at IsError error_agrees (InitiateError error) text s in
     rw (none, one) refl
 
 user_found : (body : List ℕ) (fields : List Field) (given : Option (List ℕ)) → fields_of body ≡ Ok fields → inner_of 0xBE 0x04 body ≡ Ok given → HasInfo fields (info_of given)
@@ -406,7 +454,7 @@ accepts_again outcome true if_zero = elim (outcome == 0) as (λ t. (not t || tru
     ≡ true) [ true ↦ refl | false ↦ refl ]
 accepts_again outcome false if_zero =
     let other : (outcome == 0) ≡ false = ne_eqb outcome 0 (λ e. let wrong : false
-        ≡ true = if_zero e in absurd cc) in
+    ≡ true = if_zero e in absurd cc) in
     rw other refl
 
 -- what is read is spelled
@@ -421,19 +469,25 @@ aare_found bytes aare e =
     let u = bind_ok (inner_of 0xBE 0x04 t.0) _ aare d.2 in
     let made : Aare = record { result = o.0; diagnostic = d.0; info = info_of u.0 } in
     let g = guard_ok (not (o.0 == 0) || is_response (info_of u.0)) Unreadable
-        (done AcseFault made) aare u.2 in
+    (done AcseFault made) aare u.2 in
     let result_field : field_of 0xA2 t.0 ≡ Ok (Some r.0) = needed_ok (field_of 0xA2 t.0) r.0 r.1 in
     let diagnostic_field : field_of 0xA3 t.0 ≡ Ok (Some s.0) =
-        needed_ok (field_of 0xA3 t.0) s.0 s.1 in
+    needed_ok (field_of 0xA3 t.0) s.0 s.1 in
     let f = fields_known 0xA2 t.0 (Some r.0) result_field in
     subst (λ (a : Aare). SpellsAare bytes a) (ok_is made aare g.1) (record {
       fields = f.0;
       is_apdu = apdu_found 0x61 bytes t.0 f.0 t.1 f.1;
-      result_field = record { contents = r.0; one = one_found 0xA2 t.0 f.0 r.0 f.1 result_field;
-          holds = all_taken Unreadable result_at IsResult result_agrees o.0 r.0 o.1 };
-      diagnostic_field = record { contents = s.0;
-          one = one_found 0xA3 t.0 f.0 s.0 f.1 diagnostic_field; holds =
-          all_taken Unreadable diagnostic_at IsDiagnostic diagnostic_agrees d.0 s.0 d.1 };
+      result_field = record {
+        contents = r.0;
+        one = one_found 0xA2 t.0 f.0 r.0 f.1 result_field;
+        holds = all_taken Unreadable result_at IsResult result_agrees o.0 r.0 o.1;
+      };
+      diagnostic_field = record {
+        contents = s.0;
+        one = one_found 0xA3 t.0 f.0 s.0 f.1 diagnostic_field;
+        holds =
+            all_taken Unreadable diagnostic_at IsDiagnostic diagnostic_agrees d.0 s.0 d.1;
+      };
       user = user_found t.0 f.0 u.0 f.1 u.1;
       responds = accepts o.0 (is_response (info_of u.0)) g.0;
     })
@@ -447,15 +501,15 @@ aare_again bytes aare s =
     let r = s.result_field in
     let d = s.diagnostic_field in
     let result_field : field_of 0xA2 body ≡ Ok (Some r.contents) =
-        one_again 0xA2 body s.fields r.contents a.1 r.one in
+    one_again 0xA2 body s.fields r.contents a.1 r.one in
     let outcome : whole (result_at r.contents) ≡ Ok aare.result =
-        all_read Unreadable result_at IsResult result_agrees aare.result r.contents r.holds in
+    all_read Unreadable result_at IsResult result_agrees aare.result r.contents r.holds in
     let diagnostic_field : field_of 0xA3 body ≡ Ok (Some d.contents) =
-        one_again 0xA3 body s.fields d.contents a.1 d.one in
+    one_again 0xA3 body s.fields d.contents a.1 d.one in
     let diagnostic : whole (diagnostic_at d.contents)
-        ≡ Ok aare.diagnostic = all_read Unreadable diagnostic_at IsDiagnostic diagnostic_agrees
-        aare.diagnostic d.contents d.holds in
+    ≡ Ok aare.diagnostic = all_read Unreadable diagnostic_at IsDiagnostic diagnostic_agrees
+    aare.diagnostic d.contents d.holds in
     let u = user_again body s.fields aare.info a.1 s.user in
     let test : (not (aare.result == 0) || is_response aare.info) ≡ true =
-        accepts_again aare.result (is_response aare.info) s.responds in
+    accepts_again aare.result (is_response aare.info) s.responds in
     rw (a.0, result_field, outcome, diagnostic_field, diagnostic, u.1, u.2, test) refl

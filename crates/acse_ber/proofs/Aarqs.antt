@@ -18,14 +18,19 @@ fields_known tag body o e = let b = bind_ok (fields_of body) _ o e in (b.0, b.1)
 -- an APDU from its parts
 pub apdu_found : (tag : ℕ) (bytes body : List ℕ) (fields : List Field) → tag_contents tag bytes
     ≡ Ok body → fields_of body ≡ Ok fields → IsApdu tag fields bytes
-apdu_found tag bytes body fields t f = record { body = body;
-    is_tagged = tagged_found tag bytes body t; are_fields =
-    fields_found (length body) body fields f }
+apdu_found tag bytes body fields t f = record {
+  body = body;
+  is_tagged = tagged_found tag bytes body t;
+  are_fields =
+      fields_found (length body) body fields f;
+}
 
 pub apdu_again : (tag : ℕ) (bytes : List ℕ) (fields : List Field) (a : IsApdu tag fields bytes)
     → (tag_contents tag bytes ≡ Ok a.body) × (fields_of a.body ≡ Ok fields)
-apdu_again tag bytes fields a = (tagged_again tag bytes a.body a.is_tagged,
-    fields_again fields (length a.body) a.body (omega arith) a.are_fields)
+apdu_again tag bytes fields a = (
+  tagged_again tag bytes a.body a.is_tagged,
+  fields_again fields (length a.body) a.body (omega arith) a.are_fields,
+)
 
 mechanism_found : (body : List ℕ) (fields : List Field) (given : Option (List ℕ)) → fields_of body
     ≡ Ok fields → field_of 0x8B body ≡ Ok given → HasMechanism fields (unwrap_or given [])
@@ -50,8 +55,12 @@ aarq_found bytes aarq e =
     let p = bind_ok (inner_of 0xAC 0x80 t.0) _ aarq m.2 in
     let u = bind_ok (inner_of 0xBE 0x04 t.0 >>= or_unreadable) _ aarq p.2 in
     let f = fields_known 0x8B t.0 m.0 m.1 in
-    let made : Aarq = record { context = c.0; mechanism = unwrap_or m.0 []; password = p.0;
-        user = u.0 } in
+    let made : Aarq = record {
+      context = c.0;
+      mechanism = unwrap_or m.0 [];
+      password = p.0;
+      user = u.0;
+    } in
     subst (λ (a : Aarq). SpellsAarq bytes a) (ok_is {F = AcseFault} made aarq u.2) (record {
       fields = f.0;
       is_apdu = apdu_found 0x60 bytes t.0 f.0 t.1 f.1;
@@ -70,11 +79,15 @@ aarq_again bytes aarq s =
     let body = s.is_apdu.body in
     let m = mechanism_again body s.fields aarq.mechanism a.1 s.mechanism in
     let c : inner_of 0xA1 0x06 body ≡ Ok (Some aarq.context) =
-        inner_again 0xA1 0x06 body s.fields (Some aarq.context) a.1 s.context in
+    inner_again 0xA1 0x06 body s.fields (Some aarq.context) a.1 s.context in
     let p : inner_of 0xAC 0x80 body ≡ Ok aarq.password =
-        inner_again 0xAC 0x80 body s.fields aarq.password a.1 s.password in
+    inner_again 0xAC 0x80 body s.fields aarq.password a.1 s.password in
     let u : inner_of 0xBE 0x04 body ≡ Ok (Some aarq.user) =
-        inner_again 0xBE 0x04 body s.fields (Some aarq.user) a.1 s.user in
+    inner_again 0xBE 0x04 body s.fields (Some aarq.user) a.1 s.user in
     rw (a.0, c, m.1, p, u) (ap (λ (given : List ℕ). done AcseFault
-        (record { context = aarq.context; mechanism = given; password = aarq.password;
-        user = aarq.user })) m.2)
+    (record {
+      context = aarq.context;
+      mechanism = given;
+      password = aarq.password;
+      user = aarq.user;
+    })) m.2)

@@ -29,7 +29,7 @@ front_bytes a b whole parts bytes = λ i. front_at a b (subst IsBytes parts byte
 back_bytes : (a b whole : List ℕ) → whole ≡ a ++ b → IsBytes whole → IsBytes b
 back_bytes a b whole parts bytes = λ i.
     let given : slice_index (a ++ b) (length a + i) < 256 =
-        subst IsBytes parts bytes (length a + i) in
+    subst IsBytes parts bytes (length a + i) in
     subst (λ (n : ℕ). n < 256) (get_or-append-add a b i 0) given
 
 -- ---- lengths
@@ -42,8 +42,10 @@ short_form n =
       | inl h ↦ rw (lt-ltb n 0x80 h) ((λ _. omega arith), (λ _. omega arith))
       | inr h ↦ rw (le-ltb n 0x80 h) (elim (cases_lt n (2 ^ 8)) [
         | inl a ↦ rw (lt-ltb n (2 ^ 8) a) ((λ _. omega arith), (λ _. omega arith))
-        | inr a ↦ rw (le-ltb n (2 ^ 8) a) ((λ lt. omega arith),
-            (λ lt. rw (lt-ltb n (2 ^ 16) lt) (omega arith)))
+        | inr a ↦ rw (le-ltb n (2 ^ 8) a) (
+          (λ lt. omega arith),
+          (λ lt. rw (lt-ltb n (2 ^ 16) lt) (omega arith)),
+        )
       ])
     ]
 
@@ -77,13 +79,14 @@ form_grows m n le =
         | inl b ↦ rw (lt-ltb m (2 ^ 8) b) (two n)
         | inr b ↦ rw (le-ltb m (2 ^ 8) b, le-ltb n (2 ^ 8) (omega arith))
             (elim (cases_lt m (2 ^ 16)) [
-          | inl c ↦ rw (lt-ltb m (2 ^ 16) c) (three n)
-          | inr c ↦ rw (le-ltb m (2 ^ 16) c, le-ltb n (2 ^ 16) (omega arith))
-              (elim (cases_lt m (2 ^ 24)) [
-            | inl d ↦ rw (lt-ltb m (2 ^ 24) d) (four n)
-            | inr d ↦ rw (le-ltb m (2 ^ 24) d, le-ltb n (2 ^ 24) (omega arith)) (omega arith)
-          ])
-        ])
+              | inl c ↦ rw (lt-ltb m (2 ^ 16) c) (three n)
+              | inr c ↦ rw (le-ltb m (2 ^ 16) c, le-ltb n (2 ^ 16) (omega arith))
+                  (elim (cases_lt m (2 ^ 24)) [
+                    | inl d ↦ rw (lt-ltb m (2 ^ 24) d) (four n)
+                    | inr d ↦ rw (le-ltb m (2 ^ 24) d, le-ltb n (2 ^ 24) (omega arith))
+                        (omega arith)
+                  ])
+            ])
       ])
     ]
   where
@@ -96,8 +99,8 @@ form_grows m n le =
         (cond (ltb n (2 ^ 24)) (0x83 ∷ bytes_high_first 3 n) (0x84 ∷ bytes_high_first 4 n)))
     three n =
         elim (ltb n (2 ^ 16)) as (λ b. 3 ≤ length
-            (cond b (0x82 ∷ bytes_high_first 2 n)
-            (cond (ltb n (2 ^ 24)) (0x83 ∷ bytes_high_first 3 n) (0x84 ∷ bytes_high_first 4 n)))) [
+        (cond b (0x82 ∷ bytes_high_first 2 n)
+        (cond (ltb n (2 ^ 24)) (0x83 ∷ bytes_high_first 3 n) (0x84 ∷ bytes_high_first 4 n)))) [
           | true ↦ omega arith
           | false ↦ omega (arith, four n)
         ]
@@ -107,9 +110,9 @@ form_grows m n le =
         (cond (ltb n (2 ^ 24)) (0x83 ∷ bytes_high_first 3 n) (0x84 ∷ bytes_high_first 4 n))))
     two n =
         elim (ltb n (2 ^ 8)) as (λ b. 2 ≤ length
-            (cond b (0x81 ∷ bytes_high_first 1 n)
-            (cond (ltb n (2 ^ 16)) (0x82 ∷ bytes_high_first 2 n)
-            (cond (ltb n (2 ^ 24)) (0x83 ∷ bytes_high_first 3 n) (0x84 ∷ bytes_high_first 4 n))))) [
+        (cond b (0x81 ∷ bytes_high_first 1 n)
+        (cond (ltb n (2 ^ 16)) (0x82 ∷ bytes_high_first 2 n)
+        (cond (ltb n (2 ^ 24)) (0x83 ∷ bytes_high_first 3 n) (0x84 ∷ bytes_high_first 4 n))))) [
           | true ↦ omega arith
           | false ↦ omega (arith, three n)
         ]
@@ -117,10 +120,9 @@ form_grows m n le =
     some : (n : ℕ) → 1 ≤ length (length_text n)
     some n =
         elim (ltb n 0x80) as (λ b. 1 ≤ length
-            (cond b (n ∷ []) (cond (ltb n (2 ^ 8)) (0x81 ∷ bytes_high_first 1 n)
-            (cond (ltb n (2 ^ 16)) (0x82 ∷ bytes_high_first 2 n)
-            (cond (ltb n (2 ^ 24)) (0x83 ∷ bytes_high_first 3 n) (0x84 ∷ bytes_high_first 4 n))))))
-            [
+        (cond b (n ∷ []) (cond (ltb n (2 ^ 8)) (0x81 ∷ bytes_high_first 1 n)
+        (cond (ltb n (2 ^ 16)) (0x82 ∷ bytes_high_first 2 n)
+        (cond (ltb n (2 ^ 24)) (0x83 ∷ bytes_high_first 3 n) (0x84 ∷ bytes_high_first 4 n)))))) [
           | true ↦ omega arith
           | false ↦ omega (arith, two n)
         ]
@@ -139,14 +141,17 @@ pub tagged_fits : (tag : ℕ) (contents bytes : List ℕ) → IsBytes bytes → 
     → IsBytes contents × (least contents ≤ length bytes)
 tagged_fits tag contents bytes are is =
     let behind : IsBytes (is.length_text ++ contents) =
-        back_bytes (tag ∷ []) (is.length_text ++ contents) bytes is.parts are in
+    back_bytes (tag ∷ []) (is.length_text ++ contents) bytes is.parts are in
     let l = length_is_short is.length_text (length contents)
-        (front_bytes is.length_text contents (is.length_text ++ contents) refl behind) is.is_length
-        in
-    (
+    (front_bytes is.length_text contents (is.length_text ++ contents) refl behind) is.is_length
+    in (
       back_bytes is.length_text contents (is.length_text ++ contents) refl behind,
-      omega (arith, l.1, length-append is.length_text contents,
-          ap (λ (s : List ℕ). length s) is.parts),
+      omega (
+        arith,
+        l.1,
+        length-append is.length_text contents,
+        ap (λ (s : List ℕ). length s) is.parts,
+      ),
     )
 
 -- ---- fields
@@ -161,11 +166,11 @@ contents_are_bytes tag (f ∷ fs) body contents bytes are one =
           let here : f.contents ∷ contents_of tag fs ≡ contents ∷ [] = sym (rw e refl) ∙ one in
           let same : f.contents ≡ contents = ap (λ (l : List (List ℕ)). get_or l 0 []) here in
           subst IsBytes same (tagged_fits f.tag f.contents are.first
-              (front_bytes are.first are.others body are.parts bytes) are.is_first.is_tagged).0
+          (front_bytes are.first are.others body are.parts bytes) are.is_first.is_tagged).0
       | inr e ↦
           let later : contents_of tag fs ≡ contents ∷ [] = sym (rw e refl) ∙ one in
           contents_are_bytes tag fs are.others contents
-              (back_bytes are.first are.others body are.parts bytes) are.are_others later
+          (back_bytes are.first are.others body are.parts bytes) are.are_others later
     ]
 
 -- the minimum number of bytes of the fields of a tag
@@ -200,13 +205,13 @@ one_share t w =
 -- all the fields together are at least as long as those of the four tags
 fields_long : (fields : List Field) (body : List ℕ) → IsBytes body → AreFields fields body
     → leasts (contents_of 0xA1 fields) + leasts (contents_of 0x8B fields)
-        + leasts (contents_of 0xAC fields) + leasts (contents_of 0xBE fields) ≤ length body
+    + leasts (contents_of 0xAC fields) + leasts (contents_of 0xBE fields) ≤ length body
 fields_long [] body bytes are = omega arith
 fields_long (f ∷ fs) body bytes are =
     let first = tagged_fits f.tag f.contents are.first
-        (front_bytes are.first are.others body are.parts bytes) are.is_first.is_tagged in
+    (front_bytes are.first are.others body are.parts bytes) are.is_first.is_tagged in
     let others = fields_long fs are.others (back_bytes are.first are.others body are.parts bytes)
-        are.are_others in
+    are.are_others in
     omega (
       arith,
       first.1,
@@ -228,9 +233,9 @@ inner_long : (tag inner outer : ℕ) (fields : List Field) (body text : List ℕ
     → length (tagged_text outer (tagged_text inner text)) ≤ leasts (contents_of tag fields)
 inner_long tag inner outer fields body text bytes are has =
     let fits = tagged_fits inner text has.contents
-        (contents_are_bytes tag fields body has.contents bytes are has.one) has.holds in
+    (contents_are_bytes tag fields body has.contents bytes are has.one) has.holds in
     let grows = least_grows (tagged_text inner text) has.contents
-        (omega (arith, fits.1, tagged_long inner text)) in
+    (omega (arith, fits.1, tagged_long inner text)) in
     let all : leasts (contents_of tag fields) ≡ least has.contents + 0 = ap leasts has.one in
     omega (arith, grows, all, tagged_long outer (tagged_text inner text))
 
@@ -248,7 +253,7 @@ mechanism_long fields [] has = omega arith
 mechanism_long fields (byte ∷ bytes) (inl h) = let wrong : byte ∷ bytes ≡ [] = h.1 in absurd cc
 mechanism_long fields (byte ∷ bytes) (inr h) =
     let all : leasts (contents_of 0x8B fields) ≡ least (byte ∷ bytes) + 0 =
-        ap leasts h.one ∙ ap (λ (c : List ℕ). least c + 0) h.holds in
+    ap leasts h.one ∙ ap (λ (c : List ℕ). least c + 0) h.holds in
     omega (arith, all, tagged_long 0x8B (byte ∷ bytes))
 
 -- the number of bytes that an APDU leaves for its fields
@@ -256,11 +261,11 @@ body_short : (tag : ℕ) (body bytes : List ℕ) → IsBytes bytes → IsTagged 
     → length bytes ≤ 65535 → length body ≤ 65531
 body_short tag body bytes are is short =
     let behind : IsBytes (is.length_text ++ body) =
-        back_bytes (tag ∷ []) (is.length_text ++ body) bytes is.parts are in
+    back_bytes (tag ∷ []) (is.length_text ++ body) bytes is.parts are in
     let text : IsBytes is.length_text = front_bytes is.length_text body (is.length_text
-        ++ body) refl behind in
+    ++ body) refl behind in
     let whole : length bytes ≡ suc (length is.length_text + length body) =
-        ap (λ (s : List ℕ). length s) is.parts ∙ ap suc (length-append is.length_text body) in
+    ap (λ (s : List ℕ). length s) is.parts ∙ ap suc (length-append is.length_text body) in
     short_by is.length_text (length body) (length bytes) text is.is_length whole short
   where
     short_by : (text : List ℕ) (n all : ℕ) → IsBytes text → IsLength text n → all
@@ -288,8 +293,18 @@ aarq_fits bytes aarq are short s =
     let m = mechanism_text aarq.mechanism in
     let p = password_text aarq.password in
     let u = user_text aarq.user in
-    omega (arith, below, context, mechanism, password, user, all, length-append c (m ++ (p ++ u)),
-        length-append m (p ++ u), length-append p u)
+    omega (
+      arith,
+      below,
+      context,
+      mechanism,
+      password,
+      user,
+      all,
+      length-append c (m ++ (p ++ u)),
+      length-append m (p ++ u),
+      length-append p u,
+    )
 
 -- ---- AARE
 
@@ -299,11 +314,11 @@ response_fits bits limit text are is =
     let one = back_bytes (0x08 ∷ []) _ text is.parts are in
     let two = back_bytes is.quality _ _ refl one in
     let three : IsBytes (is.conformance ++ (is.size ++ is.name)) =
-        back_bytes (is.version ∷ 0x5F ∷ 0x1F ∷ 0x04 ∷ 0x00 ∷ []) _ _ refl two in
+    back_bytes (is.version ∷ 0x5F ∷ 0x1F ∷ 0x04 ∷ 0x00 ∷ []) _ _ refl two in
     let conformance : IsBytes is.conformance =
-        front_bytes is.conformance (is.size ++ is.name) _ refl three in
+    front_bytes is.conformance (is.size ++ is.name) _ refl three in
     let size : IsBytes is.size = front_bytes is.size is.name _ refl
-        (back_bytes is.conformance (is.size ++ is.name) _ refl three) in
+    (back_bytes is.conformance (is.size ++ is.name) _ refl three) in
     (rw is.are_bits (below_24 is.conformance conformance), rw is.is_size.1 (below_16 is.size size))
 
 info_fits : (info : Info) (text : List ℕ) → IsBytes text → IsInfo info text → IsFitInfo info
@@ -315,11 +330,14 @@ user_fits : (fields : List Field) (body : List ℕ) (info : Info) → IsBytes bo
 user_fits fields body info bytes are (inl h) = subst IsFitInfo (sym h.1) tt
 user_fits fields body info bytes are (inr (text, has, is)) =
     info_fits info text (tagged_fits 0x04 text has.contents
-        (contents_are_bytes 0xBE fields body has.contents bytes are has.one) has.holds).0 is
+    (contents_are_bytes 0xBE fields body has.contents bytes are has.one) has.holds).0 is
 
 pub aare_fits : (bytes : List ℕ) (aare : Aare) → IsBytes bytes → SpellsAare bytes aare
     → IsFitAare aare
 aare_fits bytes aare are s =
     let tagged = tagged_fits 0x61 s.is_apdu.body bytes are s.is_apdu.is_tagged in
-    record { info = user_fits s.fields s.is_apdu.body aare.info tagged.0 s.is_apdu.are_fields
-        s.user; responds = s.responds }
+    record {
+      info = user_fits s.fields s.is_apdu.body aare.info tagged.0 s.is_apdu.are_fields
+          s.user;
+      responds = s.responds;
+    }

@@ -19,11 +19,19 @@ IsThen {X = X} P Q z text = (x : X) × IsJoined (P x) (Q x z) text
 pub then_agrees : {X Z : Type 0} (first : List ℕ → Read X) (next : X → List ℕ → Read Z) (P : X
     → List ℕ → Type 0) (Q : X → Z → List ℕ → Type 0)
     → Agrees X first P → ((x : X) → Agrees Z (next x) (Q x))
-        → Agrees Z (λ bytes. first bytes >>= λ x. next x.0 x.1) (IsThen P Q)
+    → Agrees Z (λ bytes. first bytes >>= λ x. next x.0 x.1) (IsThen P Q)
 then_agrees first next P Q one others =
     agreeing.then_agrees first next P Q (IsThen P Q) one others
-        (λ x z a b p q. (x, record { first = a; others = b; parts = refl; is_first = p;
-        are_others = q }))
+    (λ x z a b p q. (
+      x,
+      record {
+        first = a;
+        others = b;
+        parts = refl;
+        is_first = p;
+        are_others = q;
+      },
+    ))
     (λ z text f. let j = f.1 in (f.0, j.first, j.others, j.parts, j.is_first, j.are_others))
 
 -- a test
@@ -51,10 +59,16 @@ pub choice_agrees : {X : Type 0} (b : Bool) (one other : List ℕ → Read X) (P
 choice_agrees {X = X} b one other P Q whole_one whole_other = record {
   takes = λ bytes x e.
       elim (chosen b (one bytes) (other bytes) (done AcseFault x) e) [
-        | inl h ↦ let t = whole_one.takes bytes x h.1 in record { text = t.text; parts = t.parts;
-            spelled = inl (h.0, t.spelled) }
-        | inr h ↦ let t = whole_other.takes bytes x h.1 in record { text = t.text; parts = t.parts;
-            spelled = inr (h.0, t.spelled) }
+        | inl h ↦ let t = whole_one.takes bytes x h.1 in record {
+          text = t.text;
+          parts = t.parts;
+          spelled = inl (h.0, t.spelled);
+        }
+        | inr h ↦ let t = whole_other.takes bytes x h.1 in record {
+          text = t.text;
+          parts = t.parts;
+          spelled = inr (h.0, t.spelled);
+        }
       ];
   again = λ x text rest s.
       elim s [

@@ -18,10 +18,10 @@ ends : (tag : ℕ) (bytes rest one other : List ℕ) → IsTagged tag one bytes
     → IsTagged tag other (bytes ++ rest) → rest ≡ []
 ends tag bytes rest one other s t =
     let here : tagged_at tag (bytes ++ rest) ≡ Ok (one, rest) =
-        (tagged_agrees tag).again one bytes rest s in
+    (tagged_agrees tag).again one bytes rest s in
     let there : tagged_at tag (bytes ++ rest)
-        ≡ Ok (other, []) = ap (tagged_at tag) (sym (append-nil (bytes ++ rest)))
-        ∙ (tagged_agrees tag).again other (bytes ++ rest) [] t in
+    ≡ Ok (other, []) = ap (tagged_at tag) (sym (append-nil (bytes ++ rest)))
+    ∙ (tagged_agrees tag).again other (bytes ++ rest) [] t in
     let a : List ℕ × List ℕ = (one, rest) in
     let b : List ℕ × List ℕ = (other, []) in
     ap (λ (x : List ℕ × List ℕ). x.1) (ok_is {F = AcseFault} a b (sym here ∙ there))
@@ -34,17 +34,21 @@ pub one_aarq : (bytes rest : List ℕ) (one other : Aarq) → SpellsAarq bytes o
     → SpellsAarq (bytes ++ rest) other → (rest ≡ []) × (one ≡ other)
 one_aarq bytes rest one other s t =
     let none = ends 0x60 bytes rest s.is_apdu.body t.is_apdu.body s.is_apdu.is_tagged
-        t.is_apdu.is_tagged in
-    (none, ok_is {F = AcseFault} one other (sym (aarq_again bytes one s)
-        ∙ sym (ap aarq_of (same_bytes bytes rest none)) ∙ aarq_again (bytes ++ rest) other t))
+    t.is_apdu.is_tagged in (
+      none,
+      ok_is {F = AcseFault} one other (sym (aarq_again bytes one s)
+          ∙ sym (ap aarq_of (same_bytes bytes rest none)) ∙ aarq_again (bytes ++ rest) other t),
+    )
 
 pub one_aare : (bytes rest : List ℕ) (one other : Aare) → SpellsAare bytes one
     → SpellsAare (bytes ++ rest) other → (rest ≡ []) × (one ≡ other)
 one_aare bytes rest one other s t =
     let none = ends 0x61 bytes rest s.is_apdu.body t.is_apdu.body s.is_apdu.is_tagged
-        t.is_apdu.is_tagged in
-    (none, ok_is {F = AcseFault} one other (sym (aare_again bytes one s)
-        ∙ sym (ap aare_of (same_bytes bytes rest none)) ∙ aare_again (bytes ++ rest) other t))
+    t.is_apdu.is_tagged in (
+      none,
+      ok_is {F = AcseFault} one other (sym (aare_again bytes one s)
+          ∙ sym (ap aare_of (same_bytes bytes rest none)) ∙ aare_again (bytes ++ rest) other t),
+    )
 
 pub one_release : (bytes rest : List ℕ) → SpellsRelease bytes → SpellsRelease (bytes ++ rest) → rest
     ≡ []
@@ -71,5 +75,8 @@ release_again bytes s =
 
 pub is_release_spelled : (bytes : List ℕ) (result : Bool) → result ≡ is_release_text bytes
     → (result ≡ true) ↔ SpellsRelease bytes
-is_release_spelled bytes result e = (λ yes. release_found bytes (sym e ∙ yes), λ s. e
-    ∙ release_again bytes s)
+is_release_spelled bytes result e = (
+  λ yes. release_found bytes (sym e ∙ yes),
+  λ s. e
+      ∙ release_again bytes s,
+)

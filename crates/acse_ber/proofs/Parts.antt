@@ -31,9 +31,9 @@ IsSize n text = IsUnsigned w16 text n
 pub size_agrees : Agrees ℕ size_at IsSize
 size_agrees =
     seen_as size_at (IsMade (from_be_bytes w16) (AreBytes 2)) IsSize
-        (made_agrees (from_be_bytes w16) (bytes_at 2) (AreBytes 2) (bytes_agrees Unreadable 2))
+    (made_agrees (from_be_bytes w16) (bytes_at 2) (AreBytes 2) (bytes_agrees Unreadable 2))
     (λ n text s. (s.2.0, sym s.1 ∙ ap (from_be_bytes w16) s.2.1))
-        (λ n text s. (text, sym s.1, (s.0, refl)))
+    (λ n text s. (text, sym s.1, (s.0, refl)))
 
 -- the expected bytes
 abbrev pub IsLiteral : List ℕ → Unit {0} → List ℕ → Type 0
@@ -44,20 +44,27 @@ pub literal_agrees : (expected : List ℕ) → Agrees (Unit {0}) (literal_at exp
 literal_agrees expected =
     let n = length expected in
     seen_as (literal_at expected) (IsThen (AreBytes n)
-        (λ there. IsGuarded (bytes_eq there expected) (IsNone tt))) (IsLiteral expected)
+    (λ there. IsGuarded (bytes_eq there expected) (IsNone tt))) (IsLiteral expected)
     (then_agrees (bytes_at n) (λ there rest. guard (bytes_eq there expected) Unreadable >> Ok
-        (tt, rest)) (AreBytes n) (λ there. IsGuarded (bytes_eq there expected) (IsNone tt))
-        (bytes_agrees Unreadable n)
+    (tt, rest)) (AreBytes n) (λ there. IsGuarded (bytes_eq there expected) (IsNone tt))
+    (bytes_agrees Unreadable n)
     (λ there. guard_agrees (bytes_eq there expected) (λ rest. Ok (tt, rest)) (IsNone tt)
-        (none_agrees tt)))
+    (none_agrees tt)))
     (λ u text s.
     let j = s.1 in
     j.parts ∙ ap (λ (o : List ℕ). j.first ++ o) j.are_others.1.1 ∙ append-nil j.first
-        ∙ sym j.is_first.1 ∙ (bytes_eq-Decides s.0 expected).0 j.are_others.0)
-    (λ u text s.
-    (expected, record { first = expected; others = []; parts = s ∙ sym (append-nil expected);
-        is_first = (refl, refl); are_others =
-        ((bytes_eq-Decides expected expected).1 refl, (refl, refl)) }))
+    ∙ sym j.is_first.1 ∙ (bytes_eq-Decides s.0 expected).0 j.are_others.0)
+    (λ u text s. (
+      expected,
+      record {
+        first = expected;
+        others = [];
+        parts = s ∙ sym (append-nil expected);
+        is_first = (refl, refl);
+        are_others =
+            ((bytes_eq-Decides expected expected).1 refl, (refl, refl));
+      },
+    ))
 
 -- ---- lengths and tags
 
@@ -85,29 +92,53 @@ length_to n text first others e (inr (f, inr (g, inl h))) =
 length_to n text first others e (inr (f, inr (g, inr h))) = absurd h.1
 
 length_from : (n : ℕ) (text : List ℕ) → IsCount n text → IsThen IsByte IsForm n text
-length_from n text (inl h) = (n, record { first = n ∷ []; others = []; parts = h.1; is_first = refl;
-    are_others = inl (lt-ltb n 0x80 h.0, (refl, refl)) })
-length_from n text (inr (inl h)) = (0x81, record { first = 0x81 ∷ []; others = n ∷ []; parts = h;
-    is_first = refl; are_others = inr (refl, inl (refl, refl)) })
-length_from n text (inr (inr h)) = (0x82, record { first = 0x82 ∷ []; others = h.0; parts = h.1;
-    is_first = refl; are_others = inr (refl, inr (refl, inl (refl, h.2))) })
+length_from n text (inl h) = (
+  n,
+  record {
+    first = n ∷ [];
+    others = [];
+    parts = h.1;
+    is_first = refl;
+    are_others = inl (lt-ltb n 0x80 h.0, (refl, refl));
+  },
+)
+length_from n text (inr (inl h)) = (
+  0x81,
+  record {
+    first = 0x81 ∷ [];
+    others = n ∷ [];
+    parts = h;
+    is_first = refl;
+    are_others = inr (refl, inl (refl, refl));
+  },
+)
+length_from n text (inr (inr h)) = (
+  0x82,
+  record {
+    first = 0x82 ∷ [];
+    others = h.0;
+    parts = h.1;
+    is_first = refl;
+    are_others = inr (refl, inr (refl, inl (refl, h.2)));
+  },
+)
 
 pub length_agrees : Agrees ℕ length_at IsCount
 unfolding length_at
 length_agrees =
     seen_as length_at (IsThen IsByte IsForm) IsCount
     (then_agrees byte_at (λ first rest. cond (nat_lt first 0x80) (Ok (first, rest))
-        (cond (first == 0x81) (byte_at rest) (cond (first == 0x82) (size_at rest)
-        (Err Unreadable)))) IsByte IsForm (byte_agrees Unreadable)
+    (cond (first == 0x81) (byte_at rest) (cond (first == 0x82) (size_at rest)
+    (Err Unreadable)))) IsByte IsForm (byte_agrees Unreadable)
     (λ first.
     choice_agrees (nat_lt first 0x80) (λ rest. Ok (first, rest))
-        (λ rest. cond (first == 0x81) (byte_at rest)
-        (cond (first == 0x82) (size_at rest) (Err Unreadable))) _ _ (none_agrees first)
+    (λ rest. cond (first == 0x81) (byte_at rest)
+    (cond (first == 0x82) (size_at rest) (Err Unreadable))) _ _ (none_agrees first)
     (choice_agrees (first == 0x81) byte_at (λ rest. cond (first == 0x82) (size_at rest)
-        (Err Unreadable)) _ _ (byte_agrees Unreadable)
+    (Err Unreadable)) _ _ (byte_agrees Unreadable)
     (choice_agrees (first == 0x82) size_at (λ rest. Err Unreadable) _ _ size_agrees never_agrees))))
     (λ n text s. length_to n text s.0 s.1.others (byte_before s.0 text s.1)
-        s.1.are_others) length_from
+    s.1.are_others) length_from
 
 -- a length followed by the contents
 abbrev pub IsContents : List ℕ → List ℕ → Type 0
@@ -118,32 +149,54 @@ pub contents_agrees : Agrees (List ℕ) contents_at IsContents
 unfolding contents_at
 contents_agrees =
     seen_as contents_at (IsThen IsCount AreBytes) IsContents
-        (then_agrees length_at bytes_at IsCount AreBytes length_agrees (bytes_agrees Unreadable))
+    (then_agrees length_at bytes_at IsCount AreBytes length_agrees (bytes_agrees Unreadable))
     (λ x text s.
     let j = s.1 in
     let len : s.0 ≡ length x = sym j.are_others.0
-        ∙ ap (λ (o : List ℕ). length o) (sym j.are_others.1) in
-    (j.first, j.parts ∙ ap (λ (o : List ℕ). j.first ++ o) (sym j.are_others.1),
-        subst (λ (m : ℕ). IsLength j.first m) len j.is_first))
-    (λ x text s. (length x, record { first = s.0; others = x; parts = s.1; is_first = s.2;
-        are_others = (refl, refl) }))
+    ∙ ap (λ (o : List ℕ). length o) (sym j.are_others.1) in (
+      j.first,
+      j.parts ∙ ap (λ (o : List ℕ). j.first ++ o) (sym j.are_others.1),
+      subst (λ (m : ℕ). IsLength j.first m) len j.is_first,
+    ))
+    (λ x text s. (
+      length x,
+      record {
+        first = s.0;
+        others = x;
+        parts = s.1;
+        is_first = s.2;
+        are_others = (refl, refl);
+      },
+    ))
 
 pub tagged_agrees : (tag : ℕ) → Agrees (List ℕ) (tagged_at tag) (IsTagged tag)
 unfolding tagged_at
 tagged_agrees tag =
     seen_as (tagged_at tag) (IsThen IsByte (λ first. IsGuarded (first == tag) IsContents))
-        (IsTagged tag)
+    (IsTagged tag)
     (then_agrees byte_at (λ first rest. guard (first == tag) Unreadable >> contents_at rest) IsByte
-        (λ first. IsGuarded (first == tag) IsContents) (byte_agrees Unreadable)
+    (λ first. IsGuarded (first == tag) IsContents) (byte_agrees Unreadable)
     (λ first. guard_agrees (first == tag) contents_at IsContents contents_agrees))
     (λ x text s.
     let j = s.1 in
     let c = j.are_others.1 in
     let same : s.0 ≡ tag = eqb-true s.0 tag j.are_others.0 in
-    record { length_text = c.0; parts = byte_before s.0 text j ∙ ap (λ (t : ℕ). t ∷ j.others) same
-        ∙ ap (λ (o : List ℕ). tag ∷ o) c.1; is_length = c.2 })
-    (λ x text s. (tag, record { first = tag ∷ []; others = s.length_text ++ x; parts = s.parts;
-        is_first = refl; are_others = (eq-eqb tag tag refl, (s.length_text, refl, s.is_length)) }))
+    record {
+      length_text = c.0;
+      parts = byte_before s.0 text j ∙ ap (λ (t : ℕ). t ∷ j.others) same
+          ∙ ap (λ (o : List ℕ). tag ∷ o) c.1;
+      is_length = c.2;
+    })
+    (λ x text s. (
+      tag,
+      record {
+        first = tag ∷ [];
+        others = s.length_text ++ x;
+        parts = s.parts;
+        is_first = refl;
+        are_others = (eq-eqb tag tag refl, (s.length_text, refl, s.is_length));
+      },
+    ))
 
 -- the contents of a tag that fill the bytes
 pub tagged_found : (tag : ℕ) (bytes contents : List ℕ) → tag_contents tag bytes ≡ Ok contents
@@ -170,14 +223,14 @@ pub field_agrees : Agrees Field field_at IsField
 unfolding field_at
 field_agrees =
     seen_as field_at (IsThen IsByte (λ tag. IsGuarded (is_field_tag tag)
-        (IsMade (made_field tag) IsContents))) IsField
+    (IsMade (made_field tag) IsContents))) IsField
     (then_agrees byte_at (λ tag rest. guard (is_field_tag tag) Unreadable >> read_as
-        (made_field tag) (contents_at rest)) IsByte
-        (λ tag. IsGuarded (is_field_tag tag) (IsMade (made_field tag) IsContents))
-        (byte_agrees Unreadable)
+    (made_field tag) (contents_at rest)) IsByte
+    (λ tag. IsGuarded (is_field_tag tag) (IsMade (made_field tag) IsContents))
+    (byte_agrees Unreadable)
     (λ tag. guard_agrees (is_field_tag tag) (λ rest. read_as (made_field tag) (contents_at rest))
-        (IsMade (made_field tag) IsContents) (made_agrees (made_field tag) contents_at IsContents
-        contents_agrees)))
+    (IsMade (made_field tag) IsContents) (made_agrees (made_field tag) contents_at IsContents
+    contents_agrees)))
     (λ f text s.
     let j = s.1 in
     let both = and_parts _ _ j.are_others.0 in
@@ -186,8 +239,12 @@ field_agrees =
     subst (λ (g : Field). IsField g text) m.1 (record {
       low = leb-true 0x80 s.0 both.0;
       high = leb-true s.0 0xBF both.1;
-      is_tagged = record { length_text = c.0; parts = byte_before s.0 text j
-          ∙ ap (λ (o : List ℕ). s.0 ∷ o) c.1; is_length = c.2 };
+      is_tagged = record {
+        length_text = c.0;
+        parts = byte_before s.0 text j
+            ∙ ap (λ (o : List ℕ). s.0 ∷ o) c.1;
+        is_length = c.2;
+      };
     }))
     (λ f text s.
     let t = s.is_tagged in (
@@ -197,8 +254,10 @@ field_agrees =
         others = t.length_text ++ f.contents;
         parts = t.parts;
         is_first = refl;
-        are_others = (and_from _ _ (le-leb 0x80 f.tag s.low) (le-leb f.tag 0xBF s.high),
-            (f.contents, refl, (t.length_text, refl, t.is_length)));
+        are_others = (
+          and_from _ _ (le-leb 0x80 f.tag s.low) (le-leb f.tag 0xBF s.high),
+          (f.contents, refl, (t.length_text, refl, t.is_length)),
+        );
       },
     ))
 
@@ -216,8 +275,13 @@ fields_found (suc limit) (byte ∷ rest) fields e =
     let others : AreFields o.0 b.0.1 = fields_found limit b.0.1 o.0 o.1 in
     let made : List Field = b.0.0 ∷ o.0 in
     subst (λ (fs : List Field). AreFields fs (byte ∷ rest)) (ok_is {F = AcseFault} made fields o.2)
-        (record { first = t.text; others = b.0.1; parts = t.parts; is_first = t.spelled;
-        are_others = others })
+    (record {
+      first = t.text;
+      others = b.0.1;
+      parts = t.parts;
+      is_first = t.spelled;
+      are_others = others;
+    })
 
 -- fields that are spelled are read
 pub fields_again : (fields : List Field) (limit : ℕ) (bytes : List ℕ) → length bytes ≤ limit
@@ -226,7 +290,7 @@ unfolding fields_within
 fields_again [] limit bytes le none = rw none refl
 fields_again (field ∷ fields) limit bytes le j =
     let e : field_at bytes ≡ Ok (field, j.others) =
-        ap field_at j.parts ∙ field_agrees.again field j.first j.others j.is_first in
+    ap field_at j.parts ∙ field_agrees.again field j.first j.others j.is_first in
     let u = unrolled limit bytes field j.others e le in
     u.2 ∙ ap (after field) (fields_again fields u.0 j.others u.1 j.are_others)
 
@@ -281,10 +345,13 @@ inner_case tag inner body fields (Some contents) None e f g =
 inner_case tag inner body fields (Some contents) (Some text) e f g =
     let b = bind_ok (tag_contents inner contents) (λ y. done AcseFault (Some y)) (Some text) g in
     let same : b.0 ≡ text = ap (λ (z : Option (List ℕ)). unwrap_or z [])
-        (ok_is {F = AcseFault} (Some b.0) (Some text) b.2) in
-    record { contents = contents; one = one_found tag body fields contents e f;
-        holds = subst (λ (t : List ℕ). IsTagged inner t contents) same
-        (tagged_found inner contents b.0 b.1) }
+    (ok_is {F = AcseFault} (Some b.0) (Some text) b.2) in
+    record {
+      contents = contents;
+      one = one_found tag body fields contents e f;
+      holds = subst (λ (t : List ℕ). IsTagged inner t contents) same
+          (tagged_found inner contents b.0 b.1);
+    }
 
 pub inner_found : (tag inner : ℕ) (body : List ℕ) (fields : List Field) (o : Option (List ℕ))
     → fields_of body ≡ Ok fields → inner_of tag inner body ≡ Ok o → HasInner tag inner fields o

@@ -14,7 +14,7 @@ same_byte a b none = omega (arith, none, xor_add_and a b, and_le_l a b, and_le_r
 pub same_further : (given password : List ℕ) (i d : ℕ) → i < length given → i < length password
     → (d ≡ 0 → take i given ≡ take i password)
     → bit_or d (bit_xor (slice_index_or given i 0) (slice_index_or password i 0)) ≡ 0
-        → take (i + 1) given ≡ take (i + 1) password
+    → take (i + 1) given ≡ take (i + 1) password
 same_further given password i d below within so_far none =
     let x = slice_index_or given i 0 in
     let y = slice_index_or password i 0 in
@@ -33,10 +33,10 @@ none_further given password i d none same =
 pub is_compared : (given password : List ℕ) (i d : ℕ) → length given ≡ length password
     → length given ≤ i
     → (d ≡ 0 → take i given ≡ take i password) → (given ≡ password → d ≡ 0) → nat_eq d 0
-        ≡ bytes_eq given password
+    ≡ bytes_eq given password
 is_compared given password i d long ended so_far none =
     let whole : d ≡ 0 → given ≡ password = λ zero. sym (take_all i given ended) ∙ so_far zero
-        ∙ take_all i password (omega (arith, long, ended)) in
+    ∙ take_all i password (omega (arith, long, ended)) in
     same_from_decides (nat_eq d 0) (bytes_eq given password)
-        ((λ yes. whole ((Decides-eqb d 0).0 yes)), (λ same. (Decides-eqb d 0).1 (none same)))
-        (bytes_eq-Decides given password)
+    ((λ yes. whole ((Decides-eqb d 0).0 yes)), (λ same. (Decides-eqb d 0).1 (none same)))
+    (bytes_eq-Decides given password)

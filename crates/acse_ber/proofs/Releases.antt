@@ -18,9 +18,15 @@ request_spelled = (
       first = 0x80 ∷ 0x01 ∷ 0x00 ∷ [];
       others = [];
       parts = refl;
-      is_first = record { low = omega arith; high = omega arith;
-          is_tagged = record { length_text = 0x01 ∷ []; parts = refl;
-          is_length = short 1 (omega arith) } };
+      is_first = record {
+        low = omega arith;
+        high = omega arith;
+        is_tagged = record {
+          length_text = 0x01 ∷ [];
+          parts = refl;
+          is_length = short 1 (omega arith);
+        };
+      };
       are_others = refl;
     };
   },

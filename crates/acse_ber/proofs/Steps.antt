@@ -52,9 +52,9 @@ unfolding length_at
 length_plain bytes =
     bind_plain (byte_at bytes) _ (byte_plain bytes) (λ first.
     choice_plain (nat_lt first.0 0x80) _ _ tt
-        (choice_plain (first.0 == 0x81) _ _ (byte_plain first.1)
+    (choice_plain (first.0 == 0x81) _ _ (byte_plain first.1)
     (choice_plain (first.0 == 0x82) _ _ (bind_plain (bytes_at 2 first.1) _ (bytes_plain 2 first.1)
-        (λ x. tt)) refl)))
+    (λ x. tt)) refl)))
 
 contents_plain : (bytes : List ℕ) → IsPlain (contents_at bytes)
 unfolding contents_at
@@ -66,7 +66,7 @@ unfolding field_at
 field_plain bytes =
     bind_plain (byte_at bytes) _ (byte_plain bytes) (λ tag.
     bind_plain (guard (nat_le 0x80 tag.0 && nat_le tag.0 0xBF) Unreadable) _
-        (guard_plain (nat_le 0x80 tag.0 && nat_le tag.0 0xBF)) (λ u.
+    (guard_plain (nat_le 0x80 tag.0 && nat_le tag.0 0xBF)) (λ u.
     bind_plain (contents_at tag.1) _ (contents_plain tag.1) (λ x. tt)))
 
 pub fields_plain : (limit : ℕ) (bytes : List ℕ) → IsPlain (fields_within limit bytes)
@@ -75,8 +75,8 @@ fields_plain limit [] = tt
 fields_plain zero (byte ∷ rest) = refl
 fields_plain (suc limit) (byte ∷ rest) =
     bind_plain (field_at (byte ∷ rest)) _ (field_plain (byte ∷ rest))
-        (λ first. bind_plain (fields_within limit first.1) _ (fields_plain limit first.1)
-        (λ others. tt))
+    (λ first. bind_plain (fields_within limit first.1) _ (fields_plain limit first.1)
+    (λ others. tt))
 
 -- ---- every field has at least one byte
 
@@ -97,7 +97,7 @@ bytes_shrinks n bytes x e =
     let made : List ℕ × List ℕ = (take n bytes, drop n bytes) in
     let g = guard_ok (nat_le n (length bytes)) Unreadable (done AcseFault made) x e in
     let same : drop n bytes ≡ x.1 = ap (λ (z : List ℕ × List ℕ). z.1)
-        (ok_is {F = AcseFault} made x g.1) in
+    (ok_is {F = AcseFault} made x g.1) in
     omega (arith, ap (λ (s : List ℕ). length s) same, length-drop n bytes)
 
 length_shrinks : Shrinks length_at
@@ -116,7 +116,7 @@ length_shrinks bytes x e =
               let less' : length s.0.1 ≤ length b.0.1 = bytes_shrinks 2 b.0.1 s.0 s.1 in
               let made : ℕ × List ℕ = (from_be_bytes w16 s.0.0, s.0.1) in
               let same : s.0.1 ≡ x.1 = ap (λ (z : ℕ × List ℕ). z.1)
-                  (ok_is {F = AcseFault} made x s.2) in
+              (ok_is {F = AcseFault} made x s.2) in
               omega (arith, ap (λ (s : List ℕ). length s) same)
           | inr j ↦ absurd cc
         ]
@@ -196,40 +196,46 @@ Remaining tag found rest total = (limit : ℕ) × (length rest ≤ limit)
 pub skips : (tag : ℕ) (found : Option (List ℕ)) (bytes : List ℕ) (field : Field) (rest : List ℕ)
     (total : Result (Option (List ℕ)) AcseFault)
     → Remaining tag found bytes total → field_at bytes ≡ Ok (field, rest) → (field.tag == tag)
-        ≡ false → Remaining tag found rest total
+    ≡ false → Remaining tag found rest total
 skips tag found bytes field rest total left e other =
-    let u = unrolled left.0 bytes field rest e left.1 in
-    (u.0, u.1, sym (skipped_in tag found field (fields_within u.0 rest) other)
-        ∙ sym (ap (still tag found) u.2) ∙ left.2)
+    let u = unrolled left.0 bytes field rest e left.1 in (
+      u.0,
+      u.1,
+      sym (skipped_in tag found field (fields_within u.0 rest) other)
+          ∙ sym (ap (still tag found) u.2) ∙ left.2,
+    )
 
 -- the next field is the first with the tag
 pub finds : {X : Type 0} (view : X → List ℕ) (tag : ℕ) (found : Option X) (bytes : List ℕ)
     (field : Field) (rest : List ℕ) (total : Result (Option (List ℕ)) AcseFault)
     → Remaining tag (option_map view found) bytes total → field_at bytes ≡ Ok (field, rest)
-        → (field.tag == tag) ≡ true → false ≡ is_some found
-        → Remaining tag (Some field.contents) rest total
+    → (field.tag == tag) ≡ true → false ≡ is_some found
+    → Remaining tag (Some field.contents) rest total
 finds view tag None bytes field rest total left e same none =
-    let u = unrolled left.0 bytes field rest e left.1 in
-    (u.0, u.1, sym (found_in tag field (fields_within u.0 rest) same)
-        ∙ sym (ap (still tag None) u.2) ∙ left.2)
+    let u = unrolled left.0 bytes field rest e left.1 in (
+      u.0,
+      u.1,
+      sym (found_in tag field (fields_within u.0 rest) same)
+          ∙ sym (ap (still tag None) u.2) ∙ left.2,
+    )
 finds view tag (Some x) bytes field rest total left e same none = absurd cc
 
 -- the next field is a second one with the tag
 pub is_twice : {X : Type 0} (view : X → List ℕ) (tag : ℕ) (found : Option X) (bytes : List ℕ)
     (field : Field) (rest : List ℕ) (total : Result (Option (List ℕ)) AcseFault)
     → Remaining tag (option_map view found) bytes total → field_at bytes ≡ Ok (field, rest)
-        → (field.tag == tag) ≡ true → true ≡ is_some found → total ≡ Err Unreadable
+    → (field.tag == tag) ≡ true → true ≡ is_some found → total ≡ Err Unreadable
 is_twice view tag None bytes field rest total left e same some = absurd cc
 is_twice view tag (Some x) bytes field rest total left e same some =
     let u = unrolled left.0 bytes field rest e left.1 in
     sym left.2 ∙ ap (still tag (Some (view x))) u.2
-        ∙ twice_in tag (view x) field (fields_within u.0 rest) same (fields_plain u.0 rest)
+    ∙ twice_in tag (view x) field (fields_within u.0 rest) same (fields_plain u.0 rest)
 
 -- the next bytes are not a field
 pub is_refused : (tag : ℕ) (found : Option (List ℕ)) (bytes : List ℕ) (fault : AcseFault)
     (total : Result (Option (List ℕ)) AcseFault)
     → Remaining tag found bytes total → (bytes ≡ [] → ⊥) → field_at bytes ≡ Err fault
-        → total ≡ Err fault
+    → total ≡ Err fault
 is_refused tag found bytes fault total left some e =
     sym left.2 ∙ ap (still tag found) (refused left.0 bytes fault some left.1 e)
 
@@ -254,9 +260,12 @@ after_ok field (Err fault) = refl
 pub readable_on : (bytes : List ℕ) (field : Field) (rest : List ℕ) (total : Bool)
     → Readable bytes total → field_at bytes ≡ Ok (field, rest) → Readable rest total
 readable_on bytes field rest total left e =
-    let u = unrolled left.0 bytes field rest e left.1 in
-    (u.0, u.1, sym (after_ok field (fields_within u.0 rest))
-        ∙ sym (ap (λ (r : Result (List Field) AcseFault). is_ok r) u.2) ∙ left.2)
+    let u = unrolled left.0 bytes field rest e left.1 in (
+      u.0,
+      u.1,
+      sym (after_ok field (fields_within u.0 rest))
+          ∙ sym (ap (λ (r : Result (List Field) AcseFault). is_ok r) u.2) ∙ left.2,
+    )
 
 pub readable_not : (bytes : List ℕ) (fault : AcseFault) (total : Bool) → Readable bytes total
     → (bytes ≡ [] → ⊥) → field_at bytes ≡ Err fault → total ≡ false

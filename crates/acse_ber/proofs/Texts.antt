@@ -34,8 +34,11 @@ length_spells n below =
 
 pub tagged_spells : (tag : ℕ) (contents : List ℕ) → length contents < 2 ^ 16
     → IsTagged tag contents (tagged_text tag contents)
-tagged_spells tag contents below = record { length_text = length_text (length contents);
-    parts = refl; is_length = length_spells (length contents) below }
+tagged_spells tag contents below = record {
+  length_text = length_text (length contents);
+  parts = refl;
+  is_length = length_spells (length contents) below;
+}
 
 -- the length of the text of a tag, and of one within another
 pub tagged_long : (tag : ℕ) (contents : List ℕ) → length (tagged_text tag contents) ≡ 1
@@ -49,25 +52,41 @@ field tag contents = record { tag = tag; contents = contents }
 
 field_spells : (tag : ℕ) (contents : List ℕ) → 0x80 ≤ tag → tag ≤ 0xBF → length contents < 2 ^ 16
     → IsField (field tag contents) (tagged_text tag contents)
-field_spells tag contents low high below = record { low = low; high = high;
-    is_tagged = tagged_spells tag contents below }
+field_spells tag contents low high below = record {
+  low = low;
+  high = high;
+  is_tagged = tagged_spells tag contents below;
+}
 
 -- a field followed by others
 before : (f : Field) (fs : List Field) (text others : List ℕ) → IsField f text → AreFields fs others
     → AreFields (f ∷ fs) (text ++ others)
-before f fs text others is are = record { first = text; others = others; parts = refl;
-    is_first = is; are_others = are }
+before f fs text others is are = record {
+  first = text;
+  others = others;
+  parts = refl;
+  is_first = is;
+  are_others = are;
+}
 
 -- a single field
 alone : (f : Field) (text : List ℕ) → IsField f text → AreFields (f ∷ []) text
-alone f text is = record { first = text; others = []; parts = sym (append-nil text); is_first = is;
-    are_others = refl }
+alone f text is = record {
+  first = text;
+  others = [];
+  parts = sym (append-nil text);
+  is_first = is;
+  are_others = refl;
+}
 
 -- fields that fill an APDU
 apdu_spells : (tag : ℕ) (fields : List Field) (body : List ℕ) → length body < 2 ^ 16
     → AreFields fields body → IsApdu tag fields (tagged_text tag body)
-apdu_spells tag fields body below are = record { body = body;
-    is_tagged = tagged_spells tag body below; are_fields = are }
+apdu_spells tag fields body below are = record {
+  body = body;
+  is_tagged = tagged_spells tag body below;
+  are_fields = are;
+}
 
 -- the contents of an outer tag and of an inner one are shorter than the text
 outer_short : (tag : ℕ) (contents : List ℕ) (limit : ℕ) → length (tagged_text tag contents) < limit
@@ -101,9 +120,9 @@ password_are : (password : Option (List ℕ)) (fs : List Field) (others : List �
 password_are None fs others below are = are
 password_are (Some password) fs others below are =
     before (field 0xAC (tagged_text 0x80 password)) fs
-        (tagged_text 0xAC (tagged_text 0x80 password)) others
+    (tagged_text 0xAC (tagged_text 0x80 password)) others
     (field_spells 0xAC (tagged_text 0x80 password) (omega arith) (omega arith)
-        (outer_short 0xAC (tagged_text 0x80 password) (2 ^ 16) below)) are
+    (outer_short 0xAC (tagged_text 0x80 password) (2 ^ 16) below)) are
 
 mechanism_are : (mechanism : List ℕ) (fs : List Field) (others : List ℕ)
     → length (mechanism_text mechanism) < 2 ^ 16 → AreFields fs others
@@ -112,32 +131,44 @@ mechanism_are [] fs others below are = are
 mechanism_are (byte ∷ bytes) fs others below are =
     let short : length (tagged_text 0x8B (byte ∷ bytes)) < 2 ^ 16 = omega arith in
     before (field 0x8A (0x07 ∷ 0x80 ∷ [])) (field 0x8B (byte ∷ bytes) ∷ fs) (0x8A ∷ 0x02 ∷ 0x07
-        ∷ 0x80 ∷ []) (tagged_text 0x8B (byte ∷ bytes) ++ others)
+    ∷ 0x80 ∷ []) (tagged_text 0x8B (byte ∷ bytes) ++ others)
     (field_spells 0x8A (0x07 ∷ 0x80 ∷ []) (omega arith) (omega arith) (omega arith))
     (before (field 0x8B (byte ∷ bytes)) fs (tagged_text 0x8B (byte ∷ bytes)) others
-        (field_spells 0x8B (byte ∷ bytes) (omega arith) (omega arith)
-        (outer_short 0x8B (byte ∷ bytes) (2 ^ 16) short)) are)
+    (field_spells 0x8B (byte ∷ bytes) (omega arith) (omega arith)
+    (outer_short 0x8B (byte ∷ bytes) (2 ^ 16) short)) are)
 
 -- the fields with each tag
 one_context : (context mechanism : List ℕ) (password : Option (List ℕ)) (user : List ℕ)
-    → contents_of 0xA1 (aarq_fields (record { context = context; mechanism = mechanism;
-    password = password; user = user })) ≡ tagged_text 0x06 context ∷ []
+    → contents_of 0xA1 (aarq_fields (record {
+      context = context;
+      mechanism = mechanism;
+      password = password;
+      user = user;
+    })) ≡ tagged_text 0x06 context ∷ []
 one_context context [] None user = refl
 one_context context [] (Some password) user = refl
 one_context context (byte ∷ bytes) None user = refl
 one_context context (byte ∷ bytes) (Some password) user = refl
 
 one_user : (context mechanism : List ℕ) (password : Option (List ℕ)) (user : List ℕ)
-    → contents_of 0xBE (aarq_fields (record { context = context; mechanism = mechanism;
-    password = password; user = user })) ≡ tagged_text 0x04 user ∷ []
+    → contents_of 0xBE (aarq_fields (record {
+      context = context;
+      mechanism = mechanism;
+      password = password;
+      user = user;
+    })) ≡ tagged_text 0x04 user ∷ []
 one_user context [] None user = refl
 one_user context [] (Some password) user = refl
 one_user context (byte ∷ bytes) None user = refl
 one_user context (byte ∷ bytes) (Some password) user = refl
 
 has_mechanism : (context mechanism : List ℕ) (password : Option (List ℕ)) (user : List ℕ)
-    → HasMechanism (aarq_fields (record { context = context; mechanism = mechanism;
-    password = password; user = user })) mechanism
+    → HasMechanism (aarq_fields (record {
+      context = context;
+      mechanism = mechanism;
+      password = password;
+      user = user;
+    })) mechanism
 has_mechanism context [] None user = inl (refl, refl)
 has_mechanism context [] (Some password) user = inl (refl, refl)
 has_mechanism context (byte ∷ bytes) None user =
@@ -147,18 +178,28 @@ has_mechanism context (byte ∷ bytes) (Some password) user =
 
 has_password : (context mechanism : List ℕ) (password : Option (List ℕ)) (user : List ℕ)
     → length (password_text password) < 2 ^ 16
-    → HasInner 0xAC 0x80 (aarq_fields (record { context = context; mechanism = mechanism;
-        password = password; user = user })) password
+    → HasInner 0xAC 0x80 (aarq_fields (record {
+      context = context;
+      mechanism = mechanism;
+      password = password;
+      user = user;
+    })) password
 has_password context [] None user below = refl
 has_password context (byte ∷ bytes) None user below = refl
 has_password context [] (Some password) user below =
-    record { contents = tagged_text 0x80 password; one = refl;
-        holds = tagged_spells 0x80 password (outer_short 0x80 password (2 ^ 16)
-        (outer_short 0xAC (tagged_text 0x80 password) (2 ^ 16) below)) }
+    record {
+      contents = tagged_text 0x80 password;
+      one = refl;
+      holds = tagged_spells 0x80 password (outer_short 0x80 password (2 ^ 16)
+          (outer_short 0xAC (tagged_text 0x80 password) (2 ^ 16) below));
+    }
 has_password context (byte ∷ bytes) (Some password) user below =
-    record { contents = tagged_text 0x80 password; one = refl;
-        holds = tagged_spells 0x80 password (outer_short 0x80 password (2 ^ 16)
-        (outer_short 0xAC (tagged_text 0x80 password) (2 ^ 16) below)) }
+    record {
+      contents = tagged_text 0x80 password;
+      one = refl;
+      holds = tagged_spells 0x80 password (outer_short 0x80 password (2 ^ 16)
+          (outer_short 0xAC (tagged_text 0x80 password) (2 ^ 16) below));
+    }
 
 -- the parts are no longer than the whole
 parts_short : (a b c d : List ℕ) (limit : ℕ) → length (a ++ (b ++ (c ++ d))) < limit
@@ -173,18 +214,18 @@ pub aarq_spells : (aarq : Aarq) → IsFitAarq aarq → SpellsAarq (aarq_text aar
 unfolding aarq_text
 aarq_spells aarq fit =
     let p = parts_short (context_text aarq.context) (mechanism_text aarq.mechanism)
-        (password_text aarq.password) (user_text aarq.user) (2 ^ 16) fit in
+    (password_text aarq.password) (user_text aarq.user) (2 ^ 16) fit in
     let context : length (tagged_text 0x06 aarq.context) < 2 ^ 16 =
-        outer_short 0xA1 (tagged_text 0x06 aarq.context) (2 ^ 16) p.0 in
+    outer_short 0xA1 (tagged_text 0x06 aarq.context) (2 ^ 16) p.0 in
     let user : length (tagged_text 0x04 aarq.user) < 2 ^ 16 =
-        outer_short 0xBE (tagged_text 0x04 aarq.user) (2 ^ 16) p.3 in
+    outer_short 0xBE (tagged_text 0x04 aarq.user) (2 ^ 16) p.3 in
     record {
       fields = aarq_fields aarq;
       is_apdu = apdu_spells 0x60 (aarq_fields aarq) (aarq_body aarq) fit
           (before (field 0xA1 (tagged_text 0x06 aarq.context)) _ (context_text aarq.context) _
           (field_spells 0xA1 (tagged_text 0x06 aarq.context) (omega arith) (omega arith) context)
           (mechanism_are aarq.mechanism _ _ p.1
-              (password_are aarq.password _ _ p.2 (user_are aarq.user p.3))));
+          (password_are aarq.password _ _ p.2 (user_are aarq.user p.3))));
       context = record {
         contents = tagged_text 0x06 aarq.context;
         one = one_context aarq.context aarq.mechanism aarq.password aarq.user;
@@ -234,7 +275,7 @@ response_spells bits limit below small = record {
 abbrev first_fields : ℕ → ℕ → List Field → List Field
 first_fields outcome diagnostic others =
     field 0xA1 (tagged_text 0x06 ln_context) ∷ field 0xA2 (0x02 ∷ 0x01 ∷ outcome ∷ [])
-        ∷ field 0xA3 (0xA1 ∷ 0x03 ∷ 0x02 ∷ 0x01 ∷ diagnostic ∷ []) ∷ others
+    ∷ field 0xA3 (0xA1 ∷ 0x03 ∷ 0x02 ∷ 0x01 ∷ diagnostic ∷ []) ∷ others
 
 abbrev first_text : ℕ → ℕ → List ℕ → List ℕ
 first_text outcome diagnostic others = context_text ln_context
@@ -246,14 +287,14 @@ first_are outcome diagnostic fs others are =
     let result_field = field 0xA2 (0x02 ∷ 0x01 ∷ outcome ∷ []) in
     let diagnostic_field = field 0xA3 (0xA1 ∷ 0x03 ∷ 0x02 ∷ 0x01 ∷ diagnostic ∷ []) in
     let last = before diagnostic_field fs (diagnostic_text diagnostic) others
-        (field_spells 0xA3 (0xA1 ∷ 0x03 ∷ 0x02 ∷ 0x01 ∷ diagnostic ∷ []) (omega arith) (omega arith)
-        (omega arith)) are in
+    (field_spells 0xA3 (0xA1 ∷ 0x03 ∷ 0x02 ∷ 0x01 ∷ diagnostic ∷ []) (omega arith) (omega arith)
+    (omega arith)) are in
     let both = before result_field (diagnostic_field ∷ fs) (result_text outcome)
-        (diagnostic_text diagnostic ++ others) (field_spells 0xA2 (0x02 ∷ 0x01 ∷ outcome
-        ∷ []) (omega arith) (omega arith) (omega arith)) last in
+    (diagnostic_text diagnostic ++ others) (field_spells 0xA2 (0x02 ∷ 0x01 ∷ outcome
+    ∷ []) (omega arith) (omega arith) (omega arith)) last in
     before (field 0xA1 (tagged_text 0x06 ln_context)) (result_field ∷ diagnostic_field
-        ∷ fs) (context_text ln_context) (result_text outcome
-        ++ (diagnostic_text diagnostic ++ others))
+    ∷ fs) (context_text ln_context) (result_text outcome
+    ++ (diagnostic_text diagnostic ++ others))
     (field_spells 0xA1 (tagged_text 0x06 ln_context) (omega arith) (omega arith) (omega arith)) both
 
 -- an AARE from its numbers and its user information
@@ -267,8 +308,11 @@ info_spells outcome diagnostic Absent fit responds = record {
   is_apdu = apdu_spells 0x61 (first_fields outcome diagnostic []) (first_text outcome diagnostic [])
       (omega arith) (first_are outcome diagnostic [] [] refl);
   result_field = record { contents = 0x02 ∷ 0x01 ∷ outcome ∷ []; one = refl; holds = refl };
-  diagnostic_field = record { contents = 0xA1 ∷ 0x03 ∷ 0x02 ∷ 0x01 ∷ diagnostic ∷ []; one = refl;
-      holds = (0xA1, inl refl, refl) };
+  diagnostic_field = record {
+    contents = 0xA1 ∷ 0x03 ∷ 0x02 ∷ 0x01 ∷ diagnostic ∷ [];
+    one = refl;
+    holds = (0xA1, inl refl, refl);
+  };
   user = inl (refl, refl);
   responds = responds;
 }
@@ -278,15 +322,21 @@ info_spells outcome diagnostic (Response bits limit) fit responds = record {
       (user_fields (response_text bits limit)))
       (first_text outcome diagnostic (user_text (response_text bits limit))) (omega arith)
       (first_are outcome diagnostic (user_fields (response_text bits limit))
-          (user_text (response_text bits limit))
-          (user_are (response_text bits limit) (omega arith)));
+      (user_text (response_text bits limit))
+      (user_are (response_text bits limit) (omega arith)));
   result_field = record { contents = 0x02 ∷ 0x01 ∷ outcome ∷ []; one = refl; holds = refl };
-  diagnostic_field = record { contents = 0xA1 ∷ 0x03 ∷ 0x02 ∷ 0x01 ∷ diagnostic ∷ []; one = refl;
-      holds = (0xA1, inl refl, refl) };
+  diagnostic_field = record {
+    contents = 0xA1 ∷ 0x03 ∷ 0x02 ∷ 0x01 ∷ diagnostic ∷ [];
+    one = refl;
+    holds = (0xA1, inl refl, refl);
+  };
   user = inr (
     response_text bits limit,
-    record { contents = tagged_text 0x04 (response_text bits limit); one = refl;
-        holds = tagged_spells 0x04 (response_text bits limit) (omega arith) },
+    record {
+      contents = tagged_text 0x04 (response_text bits limit);
+      one = refl;
+      holds = tagged_spells 0x04 (response_text bits limit) (omega arith);
+    },
     response_spells bits limit fit.0 fit.1,
   );
   responds = responds;
@@ -297,15 +347,21 @@ info_spells outcome diagnostic (InitiateError error) fit responds = record {
       (user_fields (0x0E ∷ 0x01 ∷ 0x06 ∷ error ∷ [])))
       (first_text outcome diagnostic (user_text (0x0E ∷ 0x01 ∷ 0x06 ∷ error ∷ []))) (omega arith)
       (first_are outcome diagnostic (user_fields (0x0E ∷ 0x01 ∷ 0x06 ∷ error ∷ []))
-          (user_text (0x0E ∷ 0x01 ∷ 0x06 ∷ error ∷ []))
-          (user_are (0x0E ∷ 0x01 ∷ 0x06 ∷ error ∷ []) (omega arith)));
+      (user_text (0x0E ∷ 0x01 ∷ 0x06 ∷ error ∷ []))
+      (user_are (0x0E ∷ 0x01 ∷ 0x06 ∷ error ∷ []) (omega arith)));
   result_field = record { contents = 0x02 ∷ 0x01 ∷ outcome ∷ []; one = refl; holds = refl };
-  diagnostic_field = record { contents = 0xA1 ∷ 0x03 ∷ 0x02 ∷ 0x01 ∷ diagnostic ∷ []; one = refl;
-      holds = (0xA1, inl refl, refl) };
+  diagnostic_field = record {
+    contents = 0xA1 ∷ 0x03 ∷ 0x02 ∷ 0x01 ∷ diagnostic ∷ [];
+    one = refl;
+    holds = (0xA1, inl refl, refl);
+  };
   user = inr (
     0x0E ∷ 0x01 ∷ 0x06 ∷ error ∷ [],
-    record { contents = tagged_text 0x04 (0x0E ∷ 0x01 ∷ 0x06 ∷ error ∷ []); one = refl;
-        holds = tagged_spells 0x04 (0x0E ∷ 0x01 ∷ 0x06 ∷ error ∷ []) (omega arith) },
+    record {
+      contents = tagged_text 0x04 (0x0E ∷ 0x01 ∷ 0x06 ∷ error ∷ []);
+      one = refl;
+      holds = tagged_spells 0x04 (0x0E ∷ 0x01 ∷ 0x06 ∷ error ∷ []) (omega arith);
+    },
     refl,
   );
   responds = responds;

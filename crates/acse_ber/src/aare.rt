@@ -1,3 +1,6 @@
+//! The AARE, the response to an association request (IEC 62056-5-3), as a value: result, diagnostic
+//! and user information.
+
 /// The response to an association request (IEC 62056-5-3, AARE).
 #[derive(Clone, Copy, Debug, PartialEq, Eq)]
 pub struct Aare {

@@ -1,3 +1,5 @@
+//! Reads an AARE from BER: the result, the diagnostic and the user information, in any order of the
+//! fields (IEC 62056-5-3).
 ghost use Rattle.std.specs.Prelude.{◌≡◌, Ok, IfOk, option_map};
 ghost use Rattle.byte_reading.specs.Reading.{Reads};
 ghost use Rattle.acse_ber.specs.Reading.{whole, byte_behind, result_at, diagnostic_at, response_at, initiate_error_at, info_in, info_of, is_response, aare_with_diagnostic, aare_with_result, aare_in, aare_of};

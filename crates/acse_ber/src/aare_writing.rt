@@ -1,3 +1,4 @@
+//! Writes an AARE in BER (IEC 62056-5-3), with each length in its shortest form.
 ghost use Rattle.std.specs.Prelude.{◌≡◌, [], ◌∷◌, ◌++◌, IfOk, OnOk};
 ghost use Rattle.acse_ber.specs.Text.{user_text, result_text, diagnostic_text, response_text, info_text, aare_text};
 

@@ -1,3 +1,5 @@
+//! The AARQ, a client's association request (IEC 62056-5-3), as a value; its `Debug` output omits
+//! the password.
 use cosem_axdr::Octets;
 use std::fmt::{self, Debug, Formatter};
 

@@ -1,3 +1,4 @@
+//! Writes an AARQ in BER (IEC 62056-5-3), with the ACSE requirements if it names a mechanism.
 ghost use Rattle.std.specs.Prelude.{◌≡◌, ◌++◌, IfOk, OnOk};
 ghost use Rattle.acse_ber.specs.Text.{mechanism_text, password_text, aarq_body, aarq_text};
 

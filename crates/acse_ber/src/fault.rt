@@ -1,3 +1,4 @@
+//! The error of the readers of association APDUs: the bytes are not valid, or out of memory.
 ghost use Rattle.std.specs.Prelude.{◌≡◌};
 ghost use Rattle.acse_ber.specs.Numbers.{fault_number};
 ghost use Rattle.acse_ber.specs.declared.fault.AcseFault.TheVariants.{Memory};

@@ -1,3 +1,5 @@
+//! The result of judging an AARQ: accepted with the negotiated services and PDU size, or rejected
+//! with a diagnostic or an error (IEC 62056-5-3).
 use cosem_names::Level;
 
 /// A meter's decision on an AARQ.

@@ -51,11 +51,11 @@ entry_again : (entry : EntryPattern) → IsEntry entry → entry_of (entry_data 
 unfolding entry_of entry_data
 entry_again entry fits =
     ap (λ o. ok_or o Unmatched >>= with_parts)
-        (entry_parts_again (time_bytes entry.time) (date_bytes entry.date) refl
-        (five_bytes entry.date))
+    (entry_parts_again (time_bytes entry.time) (date_bytes entry.date) refl
+    (five_bytes entry.date))
     ∙ ap₂ (λ t d. ok_or (result_ok t) Value >>= λ time. ok_or (result_ok d) Value
-        >>= λ date. done WriteFault (record { time = time; date = date }))
-        (time_again entry.time fits.time) (date_again entry.date fits.date)
+    >>= λ date. done WriteFault (record { time = time; date = date }))
+    (time_again entry.time fits.time) (date_again entry.date fits.date)
 
 -- judged entries, read
 abbrev with_items : List Data → Result (List EntryPattern) WriteFault
@@ -70,7 +70,7 @@ entries_again entries fits =
     let are = all_again entry_of entry_data IsEntry entry_again entries fits.fit in
     ap (λ read. with_items read) (list_of_trees items)
     ∙ ap (λ r. (r >> guard (nat_le (length items) max_entries) Value) >> done WriteFault
-        (values entry_of items)) (told_again are)
+    (values entry_of items)) (told_again are)
     ∙ ap (λ b. guard b Value >> done WriteFault (values entry_of items)) few
     ∙ ap (λ xs. done WriteFault xs) are.are
   where
@@ -93,7 +93,7 @@ kind_written number kind is = ap (λ n. ok_or (type_of_number n) Value) is
 pub entries_written : {E : Type 0} (result : Result Data E) (written entries : List EntryPattern)
     → AreEntries entries → written ≡ entries
     → IfOk result (λ value. value ≡ entries_data written)
-        → IfOk result (λ value. entries_of value ≡ Ok entries)
+    → IfOk result (λ value. entries_of value ≡ Ok entries)
 entries_written (Ok value) written entries fits same is =
     ap entries_of is ∙ ap (λ xs. entries_of (entries_data xs)) same ∙ entries_again entries fits
 entries_written (Err error) written entries fits same is = tt
@@ -102,7 +102,7 @@ entries_written (Err error) written entries fits same is = tt
 pub reads_back : {E : Type 0} (result : Result Data E) (attribute asked : ScheduleAttribute)
     (inside schedule : Schedule) → asked ≡ attribute → inside ≡ schedule
     → IfOk result (λ value. ReadsBack attribute value inside)
-        → IfOk result (λ value. ReadsBack asked value schedule)
+    → IfOk result (λ value. ReadsBack asked value schedule)
 reads_back result attribute asked inside schedule is view back =
     subst (λ a. IfOk result (λ value. ReadsBack a value schedule)) (sym is)
-        (subst (λ s. IfOk result (λ value. ReadsBack attribute value s)) view back)
+    (subst (λ s. IfOk result (λ value. ReadsBack attribute value s)) view back)

@@ -22,7 +22,7 @@ unfolding matches_in
 found_in entry after upto s late early matched =
     let same : after + 1 + (s - (after + 1)) ≡ s = omega arith in
     some_below_found (λ k. matches entry (after + 1 + k)) (upto - after) (s - (after + 1))
-        (omega arith) (ap (λ n. matches entry n) same ∙ matched)
+    (omega arith) (ap (λ n. matches entry n) same ∙ matched)
 
 -- what is found is a second that the entry matches
 which_in : (entry : EntryPattern) (after upto : ℕ) → matches_in entry after upto ≡ true → (s : ℕ)
@@ -51,26 +51,34 @@ found_any : (entries : List EntryPattern) (after upto s : ℕ) → after < s →
 found_any [] after upto s late early e = absurd cc
 found_any (entry ∷ entries) after upto s late early e =
     either (matches entry s) (list_any (λ other. matches other s) entries) e
-        (has_match (entry ∷ entries) after upto ≡ true)
+    (has_match (entry ∷ entries) after upto ≡ true)
     (λ here. or_left (matches_in entry after upto) (has_match entries after upto)
-        (found_in entry after upto s late early here))
+    (found_in entry after upto s late early here))
     (λ there. or_right (matches_in entry after upto) (has_match entries after upto)
-        (found_any entries after upto s late early there))
+    (found_any entries after upto s late early there))
 
 which_any : (entries : List EntryPattern) (after upto : ℕ) → has_match entries after upto ≡ true
     → Matched entries after upto
 which_any [] after upto e = absurd cc
 which_any (entry ∷ entries) after upto e =
     either (matches_in entry after upto) (has_match entries after upto) e
-        (Matched (entry ∷ entries) after upto)
+    (Matched (entry ∷ entries) after upto)
     (λ here. let w = which_in entry after upto here in
-    record { second = w.0; late = w.1.0; early = w.1.1.0;
-        matched = or_left (matches entry w.0)
-        (list_any (λ other. matches other w.0) entries) w.1.1.1 })
+    record {
+      second = w.0;
+      late = w.1.0;
+      early = w.1.1.0;
+      matched = or_left (matches entry w.0)
+          (list_any (λ other. matches other w.0) entries) w.1.1.1;
+    })
     (λ there. let w = which_any entries after upto there in
-    record { second = w.second; late = w.late; early = w.early;
-        matched = or_right (matches entry w.second)
-        (list_any (λ other. matches other w.second) entries) w.matched })
+    record {
+      second = w.second;
+      late = w.late;
+      early = w.early;
+      matched = or_right (matches entry w.second)
+          (list_any (λ other. matches other w.second) entries) w.matched;
+    })
 
 both : (a b : Bool) → a && b ≡ true → (a ≡ true) × (b ≡ true)
 both true b e = (refl, e)
@@ -85,10 +93,15 @@ due_means schedule previous now answer is = (there, back)
     there : IsTrue answer → IsDue schedule previous now
     there holds =
         let halves = both (fits schedule) (has_match schedule.entries (window_start previous now)
-            now) (sym is ∙ holds) in
+        now) (sym is ∙ holds) in
         let w = which_any schedule.entries (window_start previous now) now halves.1 in
-        record { fit = halves.0; second = w.second; late = w.late; early = w.early;
-            matched = w.matched }
+        record {
+          fit = halves.0;
+          second = w.second;
+          late = w.late;
+          early = w.early;
+          matched = w.matched;
+        }
 
     back : IsDue schedule previous now → IsTrue answer
     back due = is ∙ ap₂ (λ a b. a && b) due.fit

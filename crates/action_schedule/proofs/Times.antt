@@ -40,14 +40,16 @@ same_time_is r t u tells = one_test r (is_same_time t u) there back
     there e =
         let same = tells.0 e in
         ap₂ (λ a b. a && b) (same_field t.hour u.hour same.0.0)
-            (ap₂ (λ a b. a && b) (same_field t.minute u.minute same.0.1)
-            (same_field t.second u.second same.1))
+        (ap₂ (λ a b. a && b) (same_field t.minute u.minute same.0.1)
+        (same_field t.second u.second same.1))
 
     back : is_same_time t u ≡ true → r ≡ true
     back e =
         let first = both (is_same_field t.hour u.hour) (is_same_field t.minute u.minute
-            && is_same_field t.second u.second) e in
+        && is_same_field t.second u.second) e in
         let rest = both (is_same_field t.minute u.minute) (is_same_field t.second u.second) first.1
-            in
-        tells.1 ((field_same t.hour u.hour first.0, field_same t.minute u.minute rest.0),
-            field_same t.second u.second rest.1)
+        in
+        tells.1 (
+          (field_same t.hour u.hour first.0, field_same t.minute u.minute rest.0),
+          field_same t.second u.second rest.1,
+        )

@@ -1,3 +1,4 @@
+//! Attributes 2 to 4 of a single action schedule (IEC 62056-6-2, class 22) and their numbers.
 ghost use Rattle.std.specs.Prelude.{◌≡◌};
 ghost use Rattle.action_schedule.specs.Attributes.{attribute_numbered};
 

@@ -1,3 +1,5 @@
+//! Checks that entries are allowed for a type of schedule, and finds whether one matches in an
+//! interval (IEC 62056-6-2, class 22, type and execution_time).
 ghost use Rattle.std.specs.Prelude.{◌≡◌};
 ghost use Rattle.std.specs.List.{list_all};
 ghost use Rattle.action_schedule.specs.Fitting.{is_same_time, have_one_time, have_plain_dates, fits_type, has_match, window_start};

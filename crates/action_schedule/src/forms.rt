@@ -1,3 +1,5 @@
+//! The structure of an entry of execution_time, a time and a date (IEC 62056-6-2, class 22), taken
+//! from Data.
 ghost use Rattle.std.specs.Prelude.{◌≡◌, option_map};
 ghost use Rattle.action_schedule.specs.Forms.{entry_parts_of};
 

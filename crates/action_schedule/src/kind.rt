@@ -1,3 +1,4 @@
+//! The five types of a single action schedule (IEC 62056-6-2, class 22, type) and their numbers.
 ghost use Rattle.std.specs.Prelude.{◌≡◌};
 ghost use Rattle.action_schedule.specs.Kinds.{number_of, type_of_number};
 

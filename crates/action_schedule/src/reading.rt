@@ -1,3 +1,5 @@
+//! Validates and reads the Data that a client writes to executed_script, type and execution_time
+//! (IEC 62056-6-2, class 22).
 ghost use Rattle.std.specs.Prelude.{◌≡◌, ◌≤◌, length, IfOk, IsErrOf};
 ghost use Rattle.std.specs.List.{All, list_any};
 ghost use Rattle.cosem_names.specs.WriteFault.{values};

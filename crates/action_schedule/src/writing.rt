@@ -1,3 +1,5 @@
+//! Converts executed_script and execution_time to the Data that a client reads (IEC 62056-6-2,
+//! class 22).
 ghost use Rattle.std.specs.Prelude.{◌≡◌, IfOk};
 ghost use Rattle.cosem_names.specs.Scripts.{script_data, script_at};
 ghost use Rattle.action_schedule.specs.Writing.{entry_data, entries_data};

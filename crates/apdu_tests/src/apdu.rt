@@ -1,3 +1,5 @@
+//! Requests and responses in every form, each read from its bytes and written back; bytes that end
+//! too early or too late are refused.
 use cosem_axdr::{Data, Octets};
 use cosem_names::{AttrRef, AttributeSelection, ClassId, GetResult, MethodRef, Obis, ResultCode};
 use listed::Listed;

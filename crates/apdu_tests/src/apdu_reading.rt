@@ -1,3 +1,4 @@
+//! The fault of each invalid request or response, and encodings that are read but never written.
 use crate::apdu::{
     GET, GET_SELECTED, GOT, SET_LAST_BLOCK, is_text_of_request, request_fault, request_of,
     response_fault,

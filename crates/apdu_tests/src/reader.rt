@@ -1,3 +1,5 @@
+//! Tests of the byte cursor: its order, the fault that its caller passes, and values that are
+//! dropped on an error.
 use byte_reading::{Cursor, and_keep};
 use std::process::Abort;
 use xdlms_apdu::ApduFault;

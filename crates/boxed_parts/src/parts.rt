@@ -1,3 +1,4 @@
+//! `BoxParts`: the pointer and the allocator of a box, as fields of a struct that C can hold.
 ghost use Rattle.std.specs.Prelude.{◌≡◌};
 ghost use Rattle.std_alloc.specs.Box.Ownership.{box_owns};
 

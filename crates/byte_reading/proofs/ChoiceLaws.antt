@@ -158,7 +158,7 @@ keyed_again : {T F A : Type 0} (IsToken : T → Type 0) (same : T → T → Bool
     → (c : Choice T F A) → is_distinct same c ≡ true → AreLawful IsToken c
     → (p : Parts c) (token : T) (text rest : List T)
     → KeyedSpells c p (token ∷ text) → keyed_read same c token (text ++ rest)
-        ≡ Ok (value_of c p, rest)
+    ≡ Ok (value_of c p, rest)
 keyed_again IsToken same equality (otherwise fault) distinct lawful p token text rest s = absurd p
 keyed_again IsToken same equality (on key part make others) distinct lawful (inl x) token text rest
     s = let t = tag_is token key text s in

@@ -1,3 +1,4 @@
+//! `and_keep`, which readers use instead of `?` after they have read an owned value.
 ghost use Rattle.std.specs.Prelude.{◌≡◌, Ok, Err, IfOk, IfErr};
 
 /// Pairs `before` with a successful `next`; on an error drops `before` and returns the error.

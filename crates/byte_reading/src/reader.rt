@@ -1,3 +1,5 @@
+//! `Cursor`: reads bytes, slices and arrays from left to right, and fails with the fault that its
+//! caller passes.
 ghost use Rattle.std.specs.Prelude.{◌≡◌, ◌↔◌, [], Ok, length, IfOk, IsTrue};
 ghost use Rattle.byte_reading.specs.Reading.{Reads, whole_or, first_byte, first_bytes};
 

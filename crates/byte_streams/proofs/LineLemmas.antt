@@ -19,8 +19,12 @@ pub record ReadsPart (left : Option (List ℕ)) (line : List ℕ) (left' : Optio
   pub inside : All (λ byte. byte ≢ 10) bytes
 
 pub no_part : (left : Option (List ℕ)) (line : List ℕ) → ReadsPart left line left line
-no_part left line = record { bytes = []; added = sym (append-nil line); read = Consumes-nil left;
-    inside = λ k d below. absurd (omega (arith, below)) }
+no_part left line = record {
+  bytes = [];
+  added = sym (append-nil line);
+  read = Consumes-nil left;
+  inside = λ k d below. absurd (omega (arith, below));
+}
 
 -- a Boolean is not both true and false
 pub one_answer : (b : Bool) → b ≡ true → b ≡ false → ⊥
@@ -47,16 +51,20 @@ part_more left one left' line mid line' is_done part piece not_done = record {
 pub line_done : (left one left' : Option (List ℕ)) (line mid line' : List ℕ) (is_done : Bool)
     (count : ℕ) → ReadsPart left line one mid
     → AddsPiece one mid is_done left' line' → is_done ≡ true → count ≡ length line' - length line
-        → ReadsLine left line count left' line'
+    → ReadsLine left line count left' line'
 line_done left one left' line mid line' is_done count part piece done counted =
     let through = Consumes_through 10 left one left' part.bytes piece.piece part.read part.inside
-        piece.read piece.stops (piece.ends done) (piece.at_end done) in
+    piece.read piece.stops (piece.ends done) (piece.at_end done) in
     let grown = added_on line mid line' part.bytes piece.piece part.added piece.added in record {
       bytes = part.bytes ++ piece.piece;
       added = grown;
       read = Consumes-trans left one left' part.bytes piece.piece part.read piece.read;
-      counted = omega (arith, counted, ap (λ (xs : List ℕ). length xs) grown,
-          length-append line (part.bytes ++ piece.piece));
+      counted = omega (
+        arith,
+        counted,
+        ap (λ (xs : List ℕ). length xs) grown,
+        length-append line (part.bytes ++ piece.piece),
+      );
       through = through.0;
       rest = through.1;
     }
@@ -77,15 +85,21 @@ line_long (x ∷ xs) rest stops =
     let front = take (length bytes - 1) bytes in
     let last = get_or bytes (length bytes - 1) 0 in
     let split : bytes ≡ front ++ last ∷ [] = sym
-        (take_all (length bytes - 1 + 1) bytes (omega arith))
-        ∙ take_more bytes (length bytes - 1) 0 (omega arith) in
+    (take_all (length bytes - 1 + 1) bytes (omega arith))
+    ∙ take_more bytes (length bytes - 1) 0 (omega arith) in
     let joined : bytes ++ rest ≡ front ++ last ∷ rest = ap (λ (l : List ℕ). l ++ rest) split
-        ∙ append_assoc front (last ∷ []) rest in
+    ∙ append_assoc front (last ∷ []) rest in
     let taken : take_through 10 (bytes ++ rest) ≡ front ++ take_through 10 (last ∷ rest) =
-        ap (take_through 10) joined ∙ take_through-append 10 front (last ∷ rest) stops in
+    ap (take_through 10) joined ∙ take_through-append 10 front (last ∷ rest) stops in
     let one : 0 < length (take_through 10 (last ∷ rest)) = one_at_least last rest (last == 10) in
-    omega (arith, ap (λ (l : List ℕ). length l) split, ap (λ (l : List ℕ). length l) taken,
-        length-append front (last ∷ []), length-append front (take_through 10 (last ∷ rest)), one)
+    omega (
+      arith,
+      ap (λ (l : List ℕ). length l) split,
+      ap (λ (l : List ℕ). length l) taken,
+      length-append front (last ∷ []),
+      length-append front (take_through 10 (last ∷ rest)),
+      one,
+    )
 
 long_by : (left left' : Option (List ℕ)) (bytes : List ℕ) (limit so_far : ℕ)
     → Consumes left left' bytes → StopsAt bytes 10 → limit < so_far + length bytes
@@ -94,16 +108,16 @@ long_by None left' bytes limit so_far read stops over = tt
 long_by (Some all) None bytes limit so_far read stops over = absurd read
 long_by (Some all) (Some rest) bytes limit so_far read stops over =
     subst (λ (l : List ℕ). limit < so_far + length (take_through 10 l)) (sym read)
-        (omega (arith, over, line_long bytes rest stops))
+    (omega (arith, over, line_long bytes rest stops))
 
 pub too_long : (left one left' : Option (List ℕ)) (line mid line' : List ℕ) (is_done : Bool)
     (limit : ℕ) → ReadsPart left line one mid
     → AddsPiece one mid is_done left' line' → limit < length line'
-        → IfSome left (λ all. limit < length line + length (take_through 10 all))
+    → IfSome left (λ all. limit < length line + length (take_through 10 all))
 too_long left one left' line mid line' is_done limit part piece over =
     let bytes = part.bytes ++ piece.piece in
     let grown = added_on line mid line' part.bytes piece.piece part.added piece.added in
     long_by left left' bytes limit (length line)
-        (Consumes-trans left one left' part.bytes piece.piece part.read piece.read)
-        (StopsAt-append part.bytes piece.piece 10 part.inside piece.stops)
+    (Consumes-trans left one left' part.bytes piece.piece part.read piece.read)
+    (StopsAt-append part.bytes piece.piece 10 part.inside piece.stops)
     (omega (arith, over, ap (λ (xs : List ℕ). length xs) grown, length-append line bytes))

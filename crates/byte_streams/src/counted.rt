@@ -1,3 +1,5 @@
+//! `Counted`: a stream of `std` as a `Reader` or `Writer`, with its reads counted and interrupted
+//! reads retried.
 ghost use Rattle.std.specs.Prelude.{◌≡◌, ◌↔◌, IsTrue};
 ghost use Rattle.std.specs.Io.{ReadsAtMost};
 ghost use Rattle.std.specs.Io.KnownBytes.{ReadConsumes};

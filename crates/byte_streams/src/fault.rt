@@ -1,3 +1,4 @@
+//! The errors of streams and of inputs: a failed read or write, too many bytes, or out of memory.
 ghost use Rattle.std.specs.Prelude.{◌≡◌};
 ghost use Rattle.byte_streams.specs.declared.fault.InputFault.TheVariants as input_fault;
 

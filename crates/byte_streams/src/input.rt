@@ -1,3 +1,4 @@
+//! Reads an input to its end, up to a limit of bytes.
 ghost use Rattle.std.specs.Prelude.{◌≡◌, ◌<◌, ◌≤◌, ◌^◌, length, IfOk, IfErr};
 ghost use Rattle.std.specs.Io.KnownBytes.{Consumes, IsAtEnd};
 ghost use Rattle.byte_streams.specs.Input.{StopsReading};

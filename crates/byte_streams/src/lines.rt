@@ -1,3 +1,4 @@
+//! Reads one line of a buffered input, up to a limit of bytes.
 ghost use Rattle.std.specs.Prelude.{◌≡◌, ◌≢◌, ◌-◌, ◌<◌, ◌≤◌, ◌^◌, All, length, take, true, IfErr, IfOk, IsErrOf};
 ghost use Rattle.byte_streams.specs.Lines.{AddsPiece, IsLineFault, ReadsLine, has_failed_in, left_in};
 

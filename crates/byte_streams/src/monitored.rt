@@ -1,3 +1,5 @@
+//! `Monitored`: a stream of `std` that records a failed read, so that contracts see it through a
+//! `BufReader`.
 ghost use Rattle.std.specs.Prelude.{◌≡◌, false, true, OnErr, OnOk};
 ghost use Rattle.std.specs.Io.{ReadsAtMost};
 ghost use Rattle.std.specs.Io.KnownBytes.{ReadConsumes};

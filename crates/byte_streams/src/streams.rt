@@ -1,3 +1,5 @@
+//! The traits `Reader` and `Writer`, which contracts see by their bytes and their numbers of reads
+//! and failures.
 ghost use Rattle.std.specs.Prelude.{◌≡◌, ◌<◌, ◌+◌, ℕ, List, Option, None, ⊤, OnOk, OnErr};
 ghost use Rattle.std.specs.Io.{ReadsAtMost};
 ghost use Rattle.std.specs.Io.KnownBytes.{ReadConsumes, Appends};

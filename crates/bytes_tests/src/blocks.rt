@@ -1,3 +1,5 @@
+//! Block transfers: long texts cut into blocks and joined again, wrong block numbers, the limit of
+//! 8,192 bytes, and running out of memory.
 use octets::Octets;
 use std::alloc::{AllocError, Global};
 use std::process::Abort;

@@ -1,3 +1,5 @@
+//! Tests of streams of `std` that fail or are interrupted at a given call, and of inputs that are
+//! too long.
 ghost use Rattle.std.specs.Prelude.{◌≡◌, false};
 
 use byte_streams::{Counted, InputFault, Reader, StreamFault, Writer, read_to_end_within};

@@ -1,3 +1,5 @@
+//! Wrapper frames (IEC 62056-4-7) cut at every byte, wrong headers, every length of payload, and
+//! running out of memory.
 use std::alloc::Global;
 use std::process::Abort;
 use std::test::Fail;

@@ -1,3 +1,4 @@
+//! Lines that are read from an input: at the end, over the limit, and after a failed read.
 ghost use Rattle.std.specs.Prelude.{◌<◌, ◌^◌};
 
 use byte_streams::{InputFault, Monitored, read_line_within};

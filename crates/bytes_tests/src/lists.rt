@@ -1,3 +1,4 @@
+//! Items that are added to a `Listed` keep their order.
 use listed::Listed;
 use std::process::Abort;
 use std::test::Fail;

@@ -141,7 +141,7 @@ module _ (verb : Verb) (password : List ℕ) where
       let same : log ≡ conversed.log = let is = conversed.log_is in cc in
       subst IsInOrder (sym same)
       (goes_in_order (is_some outcome) [] conversed.log conversed.conversation
-          (nothing_sent [] refl))
+      (nothing_sent [] refl))
 
   -- a new client over a new connection sends in order
   pub sent_in_order : {E : Type 0} (client : Client) (before after : List Happening)

@@ -1,3 +1,5 @@
+//! Campaigns over scripted connections: the same report for several numbers of workers, lines in
+//! the order of the jobs, and calls of the watcher.
 ghost use Rattle.std.specs.Prelude.{◌≤◌, length, IfOk};
 ghost use Rattle.acse_ber.specs.Password.{IsPassword};
 ghost use Rattle.head_end.specs.Rows.{AreLines};

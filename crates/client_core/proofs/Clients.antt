@@ -32,23 +32,23 @@ heard_stands : (verb : Verb) (password fed bytes : List ℕ) (given : ℕ) (old 
     → Stands verb password fed given false old
     → Hears verb old.progress (old.deframer ++ bytes) new.progress new.deframer
     → new.verb ≡ old.verb → new.is_ended ≡ old.is_ended → new.aarq ≡ old.aarq → new.request
-        ≡ old.request → new.release ≡ old.release
+    ≡ old.request → new.release ≡ old.release
     → Stands verb password (fed ++ bytes) given false new
 heard_stands verb password fed bytes given old new s h verb_is ended_is aarq_is request_is
     release_is = record {
-  verb_is = verb_is ∙ s.verb_is;
-  now =
-      sym h.here ∙ ap (after_bytes verb new.progress) (sym (append-nil new.deframer))
+      verb_is = verb_is ∙ s.verb_is;
+      now =
+          sym h.here ∙ ap (after_bytes verb new.progress) (sym (append-nil new.deframer))
           ∙ sym (h.moves.on []) ∙ ap (after_bytes verb old.progress)
           (append-nil (old.deframer ++ bytes))
-      ∙ sym (s.later bytes);
-  later = λ more.
-      ap (progress_of verb) (append_assoc fed bytes more) ∙ s.later (bytes ++ more)
-      ∙ ap (after_bytes verb old.progress) (sym (append_assoc old.deframer bytes more))
+          ∙ sym (s.later bytes);
+      later = λ more.
+          ap (progress_of verb) (append_assoc fed bytes more) ∙ s.later (bytes ++ more)
+          ∙ ap (after_bytes verb old.progress) (sym (append_assoc old.deframer bytes more))
           ∙ h.moves.on more;
-  left = rw (aarq_is, request_is, release_is) s.left;
-  over_is = ended_is ∙ s.over_is;
-}
+      left = rw (aarq_is, request_is, release_is) s.left;
+      over_is = ended_is ∙ s.over_is;
+    }
 
 -- bytes after the outcome is settled change nothing
 settled_stands : (verb : Verb) (password fed bytes : List ℕ) (given : ℕ) (over : Bool) (c : Client)
@@ -60,7 +60,7 @@ settled_stands verb password fed bytes given over c outcome s is = record {
   later = λ more.
       ap (progress_of verb) (append_assoc fed bytes more) ∙ s.later (bytes ++ more)
       ∙ goes_settled verb c.progress outcome (c.deframer ++ (bytes ++ more)) is
-          ∙ sym (goes_settled verb c.progress outcome (c.deframer ++ more) is);
+      ∙ sym (goes_settled verb c.progress outcome (c.deframer ++ more) is);
   left = s.left;
   over_is = s.over_is;
 }
@@ -69,12 +69,12 @@ settled_stands verb password fed bytes given over c outcome s is = record {
 stays_settled : (verb : Verb) (password fed : List ℕ) (given : ℕ) (over : Bool) (c : Client)
     → Stands verb password fed given over c
     → (outcome : Outcome) → outcome_after verb fed ≡ Some outcome → (more : List ℕ)
-        → outcome_of verb (fed ++ more) ≡ outcome
+    → outcome_of verb (fed ++ more) ≡ outcome
 unfolding outcome_of
 stays_settled verb password fed given over c s outcome is more =
     let here : c.progress.outcome ≡ Some outcome = ap (λ (p : Progress). p.outcome) s.now ∙ is in
     ap (λ (p : Progress). unwrap_or p.outcome Unknown) (s.later more
-        ∙ goes_settled verb c.progress outcome (c.deframer ++ more) here)
+    ∙ goes_settled verb c.progress outcome (c.deframer ++ more) here)
     ∙ ap (λ (o : Option Outcome). unwrap_or o Unknown) here
 
 -- a call of feed on a client whose connection is over
@@ -98,7 +98,7 @@ some_outcome None is = absurd cc
 fed_settled : (verb : Verb) (password fed bytes : List ℕ) (given : ℕ) (over : Bool) (c : Client)
     (outcome : Outcome) → Stands verb password fed given over c
     → c.progress.outcome ≡ Some outcome → Stands verb password (if over then fed else fed
-        ++ bytes) given over c
+    ++ bytes) given over c
 fed_settled verb password fed bytes given true c outcome s is = s
 fed_settled verb password fed bytes given false c outcome s is =
     settled_stands verb password fed bytes given false c outcome s is
@@ -114,20 +114,22 @@ feeds_settled c bytes some = record {
 fed_heard : (verb : Verb) (password fed bytes : List ℕ) (given : ℕ) (over : Bool) (old : Client)
     (progress : Progress) (deframer : List ℕ)
     → Hears old.verb old.progress (old.deframer ++ bytes) progress deframer → over ≡ false
-        → Stands verb password fed given over old
+    → Stands verb password fed given over old
     → Stands verb password (if over then fed else fed ++ bytes) given over
-        (record old { progress = progress; deframer = deframer })
+    (record old { progress = progress; deframer = deframer })
 fed_heard verb password fed bytes given true old progress deframer hears is s = absurd cc
 fed_heard verb password fed bytes given false old progress deframer hears is s =
     heard_stands verb password fed bytes given old
-        (record old { progress = progress; deframer = deframer }) s
+    (record old { progress = progress; deframer = deframer }) s
     (subst (λ (v : Verb). Hears v old.progress (old.deframer ++ bytes) progress deframer) s.verb_is
-        hears) refl refl refl refl refl
+    hears) refl refl refl refl refl
 
 pub feeds_heard : (old : Client) (bytes : List ℕ) (progress : Progress) (deframer : List ℕ)
     → Hears old.verb old.progress (old.deframer ++ bytes) progress deframer
-    → old.is_ended ≡ false → Feeds old bytes (record old { progress = progress;
-        deframer = deframer })
+    → old.is_ended ≡ false → Feeds old bytes (record old {
+      progress = progress;
+      deframer = deframer;
+    })
 feeds_heard old bytes progress deframer hears open_still = record {
   stands = λ verb password fed given ended s. fed_heard verb password fed bytes given ended old
       progress deframer hears (sym s.over_is ∙ open_still) s;
@@ -137,7 +139,7 @@ feeds_heard old bytes progress deframer hears open_still = record {
 told_ended : (verb : Verb) (fed : List ℕ) (over : Bool) (p : Progress) → over ≡ true → p
     ≡ progress_of verb fed
     → Some (unwrap_or p.outcome Unknown) ≡ (if over then Some
-        (outcome_of verb fed) else outcome_after verb fed)
+    (outcome_of verb fed) else outcome_after verb fed)
 unfolding outcome_of
 told_ended verb fed true p is now = ap (λ (q : Progress). Some (unwrap_or q.outcome Unknown)) now
 told_ended verb fed false p is now = absurd cc

@@ -51,7 +51,7 @@ opening_answered verb p later (inl is) = ap (λ (q : Progress). with_answer verb
     ∙ asking_answered verb later ∙ sym (ap (λ (q : Progress). after_all verb q later) is)
 opening_answered verb p later (inr (outcome, is)) =
     ap (λ (q : Progress). with_answer verb q later) is ∙ settled_answered verb outcome later
-        ∙ sym (ap (λ (q : Progress). after_all verb q later) is)
+    ∙ sym (ap (λ (q : Progress). after_all verb q later) is)
 
 -- the two interpretations are equal
 pub said_all : (verb : Verb) (payloads : List (List ℕ)) → said verb payloads

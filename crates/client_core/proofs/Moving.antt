@@ -47,7 +47,7 @@ settled_goes : (verb : Verb) (accepted : Bool) (outcome : Outcome) (bytes : List
 settled_goes verb accepted outcome bytes =
     goes_does verb (with_outcome accepted outcome) bytes
     ∙ ap (λ (p : Progress). ended_by p (head_of (rest_of bytes)))
-        (all_settled verb accepted outcome (payloads_of (frames_of bytes)))
+    (all_settled verb accepted outcome (payloads_of (frames_of bytes)))
     ∙ ended_settled accepted outcome (head_of (rest_of bytes))
 
 -- a progress with this outcome
@@ -59,15 +59,15 @@ pub goes_settled : (verb : Verb) (p : Progress) (outcome : Outcome) (bytes : Lis
     ≡ Some outcome → after_bytes verb p bytes ≡ p
 goes_settled verb p outcome bytes is =
     let same : with_outcome p.accepted outcome ≡ p =
-        ap (λ (o : Option Outcome). outcome_as p o) (sym is) in
+    ap (λ (o : Option Outcome). outcome_as p o) (sym is) in
     subst (λ (q : Progress). after_bytes verb q bytes ≡ q) same
-        (settled_goes verb p.accepted outcome bytes)
+    (settled_goes verb p.accepted outcome bytes)
 
 -- ---- one more frame
 
 frame_cases : (ours : Bool) (verb : Verb) (p : Progress) (payload : List ℕ) (later : List (List ℕ))
     → after_all verb p (if ours then payload ∷ later else later)
-        ≡ after_all verb (if ours then after verb p payload else p) later
+    ≡ after_all verb (if ours then after verb p payload else p) later
 frame_cases true verb p payload later = refl
 frame_cases false verb p payload later = refl
 
@@ -78,12 +78,12 @@ moves_frame verb p old frame new goes_on = record {
   on = λ more.
       goes_does verb p (old ++ more)
       ∙ ap (λ (frames : List Frame). does verb p frames (head_of (rest_of (old ++ more))))
-          (goes_on.frames more)
+      (goes_on.frames more)
       ∙ ap (λ (rest : List ℕ). does verb p (frame ∷ frames_of (new ++ more)) (head_of rest))
-          (goes_on.rest more)
+      (goes_on.rest more)
       ∙ ap (λ (q : Progress). ended_by q (head_of (rest_of (new ++ more))))
       (frame_cases (frame.src == 1 && frame.dst == 1) verb p frame.payload
-          (payloads_of (frames_of (new ++ more))))
+      (payloads_of (frames_of (new ++ more))))
       ∙ sym (goes_does verb (after_frame verb p frame) (new ++ more));
 }
 
@@ -119,7 +119,7 @@ stops_goes : (verb : Verb) (p : Progress) (front : Head) (bytes more : List ℕ)
 stops_goes verb p front bytes more stops =
     goes_does verb p (bytes ++ more)
     ∙ ap (λ (frames : List Frame). does verb p frames (head_of (rest_of (bytes ++ more))))
-        (stops.frames more)
+    (stops.frames more)
     ∙ ap (λ (rest : List ℕ). does verb p [] (head_of rest)) (stops.rest more)
     ∙ ap (λ (at : Head). does verb p [] at) (stops.heads more)
 
@@ -133,8 +133,10 @@ unknown_goes verb p bytes = goes_settled verb (or_unknown p)
 hears_front : (verb : Verb) (p : Progress) (front : Head) (bytes kept : List ℕ) → Stops front bytes
     → ended_by p front ≡ or_unknown p → Hears verb p bytes (or_unknown p) kept
 hears_front verb p front bytes kept stops ends = record {
-  moves = record { on = λ more. stops_goes verb p front bytes more stops ∙ ends
-      ∙ sym (unknown_goes verb p (kept ++ more)) };
+  moves = record {
+    on = λ more. stops_goes verb p front bytes more stops ∙ ends
+        ∙ sym (unknown_goes verb p (kept ++ more));
+  };
   here = unknown_goes verb p kept;
 }
 
@@ -147,17 +149,17 @@ hears_after verb first old p bytes q kept moves hears = record
 pub hears_version : (verb : Verb) (first : Progress) (old : List ℕ) (p : Progress)
     (bytes kept : List ℕ)
     → Moves verb first old p bytes → Stops BadVersion bytes
-        → Hears verb first old (or_unknown p) kept
+    → Hears verb first old (or_unknown p) kept
 hears_version verb first old p bytes kept moves stops =
     hears_after verb first old p bytes (or_unknown p) kept moves
-        (hears_front verb p BadVersion bytes kept stops refl)
+    (hears_front verb p BadVersion bytes kept stops refl)
 
 pub hears_long : (verb : Verb) (first : Progress) (old : List ℕ) (p : Progress)
     (bytes kept : List ℕ)
     → Moves verb first old p bytes → Stops TooLong bytes → Hears verb first old (or_unknown p) kept
 hears_long verb first old p bytes kept moves stops =
     hears_after verb first old p bytes (or_unknown p) kept moves
-        (hears_front verb p TooLong bytes kept stops refl)
+    (hears_front verb p TooLong bytes kept stops refl)
 
 -- bytes after a wrong header change nothing
 more_stops : (front : Head) (bytes more : List ℕ) → Stops front bytes → Stops front (bytes ++ more)

@@ -20,16 +20,16 @@ password_written : (password : List ℕ) → length password ≤ 32 → password
 password_written password short =
     ap (tagged_text 0xAC) (short_tagged 0x80 (length password) password refl (omega arith))
     ∙ short_tagged 0xAC (2 + length password) (0x80 ∷ length password ∷ password) (omega arith)
-        (omega arith)
+    (omega arith)
 
 body_written : (password : List ℕ) → length password ≤ 32
     → aarq_body (low_level_aarq password 0x1C19 1024) ≡ opening_fields
-        ++ (0xAC ∷ (2 + length password) ∷ 0x80 ∷ length password ∷ (password ++ initiate_field))
+    ++ (0xAC ∷ (2 + length password) ∷ 0x80 ∷ length password ∷ (password ++ initiate_field))
 unfolding low_level_aarq
 body_written password short =
     ap (λ (text : List ℕ). context_text ln_context
-        ++ (mechanism_text low_level ++ (text ++ user_text (request_text 0x1C19 1024))))
-        (password_written password short)
+    ++ (mechanism_text low_level ++ (text ++ user_text (request_text 0x1C19 1024))))
+    (password_written password short)
 
 -- an AARQ has at most 80 bytes
 pub aarq_short : (password : List ℕ) → length password ≤ 32 → length (aarq_payload password) ≤ 1024
@@ -42,5 +42,5 @@ unfolding aarq_text
 aarq_written password short =
     ap (tagged_text 0x60) (body_written password short)
     ∙ short_tagged 0x60 (46 + length password) (opening_fields
-        ++ (0xAC ∷ (2 + length password) ∷ 0x80 ∷ length password ∷ (password ++ initiate_field)))
+    ++ (0xAC ∷ (2 + length password) ∷ 0x80 ∷ length password ∷ (password ++ initiate_field)))
     (omega (arith, length-append password initiate_field)) (omega arith)

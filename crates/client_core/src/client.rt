@@ -1,3 +1,5 @@
+//! The client's state machine for one job: it returns the messages to send, takes the meter's
+//! bytes, and returns the outcome.
 ghost use Rattle.std.specs.Prelude.{◌≡◌, [], false, IfOk, OnOk, OnErr};
 ghost use Rattle.acse_ber.specs.Password.{IsPassword};
 ghost use Rattle.client_core.specs.Outcomes.{is_served};

@@ -1,3 +1,5 @@
+//! A job: what a client asks of a meter's disconnect control (IEC 62056-6-2, class 70), and the
+//! possible outcomes.
 use cosem_axdr::Octets;
 
 /// A request to a meter's disconnect control, logical name 0.0.96.3.10.255 (IEC 62056-6-2, class

@@ -1,3 +1,5 @@
+//! The progress of a job: whether the association is open, and the outcome once the responses
+//! settle it.
 use crate::job::Outcome;
 
 /// The progress of a job according to the responses received.

@@ -28,8 +28,10 @@ place_of bytes room = record { bytes = bytes; room = room }
 -- the first part of a text is taken
 Takes-first : (old : Place) (x y : List ℕ) (new : Place) → Takes old (x ++ y) new
     → Takes old x (between y new)
-Takes-first old x y new t = record { bytes = t.bytes ∙ append_assoc x y new.bytes;
-    room = omega (arith, t.room, length-append x y) }
+Takes-first old x y new t = record {
+  bytes = t.bytes ∙ append_assoc x y new.bytes;
+  room = omega (arith, t.room, length-append x y);
+}
 
 -- then the second part is taken
 Takes-second : (y : List ℕ) (new : Place) → Takes (between y new) y new
@@ -50,7 +52,7 @@ bytes_again : (n : ℕ) (text : List ℕ) (old new : Place) → Takes old text n
     → bytes_at n old ≡ Ok (text, new)
 bytes_again n text old new t len =
     let total : length old.bytes ≡ length text + length new.bytes =
-        ap (λ (bs : List ℕ). length bs) t.bytes ∙ length-append text new.bytes in
+    ap (λ (bs : List ℕ). length bs) t.bytes ∙ length-append text new.bytes in
     let room : nat_le n old.room ≡ true = le-leb n old.room (omega (arith, t.room)) in
     let long : nat_le n (length old.bytes) ≡ true = le-leb n (length old.bytes) (omega arith) in
     let front : take n old.bytes ≡ text = ap (take n) t.bytes ∙ take_at text new.bytes n len in
@@ -67,18 +69,18 @@ unfolding length_at
 length_again [] n old new t none = absurd none
 length_again (first ∷ bytes) n old new t (inl h) =
     let alone : Takes old (first ∷ []) new = subst (λ (bs : List ℕ). Takes old (first ∷ bs) new) h.1
-        t in
+    t in
     let short : nat_lt first 0x80 ≡ true = lt-ltb first 0x80 h.0 in
     rw (byte_again first old new alone, short) (ap (λ (m : ℕ). read m new) (sym h.2))
 length_again (first ∷ bytes) n old new t (inr h) =
     let not_short : nat_lt first 0x80 ≡ false = le-ltb first 0x80 (omega (arith, h.0)) in
     let form : (nat_lt 0x80 first && nat_le first 0x84) ≡ true =
-        and_from _ _ (lt-ltb 0x80 first (omega (arith, h.0))) (le-leb first 0x84 h.1) in
+    and_from _ _ (lt-ltb 0x80 first (omega (arith, h.0))) (le-leb first 0x84 h.1) in
     let tag : byte_at old ≡ Ok (first, between bytes new) =
-        byte_again first old (between bytes new) (Takes-first old (first ∷ []) bytes new t) in
+    byte_again first old (between bytes new) (Takes-first old (first ∷ []) bytes new t) in
     let those : bytes_at (first - 0x80) (between bytes new)
-        ≡ Ok (bytes, new) = bytes_again (first - 0x80) bytes (between bytes new) new
-        (Takes-second bytes new) (omega (arith, h.2)) in
+    ≡ Ok (bytes, new) = bytes_again (first - 0x80) bytes (between bytes new) new
+    (Takes-second bytes new) (omega (arith, h.2)) in
     rw (tag, not_short, form, those) (ap (λ (m : ℕ). read m new) (sym h.3))
 
 string_again : (text bytes : List ℕ) (old new : Place) → Takes old text new → IsString text bytes
@@ -86,10 +88,12 @@ string_again : (text bytes : List ℕ) (old new : Place) → Takes old text new 
 unfolding string_at
 string_again text bytes old new t s =
     let both : Takes old (s.length_text ++ bytes) new =
-        subst (λ (x : List ℕ). Takes old x new) s.parts t in
-    rw (length_again s.length_text (length bytes) old (between bytes new)
-        (Takes-first old s.length_text bytes new both) s.is_length,
-        bytes_again (length bytes) bytes (between bytes new) new (Takes-second bytes new) refl) refl
+    subst (λ (x : List ℕ). Takes old x new) s.parts t in
+    rw (
+      length_again s.length_text (length bytes) old (between bytes new)
+          (Takes-first old s.length_text bytes new both) s.is_length,
+      bytes_again (length bytes) bytes (between bytes new) new (Takes-second bytes new) refl,
+    ) refl
 
 unsigned_again : (w : Width) (text : List ℕ) (n : ℕ) (old new : Place) → Takes old text new
     → IsUnsigned w text n → unsigned_at w old ≡ Ok (n, new)
@@ -101,10 +105,12 @@ bits_again : (text : List ℕ) (bits : ℕ) (bytes : List ℕ) (old new : Place)
 unfolding bits_at
 bits_again text bits bytes old new t f =
     let both : Takes old (f.length_text ++ f.raw) new =
-        subst (λ (x : List ℕ). Takes old x new) f.parts t in
-    rw (length_again f.length_text bits old (between f.raw new)
-        (Takes-first old f.length_text f.raw new both) f.is_length,
-        bytes_again (bytes_for bits) f.raw (between f.raw new) new (Takes-second f.raw new) f.long)
+    subst (λ (x : List ℕ). Takes old x new) f.parts t in
+    rw (
+      length_again f.length_text bits old (between f.raw new)
+          (Takes-first old f.length_text f.raw new both) f.is_length,
+      bytes_again (bytes_for bits) f.raw (between f.raw new) new (Takes-second f.raw new) f.long,
+    )
     (ap (λ (bs : List ℕ). read (BitString bits bs) new) (sym f.value))
 
 -- ---- values
@@ -148,7 +154,7 @@ body_again levels counted again (structure ts) text old new t f flat =
     rw (again ts text old new t f flat) refl
 body_again levels counted again (boolean b) text old new t f flat =
     rw (byte_again f.0 old new (subst (λ (x : List ℕ). Takes old x new) f.1 t))
-        (ap (λ (c : Bool). read (Boolean c) new) (sym f.2))
+    (ap (λ (c : Bool). read (Boolean c) new) (sym f.2))
 body_again levels counted again (bit_string bits bytes) text old new t f flat =
     bits_again text bits bytes old new t f
 body_again levels counted again (double_long z) text old new t f flat =
@@ -192,11 +198,11 @@ pub value_again : (levels : ℕ) (counted : Place → Read Trees) → IsCountedA
 unfolding value_at
 value_again levels counted again t text old new taken f flat =
     let both : Takes old (tag_of t ∷ f.contents) new =
-        subst (λ (x : List ℕ). Takes old x new) f.parts taken in
+    subst (λ (x : List ℕ). Takes old x new) f.parts taken in
     rw (byte_again (tag_of t) old (between f.contents new)
-        (Takes-first old (tag_of t ∷ []) f.contents new both))
-        (body_again levels counted again t f.contents (between f.contents new) new
-        (Takes-second f.contents new) f.are_contents flat)
+    (Takes-first old (tag_of t ∷ []) f.contents new both))
+    (body_again levels counted again t f.contents (between f.contents new) new
+    (Takes-second f.contents new) f.are_contents flat)
 
 items_again : (levels : ℕ) (item_at : Place → Read Data) → IsValueAgain levels item_at
     → (ts : Trees) (text : List ℕ) (old new : Place) → Takes old text new → AreSpelled text ts
@@ -207,11 +213,11 @@ items_again levels item_at again no_trees text old new t f flat =
     ap (λ (p : Place). read [] p) (same_place old new (subst (λ (x : List ℕ). Takes old x new) f t))
 items_again levels item_at again (tree v ts) text old new t f flat =
     let both : Takes old (f.first ++ f.others) new =
-        subst (λ (x : List ℕ). Takes old x new) f.parts t in
+    subst (λ (x : List ℕ). Takes old x new) f.parts t in
     let one = again v f.first old (between f.others new) (Takes-first old f.first f.others new both)
-        f.is_first (omega arith) in
+    f.is_first (omega arith) in
     let rest = items_again levels item_at again ts f.others (between f.others new) new
-        (Takes-second f.others new) f.are_others (omega arith) in
+    (Takes-second f.others new) f.are_others (omega arith) in
     rw (add-one, one, rest) refl
 
 counted_again : (levels : ℕ) (item_at : Place → Read Data) → IsValueAgain levels item_at
@@ -219,12 +225,12 @@ counted_again : (levels : ℕ) (item_at : Place → Read Data) → IsValueAgain 
 unfolding counted_at
 counted_again levels item_at again ts text old new t f flat =
     let both : Takes old (f.length_text ++ f.items) new =
-        subst (λ (x : List ℕ). Takes old x new) f.parts t in
+    subst (λ (x : List ℕ). Takes old x new) f.parts t in
     let count = length_again f.length_text (count_of ts) old (between f.items new)
-        (Takes-first old f.length_text f.items new both) f.is_length in
+    (Takes-first old f.length_text f.items new both) f.is_length in
     let few : nat_le (count_of ts) max_items ≡ true = le-leb (count_of ts) max_items f.few in
     let items = items_again levels item_at again ts f.items (between f.items new) new
-        (Takes-second f.items new) f.are_items (omega arith) in
+    (Takes-second f.items new) f.are_items (omega arith) in
     rw (count, few, items) (ap (λ (us : Trees). read us new) (trees_of_list ts))
 
 pub nested_again : (levels : ℕ) → IsCountedAgain levels (nested_at levels)

@@ -16,8 +16,11 @@ extends_by text e = record { added = text; is = e }
 pub extends_on : {before middle after : List ℕ} → Extends before middle → Extends middle after
     → Extends before after
 extends_on {before} {middle} {after} x y =
-    record { added = x.added ++ y.added; is = y.is ∙ ap (λ (s : List ℕ). s ++ y.added) x.is
-        ∙ append_assoc before x.added y.added }
+    record {
+      added = x.added ++ y.added;
+      is = y.is ∙ ap (λ (s : List ℕ). s ++ y.added) x.is
+          ∙ append_assoc before x.added y.added;
+    }
 
 -- an append after one that succeeded
 pub extends_more : {before middle after : List ℕ} (text : List ℕ) → middle ≡ before ++ text

@@ -37,6 +37,8 @@ one_list ds es same = sym (list_of_trees ds) ∙ ap list_of same ∙ list_of_tre
 pub same_items : (r : Bool) (xs ys ds es : List Data) (ts us : Trees) → IsTrue r ↔ (xs ≡ ys) → xs
     ≡ ds → ys ≡ es → trees_of (all_trees ds) ≡ ts → trees_of (all_trees es) ≡ us
     → IsTrue r ↔ (ts ≡ us)
-same_items r xs ys ds es ts us tells x y t u =
-    (λ yes. sym t ∙ ap (λ (l : List Data). trees_of (all_trees l)) (sym x ∙ tells.0 yes ∙ y)
-        ∙ u, λ one. tells.1 (x ∙ one_list ds es (t ∙ one ∙ sym u) ∙ sym y))
+same_items r xs ys ds es ts us tells x y t u = (
+  λ yes. sym t ∙ ap (λ (l : List Data). trees_of (all_trees l)) (sym x ∙ tells.0 yes ∙ y)
+      ∙ u,
+  λ one. tells.1 (x ∙ one_list ds es (t ∙ one ∙ sym u) ∙ sym y),
+)

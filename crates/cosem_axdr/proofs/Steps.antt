@@ -24,13 +24,13 @@ pub goes_on : (item_at : Place → Read Data) (front : List Data) (count i : ℕ
     (d : Data) (after : Place) (total : Read (List Data)) → i < count → item_at place
     ≡ Ok (d, after)
     → with_front front (items_at item_at (count - i) place) ≡ total
-        → with_front (front ++ d ∷ []) (items_at item_at (count - (i + 1)) after) ≡ total
+    → with_front (front ++ d ∷ []) (items_at item_at (count - (i + 1)) after) ≡ total
 unfolding items_at
 goes_on item_at front count i place d after total lt h so_far =
     let k : count - i ≡ suc (count - (i + 1)) = omega arith in
     let one : with_front front (items_at item_at (count - i) place)
-        ≡ with_front (front ++ d ∷ []) (items_at item_at (count - (i + 1)) after) =
-        rw (k, h) (regroup front d (items_at item_at (count - (i + 1)) after)) in
+    ≡ with_front (front ++ d ∷ []) (items_at item_at (count - (i + 1)) after) =
+    rw (k, h) (regroup front d (items_at item_at (count - (i + 1)) after)) in
     sym one ∙ so_far
 
 -- the loop ends with the fault of an item
@@ -52,5 +52,5 @@ unfolding items_at
 is_done item_at front count i place total le so_far =
     let k : count - i ≡ 0 = omega arith in
     let one : with_front front (items_at item_at (count - i) place) ≡ Ok (front, place) =
-        rw k (ap (λ (ds : List Data). done DataFault (ds, place)) (append-nil front)) in
+    rw k (ap (λ (ds : List Data). done DataFault (ds, place)) (append-nil front)) in
     sym so_far ∙ one

@@ -30,8 +30,11 @@ least n = omega arith
 -- the rest is no longer than the bytes before
 pub length-Takes : (old : Place) (text : List ℕ) (new : Place) → Takes old text new
     → length new.bytes ≤ length old.bytes
-length-Takes old text new t = omega (arith, ap (λ (bytes : List ℕ). length bytes) t.bytes,
-    length-append text new.bytes)
+length-Takes old text new t = omega (
+  arith,
+  ap (λ (bytes : List ℕ). length bytes) t.bytes,
+  length-append text new.bytes,
+)
 
 -- a step that takes no bytes
 pub Takes-none : (place : Place) → Takes place [] place
@@ -57,13 +60,13 @@ pub read_as_takes : {X Y : Type 0} (IsX : List ℕ → X → Type 0) (IsY : List
     → Y) → ((text : List ℕ) (x : X) → IsX text x → IsY text (make x))
     → (old : Place) (read : Read X) (y : Y × Place)
     → ((x : X × Place) → read ≡ Ok x → Took X IsX old x) → read_as make read ≡ Ok y
-        → Took Y IsY old y
+    → Took Y IsY old y
 read_as_takes {Y = Y} IsX IsY make seen old read y takes e =
     let b = bind_ok read (λ x. done DataFault (make x.0, x.1)) y e in
     let t = takes b.0 b.1 in
     let made : Y × Place = (make b.0.0, b.0.1) in
     subst (λ (z : Y × Place). Took Y IsY old z) (ok_is made y b.2)
-        (record { text = t.text; takes = t.takes; spelled = seen t.text b.0.0 t.spelled })
+    (record { text = t.text; takes = t.takes; spelled = seen t.text b.0.0 t.spelled })
 
 -- the next bytes are those that are taken
 pub bytes_takes : (n : ℕ) (place : Place) (x : List ℕ × Place) → bytes_at n place ≡ Ok x
@@ -72,15 +75,19 @@ bytes_takes n place x e =
     let rest : Place = record { bytes = drop n place.bytes; room = place.room - n } in
     let made : List ℕ × Place = (take n place.bytes, rest) in
     let g = guard_ok (nat_le n place.room) TooLong
-        (guard (nat_le n (length place.bytes)) Truncated >> done DataFault made) x e in
+    (guard (nat_le n (length place.bytes)) Truncated >> done DataFault made) x e in
     let h = guard_ok (nat_le n (length place.bytes)) Truncated (done DataFault made) x g.1 in
     let room : n ≤ place.room = leb-true n place.room g.0 in
     let long : n ≤ length place.bytes = leb-true n (length place.bytes) h.0 in
     let len : length (take n place.bytes) ≡ n = omega (arith, length-take n place.bytes) in
     subst (λ (z : List ℕ × Place). Took (List ℕ) (IsFixed n) place z) (ok_is made x h.1)
-    (record { text = take n place.bytes; takes = record
-        { bytes = sym (take-append-drop n place.bytes); room = omega arith }; spelled =
-        (len, refl) })
+    (record {
+      text = take n place.bytes;
+      takes = record
+          { bytes = sym (take-append-drop n place.bytes); room = omega arith };
+      spelled =
+          (len, refl);
+    })
 
 -- ---- lengths, strings, numbers
 
@@ -97,8 +104,8 @@ IsByte text byte = text ≡ byte ∷ []
 pub byte_takes : (place : Place) (x : ℕ × Place) → byte_at place ≡ Ok x → Took ℕ IsByte place x
 byte_takes place x e =
     read_as_takes (IsFixed 1) IsByte (λ bytes. slice_index bytes 0)
-        (λ text bytes f. only_byte text f.0 ∙ ap (λ (bs : List ℕ). slice_index bs 0 ∷ []) (sym f.1))
-        place (bytes_at 1 place) x (bytes_takes 1 place) e
+    (λ text bytes f. only_byte text f.0 ∙ ap (λ (bs : List ℕ). slice_index bs 0 ∷ []) (sym f.1))
+    place (bytes_at 1 place) x (bytes_takes 1 place) e
 
 -- the bytes of a length in a long form
 abbrev IsLong : ℕ → List ℕ → ℕ → Type 0
@@ -109,32 +116,36 @@ pub length_takes : (place : Place) (x : ℕ × Place) → length_at place ≡ Ok
 unfolding length_at
 length_takes place x e =
     let b = bind_ok (byte_at place) (λ first. cond (nat_lt first.0 0x80) (Ok first)
-        (guard (nat_lt 0x80 first.0 && nat_le first.0 0x84) TooLong >> read_as big_endian
-        (bytes_at (first.0 - 0x80) first.1))) x e in
+    (guard (nat_lt 0x80 first.0 && nat_le first.0 0x84) TooLong >> read_as big_endian
+    (bytes_at (first.0 - 0x80) first.1))) x e in
     let t = byte_takes place b.0 b.1 in
     elim (chosen (nat_lt b.0.0 0x80) _ _ _ b.2) [
       | inl h ↦
           let below : b.0.0 < 0x80 = ltb-true b.0.0 0x80 h.0 in
           let spelled : IsLength t.text b.0.0 =
-              subst (λ (s : List ℕ). IsLength s b.0.0) (sym t.spelled) (inl (below, refl, refl)) in
+          subst (λ (s : List ℕ). IsLength s b.0.0) (sym t.spelled) (inl (below, refl, refl)) in
           subst (λ (z : ℕ × Place). Took ℕ IsLength place z) (ok_is b.0 x h.1)
-              (record { text = t.text; takes = t.takes; spelled = spelled })
+          (record { text = t.text; takes = t.takes; spelled = spelled })
       | inr h ↦
           let k = b.0.0 - 0x80 in
           let g = guard_ok (nat_lt 0x80 b.0.0 && nat_le b.0.0 0x84) TooLong
-              (read_as big_endian (bytes_at k b.0.1)) x h.1 in
+          (read_as big_endian (bytes_at k b.0.1)) x h.1 in
           let both = and_parts _ _ g.0 in
           let low : 0x80 < b.0.0 = ltb-true 0x80 b.0.0 both.0 in
           let high : b.0.0 ≤ 0x84 = leb-true b.0.0 0x84 both.1 in
           let u = read_as_takes (IsFixed k) (IsLong k) big_endian
-              (λ text bytes f. (f.0, ap big_endian f.1)) b.0.1 (bytes_at k b.0.1) x
-              (bytes_takes k b.0.1) g.1 in
+          (λ text bytes f. (f.0, ap big_endian f.1)) b.0.1 (bytes_at k b.0.1) x
+          (bytes_takes k b.0.1) g.1 in
           let form : b.0.0 ≡ 0x80 + length u.text = omega (arith, u.spelled.0) in
           let spelled : IsLength (b.0.0 ∷ u.text) x.0 =
-              inr (omega arith, high, form, u.spelled.1) in
-          record { text = t.text ++ u.text; takes = Takes-then place t.text b.0.1 u.text x.1 t.takes
-              u.takes; spelled = subst (λ (s : List ℕ). IsLength (s ++ u.text) x.0)
-              (sym t.spelled) spelled }
+          inr (omega arith, high, form, u.spelled.1) in
+          record {
+            text = t.text ++ u.text;
+            takes = Takes-then place t.text b.0.1 u.text x.1 t.takes
+                u.takes;
+            spelled = subst (λ (s : List ℕ). IsLength (s ++ u.text) x.0)
+                (sym t.spelled) spelled;
+          }
     ]
 
 pub string_takes : (place : Place) (x : List ℕ × Place) → string_at place ≡ Ok x
@@ -145,20 +156,24 @@ string_takes place x e =
     let t = length_takes place b.0 b.1 in
     let u = bytes_takes b.0.0 b.0.1 x b.2 in
     let len : b.0.0 ≡ length x.0 = sym u.spelled.0
-        ∙ ap (λ (s : List ℕ). length s) (sym u.spelled.1) in
+    ∙ ap (λ (s : List ℕ). length s) (sym u.spelled.1) in
     record {
       text = t.text ++ u.text;
       takes = Takes-then place t.text b.0.1 u.text x.1 t.takes u.takes;
-      spelled = record { length_text = t.text; parts = ap (λ (s : List ℕ). t.text
-          ++ s) (sym u.spelled.1); is_length = subst (λ (n : ℕ). IsLength t.text n) len t.spelled };
+      spelled = record {
+        length_text = t.text;
+        parts = ap (λ (s : List ℕ). t.text
+            ++ s) (sym u.spelled.1);
+        is_length = subst (λ (n : ℕ). IsLength t.text n) len t.spelled;
+      };
     }
 
 pub unsigned_takes : (w : Width) (place : Place) (x : ℕ × Place) → unsigned_at w place ≡ Ok x
     → Took ℕ (IsUnsigned w) place x
 unsigned_takes w place x e =
     read_as_takes (IsFixed (byte_len w)) (IsUnsigned w) (from_be_bytes w)
-        (λ text bytes f. (f.0, ap (from_be_bytes w) f.1)) place (bytes_at (byte_len w) place) x
-        (bytes_takes (byte_len w) place) e
+    (λ text bytes f. (f.0, ap (from_be_bytes w) f.1)) place (bytes_at (byte_len w) place) x
+    (bytes_takes (byte_len w) place) e
 
 -- ---- values
 
@@ -172,21 +187,32 @@ pub bits_takes : (levels : ℕ) (place : Place) (x : Data × Place) → bits_at 
 unfolding bits_at
 bits_takes levels place x e =
     let b = bind_ok (length_at place) (λ bits. bytes_at (bytes_for bits.0) bits.1
-        >>= λ bytes. done DataFault (BitString bits.0 (without_unused_bits bits.0 bytes.0),
-        bytes.1)) x e in
+    >>= λ bytes. done DataFault (
+      BitString bits.0 (without_unused_bits bits.0 bytes.0),
+      bytes.1,
+    )) x e in
     let c = bind_ok (bytes_at (bytes_for b.0.0) b.0.1)
-        (λ bytes. done DataFault (BitString b.0.0 (without_unused_bits b.0.0 bytes.0), bytes.1)) x
-        b.2 in
+    (λ bytes. done DataFault (BitString b.0.0 (without_unused_bits b.0.0 bytes.0), bytes.1)) x
+    b.2 in
     let t = length_takes place b.0 b.1 in
     let u = bytes_takes (bytes_for b.0.0) b.0.1 c.0 c.1 in
     let made : Data × Place = (BitString b.0.0 (without_unused_bits b.0.0 c.0.0), c.0.1) in
-    let bits : IsBits (t.text ++ u.text) b.0.0 (without_unused_bits b.0.0 c.0.0) = record
-        { length_text = t.text; raw = u.text; parts = refl {a = t.text ++ u.text};
-        is_length = t.spelled; long = u.spelled.0; value =
-        ap (without_unused_bits b.0.0) u.spelled.1 } in
+    let bits : IsBits (t.text ++ u.text) b.0.0 (without_unused_bits b.0.0 c.0.0) = record {
+      length_text = t.text;
+      raw = u.text;
+      parts = refl {a = t.text ++ u.text};
+      is_length = t.spelled;
+      long = u.spelled.0;
+      value =
+          ap (without_unused_bits b.0.0) u.spelled.1;
+    } in
     subst (λ (z : Data × Place). Took Data (IsBody levels 0x04) place z) (ok_is made x c.2)
-    (record { text = t.text ++ u.text; takes = Takes-then place t.text b.0.1 u.text c.0.1 t.takes
-        u.takes; spelled = (refl, bits, least levels) })
+    (record {
+      text = t.text ++ u.text;
+      takes = Takes-then place t.text b.0.1 u.text c.0.1 t.takes
+          u.takes;
+      spelled = (refl, bits, least levels);
+    })
 
 -- a leaf that is an unsigned number, or a signed one
 unsigned_leaf : (levels tag : ℕ) (w : Width) (make : ℕ → Data)
@@ -249,8 +275,11 @@ fixed_takes levels tag place x e =
                                     | inl h ↦ let is : tag
                                         ≡ 0x10 = eqb-true tag 0x10 h.0 in unsigned_leaf levels tag
                                         w16 (λ n. Long (cast_signed w16 n))
-                                        (λ text n f. (is, (f.0, ap (cast_signed w16) f.1),
-                                        least levels)) place x h.1
+                                        (λ text n f. (
+                                          is,
+                                          (f.0, ap (cast_signed w16) f.1),
+                                          least levels,
+                                        )) place x h.1
                                     | inr r10 ↦
                                         elim (chosen (eqb tag 0x11) _ _ _ r10.1) [
                                           | inl h ↦ let is : tag
@@ -269,9 +298,11 @@ fixed_takes levels tag place x e =
                                                           ≡ 0x14 = eqb-true tag 0x14 h.0
                                                           in unsigned_leaf levels tag w64
                                                           (λ n. Long64 (cast_signed w64 n))
-                                                          (λ text n f. (is,
-                                                          (f.0, ap (cast_signed w64) f.1),
-                                                          least levels)) place x h.1
+                                                          (λ text n f. (
+                                                            is,
+                                                            (f.0, ap (cast_signed w64) f.1),
+                                                            least levels,
+                                                          )) place x h.1
                                                       | inr r14 ↦
                                                           elim (chosen (eqb tag 0x15) _ _ _ r14.1) [
                                                             | inl h ↦ let is : tag
@@ -282,40 +313,49 @@ fixed_takes levels tag place x e =
                                                                 place x h.1
                                                             | inr r15 ↦
                                                                 elim (chosen
-                                                                    (eqb tag 0x16) _ _ _ r15.1) [
+                                                                (eqb tag 0x16) _ _ _ r15.1) [
                                                                   | inl h ↦ let is : tag
                                                                       ≡ 0x16 = eqb-true tag 0x16 h.0
                                                                       in unsigned_leaf levels tag w8
-                                                                      Enum (λ text n f. (is, f,
-                                                                      least levels)) place x h.1
+                                                                      Enum (λ text n f. (
+                                                                        is,
+                                                                        f,
+                                                                        least levels,
+                                                                      )) place x h.1
                                                                   | inr r16 ↦
                                                                       elim (chosen
-                                                                          (eqb tag 0x19) _
-                                                                          _ _ r16.1) [
+                                                                      (eqb tag 0x19) _
+                                                                      _ _ r16.1) [
                                                                         | inl h ↦ let is : tag
                                                                             ≡ 0x19 = eqb-true tag
                                                                             0x19 h.0 in fixed_leaf
                                                                             levels tag 12 DateTime
-                                                                            (λ text bytes f. (is, f,
-                                                                            least levels)) place x
+                                                                            (λ text bytes f. (
+                                                                              is,
+                                                                              f,
+                                                                              least levels,
+                                                                            )) place x
                                                                             h.1
                                                                         | inr r19 ↦
                                                                             elim (chosen
-                                                                                (eqb tag 0x1A) _ _ _
-                                                                                r19.1) [
+                                                                            (eqb tag 0x1A) _ _ _
+                                                                            r19.1) [
                                                                               | inl h ↦ let is : tag
                                                                                   ≡ 0x1A = eqb-true
                                                                                   tag 0x1A h.0
                                                                                   in fixed_leaf
                                                                                   levels tag 5 Date
-                                                                                  (λ text bytes f.
-                                                                                  (is, f, least
-                                                                                  levels)) place x
+                                                                                  (λ text bytes f. (
+                                                                                    is,
+                                                                                    f,
+                                                                                    least
+                                                                                        levels,
+                                                                                  )) place x
                                                                                   h.1
                                                                               | inr r1A ↦
                                                                                   elim (chosen
-                                                                                      (eqb tag 0x1B)
-                                                                                      _ _ _ r1A.1) [
+                                                                                  (eqb tag 0x1B)
+                                                                                  _ _ _ r1A.1) [
                                                                                     | inl h ↦
                                                                                         let is : tag
                                                                                         ≡ 0x1B =
@@ -387,23 +427,34 @@ pub items_take : (levels : ℕ) (item_at : Place → Read Data) → IsTaking Dat
 unfolding items_at
 items_take levels item_at takes zero place x e =
     subst (λ (z : List Data × Place). Took (List Data) (AreValues levels 0) place z)
-        (ok_is ([], place) x e) (record { text = []; takes = Takes-none place;
-        spelled = (refl, least levels, refl) })
+    (ok_is ([], place) x e) (record {
+      text = [];
+      takes = Takes-none place;
+      spelled = (refl, least levels, refl);
+    })
 items_take levels item_at takes (suc n) place x e =
     let b = bind_ok (item_at place) (λ first. items_at item_at n first.1
-        >>= λ others. done DataFault (first.0 ∷ others.0, others.1)) x e in
+    >>= λ others. done DataFault (first.0 ∷ others.0, others.1)) x e in
     let c = bind_ok (items_at item_at n b.0.1)
-        (λ others. done DataFault (b.0.0 ∷ others.0, others.1)) x b.2 in
+    (λ others. done DataFault (b.0.0 ∷ others.0, others.1)) x b.2 in
     let t = takes place b.0 b.1 in
     let u = items_take levels item_at takes n b.0.1 c.0 c.1 in
     let made : List Data × Place = (b.0.0 ∷ c.0.0, c.0.1) in
     subst (λ (z : List Data × Place). Took (List Data) (AreValues levels (suc n)) place z)
-        (ok_is made x c.2) (record {
+    (ok_is made x c.2) (record {
       text = t.text ++ u.text;
       takes = Takes-then place t.text b.0.1 u.text c.0.1 t.takes u.takes;
-      spelled = (record { first = t.text; others = u.text; parts = refl {a = t.text ++ u.text};
-          is_first = t.spelled.0; are_others = u.spelled.0 },
-          omega (arith, t.spelled.1, u.spelled.1), omega (arith, u.spelled.2));
+      spelled = (
+        record {
+          first = t.text;
+          others = u.text;
+          parts = refl {a = t.text ++ u.text};
+          is_first = t.spelled.0;
+          are_others = u.spelled.0;
+        },
+        omega (arith, t.spelled.1, u.spelled.1),
+        omega (arith, u.spelled.2),
+      );
     })
 
 pub counted_takes : (levels : ℕ) (item_at : Place → Read Data)
@@ -412,19 +463,19 @@ pub counted_takes : (levels : ℕ) (item_at : Place → Read Data)
 unfolding counted_at
 counted_takes levels item_at takes place x e =
     let b = bind_ok (length_at place) (λ count. guard (nat_le count.0 max_items) TooLong >> read_as
-        (λ items. trees_of (all_trees items)) (items_at item_at count.0 count.1)) x e in
+    (λ items. trees_of (all_trees items)) (items_at item_at count.0 count.1)) x e in
     let g = guard_ok (nat_le b.0.0 max_items) TooLong
-        (read_as (λ items. trees_of (all_trees items)) (items_at item_at b.0.0 b.0.1)) x b.2 in
+    (read_as (λ items. trees_of (all_trees items)) (items_at item_at b.0.0 b.0.1)) x b.2 in
     let few : b.0.0 ≤ max_items = leb-true b.0.0 max_items g.0 in
     let t = length_takes place b.0 b.1 in
     let AreItems : List ℕ → Trees → Type 0 = λ text ts. AreSpelled text ts × (nests ts ≤ levels)
-        × (count_of ts ≡ b.0.0) in
+    × (count_of ts ≡ b.0.0) in
     let u = read_as_takes (AreValues levels b.0.0) AreItems (λ items. trees_of (all_trees items))
-        (λ text ds f. f) b.0.1 (items_at item_at b.0.0 b.0.1) x
-        (items_take levels item_at takes b.0.0 b.0.1) g.1 in
+    (λ text ds f. f) b.0.1 (items_at item_at b.0.0 b.0.1) x
+    (items_take levels item_at takes b.0.0 b.0.1) g.1 in
     let count : b.0.0 ≡ count_of x.0 = sym u.spelled.2 in
     let counted : IsCounted (λ items. AreSpelled items x.0) (t.text ++ u.text)
-        (count_of x.0) = record {
+    (count_of x.0) = record {
       length_text = t.text;
       items = u.text;
       parts = refl {a = t.text ++ u.text};
@@ -432,15 +483,19 @@ counted_takes levels item_at takes place x e =
       few = subst (λ (n : ℕ). n ≤ max_items) count few;
       are_items = u.spelled.0;
     } in
-    record { text = t.text ++ u.text; takes = Takes-then place t.text b.0.1 u.text x.1 t.takes
-        u.takes; spelled = (counted, omega (arith, u.spelled.1)) }
+    record {
+      text = t.text ++ u.text;
+      takes = Takes-then place t.text b.0.1 u.text x.1 t.takes
+          u.takes;
+      spelled = (counted, omega (arith, u.spelled.1));
+    }
 
 -- the bytes after any tag
 body_takes : (levels tag : ℕ) (counted : Place → Read Trees)
     → IsTaking Trees (AreCountedBelow levels) counted → (place : Place) (x : Data × Place)
     → cond (eqb tag 0x01) (read_as Array (counted place))
-        (cond (eqb tag 0x02) (read_as Structure (counted place)) (leaf_at tag place)) ≡ Ok x
-        → Took Data (IsBody levels tag) place x
+    (cond (eqb tag 0x02) (read_as Structure (counted place)) (leaf_at tag place)) ≡ Ok x
+    → Took Data (IsBody levels tag) place x
 body_takes levels tag counted takes place x e =
     elim (chosen (eqb tag 0x01) _ _ _ e) [
       | inl h ↦ let is : tag ≡ 0x01 = eqb-true tag 0x01 h.0 in read_as_takes
@@ -461,16 +516,18 @@ pub value_takes : (levels : ℕ) (counted : Place → Read Trees)
 unfolding value_at
 value_takes levels counted takes place x e =
     let b = bind_ok (byte_at place) (λ tag. cond (eqb tag.0 0x01) (read_as Array (counted tag.1))
-        (cond (eqb tag.0 0x02) (read_as Structure (counted tag.1)) (leaf_at tag.0 tag.1))) x e in
+    (cond (eqb tag.0 0x02) (read_as Structure (counted tag.1)) (leaf_at tag.0 tag.1))) x e in
     let t = byte_takes place b.0 b.1 in
     let u = body_takes levels b.0.0 counted takes b.0.1 x b.2 in
     let parts : t.text ++ u.text ≡ tag_of (tree_of x.0) ∷ u.text =
-        ap (λ (s : List ℕ). s ++ u.text) t.spelled ∙ ap (λ (tag : ℕ). tag ∷ u.text) u.spelled.0 in
+    ap (λ (s : List ℕ). s ++ u.text) t.spelled ∙ ap (λ (tag : ℕ). tag ∷ u.text) u.spelled.0 in
     record {
       text = t.text ++ u.text;
       takes = Takes-then place t.text b.0.1 u.text x.1 t.takes u.takes;
-      spelled = (record { contents = u.text; parts = parts; are_contents = u.spelled.1 },
-          u.spelled.2);
+      spelled = (
+        record { contents = u.text; parts = parts; are_contents = u.spelled.1 },
+        u.spelled.2,
+      );
     }
 
 -- the contents of an array or structure are spelled by the bytes taken

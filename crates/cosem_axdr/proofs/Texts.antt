@@ -47,9 +47,12 @@ length_spells n below =
 string_spells : (bytes : List ℕ) → length (string_text bytes) ≤ max_text
     → IsString (string_text bytes) bytes
 string_spells bytes short =
-    record { length_text = length_text (length bytes); parts = refl;
-        is_length = length_spells (length bytes)
-        (omega (arith, length-append (length_text (length bytes)) bytes)) }
+    record {
+      length_text = length_text (length bytes);
+      parts = refl;
+      is_length = length_spells (length bytes)
+          (omega (arith, length-append (length_text (length bytes)) bytes));
+    }
 
 -- ---- numbers
 
@@ -60,20 +63,32 @@ record IsWide (w : Width) (limit : ℕ) : Type 0 where
   below : (z : ℤ) → FitsSigned w z → cast_unsigned w z < limit
 
 wide8 : IsWide w8 (2 ^ 8)
-wide8 = record { long = λ n. refl; back = λ n lt. omega arith;
-    below = λ z fits. Fits-lt-pow (Fits-of_z fits) }
+wide8 = record {
+  long = λ n. refl;
+  back = λ n lt. omega arith;
+  below = λ z fits. Fits-lt-pow (Fits-of_z fits);
+}
 
 wide16 : IsWide w16 (2 ^ 16)
-wide16 = record { long = λ n. refl; back = λ n lt. sym (from_be_bytes-to_be_bytes_2 n lt);
-    below = λ z fits. Fits-lt-pow (Fits-of_z fits) }
+wide16 = record {
+  long = λ n. refl;
+  back = λ n lt. sym (from_be_bytes-to_be_bytes_2 n lt);
+  below = λ z fits. Fits-lt-pow (Fits-of_z fits);
+}
 
 wide32 : IsWide w32 (2 ^ 32)
-wide32 = record { long = λ n. refl; back = λ n lt. sym (from_be_bytes-to_be_bytes_4 n lt);
-    below = λ z fits. Fits-lt-pow (Fits-of_z fits) }
+wide32 = record {
+  long = λ n. refl;
+  back = λ n lt. sym (from_be_bytes-to_be_bytes_4 n lt);
+  below = λ z fits. Fits-lt-pow (Fits-of_z fits);
+}
 
 wide64 : IsWide w64 (2 ^ 64)
-wide64 = record { long = λ n. refl; back = λ n lt. sym (from_be_bytes-to_be_bytes_8 n lt);
-    below = λ z fits. Fits-lt-pow (Fits-of_z fits) }
+wide64 = record {
+  long = λ n. refl;
+  back = λ n lt. sym (from_be_bytes-to_be_bytes_8 n lt);
+  below = λ z fits. Fits-lt-pow (Fits-of_z fits);
+}
 
 unsigned_spells : (w : Width) (limit : ℕ) → IsWide w limit → (n : ℕ) → n < limit
     → IsUnsigned w (to_be_bytes w n) n
@@ -81,8 +96,11 @@ unsigned_spells w limit wide n below = (wide.long n, wide.back n below)
 
 signed_spells : (w : Width) (limit : ℕ) → IsWide w limit → (z : ℤ) → FitsSigned w z
     → IsSigned w (to_be_bytes w (cast_unsigned w z)) z
-signed_spells w limit wide z fits = (wide.long (cast_unsigned w z), sym (to_z-of_z fits)
-    ∙ ap (cast_signed w) (wide.back (cast_unsigned w z) (wide.below z fits)))
+signed_spells w limit wide z fits = (
+  wide.long (cast_unsigned w z),
+  sym (to_z-of_z fits)
+      ∙ ap (cast_signed w) (wide.back (cast_unsigned w z) (wide.below z fits)),
+)
 
 -- a boolean as one byte
 boolean_spells : (b : Bool) → IsBoolean (contents_text (boolean b)) b
@@ -97,20 +115,39 @@ mutual
       → AreContents (contents_text t) t
   contents_spell null within fine short = refl
   contents_spell (array ts) within fine short =
-      record { length_text = length_text (count_of ts); items = texts ts; parts = refl;
-          is_length = length_spells (count_of ts) (omega (arith, fine.0)); few = fine.0;
-          are_items = items_spell ts within fine.1
-          (omega (arith, length-append (length_text (count_of ts)) (texts ts))) }
+      record {
+        length_text = length_text (count_of ts);
+        items = texts ts;
+        parts = refl;
+        is_length = length_spells (count_of ts) (omega (arith, fine.0));
+        few = fine.0;
+        are_items = items_spell ts within fine.1
+            (omega (arith, length-append (length_text (count_of ts)) (texts ts)));
+      }
   contents_spell (structure ts) within fine short =
-      record { length_text = length_text (count_of ts); items = texts ts; parts = refl;
-          is_length = length_spells (count_of ts) (omega (arith, fine.0)); few = fine.0;
-          are_items = items_spell ts within fine.1
-          (omega (arith, length-append (length_text (count_of ts)) (texts ts))) }
+      record {
+        length_text = length_text (count_of ts);
+        items = texts ts;
+        parts = refl;
+        is_length = length_spells (count_of ts) (omega (arith, fine.0));
+        few = fine.0;
+        are_items = items_spell ts within fine.1
+            (omega (arith, length-append (length_text (count_of ts)) (texts ts)));
+      }
   contents_spell (boolean b) within fine short = boolean_spells b
   contents_spell (bit_string bits bytes) within fine short =
-      record { length_text = length_text bits; raw = bytes; parts = refl;
-          is_length = length_spells bits (omega (arith, fine.0,
-          length-append (length_text bits) bytes)); long = fine.0; value = sym fine.1 }
+      record {
+        length_text = length_text bits;
+        raw = bytes;
+        parts = refl;
+        is_length = length_spells bits (omega (
+          arith,
+          fine.0,
+          length-append (length_text bits) bytes,
+        ));
+        long = fine.0;
+        value = sym fine.1;
+      }
   contents_spell (double_long z) within fine short = signed_spells w32 (2 ^ 32) wide32 z within
   contents_spell (double_long_unsigned n) within fine short =
       unsigned_spells w32 (2 ^ 32) wide32 n within
@@ -134,21 +171,27 @@ mutual
   items_spell no_trees within fine short = refl
   items_spell (tree t ts) within fine short =
       let len : length (text t ++ texts ts) ≡ length (text t) + length (texts ts) =
-          length-append (text t) (texts ts) in
+      length-append (text t) (texts ts) in
       record {
         first = text t;
         others = texts ts;
         parts = refl;
-        is_first = record { contents = contents_text t; parts = refl;
-            are_contents = contents_spell t within.0 fine.0 (omega arith) };
+        is_first = record {
+          contents = contents_text t;
+          parts = refl;
+          are_contents = contents_spell t within.0 fine.0 (omega arith);
+        };
         are_others = items_spell ts within.1 fine.1 (omega arith);
       }
 
 -- the written text of a value that fits spells it
 pub text_spells : (t : Tree) → IsFit t → IsSpelling (text t) t
 text_spells t fit = record {
-  spells = record { contents = contents_text t; parts = refl;
-      are_contents = contents_spell t fit.within fit.fine (omega (arith, fit.short)) };
+  spells = record {
+    contents = contents_text t;
+    parts = refl;
+    are_contents = contents_spell t fit.within fit.fine (omega (arith, fit.short));
+  };
   flat = fit.flat;
   short = fit.short;
 }

@@ -1,3 +1,4 @@
+//! Accessors of a Data: the items, bytes or number if the value is of the asked type, else `None`.
 ghost use Rattle.std.specs.Prelude.{◌≡◌, option_map};
 ghost use Rattle.cosem_axdr.specs.Forms.{array_of, structure_of, octets_of, boolean_of, double_long_unsigned_of, long_unsigned_of, unsigned_of, enumerated_of, integer_of, date_time_of, date_of, time_of};
 

@@ -1,3 +1,4 @@
+//! Equality of Data and of items: two values are equal if their trees are equal.
 ghost use Rattle.std.specs.Prelude.{◌≡◌, ◌↔◌, IsTrue};
 ghost use Rattle.cosem_axdr.specs.declared.value.Data.{Data};
 

@@ -1,3 +1,4 @@
+//! Fallible copies of a Data and its items.
 ghost use Rattle.std.specs.Prelude.{◌≡◌, IfOk};
 ghost use Rattle.cosem_axdr.specs.Tree.{trees_of};
 ghost use Rattle.cosem_axdr.specs.View.{all_trees};

@@ -1,3 +1,5 @@
+//! The error of the reader of Data: truncated, unknown tag, nested too deeply, too long, or out of
+//! memory.
 ghost use Rattle.std.specs.Prelude.{◌≡◌};
 ghost use Rattle.cosem_axdr.specs.Numbers.{fault_number};
 ghost use Rattle.cosem_axdr.specs.declared.fault.DataFault.TheVariants.{Memory};

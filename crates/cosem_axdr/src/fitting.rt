@@ -1,3 +1,4 @@
+//! Checks that a Data is within the reader's limits, so that its encoding can be read back.
 ghost use Rattle.std.specs.Prelude.{◌≡◌, ◌≤◌, ◌↔◌, IsTrue, length};
 ghost use Rattle.cosem_axdr.specs.Limits.{bytes_for, without_unused_bits};
 ghost use Rattle.cosem_axdr.specs.Tree.{trees_of, nesting, nests};

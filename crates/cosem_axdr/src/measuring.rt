@@ -1,3 +1,4 @@
+//! The length of a Data's encoding in bytes, computed without writing it.
 ghost use Rattle.std.specs.Prelude.{◌≡◌, min, length};
 ghost use Rattle.cosem_axdr.specs.Tree.{trees_of};
 ghost use Rattle.cosem_axdr.specs.View.{tree_of, all_trees};

@@ -1,3 +1,5 @@
+//! The cursor of the reader of Data: reads bytes, numbers and lengths, and enforces the limit of
+//! 8,192 bytes.
 ghost use Rattle.std.specs.Prelude.{◌≡◌, length, IfOk};
 ghost use Rattle.std.specs.Int.{w16, w32, w64};
 ghost use Rattle.cosem_axdr.specs.Reading.{Reads, start, byte_at, bytes_at};

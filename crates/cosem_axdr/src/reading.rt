@@ -1,3 +1,5 @@
+//! Reads a Data from A-XDR (IEC 62056-5-3): up to eight nested arrays and structures, first fault
+//! from the left.
 ghost use Rattle.std.specs.Prelude.{◌≡◌, ◌≤◌, ℕ, length, take, IfOk, MatchResult};
 ghost use Rattle.cosem_axdr.specs.Spelling.{IsSpelling};
 ghost use Rattle.cosem_axdr.specs.View.{tree_of};

@@ -1,3 +1,5 @@
+//! The type `Data` (IEC 62056-6-2, common data types): twenty types of values, nested in arrays and
+//! structures.
 ghost use Rattle.std.specs.Prelude.{◌≡◌, ◌↔◌, IsTrue};
 ghost use Rattle.cosem_axdr.specs.Tree.{trees_of, count_of, no_trees};
 ghost use Rattle.cosem_axdr.specs.View.{all_trees, list_of};

@@ -1,3 +1,4 @@
+//! Writes a Data in A-XDR (IEC 62056-5-3), with each length in its shortest form.
 ghost use Rattle.std.specs.Prelude.{◌≡◌, ◌++◌, OnOk, OnErr};
 ghost use Rattle.byteorder.specs.Endian.{big_bytes};
 ghost use Rattle.cosem_axdr.specs.Appending.{Extends};

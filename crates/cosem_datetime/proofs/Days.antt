@@ -57,8 +57,15 @@ count_parts c = refl
 -- the day after a date of the calendar is a date of the calendar
 pub next_is_date : (c : CivilDate) → IsDate c → IsDate (next_date c)
 next_is_date c h =
-    grind (arith, nat_tests, h.month, h.day, month_bounds c.year c.month,
-        month_bounds c.year (c.month + 1), month_bounds (c.year + 1) 1)
+    grind (
+      arith,
+      nat_tests,
+      h.month,
+      h.day,
+      month_bounds c.year c.month,
+      month_bounds c.year (c.month + 1),
+      month_bounds (c.year + 1) 1,
+    )
 
 -- what holds of both values of a choice
 pub at_if : {A : Type 0} (P : A → Type 0) (b : Bool) (x y : A) → (b ≡ true → P x)
@@ -91,8 +98,13 @@ next_year_count : (y d : ℕ) → 1 ≤ d → d ≡ month_length y 12
 unfolding day_count
 next_year_count y d k e =
     let next : y + 1 ≡ suc y = omega arith in
-    rw next (omega (arith, months_none (suc y), years_more y, months_all y,
-        months_more y 12 (omega arith)))
+    rw next (omega (
+      arith,
+      months_none (suc y),
+      years_more y,
+      months_all y,
+      months_more y 12 (omega arith),
+    ))
 
 -- the day after is one day later
 pub next_count : (c : CivilDate) → IsDate c → day_count (next_date c) ≡ suc (day_count c)
@@ -100,15 +112,15 @@ next_count c h =
     at_if (λ n. day_count n ≡ suc (day_count c)) (nat_lt c.day (month_length c.year c.month)) _ _
     (λ lt. next_day_count c.year c.month c.day h.day.0)
     (λ ge. let long : month_length c.year c.month ≤ c.day = above _ _ ge in let last : c.day
-        ≡ month_length c.year c.month = omega (arith, h.day.1) in
+    ≡ month_length c.year c.month = omega (arith, h.day.1) in
     at_if (λ n. day_count n ≡ suc (day_count c)) (nat_lt c.month 12) _ _
     (λ lt. next_month_count c.year c.month c.day h.month.0 h.day.0 last)
     (λ ge'. let past : 12 ≤ c.month = above _ _ ge' in let december : c.month
-        ≡ 12 = omega (arith, h.month.1) in
+    ≡ 12 = omega (arith, h.month.1) in
     let last' : c.day ≡ month_length c.year 12 = last ∙ ap (month_length c.year) december in
     next_year_count c.year c.day h.day.0 last'
-        ∙ ap (λ m. suc (day_count (record { year = c.year; month = m; day = c.day })))
-        (sym december)))
+    ∙ ap (λ m. suc (day_count (record { year = c.year; month = m; day = c.day })))
+    (sym december)))
 
 -- day n has the date that `date_of_day` gives
 pub date_of_day_is : (n : ℕ) → IsDate (date_of_day n) × (day_count (date_of_day n) ≡ n)
@@ -149,8 +161,13 @@ years_to y later h =
 -- a date is before the end of its year
 pub year_end : (c : CivilDate) → IsDate c → day_count c < days_of_years (suc c.year)
 year_end c h =
-    omega (arith, month_end c h, months_to c.year c.month 12 h.month.1, months_all c.year,
-        years_more c.year)
+    omega (
+      arith,
+      month_end c h,
+      months_to c.year c.month 12 h.month.1,
+      months_all c.year,
+      years_more c.year,
+    )
 
 -- a date of a later year is later
 year_before : (a b : CivilDate) → IsDate a → IsDate b → a.year < b.year → day_count a < day_count b
@@ -163,7 +180,7 @@ month_before : (a b : CivilDate) → IsDate a → IsDate b → a.year ≡ b.year
 month_before a b h k e lt =
     let later = months_to b.year a.month (b.month - 1) (omega arith) in
     let end : day_count a < days_of_years b.year + days_of_months b.year a.month =
-        rw (← e) (month_end a h) in
+    rw (← e) (month_end a h) in
     omega (arith, count_parts b)
 
 same_parts : (y m d y₂ m₂ d₂ : ℕ) → y ≡ y₂ → m ≡ m₂ → d ≡ d₂
@@ -182,7 +199,7 @@ same_date a b h k e =
         | inr (inr gt) ↦ absurd (omega (arith, month_before b a k h (sym year) gt))
         | inl month ↦
             let there : day_count a ≡ days_of_years b.year + days_of_months b.year (b.month - 1)
-                + (a.day - 1) = rw (← year, ← month) (count_parts a) in
+            + (a.day - 1) = rw (← year, ← month) (count_parts a) in
             let day : a.day ≡ b.day = omega (arith, count_parts b, h.day.0, k.day.0) in
             same_parts _ _ _ _ _ _ year month day
       ]

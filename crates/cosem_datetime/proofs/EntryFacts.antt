@@ -40,13 +40,20 @@ pub day_tells : (entry : EntryPattern) (day from to : ℕ) (answer : Bool) → t
     → TellsPassing (matches entry) (86400 * day + from) (86400 * day + to) answer
 day_tells entry day from to answer h e told = record {
   found = λ f.
-      let s = told.found f in
-      (86400 * day + s.0, (omega (arith, s.1.0),
-          (omega (arith, s.1.1.0), matches_at entry day s.0 (86400 * day + s.0) refl
-          (omega (arith, s.1.1.0)) ∙ and_same _ _ _ e s.1.1.1)));
+      let s = told.found f in (
+        86400 * day + s.0,
+        (
+          omega (arith, s.1.0),
+          (
+            omega (arith, s.1.1.0),
+            matches_at entry day s.0 (86400 * day + s.0) refl
+                (omega (arith, s.1.1.0)) ∙ and_same _ _ _ e s.1.1.1,
+          ),
+        ),
+      );
   none = λ f n low high.
       matches_at entry day (n - 86400 * day) n (omega arith) (omega arith)
-          ∙ and_same _ _ _ e (told.none f (n - 86400 * day) (omega arith) (omega arith));
+      ∙ and_same _ _ _ e (told.none f (n - 86400 * day) (omega arith) (omega arith));
 }
 
 -- the answer over an interval is the definition's
@@ -58,10 +65,10 @@ tells_in entry after upto true told =
     let k = s.0 - (after + 1) in
     let there : after + 1 + k ≡ s.0 = omega (arith, s.1.0) in
     sym (some_below_found _ (upto - after) k (omega (arith, s.1.0, s.1.1.0))
-        (ap (matches entry) there ∙ s.1.1.1))
+    (ap (matches entry) there ∙ s.1.1.1))
 tells_in entry after upto false told =
     sym (none_below_each _ (upto - after) (λ k lt. told.none refl (after + 1 + k) (omega arith)
-        (omega arith)))
+    (omega arith)))
 
 -- no second is in an empty interval
 pub none_in : (entry : EntryPattern) (after upto : ℕ) → upto ≤ after → nat_lt after upto

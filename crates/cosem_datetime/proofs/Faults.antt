@@ -92,10 +92,11 @@ date_faults bytes f e =
         h.0,
         elim (three_err (month_of (slice_index bytes 2)) (day_of (slice_index bytes 3))
             (field_of 1 7 (slice_index bytes 4)) _ f h.1) [
-          | inl m ↦ elim (month_fault (slice_index bytes 2) f m) [ inl k ↦ inl k | inr k ↦ inr k.1 ]
-          | inr (inl d) ↦ inr (day_fault (slice_index bytes 3) f d)
-          | inr (inr w) ↦ inr (field_fault 1 7 (slice_index bytes 4) f w)
-        ],
+              | inl m ↦ elim (month_fault (slice_index bytes 2) f m)
+                  [ inl k ↦ inl k | inr k ↦ inr k.1 ]
+              | inr (inl d) ↦ inr (day_fault (slice_index bytes 3) f d)
+              | inr (inr w) ↦ inr (field_fault 1 7 (slice_index bytes 4) f w)
+            ],
       )
     ]
 
@@ -104,8 +105,12 @@ pub date_length : (bytes : List ℕ) → (date_of bytes ≡ Err Length → lengt
     × (length bytes ≢ 5 → date_of bytes ≡ Err Length)
 unfolding date_of
 date_length bytes = (
-  λ e. elim (date_faults bytes Length e) [ inl h ↦ h.0 | inr (h, inl k) ↦ absurd cc | inr
-      (h, inr k) ↦ absurd cc ],
+  λ e. elim (date_faults bytes Length e) [
+    | inl h ↦ h.0
+    | inr (h, inl k) ↦ absurd cc
+    | inr
+        (h, inr k) ↦ absurd cc
+  ],
   λ h. guard_other (length bytes) 5 _ h,
 )
 
@@ -116,8 +121,12 @@ pub date_season : (bytes : List ℕ) → (date_of bytes ≡ Err SeasonMonth → 
     ≡ Err SeasonMonth)
 unfolding date_of
 date_season bytes = (
-  λ e. elim (date_faults bytes SeasonMonth e) [ inl h ↦ absurd cc | inr (h, inl k) ↦
-      (h, grind (arith, nat_tests)) | inr (h, inr k) ↦ absurd cc ],
+  λ e. elim (date_faults bytes SeasonMonth e) [
+    | inl h ↦ absurd cc
+    | inr (h, inl k) ↦
+        (h, grind (arith, nat_tests))
+    | inr (h, inr k) ↦ absurd cc
+  ],
   λ h. guard_same (length bytes) 5 _ h.0 ∙ first_err (month_of (slice_index bytes 2)) _ SeasonMonth
       (month_season (slice_index bytes 2) (grind (arith, nat_tests))),
 )
@@ -132,11 +141,11 @@ time_faults bytes f e =
         h.0,
         elim (four_err (field_of 0 23 (slice_index bytes 0)) (field_of 0 59 (slice_index bytes 1))
             (field_of 0 59 (slice_index bytes 2)) (field_of 0 0 (slice_index bytes 3)) _ f h.1) [
-          | inl a ↦ field_fault 0 23 (slice_index bytes 0) f a
-          | inr (inl a) ↦ field_fault 0 59 (slice_index bytes 1) f a
-          | inr (inr (inl a)) ↦ field_fault 0 59 (slice_index bytes 2) f a
-          | inr (inr (inr a)) ↦ field_fault 0 0 (slice_index bytes 3) f a
-        ],
+              | inl a ↦ field_fault 0 23 (slice_index bytes 0) f a
+              | inr (inl a) ↦ field_fault 0 59 (slice_index bytes 1) f a
+              | inr (inr (inl a)) ↦ field_fault 0 59 (slice_index bytes 2) f a
+              | inr (inr (inr a)) ↦ field_fault 0 0 (slice_index bytes 3) f a
+            ],
       )
     ]
 
@@ -144,9 +153,10 @@ time_faults bytes f e =
 pub time_length : (bytes : List ℕ) → (time_of bytes ≡ Err Length → length bytes ≢ 4)
     × (length bytes ≢ 4 → time_of bytes ≡ Err Length)
 unfolding time_of
-time_length bytes =
-    (λ e. elim (time_faults bytes Length e) [ inl h ↦ h.0 | inr h ↦ absurd cc ],
-        λ h. guard_other (length bytes) 4 _ h)
+time_length bytes = (
+  λ e. elim (time_faults bytes Length e) [ inl h ↦ h.0 | inr h ↦ absurd cc ],
+  λ h. guard_other (length bytes) 4 _ h,
+)
 
 pub time_no_season : (bytes : List ℕ) → time_of bytes ≡ Err SeasonMonth → ⊥
 time_no_season bytes e = elim (time_faults bytes SeasonMonth e)
@@ -164,11 +174,12 @@ date_time_faults bytes f e =
         h.0,
         elim (three_err (date_of (slice_range bytes 0 5)) (time_of (slice_range bytes 5 9))
             (deviation_of (from_be_bytes w16 (slice_range bytes 9 11))) _ f h.1) [
-          | inl a ↦ inl a
-          | inr (inl a) ↦ inr (inl a)
-          | inr (inr a) ↦ inr (inr (deviation_fault (from_be_bytes w16 (slice_range bytes 9 11)) f
-              a))
-        ],
+              | inl a ↦ inl a
+              | inr (inl a) ↦ inr (inl a)
+              | inr (inr a) ↦ inr (inr (deviation_fault (from_be_bytes w16 (slice_range bytes 9 11))
+                  f
+                  a))
+            ],
       )
     ]
 
@@ -178,8 +189,8 @@ inner : (bytes : List ℕ) → length bytes ≡ 12 → (length (slice_range byte
     ≡ slice_index bytes 2))
 inner bytes h =
     at_twelve (λ l. (length (slice_range l 0 5) ≡ 5)
-        × ((length (slice_range l 5 9) ≡ 4) × (slice_index (slice_range l 0 5) 2
-        ≡ slice_index l 2))) bytes h
+    × ((length (slice_range l 5 9) ≡ 4) × (slice_index (slice_range l 0 5) 2
+    ≡ slice_index l 2))) bytes h
     (λ a b c d e f g h i j k l. (refl, (refl, refl)))
 
 -- reading a date-time returns `Length` exactly if its length is wrong
@@ -213,5 +224,5 @@ date_time_season bytes = (
       let there = inner bytes h.0 in
       let season : IsTrue (is_season (slice_index (slice_range bytes 0 5) 2)) = rw there.1.1 h.1 in
       guard_same (length bytes) 12 _ h.0 ∙ first_err (date_of (slice_range bytes 0 5)) _ SeasonMonth
-          ((date_season (slice_range bytes 0 5)).1 (there.0, season)),
+      ((date_season (slice_range bytes 0 5)).1 (there.0, season)),
 )

@@ -33,8 +33,12 @@ none_then test from middle limit a b = record {
 pub first_then : (test : ℕ → Bool) (from middle limit n : ℕ) → from ≤ middle
     → NonePasses test from middle → IsFirst test middle limit n → IsFirst test from limit n
 first_then test from middle limit n le a b =
-    record { low = omega (arith, b.low); high = b.high; passes = b.passes;
-        before = none_then test from middle n a b.before }
+    record {
+      low = omega (arith, b.low);
+      high = b.high;
+      passes = b.passes;
+      before = none_then test from middle n a b.before;
+    }
 
 -- the first in a part is the first in the whole
 pub first_within : (test : ℕ → Bool) (from middle limit n : ℕ) → middle ≤ limit
@@ -59,8 +63,12 @@ minutes = record {
   same = λ from n low high. omega arith;
   low = λ m n h. omega arith;
   high = λ m n h. omega arith;
-  less = λ m s n h lt. elim (cases_order (n / 60) m) [ inl e ↦ inr (e, omega arith) | inr
-      (inl l) ↦ inl l | inr (inr g) ↦ absurd (omega arith) ];
+  less = λ m s n h lt. elim (cases_order (n / 60) m) [
+    | inl e ↦ inr (e, omega arith)
+    | inr
+        (inl l) ↦ inl l
+    | inr (inr g) ↦ absurd (omega arith)
+  ];
   top = λ m s limit lt h. omega arith;
 }
 
@@ -70,8 +78,12 @@ hours = record {
   same = λ from n low high. omega arith;
   low = λ m n h. omega arith;
   high = λ m n h. omega arith;
-  less = λ m s n h lt. elim (cases_order (n / 3600) m) [ inl e ↦ inr (e, omega arith) | inr
-      (inl l) ↦ inl l | inr (inr g) ↦ absurd (omega arith) ];
+  less = λ m s n h lt. elim (cases_order (n / 3600) m) [
+    | inl e ↦ inr (e, omega arith)
+    | inr
+        (inl l) ↦ inl l
+    | inr (inr g) ↦ absurd (omega arith)
+  ];
   top = λ m s limit lt h. omega arith;
 }
 
@@ -180,5 +192,8 @@ first_tells t from to s within h = record {
 pub none_tells : (t : TimeFields) (from to : ℕ) → to < 86400
     → NonePasses (day_second_holds t) from 86400 → TellsPassing (time_matches t) from to false
 none_tells t from to within h =
-    record { found = λ e. absurd cc; none = λ e n low high. day_parts t n
-        ∙ h.none n low (omega arith) }
+    record {
+      found = λ e. absurd cc;
+      none = λ e n low high. day_parts t n
+          ∙ h.none n low (omega arith);
+    }

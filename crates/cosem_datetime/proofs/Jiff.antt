@@ -19,22 +19,39 @@ no_years = refl
 
 -- jiff counts from 1 January of the year -10000
 jiff_year : (y : ℕ) → jiff_count (pos y) 1 1 ≡ days_of_years y + 3_652_425
-jiff_year zero = omega (arith, no_years, day_count-early (pos 0) 9999 1 1 refl (omega arith)
-    (omega arith) (omega arith))
+jiff_year zero = omega (
+  arith,
+  no_years,
+  day_count-early (pos 0) 9999 1 1 refl (omega arith)
+      (omega arith) (omega arith),
+)
 jiff_year (suc y) =
-    omega (arith, jiff_year y, years_more y, day_count-next_year (pos y) (pos (suc y))
-        (omega (arith, signed_arith)) (omega (arith, signed_arith)))
+    omega (
+      arith,
+      jiff_year y,
+      years_more y,
+      day_count-next_year (pos y) (pos (suc y))
+          (omega (arith, signed_arith)) (omega (arith, signed_arith)),
+    )
 
 pub jiff_count_is : (y m d : ℕ) → 1 ≤ d → jiff_count (pos y) m d
     ≡ day_count (record { year = y; month = m; day = d }) + 3_652_425
 jiff_count_is y m d h =
-    omega (arith, jiff_year y, day_count-day_of_year (pos y) m d h, months_same y (m - 1),
-        count_parts (record { year = y; month = m; day = d }))
+    omega (
+      arith,
+      jiff_year y,
+      day_count-day_of_year (pos y) m d h,
+      months_same y (m - 1),
+      count_parts (record { year = y; month = m; day = d }),
+    )
 
 pub first_day_is : first_day ≡ 730_485
 unfolding first_day
-first_day_is = omega (arith, jiff_count_is 2000 1 1 (omega arith),
-    day_count-early (pos 2000) 11999 1 1 refl (omega arith) (omega arith) (omega arith))
+first_day_is = omega (
+  arith,
+  jiff_count_is 2000 1 1 (omega arith),
+  day_count-early (pos 2000) 11999 1 1 refl (omega arith) (omega arith) (omega arith),
+)
 
 -- a date of jiff as a day of the definitions
 pub from_jiff : (y : ℤ) (m d n : ℕ) → IsCivilDate y m d → jiff_count y m d ≡ n + 3_652_425 → (k : ℕ)
@@ -42,12 +59,25 @@ pub from_jiff : (y : ℤ) (m d n : ℕ) → IsCivilDate y m d → jiff_count y m
 from_jiff (pos k) m d n h e =
     let c : CivilDate = record { year = k; month = m; day = d } in
     let date : IsDate c = record { month = h.1; day = h.2 } in
-    let count : day_count c ≡ n = omega (arith, jiff_count_is k m d h.2.0) in
-    (k, (refl, (omega (arith, signed_arith, h.0),
-        (is_day n c).0 (record { date = date_from c date; count = count }))))
+    let count : day_count c ≡ n = omega (arith, jiff_count_is k m d h.2.0) in (
+      k,
+      (
+        refl,
+        (
+          omega (arith, signed_arith, h.0),
+          (is_day n c).0 (record { date = date_from c date; count = count }),
+        ),
+      ),
+    )
 from_jiff (negsuc k) m d n h e =
-    absurd (omega (arith, signed_arith, day_count-lt_year (negsuc k) m d (pos 0) 1 1 h (omega arith)
-        (search arith), jiff_year 0, no_years))
+    absurd (omega (
+      arith,
+      signed_arith,
+      day_count-lt_year (negsuc k) m d (pos 0) 1 1 h (omega arith)
+          (search arith),
+      jiff_year 0,
+      no_years,
+    ))
 
 -- the date n days after 1 January of the year 0
 pub date_from_jiff : (date made : Date) (n : ℕ) → date ≡ made → epoch_day made +ℤ pos 4_371_587
@@ -56,7 +86,7 @@ pub date_from_jiff : (date made : Date) (n : ℕ) → date ≡ made → epoch_da
 date_from_jiff date made n same e =
     let day : epoch_day date +ℤ pos 4_371_587 ≡ pos (n + 3_652_059) = rw same e in
     let count : jiff_count date.year date.month date.day ≡ n + 3_652_425 =
-        omega (arith, signed_arith, days_from_civil-day_count date.year date.month date.day) in
+    omega (arith, signed_arith, days_from_civil-day_count date.year date.month date.day) in
     let found = from_jiff date.year date.month date.day n (civil date) count in
     let fits : unsigned_abs date.year < 2 ^ hbits w16 = rw found.1.0 (omega (arith, found.1.1.0)) in
     (found.0, (back_small w16 date.year fits ∙ found.1.0, found.1.1))
@@ -97,12 +127,15 @@ to_jiff date made c days h k l ymd same e =
     let month : date.month ≡ c.month = cc in
     let day : date.day ≡ c.day = cc in
     let is : IsCivilDate (pos c.year) c.month c.day =
-        civil_at _ _ _ _ _ _ year month day (civil date) in
+    civil_at _ _ _ _ _ _ year month day (civil date) in
     let found : IsDate c = record { month = is.1; day = is.2 } in
     let there : epoch_day date +ℤ pos 4_371_587 ≡ pos days = rw (← same) e in
     let count : jiff_count (pos c.year) c.month c.day ≡ days
-        + 366 = rw (← year, ← month, ← day) (omega (arith, signed_arith,
-        days_from_civil-day_count date.year date.month date.day)) in
+    + 366 = rw (← year, ← month, ← day) (omega (
+      arith,
+      signed_arith,
+      days_from_civil-day_count date.year date.month date.day,
+    )) in
     (date_true c found, omega (arith, jiff_count_is c.year c.month c.day is.2.0))
 
 -- the days before 1 January of the year 10000

@@ -17,5 +17,8 @@ five_bytes p = simp length-append (omega (arith, two_of_year p.year))
 
 -- a date-time has twelve bytes
 pub twelve_bytes : (p : DateTimeFields) → length (date_time_bytes p) ≡ 12
-twelve_bytes p = simp length-append (omega (arith, two_of_year p.date.year,
-    two_of_deviation p.deviation))
+twelve_bytes p = simp length-append (omega (
+  arith,
+  two_of_year p.date.year,
+  two_of_deviation p.deviation,
+))

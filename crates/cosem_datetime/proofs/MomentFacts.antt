@@ -48,7 +48,7 @@ pub no_such_date : (f : DateTimeFields) (c : CivilDate) (s : ℕ) → plain_date
     → moment_of f ≡ None
 no_such_date f c s e h k =
     all_given f c s e h ∙ ap (λ b. cond b (in_u32 (seconds_since c s f.deviation)) None)
-        (false_left _ _ (none_means_false (is_date c) (day_count c) k))
+    (false_left _ _ (none_means_false (is_date c) (day_count c) k))
 
 -- the weekday is not that of the date
 pub other_weekday : (f : DateTimeFields) (c : CivilDate) (s n : ℕ) → plain_date f.date ≡ Some c
@@ -57,7 +57,7 @@ pub other_weekday : (f : DateTimeFields) (c : CivilDate) (s n : ℕ) → plain_d
 other_weekday f c s n e h k w =
     let day = some_means_true (is_date c) (day_count c) n k in
     all_given f c s e h ∙ ap (λ b. cond b (in_u32 (seconds_since c s f.deviation)) None)
-        (false_right _ _ (ap (λ d. holds f.date.weekday (weekday d)) day.1 ∙ w))
+    (false_right _ _ (ap (λ d. holds f.date.weekday (weekday d)) day.1 ∙ w))
 
 both_true : (a b : Bool) → a ≡ true → b ≡ true → a && b ≡ true
 both_true a b e h = rw (e, h) refl
@@ -71,10 +71,10 @@ pub right_date : (f : DateTimeFields) (c : CivilDate) (s n : ℕ) → plain_date
 right_date f c s n e h k w =
     let day = some_means_true (is_date c) (day_count c) n k in
     let right = both_true (is_date c) (holds f.date.weekday (weekday (day_count c))) day.0
-        (ap (λ d. holds f.date.weekday (weekday d)) day.1 ∙ w) in
+    (ap (λ d. holds f.date.weekday (weekday d)) day.1 ∙ w) in
     all_given f c s e h ∙ (ap (λ b. cond b (in_u32 (seconds_since c s f.deviation)) None) right
-        ∙ ap (λ d. in_u32 ((pos (86400 * d + s) -ℤ pos (86400 * first_day)) +ℤ
-        (pos 60 *ℤ unwrap_or f.deviation (pos 0)))) day.1)
+    ∙ ap (λ d. in_u32 ((pos (86400 * d + s) -ℤ pos (86400 * first_day)) +ℤ
+    (pos 60 *ℤ unwrap_or f.deviation (pos 0)))) day.1)
 
 past_u32 : (z : ℤ) → pos (2 ^ 32) ≤ℤ z → in_u32 z ≡ None
 past_u32 (pos n) h = let big : 2 ^ 32 ≤ n = omega (arith, signed_arith) in grind (arith, nat_tests)
@@ -93,11 +93,15 @@ pub too_late : (f : DateTimeFields) (c : CivilDate) (s : ℕ) → IsDeviationWit
     → plain_date f.date ≡ Some c → second_of_day f.time ≡ Some s → 9999 < c.year
     → moment_of f ≡ None
 too_late f c s d e h lt =
-    let late : 3_652_425 ≤ day_count c = omega (arith, count_parts c,
-        years_to 10000 c.year (omega arith), days_to_10000) in
+    let late : 3_652_425 ≤ day_count c = omega (
+      arith,
+      count_parts c,
+      years_to 10000 c.year (omega arith),
+      days_to_10000,
+    ) in
     let none = past_u32 (seconds_since c s f.deviation)
-        (late_seconds (day_count c) s first_day (unwrap_or f.deviation (pos 0)) late first_day_is
-        (least_deviation f.deviation d)) in
+    (late_seconds (day_count c) s first_day (unwrap_or f.deviation (pos 0)) late first_day_is
+    (least_deviation f.deviation d)) in
     all_given f c s e h ∙ at_if (λ o. o ≡ None) (is_right_date f.date c) _ _ (λ _. none) (λ _. refl)
 
 -- the last steps, without the casts
@@ -108,7 +112,7 @@ pub cast_back : (result : Option ℕ) (moved written deviation w d : ℤ) → Fi
     → deviation ≡ d → result ≡ in_u32 (w +ℤ (pos 60 *ℤ d))
 cast_back result moved written deviation w d f g h last step e k =
     let parts : to_z w64 (of_z w64 written) +ℤ (pos 60 *ℤ to_z w16 (of_z w16 deviation))
-        ≡ w +ℤ (pos 60 *ℤ d) = rw (to_z-of_z g, to_z-of_z h, e, k) refl in
+    ≡ w +ℤ (pos 60 *ℤ d) = rw (to_z-of_z g, to_z-of_z h, e, k) refl in
     last ∙ ap in_u32 (to_z-of_z f ∙ (step ∙ parts))
 
 small_seconds : (n : ℕ) → n < 2 ^ 63 → to_z w64 n ≡ pos n
@@ -124,5 +128,5 @@ pub written_is : (n day second first : ℕ) → n ≡ 86400 * day + second → d
 written_is n day second first e h k l =
     let epoch : 86400 * first ≡ 63_113_904_000 = omega arith in
     let ends : pos n -ℤ pos 63_113_904_000 ≡ pos (86400 * day + second) -ℤ pos (86400 * first) =
-        rw (e, epoch) refl in
+    rw (e, epoch) refl in
     rw (small_seconds n (omega arith)) (to_z-of_z (fits_seconds n (omega arith)) ∙ ends)

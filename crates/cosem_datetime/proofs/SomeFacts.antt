@@ -52,8 +52,10 @@ unfolding some_below
 some_below_which test zero e = absurd cc
 some_below_which test (suc n) e =
     elim (or_which _ _ e) [
-      | inl h ↦ let found = some_below_which test n h in (found.0,
-          (omega (arith, found.1.0), found.1.1))
+      | inl h ↦ let found = some_below_which test n h in (
+        found.0,
+        (omega (arith, found.1.0), found.1.1),
+      )
       | inr h ↦ (n, (omega arith, h))
     ]
 

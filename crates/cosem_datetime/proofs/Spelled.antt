@@ -95,9 +95,9 @@ year_takes : (a b : ℕ) → a < 256 → b < 256 → IfSome (year_of (a * 256 + 
     × (a ∷ b ∷ [] ≡ year_bytes (year_of (a * 256 + b)))
 year_takes a b h k =
     at_if (λ y. IfSome y (λ n. n < 0xFFFF) × (a ∷ b ∷ [] ≡ year_bytes y)) (a * 256
-        + b == 0xFFFF) None (Some (a * 256 + b))
+    + b == 0xFFFF) None (Some (a * 256 + b))
     (λ e. let all = equal _ _ e in let first : a ≡ 255 = omega arith in let second : b
-        ≡ 255 = omega arith in
+    ≡ 255 = omega arith in
     (tt, rw (first, second) refl))
     (λ e. let some = unequal (a * 256 + b) 0xFFFF e in
     (omega arith, sym (be_bytes_2 (a ∷ b ∷ []) (a * 256 + b) refl (two_bytes a b h k) refl)))
@@ -113,16 +113,27 @@ date_parts_take : (a b m d w : ℕ) (p : DateFields) → a < 256 → b < 256
 unfolding date_of
 date_parts_take a b m d w p h k e =
     let make : Option ℕ → DayOfMonth → Option ℕ
-        → DateFields = λ month day weekday. record { year = year_of (a * 256 + b); month = month;
-        day = day; weekday = weekday } in
+    → DateFields = λ month day weekday. record {
+      year = year_of (a * 256 + b);
+      month = month;
+      day = day;
+      weekday = weekday;
+    } in
     let parts = three_ok (month_of m) (day_of d) (field_of 1 7 w) make p e in
     let month = month_takes m _ parts.1.1.1.0 in
     let day = day_takes d _ parts.1.1.1.1.0 in
     let weekday = field_takes 1 7 w _ parts.1.1.1.1.1.0 in
     let year = year_takes a b h k in
-    rw (← parts.1.1.1.1.1.1) (record { year = year.0; month = month.0; day = day.0;
-        weekday = weekday.0 }, ap (λ l. l ++ m ∷ d ∷ w ∷ []) year.1
-        ∙ (rw (← month.1, ← day.1, ← weekday.1) refl))
+    rw (← parts.1.1.1.1.1.1) (
+      record {
+        year = year.0;
+        month = month.0;
+        day = day.0;
+        weekday = weekday.0;
+      },
+      ap (λ l. l ++ m ∷ d ∷ w ∷ []) year.1
+          ∙ (rw (← month.1, ← day.1, ← weekday.1) refl),
+    )
 
 date_again_parts : (year month : Option ℕ) (day : DayOfMonth) (weekday : Option ℕ)
     → IsDateFields (record { year = year; month = month; day = day; weekday = weekday })
@@ -130,11 +141,17 @@ date_again_parts : (year month : Option ℕ) (day : DayOfMonth) (weekday : Optio
     ≡ Ok (record { year = year; month = month; day = day; weekday = weekday })
 unfolding date_of
 date_again_parts None month day weekday h =
-    rw (month_again month h.month, day_again day h.day,
-        field_again 1 7 weekday (omega arith) h.weekday) refl
+    rw (
+      month_again month h.month,
+      day_again day h.day,
+      field_again 1 7 weekday (omega arith) h.weekday,
+    ) refl
 date_again_parts (Some y) month day weekday h =
-    rw (month_again month h.month, day_again day h.day,
-        field_again 1 7 weekday (omega arith) h.weekday) (rw (year_again y h.year) refl)
+    rw (
+      month_again month h.month,
+      day_again day h.day,
+      field_again 1 7 weekday (omega arith) h.weekday,
+    ) (rw (year_again y h.year) refl)
 
 pub date_again : (p : DateFields) → IsDateFields p → date_of (date_bytes p) ≡ Ok p
 date_again p h = date_again_parts p.year p.month p.day p.weekday h
@@ -152,9 +169,9 @@ at_four : (P : List ℕ → Type 0) (bytes : List ℕ) → length bytes ≡ 4
     → ((a b c d : ℕ) → P (a ∷ b ∷ c ∷ d ∷ [])) → P bytes
 at_four P bytes h p =
     at_cons P 3 bytes h (λ a r i. at_cons (λ l. P (a ∷ l)) 2 r i
-        (λ b s j. at_cons (λ l. P (a ∷ b ∷ l)) 1 s j
-        (λ c t k. at_cons (λ l. P (a ∷ b ∷ c ∷ l)) 0 t k
-        (λ d u m. at_nil (λ l. P (a ∷ b ∷ c ∷ d ∷ l)) u m (p a b c d)))))
+    (λ b s j. at_cons (λ l. P (a ∷ b ∷ l)) 1 s j
+    (λ c t k. at_cons (λ l. P (a ∷ b ∷ c ∷ l)) 0 t k
+    (λ d u m. at_nil (λ l. P (a ∷ b ∷ c ∷ d ∷ l)) u m (p a b c d)))))
 
 at_five : (P : List ℕ → Type 0) (bytes : List ℕ) → length bytes ≡ 5
     → ((a b c d e : ℕ) → P (a ∷ b ∷ c ∷ d ∷ e ∷ [])) → P bytes
@@ -166,9 +183,9 @@ at_seven_more : (P : List ℕ → Type 0) (bytes : List ℕ) → length bytes �
     → P bytes
 at_seven_more P bytes q p =
     at_cons P 11 bytes q (λ a r u. at_cons (λ l. P (a ∷ l)) 10 r u
-        (λ b s v. at_cons (λ l. P (a ∷ b ∷ l)) 9 s v (λ c t w.
+    (λ b s v. at_cons (λ l. P (a ∷ b ∷ l)) 9 s v (λ c t w.
     at_cons (λ l. P (a ∷ b ∷ c ∷ l)) 8 t w (λ d x y. at_cons (λ l. P (a ∷ b ∷ c ∷ d ∷ l)) 7 x y
-        (λ e z i. at_cons (λ l. P (a ∷ b ∷ c ∷ d ∷ e ∷ l)) 6 z i (λ f j k.
+    (λ e z i. at_cons (λ l. P (a ∷ b ∷ c ∷ d ∷ e ∷ l)) 6 z i (λ f j k.
     at_cons (λ l. P (a ∷ b ∷ c ∷ d ∷ e ∷ f ∷ l)) 5 j k (λ g m n. p a b c d e f g m n)))))))
 
 -- twelve bytes, one by one
@@ -177,7 +194,7 @@ pub at_twelve : (P : List ℕ → Type 0) (bytes : List ℕ) → length bytes �
     bytes
 at_twelve P bytes q p =
     at_seven_more P bytes q (λ a b c d e f g rest m. at_five
-        (λ l. P (a ∷ b ∷ c ∷ d ∷ e ∷ f ∷ g ∷ l)) rest m (p a b c d e f g))
+    (λ l. P (a ∷ b ∷ c ∷ d ∷ e ∷ f ∷ g ∷ l)) rest m (p a b c d e f g))
 
 date_len : (bytes : List ℕ) (p : DateFields) → date_of bytes ≡ Ok p → length bytes ≡ 5
 unfolding date_of
@@ -188,7 +205,7 @@ pub date_takes : (bytes : List ℕ) (p : DateFields) → IsBytes bytes → date_
     → IsDateFields p × (bytes ≡ date_bytes p)
 date_takes bytes p fits e =
     at_five (λ l. IsBytes l → date_of l ≡ Ok p → IsDateFields p × (l ≡ date_bytes p)) bytes
-        (date_len bytes p e)
+    (date_len bytes p e)
     (λ a b m d w f g. date_parts_take a b m d w p (f 0) (f 1) g) fits e
 
 time_parts_take : (h m s u : ℕ) (p : TimeFields) → time_of (h ∷ m ∷ s ∷ u ∷ []) ≡ Ok p
@@ -196,17 +213,28 @@ time_parts_take : (h m s u : ℕ) (p : TimeFields) → time_of (h ∷ m ∷ s �
 unfolding time_of
 time_parts_take h m s u p e =
     let make : Option ℕ → Option ℕ → Option ℕ → Option ℕ
-        → TimeFields = λ hour minute second hundredths. record { hour = hour; minute = minute;
-        second = second; hundredths = hundredths } in
+    → TimeFields = λ hour minute second hundredths. record {
+      hour = hour;
+      minute = minute;
+      second = second;
+      hundredths = hundredths;
+    } in
     let parts = four_ok (field_of 0 23 h) (field_of 0 59 m) (field_of 0 59 s)
-        (field_of 0 0 u) make p e in
+    (field_of 0 0 u) make p e in
     let is = parts.1.1.1.1 in
     let hour = field_takes 0 23 h _ is.0 in
     let minute = field_takes 0 59 m _ is.1.0 in
     let second = field_takes 0 59 s _ is.1.1.0 in
     let hundredths = field_takes 0 0 u _ is.1.1.1.0 in
-    rw (← is.1.1.1.1) (record { hour = hour.0; minute = minute.0; second = second.0;
-        hundredths = hundredths.0 }, rw (← hour.1, ← minute.1, ← second.1, ← hundredths.1) refl)
+    rw (← is.1.1.1.1) (
+      record {
+        hour = hour.0;
+        minute = minute.0;
+        second = second.0;
+        hundredths = hundredths.0;
+      },
+      rw (← hour.1, ← minute.1, ← second.1, ← hundredths.1) refl,
+    )
 
 time_len : (bytes : List ℕ) (p : TimeFields) → time_of bytes ≡ Ok p → length bytes ≡ 4
 unfolding time_of
@@ -222,10 +250,12 @@ time_takes bytes p e =
 pub time_again : (p : TimeFields) → IsTimeFields p → time_of (time_bytes p) ≡ Ok p
 unfolding time_of
 time_again p h =
-    rw (field_again 0 23 p.hour (omega arith) h.hour,
-        field_again 0 59 p.minute (omega arith) h.minute,
-        field_again 0 59 p.second (omega arith) h.second,
-        field_again 0 0 p.hundredths (omega arith) h.hundredths) refl
+    rw (
+      field_again 0 23 p.hour (omega arith) h.hour,
+      field_again 0 59 p.minute (omega arith) h.minute,
+      field_again 0 59 p.second (omega arith) h.second,
+      field_again 0 0 p.hundredths (omega arith) h.hundredths,
+    ) refl
 
 is_deviation_within : (z : ℤ) → is_deviation z ≡ true → (negsuc 719 ≤ℤ z) × (z ≤ℤ pos 840)
 is_deviation_within (pos n) e = grind (arith, nat_tests, ints)
@@ -263,9 +293,10 @@ deviation_takes a b None h k e =
     (tt, rw (high, low) refl)
 deviation_takes a b (Some z) h k e =
     let is = specified (a * 256 + b) z e in
-    let back = sym (ap (cast_unsigned w16) is.1) ∙ signed_back (a * 256 + b) (omega arith) in
-    (is_deviation_within z (ap is_deviation (sym is.1) ∙ is.0),
-        sym (be_bytes_2 (a ∷ b ∷ []) (cast_unsigned w16 z) refl (two_bytes a b h k) back))
+    let back = sym (ap (cast_unsigned w16) is.1) ∙ signed_back (a * 256 + b) (omega arith) in (
+      is_deviation_within z (ap is_deviation (sym is.1) ∙ is.0),
+      sym (be_bytes_2 (a ∷ b ∷ []) (cast_unsigned w16 z) refl (two_bytes a b h k) back),
+    )
 
 deviation_bits : (z : ℤ) → (negsuc 719 ≤ℤ z) × (z ≤ℤ pos 840) → (cast_unsigned w16 z < 2 ^ 16)
     × ((cast_unsigned w16 z ≢ 0x8000) × (cast_signed w16 (cast_unsigned w16 z) ≡ z))
@@ -287,7 +318,7 @@ deviation_again None h = refl
 deviation_again (Some z) h =
     let bits = deviation_bits z h in
     ap deviation_of (from_be_bytes-to_be_bytes_2 (cast_unsigned w16 z) bits.0)
-        ∙ specified_again (cast_unsigned w16 z) z bits.1.0 bits.1.1 (within_is_deviation z h)
+    ∙ specified_again (cast_unsigned w16 z) z bits.1.0 bits.1.1 (within_is_deviation z h)
 
 four_joined : (a b c d e f : List ℕ) (l : ℕ) → a ≡ b → c ≡ d → e ≡ f → a ++ c ++ e ++ l ∷ [] ≡ b
     ++ d ++ f ++ l ∷ []
@@ -300,15 +331,26 @@ date_time_parts_take : (a b c d e f g h i j k l : ℕ) (p : DateTimeFields)
 unfolding date_time_of
 date_time_parts_take a b c d e f g h i j k l p fits q =
     let make : DateFields → TimeFields → Option ℤ
-        → DateTimeFields = λ date time deviation. record { date = date; time = time;
-        deviation = deviation; status = l } in
+    → DateTimeFields = λ date time deviation. record {
+      date = date;
+      time = time;
+      deviation = deviation;
+      status = l;
+    } in
     let parts = three_ok (date_of (a ∷ b ∷ c ∷ d ∷ e ∷ [])) (time_of (f ∷ g ∷ h ∷ i ∷ []))
-        (deviation_of (j * 256 + k)) make p q in
+    (deviation_of (j * 256 + k)) make p q in
     let date = date_parts_take a b c d e _ (fits 0) (fits 1) parts.1.1.1.0 in
     let time = time_parts_take f g h i _ parts.1.1.1.1.0 in
     let deviation = deviation_takes j k _ (fits 9) (fits 10) parts.1.1.1.1.1.0 in
-    rw (← parts.1.1.1.1.1.1) (record { date = date.0; time = time.0; deviation = deviation.0;
-        status = fits 11 }, four_joined _ _ _ _ _ _ _ date.1 time.1 deviation.1)
+    rw (← parts.1.1.1.1.1.1) (
+      record {
+        date = date.0;
+        time = time.0;
+        deviation = deviation.0;
+        status = fits 11;
+      },
+      four_joined _ _ _ _ _ _ _ date.1 time.1 deviation.1,
+    )
 
 date_time_len : (bytes : List ℕ) (p : DateTimeFields) → date_time_of bytes ≡ Ok p
     → length bytes ≡ 12
@@ -320,35 +362,67 @@ pub date_time_takes : (bytes : List ℕ) (p : DateTimeFields) → IsBytes bytes 
     ≡ Ok p → IsDateTimeFields p × (bytes ≡ date_time_bytes p)
 date_time_takes bytes p fits q =
     at_twelve (λ l. IsBytes l → date_time_of l ≡ Ok p → IsDateTimeFields p
-        × (l ≡ date_time_bytes p)) bytes (date_time_len bytes p q)
+    × (l ≡ date_time_bytes p)) bytes (date_time_len bytes p q)
     (λ a b c d e f g h i j k l m n. date_time_parts_take a b c d e f g h i j k l p m n) fits q
 
 -- the parts of a date-time's bytes
 date_time_again_parts : (year : Option ℕ) (month : Option ℕ) (day : DayOfMonth) (weekday : Option ℕ)
     (time : TimeFields) (deviation : Option ℤ) (status : ℕ)
-    → IsDateTimeFields (record { date = record { year = year; month = month; day = day;
-    weekday = weekday }; time = time; deviation = deviation; status = status })
-    → date_time_of (date_time_bytes (record { date = record { year = year; month = month; day = day;
-    weekday = weekday }; time = time; deviation = deviation; status = status }))
-    ≡ Ok (record { date = record { year = year; month = month; day = day; weekday = weekday };
-    time = time; deviation = deviation; status = status })
+    → IsDateTimeFields (record {
+      date = record {
+        year = year;
+        month = month;
+        day = day;
+        weekday = weekday;
+      };
+      time = time;
+      deviation = deviation;
+      status = status;
+    })
+    → date_time_of (date_time_bytes (record {
+      date = record {
+        year = year;
+        month = month;
+        day = day;
+        weekday = weekday;
+      };
+      time = time;
+      deviation = deviation;
+      status = status;
+    }))
+    ≡ Ok (record {
+      date = record { year = year; month = month; day = day; weekday = weekday };
+      time = time;
+      deviation = deviation;
+      status = status;
+    })
 unfolding date_time_of
 date_time_again_parts None month day weekday time None status h =
-    rw (date_again (record { year = None; month = month; day = day; weekday = weekday }) h.date,
-        time_again time h.time) refl
+    rw (
+      date_again (record { year = None; month = month; day = day; weekday = weekday }) h.date,
+      time_again time h.time,
+    ) refl
 date_time_again_parts None month day weekday time (Some z) status h =
-    rw (date_again (record { year = None; month = month; day = day; weekday = weekday }) h.date,
-        time_again time h.time, deviation_again (Some z) h.deviation) refl
+    rw (
+      date_again (record { year = None; month = month; day = day; weekday = weekday }) h.date,
+      time_again time h.time,
+      deviation_again (Some z) h.deviation,
+    ) refl
 date_time_again_parts (Some y) month day weekday time None status h =
-    rw (date_again (record { year = Some y; month = month; day = day; weekday = weekday }) h.date,
-        time_again time h.time) refl
+    rw (
+      date_again (record { year = Some y; month = month; day = day; weekday = weekday }) h.date,
+      time_again time h.time,
+    ) refl
 date_time_again_parts (Some y) month day weekday time (Some z) status h =
-    rw (date_again (record { year = Some y; month = month; day = day; weekday = weekday }) h.date,
-        time_again time h.time, deviation_again (Some z) h.deviation) refl
+    rw (
+      date_again (record { year = Some y; month = month; day = day; weekday = weekday }) h.date,
+      time_again time h.time,
+      deviation_again (Some z) h.deviation,
+    ) refl
 
 -- the bytes of a date-time read as that date-time
 pub date_time_again : (p : DateTimeFields) → IsDateTimeFields p → date_time_of (date_time_bytes p)
     ≡ Ok p
 date_time_again p h =
     date_time_again_parts p.date.year p.date.month p.date.day p.date.weekday p.time
-        p.deviation p.status h
+    p.deviation p.status h

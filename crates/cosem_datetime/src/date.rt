@@ -1,3 +1,5 @@
+//! The date pattern of five bytes (IEC 62056-6-2, date and time formats): reading, writing and
+//! matching days of the calendar.
 ghost use Rattle.std.specs.Prelude.{◌≡◌, ◌≢◌, ◌≤◌, ◌↔◌, length, slice_index, IsTrue, IfOk, IfSome, IsErrOf, Ok};
 ghost use Rattle.cosem_datetime.specs.Fields.{DateFields, IsDateFields, day_byte, date_bytes, unspecified_date_time};
 ghost use Rattle.cosem_datetime.specs.Matching.{holds, day_holds, date_holds, last_week_holds, past_week_holds, month_day_holds, date_matches, is_plain};

@@ -1,3 +1,5 @@
+//! The date-time of twelve bytes (IEC 62056-6-2, date and time formats): a date, a time, the
+//! deviation from UTC and the clock status.
 ghost use Rattle.std.specs.Prelude.{◌≡◌, ◌≢◌, ◌≤◌, ◌↔◌, [], ◌∷◌, length, slice_index, Ok, IsTrue, IfOk, IsErrOf};
 ghost use Rattle.byteorder.specs.Endian.{big_number};
 ghost use Rattle.cosem_datetime.specs.Fields.{DateTimeFields, IsDateTimeFields, date_time_bytes, unspecified_date_time};

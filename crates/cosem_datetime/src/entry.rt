@@ -1,3 +1,5 @@
+//! An execution time of a schedule, a time and a date pattern (IEC 62056-6-2, class 22), matched
+//! against seconds of the meter's clock.
 ghost use Rattle.std.specs.Prelude.{◌≡◌, ◌+◌, ◌*◌, ◌<◌, ◌≤◌, ◌↔◌, ℕ, IsTrue};
 
 use crate::calendar::{FIRST_DAY, SECONDS_OF_DAY};

@@ -1,3 +1,5 @@
+//! The error of the readers of dates and times: wrong length, a field out of its range, or daylight
+//! saving.
 ghost use Rattle.std.specs.Prelude.{◌≡◌};
 ghost use Rattle.cosem_datetime.specs.Numbers.{fault_number};
 

@@ -1,3 +1,4 @@
+//! Fields of one byte that may be unspecified (FF hex), shared by dates and times.
 ghost use Rattle.std.specs.Prelude.{◌≡◌};
 ghost use Rattle.cosem_datetime.specs.Fields.{field_byte};
 ghost use Rattle.cosem_datetime.specs.Reading.{field_of};

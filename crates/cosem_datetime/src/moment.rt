@@ -1,3 +1,5 @@
+//! The second that a date-time names, in seconds since 1 January 2000: its written time plus its
+//! deviation (IEC 62056-6-2).
 ghost use Rattle.std.specs.Prelude.{◌≡◌, ◌+◌, ◌*◌, ◌^◌, ◌<◌, ◌≤◌, pos, ◌+ℤ◌, ◌-ℤ◌, ◌*ℤ◌};
 ghost use Rattle.jiff_core.specs.Calendar.{IsWithin};
 ghost use Rattle.cosem_datetime.specs.Calendar.{first_day};

@@ -1,3 +1,5 @@
+//! The time pattern of four bytes (IEC 62056-6-2, date and time formats): reading, writing and
+//! matching seconds of a day.
 ghost use Rattle.std.specs.Prelude.{◌≡◌, ◌+◌, ◌*◌, ◌/◌, ◌<◌, ◌≢◌, ◌↔◌, length, Ok, IsTrue, IfOk, IfSome, IsErrOf};
 ghost use Rattle.cosem_datetime.specs.Reading.{time_of};
 ghost use Rattle.cosem_datetime.specs.Fields.{TimeFields, IsTimeFields, time_bytes, unspecified_date_time};

@@ -19,7 +19,7 @@ pub record HasJudged {A B : Type 0} (read : A → Result B WriteFault) (items : 
 pub HasJudged-more : {A B : Type 0} {read : A → Result B WriteFault} {items : List A} {i : ℕ}
     {unmatched faulty : Bool} → HasJudged read items i unmatched faulty
     → (item : A) (given : Result B WriteFault) → i < length items → item ≡ get_or items i item
-        → given ≡ read item
+    → given ≡ read item
     → HasJudged read items (i + 1) (unmatched || is_unmatched given) (faulty || is_err given)
 HasJudged-more {read = read} {items = items} {i = i} so_far item given within is read_as = record {
   typed = ap₂ (λ a r. a || is_unmatched r) so_far.typed (read_as ∙ ap read is)
@@ -32,8 +32,8 @@ HasJudged-more {read = read} {items = items} {i = i} so_far item given within is
 pub HasJudged-all : {A B : Type 0} {read : A → Result B WriteFault} {items : List A} {i : ℕ}
     {unmatched faulty : Bool} → HasJudged read items i unmatched faulty
     → length items ≤ i → (r : Result (Unit {0}) WriteFault)
-        → cond unmatched (Err Unmatched) (cond faulty (Err Value) (done WriteFault tt)) ≡ r → r
-        ≡ fault_of_items read items
+    → cond unmatched (Err Unmatched) (cond faulty (Err Value) (done WriteFault tt)) ≡ r → r
+    ≡ fault_of_items read items
 unfolding fault_of_items
 HasJudged-all {read = read} {items = items} {i = i} judged all r is =
     sym is
@@ -45,11 +45,11 @@ HasJudged-all {read = read} {items = items} {i = i} judged all r is =
 pub told_alike : {A B C : Type 0} (f : A → Result B WriteFault) (g : A → Result C WriteFault)
     → ((x : A) → is_unmatched (f x) ≡ is_unmatched (g x))
     → ((x : A) → is_err (f x) ≡ is_err (g x)) → (items : List A) → fault_of_items f items
-        ≡ fault_of_items g items
+    ≡ fault_of_items g items
 unfolding fault_of_items
 told_alike {A = A} f g typed faults items =
     ap₂ (λ a b. cond a (Err Unmatched) (cond b (Err Value) (done WriteFault tt)))
-        (any_alike (λ x. is_unmatched (f x)) (λ x. is_unmatched (g x)) typed items)
+    (any_alike (λ x. is_unmatched (f x)) (λ x. is_unmatched (g x)) typed items)
     (any_alike (λ x. is_err (f x)) (λ x. is_err (g x)) faults items)
   where
     any_alike : (p q : A → Bool) → ((x : A) → p x ≡ q x) → (xs : List A) → list_any p xs
@@ -60,7 +60,7 @@ told_alike {A = A} f g typed faults items =
 -- reading that drops the values reports the same fault
 pub told_of_faults : {A B : Type 0} (read : A → Result B WriteFault) (items : List A)
     → fault_of_items (λ x. result_map_both (λ value. tt {0}) (λ fault. fault) (read x)) items
-        ≡ fault_of_items read items
+    ≡ fault_of_items read items
 told_of_faults {A = A} {B = B} read items = told_alike
     (λ x. result_map_both (λ value. tt {0}) (λ fault. fault) (read x)) read (λ x. typed (read x))
     (λ x. faulty (read x)) items

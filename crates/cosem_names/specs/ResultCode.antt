@@ -1,3 +1,5 @@
+-- The numbers of Data-Access-Result and Action-Result in APDUs (IEC 62056-5-3), and the result of
+-- a number.
 use Rattle.std.specs.Prelude.{ℕ, Option, Some, None, ◌==◌, if◌then◌else◌}
 use Rattle.byte_reading.specs.ByteFormats.{byte}
 use Rattle.byte_reading.specs.Format.{Format, narrow}

@@ -1,3 +1,4 @@
+//! Looks up objects, attributes and methods in the table, with the rights of each access level.
 ghost use Rattle.std.specs.Prelude.{◌≡◌, option_map};
 ghost use Rattle.cosem_names.specs.Objects.{object_of, class_attribute_of, class_method_of, attribute_of, method_of, rights_of, may_execute_of};
 

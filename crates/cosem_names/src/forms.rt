@@ -1,3 +1,5 @@
+//! Reads logical names from Data, and dates and times in the two types in which clients may write
+//! them (IEC 62056-6-2).
 ghost use Rattle.std.specs.Prelude.{◌≡◌, ℕ, option_map};
 ghost use Rattle.cosem_names.specs.Forms.{so_many, name_of, date_time_bytes_of, date_bytes_of, time_bytes_of};
 

@@ -1,3 +1,5 @@
+//! Validates each item of a written list and returns one fault: a wrong type first, then a wrong
+//! value.
 ghost use Rattle.std.specs.Prelude.{◌≡◌, Result, IsErrOf};
 ghost use Rattle.cosem_names.specs.Judging.{IsReader};
 ghost use Rattle.cosem_names.specs.WriteFault.{is_unmatched, fault_of_items};

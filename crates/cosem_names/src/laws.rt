@@ -1,3 +1,4 @@
+//! Proves that the tables of the code are the tables of the definitions.
 ghost use Rattle.std.specs.Prelude.{◌≡◌};
 ghost use Rattle.cosem_names.specs.Table.{objects, attributes, methods};
 

@@ -1,3 +1,5 @@
+//! The access levels of clients, public and management, and the rights to an attribute.
+
 /// The access level of a client's association.
 #[derive(Clone, Copy, Debug, PartialEq, Eq)]
 pub enum Level {

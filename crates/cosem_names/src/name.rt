@@ -1,3 +1,6 @@
+//! Logical names (IEC 62056-6-1), class ids, and references to attributes and methods (IEC
+//! 62056-5-3).
+
 /// A logical name: the value groups A to F of an OBIS code (IEC 62056-6-1).
 #[derive(Clone, Copy, Debug, PartialEq, Eq)]
 pub struct Obis(pub [u8; 6]);

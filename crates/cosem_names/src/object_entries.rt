@@ -1,3 +1,5 @@
+//! Builds the object_list of Association LN (IEC 62056-6-2, class 15) from the table, for one
+//! access level.
 ghost use Rattle.std.specs.Prelude.{◌≡◌, IfOk};
 ghost use Rattle.cosem_names.specs.Objects.{access_by, execution_by};
 ghost use Rattle.cosem_names.specs.ObjectList.{access_number, execution_number, attribute_entry, method_entry, attribute_entries, method_entries, access_rights, object_entry, object_entries, object_list_of};

@@ -1,3 +1,5 @@
+//! The table of the meter's objects: classes, versions, logical names, attributes, methods and
+//! access modes (IEC 62056-6-2).
 use crate::name::{ClassId, Obis};
 
 /// The access mode of an attribute (IEC 62056-6-2, Association LN, object_list).

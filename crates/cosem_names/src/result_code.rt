@@ -1,3 +1,5 @@
+//! The result codes of services, Data-Access-Result and Action-Result (IEC 62056-5-3), and their
+//! numbers.
 ghost use Rattle.std.specs.Prelude.{◌≡◌};
 ghost use Rattle.cosem_names.specs.ResultCode.{code_of, result_of};
 ghost use Rattle.cosem_names.specs.UnknownNumber.{Finds};

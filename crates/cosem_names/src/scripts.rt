@@ -1,3 +1,5 @@
+//! A reference to a script, by script table and selector, as schedules and limiters hold it (IEC
+//! 62056-6-2, classes 22 and 71).
 ghost use Rattle.std.specs.Prelude.{◌≡◌, Some, IfOk};
 ghost use Rattle.cosem_names.specs.Scripts.{script_data, script_of, is_of_the_table, script_at};
 

@@ -1,3 +1,5 @@
+//! An item of a GET and its result: an attribute with or without selective access, a value or a
+//! result code (IEC 62056-5-3).
 use crate::name::AttrRef;
 use crate::result_code::ResultCode;
 use cosem_axdr::Data;

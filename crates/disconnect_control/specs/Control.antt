@@ -1,3 +1,5 @@
+-- The switch after a trigger and after a write of its mode, with the result code of the write (IEC
+-- 62056-6-2, class 70).
 use Rattle.std.specs.Prelude.{◌≡◌, Bool, ◌==◌, ◌&&◌, ◌||◌, not, if◌then◌else◌}
 use Rattle.cosem_names.specs.declared.result_code.ResultCode.{ResultCode}
 use Rattle.cosem_names.specs.declared.result_code.ResultCode.TheVariants.{Success, TemporaryFailure}

@@ -1,3 +1,5 @@
+-- The eight transitions of the switch and which of them each mode allows (IEC 62056-6-2, class
+-- 70); the result of each trigger.
 use Rattle.std.specs.Prelude.{◌≡◌, ℕ, Bool, true, false, Option, Some, None, List, [], ◌∷◌, ◌==◌, ◌&&◌, ◌||◌, find, option_map, unwrap_or, is_some, if◌then◌else◌}
 use Rattle.cosem_names.specs.declared.result_code.ResultCode.{ResultCode}
 use Rattle.cosem_names.specs.declared.result_code.ResultCode.TheVariants.{Success, TemporaryFailure}

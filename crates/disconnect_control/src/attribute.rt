@@ -1,3 +1,4 @@
+//! Attributes 2 to 4 of the disconnect control (IEC 62056-6-2, class 70) and their numbers.
 ghost use Rattle.std.specs.Prelude.{◌≡◌};
 ghost use Rattle.disconnect_control.specs.Attributes.{attribute_numbered};
 

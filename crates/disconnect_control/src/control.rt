@@ -1,3 +1,5 @@
+//! The disconnect control (IEC 62056-6-2, class 70): its state and mode, its transitions, and the
+//! result of each trigger.
 ghost use Rattle.std.specs.Prelude.{◌≡◌, ◌≢◌, ◌↔◌, option_map, IsTrue, IsNone, IfSome};
 ghost use Rattle.disconnect_control.specs.declared.state.ControlState.TheVariants.{Connected};
 ghost use Rattle.disconnect_control.specs.declared.state.ControlMode.TheVariants.{Mode0};

@@ -1,3 +1,5 @@
+//! The attributes of the disconnect control as Data, and the mode that a client writes (IEC
+//! 62056-6-2, class 70).
 ghost use Rattle.std.specs.Prelude.{◌≡◌};
 ghost use Rattle.disconnect_control.specs.Attributes.{data_at, mode_form};
 

@@ -1,3 +1,5 @@
+//! The states, modes and triggers of the disconnect control (IEC 62056-6-2, class 70).
+
 /// The state of the switch: control_state, attribute 3 (IEC 62056-6-2, class 70).
 #[derive(Clone, Copy, Debug, PartialEq, Eq)]
 pub enum ControlState {

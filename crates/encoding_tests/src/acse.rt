@@ -1,3 +1,5 @@
+//! Association requests and responses: examples of the Green Book and changed copies of them, read,
+//! judged and written.
 ghost use Rattle.std.specs.Prelude.{IfSome};
 ghost use Rattle.acse_ber.specs.Password.{IsPassword};
 

@@ -1,3 +1,5 @@
+//! Values of every type of Data, read and written, at and beyond the limits of depth, width and
+//! length.
 use cosem_axdr::{
     Data, DataFault, Items, Octets, append_length, fits, no_spelling_begins_another, number_of,
     read, text_len, text_of_fit_spells, write,

@@ -27,21 +27,23 @@ pub record Gathers (turns workers : ℕ) (old : List ReportLine) (slots : List R
 pub are_lines : (tells : List ℕ → Option Forecast) (jobs : List Job) (lines : List ReportLine)
     → length lines ≡ length jobs
     → ((i : ℕ) (job : Job) (line : ReportLine) → i < length jobs
-        → IsLine tells (slice_index_or jobs i job) (slice_index_or lines i line))
-        → AreLines tells jobs lines
+    → IsLine tells (slice_index_or jobs i job) (slice_index_or lines i line))
+    → AreLines tells jobs lines
 are_lines tells [] [] same each = tt
 are_lines tells [] (line ∷ lines) same each = absurd (omega arith)
 are_lines tells (job ∷ jobs) [] same each = absurd (omega arith)
-are_lines tells (job ∷ jobs) (line ∷ lines) same each =
-    (each 0 job line (omega arith), are_lines tells jobs lines (omega arith)
-        (λ i j l below. each (suc i) j l (omega arith)))
+are_lines tells (job ∷ jobs) (line ∷ lines) same each = (
+  each 0 job line (omega arith),
+  are_lines tells jobs lines (omega arith)
+      (λ i j l below. each (suc i) j l (omega arith)),
+)
 
 -- one name more
 pub ids_more : (jobs : List Job) (i : ℕ) (job : Job) (lines new : List ReportLine)
     (line : ReportLine) → i < length jobs → job ≡ slice_index_or jobs i job → line.id ≡ job.id
     → map (λ (l : ReportLine). l.id) lines ≡ map (λ (j : Job). j.id) (take i jobs) → new ≡ lines
-        ++ line ∷ [] → map (λ (l : ReportLine). l.id) new
-        ≡ map (λ (j : Job). j.id) (take (i + 1) jobs)
+    ++ line ∷ [] → map (λ (l : ReportLine). l.id) new
+    ≡ map (λ (j : Job). j.id) (take (i + 1) jobs)
 ids_more jobs i job lines new line below is id_is before same = grind (arith, common_steps)
 
 -- lines that have the same names as the jobs
@@ -53,7 +55,7 @@ same_length jobs lines same = sym (length-map lines (λ (l : ReportLine). l.id))
 same_ids : (jobs : List Job) (lines : List ReportLine) → map (λ (l : ReportLine). l.id) lines
     ≡ map (λ (j : Job). j.id) jobs
     → (i : ℕ) (job : Job) (line : ReportLine) → i < length jobs → (slice_index_or lines i line).id
-        ≡ (slice_index_or jobs i job).id
+    ≡ (slice_index_or jobs i job).id
 same_ids [] lines same i job line below = absurd (omega arith)
 same_ids (j ∷ jobs) [] same i job line below = absurd cc
 same_ids (j ∷ jobs) (l ∷ lines) same zero job line below = cc
@@ -65,11 +67,11 @@ same_ids (j ∷ jobs) (l ∷ lines) same (suc i) job line below = same_ids jobs 
 pub campaign_lines : (tells : List ℕ → Option Forecast) (turns workers : ℕ) (jobs : List Job)
     (blank lines : List ReportLine) (slots : List Row)
     → 0 < workers → length jobs < turns * workers → map (λ (l : ReportLine). l.id) blank
-        ≡ map (λ (j : Job). j.id) jobs
+    ≡ map (λ (j : Job). j.id) jobs
     → ((slot : ℕ) (job : Job) (row : Row) → slot < turns * workers
-        → place_at turns workers slot < length jobs
+    → place_at turns workers slot < length jobs
     → IsRow tells (slice_index_or jobs (place_at turns workers slot) job)
-        (slice_index_or slots slot row))
+    (slice_index_or slots slot row))
     → Gathers turns workers blank slots (length blank) lines → AreLines tells jobs lines
 campaign_lines tells turns workers jobs blank lines slots some few same rows gathers =
     let long : length blank ≡ length jobs = same_length jobs blank same in
@@ -80,9 +82,9 @@ campaign_lines tells turns workers jobs blank lines slots some few same rows gat
           let back = place_back turns workers i some (omega arith) in
           let slot = slot_below turns workers i some (omega arith) in
           let there : place_at turns workers (slot_at turns workers i) < length jobs =
-              rw back below in
+          rw back below in
           let row = rows (slot_at turns workers i) job (slice_index_or lines i line).row slot there
-              in
+          in
           rw (gathers.rows i line (slice_index_or lines i line).row (omega arith)) (rw back at row);
     })
 

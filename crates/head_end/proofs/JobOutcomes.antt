@@ -24,7 +24,7 @@ use Rattle.head_end.specs.Rows.{IsOutcome}
 pub unconnected : {K : Type 0} (told : Option Forecast) (told_of : K → Option Forecast)
     (fault : ConnectFault) (verb : Verb) (password : List ℕ) (client : Client) (outcome : Outcome)
     → ConnectTells told told_of (Err fault) → Stands verb password [] 0 false client
-        → GivesUp client outcome → IsOutcome told verb outcome
+    → GivesUp client outcome → IsOutcome told verb outcome
 unconnected None told_of fault verb password client outcome tells stands gives = tt
 unconnected (Some told) told_of fault verb password client outcome tells stands gives =
     gives.outcome_is told verb password (record { given = 0; stands = rw tells.0 stands })
@@ -39,8 +39,11 @@ at_start told verb password client now is reads stands = record {
   stands = stands;
   follows = record {
     rest = told.bytes;
-    now_is = is ∙ ap (λ (n : ℕ). Some (let t : Forecast = record { reads = n; bytes = told.bytes;
-        stop = told.stop } in t)) reads;
+    now_is = is ∙ ap (λ (n : ℕ). Some (let t : Forecast = record {
+      reads = n;
+      bytes = told.bytes;
+      stop = told.stop;
+    } in t)) reads;
     bytes_are = refl;
     last = λ none. absurd cc;
   };
@@ -49,16 +52,16 @@ at_start told verb password client now is reads stands = record {
 outcome_by : {K : Type 0} (told : Option Forecast) (told_of : K → Option Forecast) (connection : K)
     (verb : Verb) (password : List ℕ) (client : Client) (outcome : Outcome)
     → ConnectTells told told_of (Ok connection) → Stands verb password [] 0 false client
-        → Converses client (told_of connection) outcome → IsOutcome told verb outcome
+    → Converses client (told_of connection) outcome → IsOutcome told verb outcome
 outcome_by None told_of connection verb password client outcome tells stands converses = tt
 outcome_by (Some told) told_of connection verb password client outcome tells stands converses =
     converses.outcome_is told verb password (at_start told verb password client
-        (told_of connection) tells.0 tells.1 stands)
+    (told_of connection) tells.0 tells.1 stands)
 
 pub connected : {K E : Type 0} (told : Option Forecast) (told_of : K → Option Forecast)
     (connection : K) (verb : Verb) (password : List ℕ) (client : Client)
     (result : Result Outcome E) → ConnectTells told told_of (Ok connection)
-        → Stands verb password [] 0 false client
+    → Stands verb password [] 0 false client
     → IfOk result (Converses client (told_of connection)) → IfOk result (IsOutcome told verb)
 connected told told_of connection verb password client (Ok outcome) tells stands converses =
     outcome_by told told_of connection verb password client outcome tells stands converses

@@ -51,7 +51,7 @@ lines_told tells (job ∷ jobs) [] are told memory = absurd are
 lines_told tells (job ∷ jobs) (line ∷ lines) are told memory =
     let here : line ≡ line_for tells job =
     same_line line.id (line_for tells job).id line.row (line_for tells job).row (are.0.id_is
-        ∙ sym (id_told job (tells job.address)))
+    ∙ sym (id_told job (tells job.address)))
     (row_told job (tells job.address) tells line.row refl told.0 are.0.row_is memory.0) in
     let others = lines_told tells jobs lines are.1 told.1 memory.1 in
     cc
@@ -81,21 +81,26 @@ both_of : (first second : Result (List Job) ℕ) (jobs : List Job) → joined_jo
     ≡ Ok jobs → IsBoth first second jobs
 both_of (Err n) second jobs is = absurd cc
 both_of (Ok left) (Err n) jobs is = absurd cc
-both_of (Ok left) (Ok right) jobs is = record { left = left; right = right; first_is = refl;
-    second_is = refl; jobs_are = cc }
+both_of (Ok left) (Ok right) jobs is = record {
+  left = left;
+  right = right;
+  first_is = refl;
+  second_is = refl;
+  jobs_are = cc;
+}
 
 jobs_renumbered : (number other : ℕ) (lines : List (List ℕ)) (jobs : List Job)
     → jobs_in number lines ≡ Ok jobs → jobs_in other lines ≡ Ok jobs
 jobs_renumbered number other [] jobs is = jobs_in-nil other ∙ sym (jobs_in-nil number) ∙ is
 jobs_renumbered number other (line ∷ lines) jobs is =
     let both = both_of (jobs_at number line (job_of line)) (jobs_in (suc number) lines) jobs
-        (sym (jobs_in-cons number line lines) ∙ is) in
+    (sym (jobs_in-cons number line lines) ∙ is) in
     let first = by_job number other line (job_of line) both.left both.first_is in
     let second = jobs_renumbered (suc number) (suc other) lines both.right both.second_is in
     jobs_in-cons other line lines ∙ ap (λ (r : Result (List Job) ℕ). joined_jobs r
-        (jobs_in (suc other) lines)) first
+    (jobs_in (suc other) lines)) first
     ∙ ap (joined_jobs (Ok both.left)) second ∙ ap
-        (λ (js : List Job). let r : Result (List Job) ℕ = Ok js in r) (sym both.jobs_are)
+    (λ (js : List Job). let r : Result (List Job) ℕ = Ok js in r) (sym both.jobs_are)
 
 -- lines followed by others
 no_jobs : (jobs : List Job) → ◌≡◌ {A = Result (List Job) ℕ} (Ok []) (Ok jobs) → jobs ≡ []
@@ -109,16 +114,16 @@ jobs_appended number [] others jobs more is later =
     rw none later
 jobs_appended number (line ∷ lines) others jobs more is later =
     let both = both_of (jobs_at number line (job_of line)) (jobs_in (suc number) lines) jobs
-        (sym (jobs_in-cons number line lines) ∙ is) in
+    (sym (jobs_in-cons number line lines) ∙ is) in
     let rest = jobs_appended (suc number) lines others both.right more both.second_is
-        (jobs_renumbered number (suc number) others more later) in
+    (jobs_renumbered number (suc number) others more later) in
     jobs_in-cons number line (lines ++ others)
-        ∙ ap (λ (r : Result (List Job) ℕ). joined_jobs r (jobs_in (suc number) (lines ++ others)))
-        both.first_is
+    ∙ ap (λ (r : Result (List Job) ℕ). joined_jobs r (jobs_in (suc number) (lines ++ others)))
+    both.first_is
     ∙ ap (joined_jobs (Ok both.left)) rest
     ∙ ap (λ (js : List Job). let r : Result (List Job) ℕ = Ok js in r)
     (sym (append_assoc both.left both.right more)
-        ∙ ap (λ (js : List Job). js ++ more) (sym both.jobs_are))
+    ∙ ap (λ (js : List Job). js ++ more) (sym both.jobs_are))
 
 -- an empty line after the others has no jobs
 jobs_ended : (number : ℕ) (lines : List (List ℕ)) (jobs : List Job)
@@ -127,9 +132,9 @@ jobs_ended number [] jobs is = jobs_in-nil number
     ∙ sym (jobs_in-cons number [] [] ∙ ap (joined_jobs (Ok [])) (jobs_in-nil (suc number))) ∙ is
 jobs_ended number (line ∷ lines) jobs is =
     let both = both_of (jobs_at number line (job_of line)) (jobs_in (suc number) (lines ++ [] ∷ []))
-        jobs (sym (jobs_in-cons number line (lines ++ [] ∷ [])) ∙ is) in
+    jobs (sym (jobs_in-cons number line (lines ++ [] ∷ [])) ∙ is) in
     jobs_in-cons number line lines ∙ ap (λ (r : Result (List Job) ℕ). joined_jobs r
-        (jobs_in (suc number) lines)) both.first_is
+    (jobs_in (suc number) lines)) both.first_is
     ∙ ap (joined_jobs (Ok both.left)) (jobs_ended (suc number) lines both.right both.second_is)
     ∙ ap (λ (js : List Job). let r : Result (List Job) ℕ = Ok js in r) (sym both.jobs_are)
 
@@ -138,8 +143,8 @@ jobs_join text rest jobs others ended first second =
     let lines : job_lines (text ++ rest) ≡ lines_of text ++ job_lines rest =
     ap (λ (ls : List (List ℕ)). ls ++ unended_of (text ++ rest) ∷ []) (lines_joined text rest ended)
     ∙ ap (λ (behind : List ℕ). (lines_of text ++ lines_of rest) ++ behind
-        ∷ []) (unended_joined text rest ended)
+    ∷ []) (unended_joined text rest ended)
     ∙ append_assoc (lines_of text) (lines_of rest) (unended_of rest ∷ []) in
     let whole : jobs_in 1 (lines_of text) ≡ Ok jobs =
-        jobs_ended 1 (lines_of text) jobs (rw ended at first) in
+    jobs_ended 1 (lines_of text) jobs (rw ended at first) in
     ap (jobs_in 1) lines ∙ jobs_appended 1 (lines_of text) (job_lines rest) jobs others whole second

@@ -14,7 +14,7 @@ pub slot_below : (turns workers place : ℕ) → 0 < workers → place < turns *
     → slot_at turns workers place < turns * workers
 slot_below turns workers place some below =
     mul-add-lt (place % workers) turns (place / workers) workers (omega arith)
-        (quotient_below place workers turns some below)
+    (quotient_below place workers turns some below)
 
 pub place_below : (turns workers slot : ℕ) → 0 < turns → slot < turns * workers
     → place_at turns workers slot < turns * workers
@@ -22,13 +22,15 @@ place_below turns workers slot some below =
     let flipped : slot < workers * turns = rw (mul_comm workers turns) below in
     let least : slot / turns < workers = quotient_below slot turns workers some flipped in
     rw (mul_comm turns workers) (mul-add-lt (slot % turns) workers (slot / turns) turns
-        (omega arith) least)
+    (omega arith) least)
 
 -- the job of the slot of a place is the job of that place
 pub place_back : (turns workers place : ℕ) → 0 < workers → place < turns * workers
     → place_at turns workers (slot_at turns workers place) ≡ place
 place_back turns workers place some below =
     let least : place / workers < turns = quotient_below place workers turns some below in
-    rw (div-mul-add (place % workers) turns (place / workers) least,
-        mod-mul-add (place % workers) turns (place / workers) least)
+    rw (
+      div-mul-add (place % workers) turns (place / workers) least,
+      mod-mul-add (place % workers) turns (place / workers) least,
+    )
     (omega (arith, div-add-mod place workers, mul_comm workers (place / workers)))

@@ -55,22 +55,22 @@ lines_last rest lines unended = rw (lines, unended) refl
 taken_all : (text : List ℕ) (old : List Job) (number : ℕ) (rest line : List ℕ)
     (lines : List (List ℕ)) → Left text old number rest → job_lines rest ≡ line ∷ lines
     → jobs_in 1 (job_lines text) ≡ joined_jobs
-        (joined_jobs (Ok old) (jobs_at number line (job_of line))) (jobs_in (suc number) lines)
+    (joined_jobs (Ok old) (jobs_at number line (job_of line))) (jobs_in (suc number) lines)
 taken_all text old number rest line lines left taken =
     left.all ∙ ap (λ (ls : List (List ℕ)). joined_jobs (Ok old) (jobs_in number ls)) taken
-        ∙ ap (joined_jobs (Ok old)) (jobs_in-cons number line lines)
+    ∙ ap (joined_jobs (Ok old)) (jobs_in-cons number line lines)
     ∙ sym (joined_assoc (Ok old) (jobs_at number line (job_of line)) (jobs_in (suc number) lines))
 
 pub left_more : (text : List ℕ) (old new : List Job) (number : ℕ) (rest line behind : List ℕ)
     → Left text old number rest → lines_of rest ≡ line ∷ lines_of behind
     → unended_of rest ≡ unended_of behind → AddsJob {X = Unit {0}} number line old (Ok tt) new
-        → Left text new (number + 1) behind
+    → Left text new (number + 1) behind
 left_more text old new number rest line behind left lines unended adds =
     let here = taken_all text old number rest line (job_lines behind) left
-        (lines_taken rest line behind lines unended) in
+    (lines_taken rest line behind lines unended) in
     let jobs : joined_jobs (Ok old) (jobs_at number line (job_of line)) ≡ Ok new =
     ap (joined_jobs (Ok old)) adds.1 ∙ ap (λ (js : List Job). let r : Result
-        (List Job) ℕ = Ok js in r) (sym adds.2) in
+    (List Job) ℕ = Ok js in r) (sym adds.2) in
     record {
       all = rw add-one (here ∙ ap (λ (r : Result (List Job) ℕ). joined_jobs r
           (jobs_in (suc number) (job_lines behind))) jobs);
@@ -81,26 +81,26 @@ left_more text old new number rest line behind left lines unended adds =
 wrong_by : (text : List ℕ) (old new : List Job) (number : ℕ) (rest line : List ℕ)
     (lines : List (List ℕ)) (f : JobsFault) → Left text old number rest
     → job_lines rest ≡ line ∷ lines → AddsJob {X = Unit {0}} number line old (Err f) new
-        → ReadsLines 1 (job_lines text) (Err f)
+    → ReadsLines 1 (job_lines text) (Err f)
 wrong_by text old new number rest line lines (fault.Line wrong) left taken adds =
     taken_all text old number rest line lines left taken
     ∙ ap (λ (r : Result (List Job) ℕ). joined_jobs (joined_jobs (Ok old) r)
-        (jobs_in (suc number) lines)) adds
+    (jobs_in (suc number) lines)) adds
 wrong_by text old new number rest line lines fault.Memory left taken adds = tt
 wrong_by text old new number rest line lines fault.TooMany left taken adds = adds
 
 pub wrong_line : (text : List ℕ) (old new : List Job) (number : ℕ) (rest line behind : List ℕ)
     (f : JobsFault) → Left text old number rest
     → lines_of rest ≡ line ∷ lines_of behind → unended_of rest ≡ unended_of behind
-        → AddsJob {X = Unit {0}} number line old (Err f) new → ReadsLines 1 (job_lines text) (Err f)
+    → AddsJob {X = Unit {0}} number line old (Err f) new → ReadsLines 1 (job_lines text) (Err f)
 wrong_line text old new number rest line behind f left lines unended adds =
     wrong_by text old new number rest line (job_lines behind) f left
-        (lines_taken rest line behind lines unended) adds
+    (lines_taken rest line behind lines unended) adds
 
 pub wrong_last : (text : List ℕ) (old new : List Job) (number : ℕ) (rest : List ℕ) (f : JobsFault)
     → Left text old number rest → lines_of rest ≡ []
     → unended_of rest ≡ rest → AddsJob {X = Unit {0}} number rest old (Err f) new
-        → ReadsLines 1 (job_lines text) (Err f)
+    → ReadsLines 1 (job_lines text) (Err f)
 wrong_last text old new number rest f left lines unended adds =
     wrong_by text old new number rest rest [] f left (lines_last rest lines unended) adds
 
@@ -111,10 +111,10 @@ pub read_last : (text : List ℕ) (old new : List Job) (number : ℕ) (rest : Li
 read_last text old new number rest left lines unended adds =
     taken_all text old number rest rest [] left (lines_last rest lines unended)
     ∙ ap (λ (r : Result (List Job) ℕ). joined_jobs (joined_jobs (Ok old) r)
-        (jobs_in (suc number) [])) adds.1
+    (jobs_in (suc number) [])) adds.1
     ∙ ap (joined_jobs (Ok (old ++ adds.0))) (jobs_in-nil (suc number))
     ∙ ap (λ (js : List Job). let r : Result (List Job) ℕ = Ok js in r) (append-nil (old ++ adds.0)
-        ∙ sym adds.2)
+    ∙ sym adds.2)
 
 -- a line has at least one byte, the one that ends it
 but_last-length : (parts : List (List ℕ)) → length (all_but_last parts) ≤ length parts - 1
@@ -125,5 +125,9 @@ but_last-length (part ∷ next ∷ parts) = omega (arith, but_last-length (next 
 pub lines_few : (text : List ℕ) → length (lines_of text) ≤ length text
 unfolding lines_of
 lines_few text =
-    omega (arith, but_last-length (parts_at 10 text), length-slice_split (is_byte 10) text,
-        count_by-le-length (is_byte 10) text)
+    omega (
+      arith,
+      but_last-length (parts_at 10 text),
+      length-slice_split (is_byte 10) text,
+      count_by-le-length (is_byte 10) text,
+    )

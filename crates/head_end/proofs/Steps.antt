@@ -17,44 +17,51 @@ gives_up old mid told ends tells = record {
   outcome_is = λ start verb password end.
       ap (λ (o : Option Outcome). unwrap_or o Unknown)
       (tells.told verb password start.bytes end.given true
-          (ends.stands verb password start.bytes end.given false end.stands));
+      (ends.stands verb password start.bytes end.given false end.stands));
 }
 
 -- if no predicted bytes are left, all of them were fed
 pub all_fed : (start : Forecast) (verb : Verb) (password : List ℕ) (left given : ℕ)
     (client : Client) (now : Option Forecast) (fed : List ℕ) (follows : Follows start now fed left)
     → Stands verb password fed given false client → follows.rest ≡ []
-        → AtEnd start verb password client
+    → AtEnd start verb password client
 all_fed start verb password left given client now fed follows stands none =
     let bytes : fed ≡ start.bytes = sym (append-nil fed)
-        ∙ ap (λ (rest : List ℕ). fed ++ rest) (sym none) ∙ sym follows.bytes_are in
-    record { given = given; stands = subst (λ (all : List ℕ). Stands verb password all given false
-        client) bytes stands }
+    ∙ ap (λ (rest : List ℕ). fed ++ rest) (sym none) ∙ sym follows.bytes_are in
+    record {
+      given = given;
+      stands = subst (λ (all : List ℕ). Stands verb password all given false
+          client) bytes stands;
+    }
 
 -- ---- writing
 
 at_written : (start : Forecast) (verb : Verb) (password text : List ℕ) (left : ℕ) (old new : Client)
     (before after : Option Forecast) → Gives old (Some text) new
     → WriteTells {X = Unit {0}} before (Ok tt) after → At start verb password left old before
-        → At start verb password left new after
+    → At start verb password left new after
 at_written start verb password text left old new before after gives writes at =
     let same = rw at.follows.now_is at writes in
     record {
       fed = at.fed;
       given = suc at.given;
       stands = gives.stands verb password at.fed at.given false at.stands;
-      follows = record { rest = at.follows.rest; now_is = same; bytes_are = at.follows.bytes_are;
-          last = at.follows.last };
+      follows = record {
+        rest = at.follows.rest;
+        now_is = same;
+        bytes_are = at.follows.bytes_are;
+        last = at.follows.last;
+      };
     }
 
 at_cut : (start : Forecast) (verb : Verb) (password text : List ℕ) (left : ℕ) (old new : Client)
     (before after : Option Forecast) (fault : StreamFault) → Gives old (Some text) new
     → WriteTells {X = Unit {0}} before (Err fault) after → At start verb password left old before
-        → AtEnd start verb password new
+    → AtEnd start verb password new
 at_cut start verb password text left old new before after fault gives writes at =
     let none : (at.follows.rest ≡ []) × (start.stop ≡ failed) = rw at.follows.now_is at writes in
     all_fed start verb password left (suc at.given) new before at.fed at.follows
-        (gives.stands verb password at.fed at.given false at.stands) none.0
+    (gives.stands verb password at.fed at.given false at.stands) none.0
 
 -- no message is written yet
 pub all_none : (client : Client) (now : Option Forecast) → SendsAll client now true client now

@@ -22,7 +22,7 @@ read_now : (start : Forecast) (left count : ℕ) (rest buffer : List ℕ)
     ≡ Some (record { reads = suc left; bytes = rest; stop = start.stop })
     → length buffer ≡ 1024 → count ≢ 0 → ReadTells before (Ok count) buffer after
     → GivesPiece (record { reads = suc left; bytes = rest; stop = start.stop }) left
-        (take count buffer) after
+    (take count buffer) after
 read_now start left zero rest buffer before after is size some tells = absurd (some refl)
 read_now start left (suc count) rest buffer before after is size some tells =
     let told = rw is at tells in
@@ -31,12 +31,12 @@ read_now start left (suc count) rest buffer before after is size some tells =
 at_fed : (start : Forecast) (verb : Verb) (password : List ℕ) (left count : ℕ) (old new : Client)
     (bytes buffer : List ℕ) (before after : Option Forecast)
     → length buffer ≡ 1024 → count ≢ 0 → bytes ≡ take count buffer
-        → ReadTells before (Ok count) buffer after → Feeds old bytes new
+    → ReadTells before (Ok count) buffer after → Feeds old bytes new
     → At start verb password (suc left) old before → At start verb password left new after
 at_fed start verb password left count old new bytes buffer before after size some bytes_are
     tells feeds at =
     let piece = read_now start left count at.follows.rest buffer before after at.follows.now_is size
-        some tells in
+    some tells in
     record {
       fed = at.fed ++ bytes;
       given = at.given;
@@ -47,7 +47,7 @@ at_fed start verb password left count old new bytes buffer before after size som
         bytes_are =
             at.follows.bytes_are ∙ ap (λ (t : List ℕ). at.fed ++ t) piece.bytes_are
             ∙ ap (λ (t : List ℕ). at.fed ++ (t ++ piece.rest)) (sym bytes_are)
-                ∙ sym (append_assoc at.fed bytes piece.rest);
+            ∙ sym (append_assoc at.fed bytes piece.rest);
         last = piece.last;
       };
     }
@@ -70,25 +70,25 @@ turn_ended old new buffer before told after outcome size tells gives = record {
   on = λ start verb password left at.
       let none = rw at.follows.now_is at tells in
       gives.outcome_is start verb password (all_fed start verb password (suc left) at.given old
-          before at.fed at.follows at.stands (none size).0);
+      before at.fed at.follows at.stands (none size).0);
 }
 
 pub turn_failed : (old new : Client) (buffer : List ℕ) (before told after : Option Forecast)
     (fault : StreamFault) (outcome : Outcome) → length buffer ≡ 1024
     → ReadTells before (Err fault) buffer told → GivesUp old outcome
-        → Turns old before (Some outcome) new after
+    → Turns old before (Some outcome) new after
 turn_failed old new buffer before told after fault outcome size tells gives = record {
   on = λ start verb password left at.
       let none = rw at.follows.now_is at tells in
       gives.outcome_is start verb password (all_fed start verb password (suc left) at.given old
-          before at.fed at.follows at.stands (none size).0);
+      before at.fed at.follows at.stands (none size).0);
 }
 
 -- a message could not be written
 pub turn_cut : (old mid last new : Client) (before between cut after : Option Forecast)
     (outcome : Outcome) → Feeding old before mid between
     → SendsAll mid between false last cut → GivesUp last outcome
-        → Turns old before (Some outcome) new after
+    → Turns old before (Some outcome) new after
 turn_cut old mid last new before between cut after outcome fed sends gives = record {
   on = λ start verb password left at. gives.outcome_is start verb password
       (sends.on start verb password left (fed.on start verb password left at));
@@ -101,7 +101,7 @@ settled_at : (start : Forecast) (verb : Verb) (password : List ℕ) (left : ℕ)
 settled_at start verb password left client now None tells at = at
 settled_at start verb password left client now (Some outcome) tells at =
     sym (tells.stays verb password at.fed at.given false at.stands outcome
-        (sym (tells.told verb password at.fed at.given false at.stands)) at.follows.rest)
+    (sym (tells.told verb password at.fed at.given false at.stands)) at.follows.rest)
     ∙ ap (outcome_of verb) (sym at.follows.bytes_are)
 
 pub turn_on : (old mid new : Client) (before between after : Option Forecast)
@@ -110,7 +110,7 @@ pub turn_on : (old mid new : Client) (before between after : Option Forecast)
 turn_on old mid new before between after result fed sends tells = record {
   on = λ start verb password left at.
       settled_at start verb password left new after result tells
-          (sends.on start verb password left (fed.on start verb password left at));
+      (sends.on start verb password left (fed.on start verb password left at));
 }
 
 -- ---- all turns
@@ -129,7 +129,7 @@ goes_first old client before now sends = record {
   on = λ start verb password left all at.
       let same : 65536 ≡ left = omega arith in
       subst (λ (n : ℕ). At start verb password n client now) same
-          (sends.on start verb password 65536 at);
+      (sends.on start verb password 65536 at);
 }
 
 pub goes_on : (first old new : Client) (begun before after : Option Forecast) (turns : ℕ)
@@ -167,5 +167,5 @@ converses_last first old begun before turns outcome many goes most gives = recor
       let here = goes.on start verb password 0 (omega arith) at in
       gives.outcome_is start verb password
       (all_fed start verb password 0 here.given old before here.fed here.follows here.stands
-          (here.follows.last refl));
+      (here.follows.last refl));
 }

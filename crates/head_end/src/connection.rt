@@ -1,3 +1,5 @@
+//! The traits of a connection to a meter and of a connector that opens it; contracts may predict
+//! what it reads.
 ghost use Rattle.std.specs.Prelude.{ℕ, List, Option, None, IfOk};
 ghost use Rattle.std.specs.Io.{ReadsAtMost};
 ghost use Rattle.head_end.specs.Connections.{Forecast, ReadTells, WriteTells, ConnectTells};

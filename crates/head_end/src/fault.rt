@@ -1,3 +1,4 @@
+//! The error of the reader of job lists: an invalid line, too many jobs, or out of memory.
 ghost use Rattle.std.specs.Prelude.{◌≡◌};
 ghost use Rattle.head_end.specs.Numbers.{fault_number};
 ghost use Rattle.head_end.specs.declared.fault.JobsFault.TheVariants.{Memory};

@@ -1,3 +1,4 @@
+//! Formats a report as text: one line for each job, with its name and its result.
 ghost use Rattle.std.specs.Prelude.{◌≡◌, ◌++◌, ◌∷◌, [], codes, decimal, IfOk, OnOk};
 ghost use Rattle.head_end.specs.Reports.{row_text, line_text, report_text};
 

@@ -1,3 +1,4 @@
+//! A line of a report: the name of a job, and its outcome or out of memory.
 use client_core::Outcome;
 use cosem_axdr::Octets;
 

@@ -1,3 +1,4 @@
+//! The trait `Watcher`, which is called with the result of each job as soon as it is known.
 use crate::row::Row;
 use client_core::Job;
 

@@ -71,4 +71,4 @@ pub request_wrong : (number : ℕ) (line : List ℕ) (old new : List (List ℕ))
     → given ≡ line_fault number error → AddsRequest {X = Unit {0}} number line old (Err given) new
 request_wrong number line old new error given wrong is =
     subst (λ (f : CommandFault). AddsRequest {X = Unit {0}} number line old (Err f) new) (sym is)
-        (wrong_by number line old new error wrong)
+    (wrong_by number line old new error wrong)

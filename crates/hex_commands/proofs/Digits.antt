@@ -29,7 +29,7 @@ capital_digit : (value : ℕ) → value < 16 → to_ascii_uppercase (slice_index
     ≡ slice_index upper_digits value
 capital_digit value lt =
     eqb-true (to_ascii_uppercase (slice_index lower_digits value)) (slice_index upper_digits value)
-        (capital_below 16 value refl lt)
+    (capital_below 16 value refl lt)
 
 -- the digits of bytes, each in its capital
 pub capitals : (bytes : List ℕ) → All (λ b. b < 256) bytes
@@ -40,4 +40,4 @@ capitals (byte ∷ bytes) small =
     let here : byte < 256 = All-head (λ b. b < 256) byte bytes small in
     ap₂ (λ (digit : ℕ) (digits : List ℕ). digit ∷ digits) (capital_digit (byte / 16) (omega arith))
     (ap₂ (λ (digit : ℕ) (digits : List ℕ). digit ∷ digits) (capital_digit (byte % 16) (omega arith))
-        (capitals bytes (All-tail (λ b. b < 256) byte bytes small)))
+    (capitals bytes (All-tail (λ b. b < 256) byte bytes small)))

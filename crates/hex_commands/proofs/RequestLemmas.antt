@@ -46,21 +46,21 @@ joined_more requests request (Err wrong) = refl
 line_added : (number : ℕ) (line : List ℕ) (lines : List (List ℕ)) (old new : List (List ℕ))
     → AddsLine {X = Unit {0}} number line old (Ok tt) new
     → joined old (requests_from number (line ∷ lines))
-        ≡ joined new (requests_from (suc number) lines)
+    ≡ joined new (requests_from (suc number) lines)
 unfolding requests_from
 line_added number [] lines old new adds = ap (λ (requests : List (List ℕ)). joined requests
     (requests_from (suc number) lines)) (sym adds)
 line_added number (byte ∷ bytes) lines old new (request, read, added) =
     ap (λ (first : Result (List ℕ) CommandFault). joined old
-        (before_others first (requests_from (suc number) lines))) read
+    (before_others first (requests_from (suc number) lines))) read
     ∙ joined_more old request (requests_from (suc number) lines)
     ∙ ap (λ (requests : List (List ℕ)). joined requests
-        (requests_from (suc number) lines)) (sym added)
+    (requests_from (suc number) lines)) (sym added)
 
 pub left_more : (text : List ℕ) (old new : List (List ℕ)) (number : ℕ) (rest line after : List ℕ)
     → Left text old number rest
     → parts_at 10 rest ≡ line ∷ parts_at 10 after
-        → AddsLine {X = Unit {0}} number line old (Ok tt) new → Left text new (number + 1) after
+    → AddsLine {X = Unit {0}} number line old (Ok tt) new → Left text new (number + 1) after
 left_more text old new number rest line after left taken adds = record {
   all = rw add-one (left.all ∙ ap (λ (lines : List (List ℕ)). joined old
       (requests_from number lines)) taken ∙ line_added number line
@@ -72,13 +72,13 @@ left_more text old new number rest line after left taken adds = record {
 pub left_none : (text : List ℕ) (old new : List (List ℕ)) (number : ℕ) (rest : List ℕ)
     → Left text old number rest
     → parts_at 10 rest ≡ rest ∷ [] → AddsLine {X = Unit {0}} number rest old (Ok tt) new
-        → requests_from 1 (parts_at 10 text) ≡ Ok new
+    → requests_from 1 (parts_at 10 text) ≡ Ok new
 unfolding requests_from
 left_none text old new number rest left last adds =
     left.all ∙ ap (λ (lines : List (List ℕ)). joined old (requests_from number lines)) last
-        ∙ line_added number rest [] old new adds
+    ∙ line_added number rest [] old new adds
     ∙ ap (λ (all : List (List ℕ)). let r : Result (List (List ℕ)) CommandFault = Ok all in r)
-        (append-nil new)
+    (append-nil new)
 
 -- a line is wrong
 line_wrong : (number : ℕ) (line : List ℕ) (lines : List (List ℕ)) (old new : List (List ℕ))
@@ -120,13 +120,16 @@ reads_wrong text old number rest fault.Write left wrong = wrong
 pub wrong_line : (text : List ℕ) (old new : List (List ℕ)) (number : ℕ) (rest line : List ℕ)
     (lines : List (List ℕ)) (wrong : CommandFault) → Left text old number rest
     → parts_at 10 rest ≡ line ∷ lines → AddsLine {X = Unit {0}} number line old (Err wrong) new
-        → ReadsLines 1 (parts_at 10 text) (Err wrong)
+    → ReadsLines 1 (parts_at 10 text) (Err wrong)
 wrong_line text old new number rest line lines wrong left taken adds =
     reads_wrong text old number rest wrong left
     (subst (λ (all : List (List ℕ)). ReadsLines number all (Err wrong)) (sym taken)
-        (line_wrong number line lines old new wrong adds))
+    (line_wrong number line lines old new wrong adds))
 
 -- a text has few lines
 pub lines_few : (text : List ℕ) → length (parts_at 10 text) ≤ length text + 1
-lines_few text = omega (arith, length-slice_split (is_byte 10) text,
-    count_by-le-length (is_byte 10) text)
+lines_few text = omega (
+  arith,
+  length-slice_split (is_byte 10) text,
+  count_by-le-length (is_byte 10) text,
+)

@@ -19,7 +19,7 @@ unfoldable pub answer_lines : World → List (List ℕ) → List ℕ
 answer_lines world [] = []
 answer_lines world (request ∷ requests) =
     hex_line (answer_to_payload request world).text
-        ++ answer_lines (answer_to_payload request world).world requests
+    ++ answer_lines (answer_to_payload request world).world requests
 
 -- the answers of a new meter with the device name RELAY1
 abbrev pub new_answers : List (List ℕ) → List ℕ

@@ -20,11 +20,11 @@ told_more calls call = map-append (λ (c : Entry Event Reply). (c.event, c.reply
 pub stands_on : (result : Result Reply AllocError) (old new : Recording) (origin : Opening)
     (event : Event) → IfOk result (Continues old new event)
     → IfOk result (λ (reply : Reply). (by : List ℕ) (calls : Calls)
-        → Stands (record { recorder = old; origin = origin }) calls
+    → Stands (record { recorder = old; origin = origin }) calls
     → Stands (record { recorder = new; origin = origin }) (calls ++ entry by event reply ∷ []))
 stands_on (Ok reply) old new origin event continues = λ by calls stands.
     subst (λ (history : List Exchange). StandsForHistory new history (world_of_opening origin))
-        (sym (told_more calls (entry by event reply)))
+    (sym (told_more calls (entry by event reply)))
     (continues.histories (events_and_replies calls) (world_of_opening origin) stands)
 stands_on (Err error) old new origin event continues = tt
 
@@ -38,7 +38,7 @@ has_none recorder origin stands = record { calls = []; stands = stands }
 pub has_still : (result : Result Reply AllocError) (old new : Recording) (origin : Opening)
     (event : Event) → IfOk result (Continues old new event) → OnErr result (new ≡ old)
     → HasCalls (record { recorder = old; origin = origin })
-        → HasCalls (record { recorder = new; origin = origin })
+    → HasCalls (record { recorder = new; origin = origin })
 has_still (Ok reply) old new origin event continues same has = record {
   calls = has.calls ++ entry [] event reply ∷ [];
   stands = stands_on (Ok reply) old new origin event continues [] has.calls has.stands;

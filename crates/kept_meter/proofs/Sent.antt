@@ -22,8 +22,15 @@ use Rattle.relay_recorder.specs.contracts.recorder.Recorder.TheInside as inside
 use Rattle.kept_meter.specs.contracts.kept.RecordedEvent as kept
 
 event_field_send : IsSend (event.the_field).row
-event_field_send = search (sendable, crosses, send-Data, send-Items, octets_send, selection_send,
-    block_send) depth 40 fits 100000
+event_field_send = search (
+  sendable,
+  crosses,
+  send-Data,
+  send-Items,
+  octets_send,
+  selection_send,
+  block_send,
+) depth 40 fits 100000
 
 ring_over : (T : RattleType) → IsSend T → IsSend (ring.the_row T Heap.the_row ghosts)
 ring_over T s = search (sendable, crosses, cells_send, deed_send) depth 20

@@ -21,7 +21,7 @@ events_and_replies calls = map (λ (call : Entry Event Reply). (call.event, call
 abbrev pub IsLegal : Opening → Calls → Type 0
 IsLegal origin calls =
     replies_of (events_and_replies calls) ≡ replies_from (world_of_opening origin)
-        (events_of (events_and_replies calls))
+    (events_of (events_and_replies calls))
 
 -- the recorder results from these calls, starting from the world of its origin
 abbrev pub Stands : KeptRecorder → Calls → Type 0

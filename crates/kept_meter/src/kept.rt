@@ -1,3 +1,4 @@
+//! `Kept`: a recorder as the value of a turn lock, which applies one event at each turn.
 ghost use Rattle.std.specs.Prelude.{◌≡◌, []};
 ghost use Rattle.relay_core.specs.Opening.{opening_of};
 ghost use Rattle.kept_meter.specs.Calls.{HasCalls, IsLegal, IsSure, Stands};

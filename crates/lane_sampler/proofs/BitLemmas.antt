@@ -27,13 +27,13 @@ answer_at test [] i = grind (arith, nat_tests)
 answer_at test (v ∷ values) zero = grind (arith, nat_tests)
 answer_at test (v ∷ values) (suc i) =
     let same : nat_lt i (length values) ≡ nat_lt (suc i) (suc (length values)) =
-        lt_suc i (length values) in
+    lt_suc i (length values) in
     answer_at test values i ∙ ap (λ b. b && test (get_or values i 0)) same
 
 -- an answer for a value of one word
 answer_in_part : (test : ℕ → Bool) (values : List ℕ) (start j : ℕ) → j < 64 →
     get_or (map test (take 64 (drop start values))) j false
-        ≡ get_or (map test values) (start + j) false
+    ≡ get_or (map test values) (start + j) false
 answer_in_part test values start j lt =
     ap (λ bs. get_or bs j false) (sym (take-map test 64 (drop start values)))
     ∙ get_or-take 64 (map test (drop start values)) j false lt
@@ -49,7 +49,7 @@ words_of-bits test values = record {
       let answer = answer_in_part test values (64 * (i / 64)) (i % 64) (omega arith) in
       word ∙ bit_mask_l (map test (take 64 (drop (64 * (i / 64)) values))) (i % 64)
       ∙ ap (λ b. cond b 1 0) (answer ∙ ap (λ n. get_or (map test values) n false) place
-          ∙ answer_at test values i);
+      ∙ answer_at test values i);
 }
 
 -- the masks of values are right bit by bit

@@ -45,25 +45,25 @@ word_more test values at n word mask within few word_is mask_is =
     let P : ℕ → Type 0 = λ w. w < 2 ^ n in
     subst P (sym mask_is) (word_of-lt test more n (length-chunk at n values within)) in
     let shifted : mask * 2 ^ at % 2 ^ 64 ≡ mask * 2 ^ at =
-        shl_whole mask n at 64 mask_lt (omega arith) in
+    shl_whole mask n at 64 mask_lt (omega arith) in
     let joined : word_of test (take (at + n) values) ≡ word_of test head
-        + word_of test more * 2 ^ length (map test head) =
+    + word_of test more * 2 ^ length (map test head) =
     ap (word_of test) (take-add at n values) ∙ ap mask_l (map-append test head more)
-        ∙ mask_l-append (map test head) (map test more) in
+    ∙ mask_l-append (map test head) (map test more) in
     let place : 2 ^ length (map test head) ≡ 2 ^ at =
-        ap (λ n. 2 ^ n) (length-map head test ∙ head_long) in
+    ap (λ n. 2 ^ n) (length-map head test ∙ head_long) in
     let sum : mask * 2 ^ at + word ≡ word_of test head
-        + word_of test more * 2 ^ length (map test head) =
+    + word_of test more * 2 ^ length (map test head) =
     rw (place, ← word_is, ← mask_is) (omega arith) in
     ap (bit_or word) shifted ∙ or_comm word (mask * 2 ^ at) ∙ or_shifted mask at word word_lt ∙ sum
-        ∙ sym joined
+    ∙ sym joined
 
 -- the word of one value
 pub word_of_one : (test : ℕ → Bool) (values : List ℕ) (at : ℕ) → at < length values →
     bool_byte (test (get_or values at 0)) ≡ word_of test (chunk at 1 values)
 word_of_one test values at within =
     let one : chunk at 1 values ≡ get_or values at 0 ∷ [] =
-        ap (take 1) (drop_more values at 0 within) in
+    ap (take 1) (drop_more values at 0 within) in
     rw one (byte_is (test (get_or values at 0)))
   where
     byte_is : (b : Bool) → bool_byte b ≡ cond b 1 0 + 2 * 0
@@ -83,11 +83,11 @@ part_is values start from upto from_is upto_is =
 pub bitmask_splat_left : (w : Width) (t : ℕ → ℕ → Bool) (xs : List ℕ) (n y : ℕ) → length xs
     ≡ n → n ≤ 64 →
     mask_l (map (top (hbits w)) (zip2 (λ a b. cond (t a b) (2 ^ bits w - 1) 0) (replicate n y) xs))
-        % 2 ^ 64
+    % 2 ^ 64
     ≡ mask_l (map (λ x. t y x) xs)
 bitmask_splat_left w t xs n y long few =
     let tests : map (top (hbits w)) (zip2 (λ a b. cond (t a b) (2 ^ bits w - 1) 0)
-        (replicate n y) xs) ≡ map (λ x. t y x) xs =
+    (replicate n y) xs) ≡ map (λ x. t y x) xs =
     tops_compared w t (replicate n y) xs ∙ zip2_splat_left t y n xs long in
     let short : length (map (λ x. t y x) xs) ≤ 64 = rw (length-map xs (λ x. t y x)) (omega arith) in
     ap (λ bs. mask_l bs % 2 ^ 64) tests ∙ mask_l-mod (map (λ x. t y x) xs) 64 short

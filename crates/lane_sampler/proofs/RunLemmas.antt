@@ -31,9 +31,9 @@ run_to_zero x s fits lt low =
     let y = x / 2 ^ s in
     let n = trailing_ones w64 y in
     let lowest : (n < 64) × (bit_at y n ≡ 0) × ((i : ℕ) → i < n → bit_at y i ≡ 1) =
-        bit_at-trailing_ones w64 y low in
+    bit_at-trailing_ones w64 y low in
     let short : y < 2 ^ (64 - s) = shr_below x (64 - s) s (let P : ℕ
-        → Type 0 = λ n. x < 2 ^ n in subst P (let e : 64 ≡ 64 - s + s = omega arith in e) fits) in
+    → Type 0 = λ n. x < 2 ^ n in subst P (let e : 64 ≡ 64 - s + s = omega arith in e) fits) in
     let within : n ≤ 64 - s = elim (cases_lt (64 - s) n) [
       | inr le ↦ le
       | inl gt ↦
@@ -53,7 +53,7 @@ run_of_all : (x s : ℕ) → x < 2 ^ 64 → s < 64 → 2 ^ 64 ≤ x / 2 ^ s + 1
 run_of_all x zero fits lt high =
     let all : x / 2 ^ 0 ≡ 2 ^ 64 - 1 = omega (arith, shr_le x 0) in
     let count : trailing_ones w64 (x / 2 ^ 0) ≡ 64 =
-        ap (trailing_ones w64) all ∙ trailing_of_zero 64 in
+    ap (trailing_ones w64) all ∙ trailing_of_zero 64 in
     record {
       within = omega (arith, count);
       ones = λ k k_lt. sym (bit_at-shr x 0 k) ∙ ap (λ y. bit_at y k) all
@@ -62,16 +62,19 @@ run_of_all x zero fits lt high =
     }
 run_of_all x (suc s) fits lt high =
     let short : x / 2 ^ suc s < 2 ^ (64 - suc s) = shr_below x (64 - suc s) (suc s) (let P : ℕ
-        → Type 0 = λ n. x < 2 ^ n in subst P (let e : 64 ≡ 64 - suc s
-        + suc s = omega arith in e) fits) in
+    → Type 0 = λ n. x < 2 ^ n in subst P (let e : 64 ≡ 64 - suc s
+    + suc s = omega arith in e) fits) in
     let small : 2 ^ (64 - suc s) ≤ 2 ^ 63 = pow_mono {i = 64 - suc s} {j = 63} (omega arith) in
     absurd (omega arith)
 
 -- `trailing_ones` of a shifted word
 pub run_in_word : (x s : ℕ) → x < 2 ^ 64 → s < 64 → RunInWord x s (trailing_ones w64 (x / 2 ^ s))
 run_in_word x s fits lt =
-    elim (cases_lt (x / 2 ^ s + 1) (2 ^ 64)) [ inl low ↦ run_to_zero x s fits lt low | inr high ↦
-        run_of_all x s fits lt high ]
+    elim (cases_lt (x / 2 ^ s + 1) (2 ^ 64)) [
+      | inl low ↦ run_to_zero x s fits lt low
+      | inr high ↦
+          run_of_all x s fits lt high
+    ]
 
 -- a bit of the same word
 pub same_word : (words : List ℕ) (at k : ℕ) → at % 64 + k < 64 →
@@ -80,7 +83,7 @@ same_word words at k lt =
     let word : (at + k) / 64 ≡ at / 64 = omega arith in
     let place : (at + k) % 64 ≡ at % 64 + k = omega arith in
     ap (λ w. bit_at (get_or words w 0) ((at + k) % 64)) word
-        ∙ ap (λ j. bit_at (get_or words (at / 64) 0) j) place
+    ∙ ap (λ j. bit_at (get_or words (at / 64) 0) j) place
 
 -- ones after ones
 pub ones_more : (words : List ℕ) (at end n : ℕ) → at ≤ end → AreOnes words at (end - at)
@@ -112,7 +115,7 @@ answer_is i n b bit is one = (grind (arith, nat_tests), grind (arith, nat_tests)
 -- a bit is one only if its value passes the test
 pub passes : (test : ℕ → Bool) (values words : List ℕ) → IsMask test values words →
     (i : ℕ) → i < 256 → mask_bit words i ≡ 1 → (i < length values)
-        × (test (get_or values i 0) ≡ true)
+    × (test (get_or values i 0) ≡ true)
 passes test values words mask i lt one = answer_is i (length values) (test (get_or values i 0)) _
     (mask.bits i lt) one
 
@@ -134,19 +137,19 @@ run_passes words len at n small run test values mask long =
     let rest_long : length (drop at values) ≡ length values - at = length-drop at values in
     sym (prefix_len_is test (drop at values) n 0 (omega (arith, run.within))
     (λ k lt. ap test (get_or-drop at values k 0)
-        ∙ (passes test values words mask (at + k) (omega (arith, run.within)) (run.ones k lt)).1)
+    ∙ (passes test values words mask (at + k) (omega (arith, run.within)) (run.ones k lt)).1)
     (λ lt. ap test (get_or-drop at values n 0)
-        ∙ fails test values words mask (at + n) (omega arith) (run.stops (omega arith))
-        (omega arith)))
+    ∙ fails test values words mask (at + n) (omega arith) (run.stops (omega arith))
+    (omega arith)))
 
 -- each value of a run in the mask of a test passes it
 pub all_pass : (words : List ℕ) (len at n : ℕ) → len ≤ 256 → IsRun words len at n →
     (test : ℕ → Bool) (values : List ℕ) → IsMask test values words
-        → All (λ v. IsTrue (test v)) (take n (drop at values))
+    → All (λ v. IsTrue (test v)) (take n (drop at values))
 all_pass words len at n small run test values mask k d within =
     let lt : k < n = omega (arith, length-take n (drop at values)) in
     let passed : (at + k < length values) × (test (get_or values (at + k) 0) ≡ true) =
     passes test values words mask (at + k) (omega (arith, run.within)) (run.ones k lt) in
     ap test (get_or-take n (drop at values) k d lt ∙ get_or-drop at values k d
-        ∙ get_or_default values (at + k) d 0 passed.0)
+    ∙ get_or_default values (at + k) d 0 passed.0)
     ∙ passed.1

@@ -36,9 +36,9 @@ pub number_small : (value : Data) (number : ℕ) → number_of value ≡ Ok numb
 unfolding number_of
 number_small value number e =
     let found = bind_ok (ok_or (double_long_unsigned_of value) Unmatched)
-        (λ n. guard (nat_lt n (2 ^ 32)) Unmatched >> done WriteFault n) number e in
+    (λ n. guard (nat_lt n (2 ^ 32)) Unmatched >> done WriteFault n) number e in
     let fits = guard_ok (nat_lt found.0 (2 ^ 32)) Unmatched (done WriteFault found.0) number found.2
-        in
+    in
     let same : found.0 ≡ number = ok_is {F = WriteFault} found.0 number fits.1 in
     grind (arith, nat_tests, same, fits.0)
 
@@ -53,10 +53,10 @@ pub profile_again : (profile : Profile) → IsDateTimeFields profile.start
 unfolding profile_of
 profile_again profile fits =
     ap (λ o. ok_or o Unmatched >>= with_parts) (profile_parts_again profile.id profile.duration
-        (date_time_bytes profile.start) (twelve_bytes profile.start))
+    (date_time_bytes profile.start) (twelve_bytes profile.start))
     ∙ ap (λ r. ok_or (result_ok r) Value >>= λ start. done WriteFault
-        (record { id = profile.id; start = start; duration = profile.duration }))
-        (date_time_again profile.start fits)
+    (record { id = profile.id; start = start; duration = profile.duration }))
+    (date_time_again profile.start fits)
 
 -- actions that were written read as themselves
 pub actions_again : (actions : Actions) → actions_of (actions_data actions) ≡ Ok actions
@@ -84,7 +84,7 @@ groups_again ids few =
     let items = map LongUnsigned ids in
     ap (λ read. with_items read) (list_of_trees items)
     ∙ ap₂ (λ typed within. (guard typed Unmatched >> guard within Value) >> done WriteFault
-        (filter_map long_unsigned_of items)) (ids_typed ids) within
+    (filter_map long_unsigned_of items)) (ids_typed ids) within
     ∙ ap (λ xs. done WriteFault xs) (ids_again ids)
   where
     within : nat_le (length (map LongUnsigned ids)) max_groups ≡ true

@@ -11,7 +11,7 @@ start_again bytes twelve = ap (λ (n : ℕ). cond (n == 12) (Some bytes) None) t
 
 pub profile_parts_again : (id duration : ℕ) (bytes : List ℕ) → length bytes ≡ 12
     → profile_parts_of (structure_with (LongUnsigned id ∷ OctetString bytes
-        ∷ DoubleLongUnsigned duration ∷ [])) ≡ Some (id, bytes, duration)
+    ∷ DoubleLongUnsigned duration ∷ [])) ≡ Some (id, bytes, duration)
 profile_parts_again id duration bytes twelve =
     ap (λ (o : Option (List ℕ)). o >>= next) (start_again bytes twelve)
   where

@@ -38,7 +38,7 @@ groups_data ids = array_with (map LongUnsigned ids)
 unfoldable pub actions_data : Actions → Data
 actions_data actions =
     structure_with (script_data (script_at actions.over)
-        ∷ script_data (script_at actions.under) ∷ [])
+    ∷ script_data (script_at actions.under) ∷ [])
 
 -- the value of an attribute of a limiter with these settings at a moment of the clock
 unfoldable pub data_at : Which → LimiterAttribute → Settings → Option ℕ → Data

@@ -1,3 +1,4 @@
+//! Attributes 2 to 11 of a limiter (IEC 62056-6-2, class 71) and their numbers.
 ghost use Rattle.std.specs.Prelude.{◌≡◌, Some, IfSome};
 ghost use Rattle.limiter_attributes.specs.Attributes.{number_of, attribute_numbered};
 

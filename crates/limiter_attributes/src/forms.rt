@@ -1,3 +1,4 @@
+//! Takes the parts of an emergency profile and of the actions from Data (IEC 62056-6-2, class 71).
 ghost use Rattle.std.specs.Prelude.{◌≡◌, option_map};
 ghost use Rattle.limiter_attributes.specs.Forms.{profile_parts_of, scripts_of};
 

@@ -1,3 +1,5 @@
+//! Reads emergency_profile_group_id_list (IEC 62056-6-2, class 71), the one attribute of a limiter
+//! whose write allocates.
 ghost use Rattle.std.specs.Prelude.{◌≡◌, ◌↔◌, ◌≤◌, length, Ok, Err, IsOk, IfOk, IsErrOf};
 ghost use Rattle.std.specs.List.{filter_map};
 ghost use Rattle.cosem_axdr.specs.Forms.{long_unsigned_of};

@@ -1,3 +1,5 @@
+//! Validates and reads the Data that a client writes to thresholds, durations, emergency profile
+//! and actions (IEC 62056-6-2, class 71).
 ghost use Rattle.std.specs.Prelude.{◌≡◌, IfOk, IsErrOf};
 ghost use Rattle.cosem_datetime.specs.Fields.{IsDateTimeFields};
 ghost use Rattle.limiter_attributes.specs.Reading.{number_of, profile_of, actions_of, setting_of};

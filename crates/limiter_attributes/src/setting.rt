@@ -1,3 +1,5 @@
+//! A setting of a limiter that a write changes without allocating (IEC 62056-6-2, class 71), and
+//! its application.
 ghost use Rattle.std.specs.Prelude.{◌≡◌};
 ghost use Rattle.limiter_attributes.specs.Settings.{with_setting};
 

@@ -1,3 +1,4 @@
+//! Converts the attributes of a limiter to the Data that a client reads (IEC 62056-6-2, class 71).
 ghost use Rattle.std.specs.Prelude.{◌≡◌, ◌≤◌, map, length, Ok, IsOk, IfOk, IsTrue};
 ghost use Rattle.cosem_axdr.specs.declared.value.Data.TheVariants.{LongUnsigned};
 ghost use Rattle.limiter_attributes.specs.Attributes.{is_plain};

@@ -34,7 +34,7 @@ pub reaches_past : (side : Side) (row : Row) (rows : List Row) → is_past side 
 unfolding reaches
 reaches_past side row rows e =
     ap (λ r. nat_lt 0 r && nat_le (need side row) r) (run_past side row rows e)
-        ∙ long_enough (need side row) (run side rows)
+    ∙ long_enough (need side row) (run side rows)
 
 reaches_other : (side : Side) (row : Row) (rows : List Row) → is_past side row ≡ false
     → reaches side (row ∷ rows) ≡ false
@@ -82,7 +82,7 @@ counted_by true side row rows e h =
     (has_fired_past side row rows e
     ∙ ap (λ b. b || has_fired side rows) (reaches_capped side row rows e (h e))
     ∙ or_swap (nat_le (need side row) (min (min (run side rows) cap + 1) cap))
-        (has_fired side rows))
+    (has_fired side rows))
 counted_by false side row rows e h =
     same_count (count_of side (row ∷ rows)) no_run
     (ap (λ r. min r cap) (run_other side row rows e))
@@ -121,16 +121,16 @@ pub fire_counted : (row : Row) (rows : List Row)
     → (is_past OverThreshold row ≡ true → need OverThreshold row ≤ cap)
     → (is_past UnderThreshold row ≡ true → need UnderThreshold row ≤ cap) →
     fire_of (row ∷ rows) ≡ (if fires_at (is_past OverThreshold row) (need OverThreshold row)
-        (count_of OverThreshold rows) then Over
+    (count_of OverThreshold rows) then Over
     else if fires_at (is_past UnderThreshold row) (need UnderThreshold row)
-        (count_of UnderThreshold rows) then Under else Quiet)
+    (count_of UnderThreshold rows) then Under else Quiet)
 unfolding fire_of
 fire_counted row rows over under =
     ap (λ b. if b then Over else if fires UnderThreshold (row ∷ rows) then Under else Quiet)
-        (fires_counted OverThreshold row rows over)
+    (fires_counted OverThreshold row rows over)
     ∙ ap (λ b. if fires_at (is_past OverThreshold row) (need OverThreshold row)
-        (count_of OverThreshold rows) then Over else if b then Under else Quiet)
-        (fires_counted UnderThreshold row rows under)
+    (count_of OverThreshold rows) then Over else if b then Under else Quiet)
+    (fires_counted UnderThreshold row rows under)
 
 -- before the first row, and at an entry into Connected, both runs are empty
 pub count_of_none : (side : Side) → count_of side [] ≡ no_run

@@ -7,10 +7,16 @@ use Rattle.limiter_core.specs.State.{IsFit, IsFitCount, is_fit_count, are_fit}
 
 count_fits : (run : ℕ) (fired : Bool) → is_fit_count (record { run = run; fired = fired }) ≡ true
     → IsFitCount (record { run = run; fired = fired })
-count_fits run true e = record { within = grind (arith, nat_tests);
-    none = λ z. grind (arith, nat_tests); full = λ f. refl }
-count_fits run false e = record { within = grind (arith, nat_tests); none = λ z. refl;
-    full = λ f. grind (arith, nat_tests) }
+count_fits run true e = record {
+  within = grind (arith, nat_tests);
+  none = λ z. grind (arith, nat_tests);
+  full = λ f. refl;
+}
+count_fits run false e = record {
+  within = grind (arith, nat_tests);
+  none = λ z. refl;
+  full = λ f. grind (arith, nat_tests);
+}
 
 fit_counts : (run : ℕ) (fired : Bool) → IsFitCount (record { run = run; fired = fired })
     → is_fit_count (record { run = run; fired = fired }) ≡ true
@@ -88,6 +94,6 @@ means_test last over under fits =
     let g = below_fits last under.run in
     both_hold ((a && b) && f) g
     (both_hold (a && b) f (both_hold a b (fit_counts over.run over.fired fits.over_fits)
-        (fit_counts under.run under.fired fits.under_fits))
-        (above_again last over.run under.run fits.one fits.above))
+    (fit_counts under.run under.fired fits.under_fits))
+    (above_again last over.run under.run fits.one fits.above))
     (below_again last under.run fits.below)

@@ -59,8 +59,8 @@ not_both_sides [] over under = cc
 not_both_sides (Entry ∷ rows) over under = let past = fires_past OverThreshold Entry rows over in cc
 not_both_sides (Sample value threshold need_over need_under ∷ rows) over under =
     let above : nat_lt threshold value ≡ true =
-        fires_past OverThreshold (Sample value threshold need_over need_under) rows over in
+    fires_past OverThreshold (Sample value threshold need_over need_under) rows over in
     let below : nat_lt value threshold ≡ true =
-        fires_past UnderThreshold (Sample value threshold need_over need_under) rows under in
+    fires_past UnderThreshold (Sample value threshold need_over need_under) rows under in
     let apart : nat_lt value threshold ≡ false = not_both threshold value above in
     cc

@@ -30,9 +30,9 @@ fired_repeated side row zero e some = none_fired side ∙ none_reached (need sid
 fired_repeated side row (suc n) e some =
     has_fired_past side row (replicate n row) e
     ∙ (ap (λ b. b || has_fired side (replicate n row)) (reaches_past side row (replicate n row) e
-        ∙ ap (λ r. nat_le (need side row) (suc r)) (run_repeated side row n e))
+    ∙ ap (λ r. nat_le (need side row) (suc r)) (run_repeated side row n e))
     ∙ (ap (λ b. nat_le (need side row) (suc n) || b) (fired_repeated side row n e some)
-        ∙ reached_before (need side row) n))
+    ∙ reached_before (need side row) n))
 
 above_zero : (n : ℕ) → (n ≡ 0 → ⊥) → 0 < n
 above_zero zero not_zero = absurd (not_zero refl)
@@ -82,7 +82,7 @@ repeated side row count e n fit =
     same_count count (count_of side (replicate count.run row))
     (capped count.run within ∙ ap (λ r. min r cap) (sym (run_repeated side row count.run e)))
     (sym (fired_repeated side row count.run e (let P : ℕ
-        → Type 0 = λ m. 0 < m in subst P (sym n) some)
+    → Type 0 = λ m. 0 < m in subst P (sym n) some)
     ∙ (ap (λ m. nat_le m count.run) n ∙ fired_is count.fired count refl fit)))
 
 -- samples on the other side end a run
@@ -98,7 +98,7 @@ no_count count e fit = same_count count no_run e (fit.none e)
 opened_if : (b : Bool) (state : State) → (state.over.run == 0) ≡ b
     → IsFit state.last state.over state.under →
     Keeps state (if b then replicate state.under.run (one_under state.last state.under)
-        else replicate state.over.run (one_over state.last state.over))
+    else replicate state.over.run (one_over state.last state.over))
 opened_if true state e fit =
     let zero : state.over.run ≡ 0 = grind (arith, nat_tests) in
     record {

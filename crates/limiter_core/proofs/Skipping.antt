@@ -49,10 +49,10 @@ pub past_is : (kind : Kind) (side : Side) (limits : Limits) (value : ℕ)
     → kind_of limits.threshold value ≡ kind → is_past side (row_of limits value) ≡ past kind side
 past_is kind OverThreshold limits value e =
     (kind_bits kind (nat_lt limits.threshold value) (nat_lt value limits.threshold)
-        (not_both limits.threshold value) e).0
+    (not_both limits.threshold value) e).0
 past_is kind UnderThreshold limits value e =
     (kind_bits kind (nat_lt limits.threshold value) (nat_lt value limits.threshold)
-        (not_both limits.threshold value) e).1
+    (not_both limits.threshold value) e).1
 
 -- n more samples past the threshold do not fire
 abbrev pub Room : ℕ → ℕ → Count → Type 0
@@ -71,11 +71,11 @@ taken_quiet : (n need : ℕ) (count : Count) → Room (suc n) need count → cou
     ≡ count_after_run 1 count
 taken_quiet n need count (inl e) =
     same_count (count_after true need count) (count_after_run 1 count) refl
-        (or_left count.fired (nat_le need (min (count.run + 1) cap)) e)
+    (or_left count.fired (nat_le need (min (count.run + 1) cap)) e)
 taken_quiet n need count (inr h) =
     same_count (count_after true need count) (count_after_run 1 count) refl
-        (or_none count.fired (nat_le need (min (count.run + 1) cap)) h.0
-        (late n need count.run h.1))
+    (or_none count.fired (nat_le need (min (count.run + 1) cap)) h.0
+    (late n need count.run h.1))
 
 and_none : (a b : Bool) → a ≡ false → (a && b) ≡ false
 and_none a b e = ap (λ v. v && b) e
@@ -119,30 +119,30 @@ module _ (kind : Kind) (limits : Limits) (counted_needs : AreCounted kind limits
   one_counted OverThreshold value rows k =
       counted OverThreshold (row_of limits value) rows (need_counted OverThreshold value k)
       ∙ ap (λ b. count_after b (needed OverThreshold limits) (count_of OverThreshold rows))
-          (past_is kind OverThreshold limits value k)
+      (past_is kind OverThreshold limits value k)
   one_counted UnderThreshold value rows k =
       counted UnderThreshold (row_of limits value) rows (need_counted UnderThreshold value k)
       ∙ ap (λ b. count_after b (needed UnderThreshold limits) (count_of UnderThreshold rows))
-          (past_is kind UnderThreshold limits value k)
+      (past_is kind UnderThreshold limits value k)
 
   -- what one more sample fires
   pub one_fire : (value : ℕ) (rows : List Row) → kind_of limits.threshold value ≡ kind →
       fire_of (row_of limits value ∷ rows) ≡ (if fires_at (past kind OverThreshold)
-          (needed OverThreshold limits) (count_of OverThreshold rows) then fire_past OverThreshold
+      (needed OverThreshold limits) (count_of OverThreshold rows) then fire_past OverThreshold
       else if fires_at (past kind UnderThreshold) (needed UnderThreshold limits)
-          (count_of UnderThreshold rows) then fire_past UnderThreshold else Quiet)
+      (count_of UnderThreshold rows) then fire_past UnderThreshold else Quiet)
   one_fire value rows k =
       fire_counted (row_of limits value) rows (need_counted OverThreshold value k)
-          (need_counted UnderThreshold value k)
+      (need_counted UnderThreshold value k)
       ∙ ap (λ b. if fires_at b (needed OverThreshold limits) (count_of OverThreshold rows)
-          then fire_past OverThreshold
+      then fire_past OverThreshold
       else if fires_at (is_past UnderThreshold (row_of limits value)) (needed UnderThreshold limits)
-          (count_of UnderThreshold rows) then fire_past UnderThreshold else Quiet)
-          (past_is kind OverThreshold limits value k)
+      (count_of UnderThreshold rows) then fire_past UnderThreshold else Quiet)
+      (past_is kind OverThreshold limits value k)
       ∙ ap (λ b. if fires_at (past kind OverThreshold) (needed OverThreshold limits)
-          (count_of OverThreshold rows) then fire_past OverThreshold
+      (count_of OverThreshold rows) then fire_past OverThreshold
       else if fires_at b (needed UnderThreshold limits) (count_of UnderThreshold rows)
-          then fire_past UnderThreshold else Quiet) (past_is kind UnderThreshold limits value k)
+      then fire_past UnderThreshold else Quiet) (past_is kind UnderThreshold limits value k)
 
   still_at : (b : Bool) (n : ℕ) (side : Side) (rows : List Row) → past kind side ≡ b
       → HasRoom kind limits (suc n) rows → fires_at b (needed side limits)
@@ -161,10 +161,10 @@ module _ (kind : Kind) (limits : Limits) (counted_needs : AreCounted kind limits
   one_quiet n value rows k room =
       one_fire value rows k
       ∙ neither (fires_at (past kind OverThreshold) (needed OverThreshold limits)
-          (count_of OverThreshold rows)) (fires_at (past kind UnderThreshold)
-          (needed UnderThreshold limits) (count_of UnderThreshold rows))
+      (count_of OverThreshold rows)) (fires_at (past kind UnderThreshold)
+      (needed UnderThreshold limits) (count_of UnderThreshold rows))
       (still_at (past kind OverThreshold) n OverThreshold rows refl room)
-          (still_at (past kind UnderThreshold) n UnderThreshold rows refl room)
+      (still_at (past kind UnderThreshold) n UnderThreshold rows refl room)
 
   one_skipped : (n : ℕ) (side : Side) (value : ℕ) (rows : List Row) → kind_of limits.threshold value
       ≡ kind → past kind side ≡ true → HasRoom kind limits (suc n) rows
@@ -172,22 +172,24 @@ module _ (kind : Kind) (limits : Limits) (counted_needs : AreCounted kind limits
   one_skipped n side value rows k e room =
       one_counted side value rows k
       ∙ (ap (λ b. count_after b (needed side limits) (count_of side rows)) e
-          ∙ taken_quiet n (needed side limits) (count_of side rows) (room side e))
+      ∙ taken_quiet n (needed side limits) (count_of side rows) (room side e))
 
   room_next : (n value : ℕ) (rows : List Row) → kind_of limits.threshold value ≡ kind
       → HasRoom kind limits (suc n) rows → HasRoom kind limits n (row_of limits value ∷ rows)
   room_next n value rows k room side e =
       let P : Count → Type 0 = λ c. Room n (needed side limits) c in
       subst P (sym (one_skipped n side value rows k e room))
-          (room_after n (needed side limits) (count_of side rows) (room side e))
+      (room_after n (needed side limits) (count_of side rows) (room side e))
 
   -- samples that `HasRoom` allows do not fire
   pub are_quiet : (values : List ℕ) (rows : List Row) → AreOfKind kind limits.threshold values
       → HasRoom kind limits (length values) rows → IsQuiet limits values rows
   are_quiet [] rows k room = tt
-  are_quiet (value ∷ values) rows k room =
-      (one_quiet (length values) value rows k.0 room, are_quiet values (row_of limits value
-          ∷ rows) k.1 (room_next (length values) value rows k.0 room))
+  are_quiet (value ∷ values) rows k room = (
+    one_quiet (length values) value rows k.0 room,
+    are_quiet values (row_of limits value
+        ∷ rows) k.1 (room_next (length values) value rows k.0 room),
+  )
 
   none_skipped : (side : Side) (rows : List Row) → count_of side rows
       ≡ count_after_run 0 (count_of side rows)
@@ -204,14 +206,14 @@ module _ (kind : Kind) (limits : Limits) (counted_needs : AreCounted kind limits
   pub run_after : (values : List ℕ) (rows : List Row) (side : Side) → past kind side ≡ true
       → AreOfKind kind limits.threshold values → HasRoom kind limits (length values) rows →
       count_of side (rows_after limits values rows)
-          ≡ count_after_run (length values) (count_of side rows)
+      ≡ count_after_run (length values) (count_of side rows)
   run_after [] rows side e k room = none_skipped side rows
   run_after (value ∷ values) rows side e k room =
       run_after values (row_of limits value ∷ rows) side e k.1
-          (room_next (length values) value rows k.0 room)
+      (room_next (length values) value rows k.0 room)
       ∙ (ap (count_after_run (length values))
-          (one_skipped (length values) side value rows k.0 e room)
-          ∙ more_skipped (length values) (count_of side rows))
+      (one_skipped (length values) side value rows k.0 e room)
+      ∙ more_skipped (length values) (count_of side rows))
 
   ended : (values : List ℕ) (rows : List Row) (side : Side) → past kind side ≡ false
       → AreOfKind kind limits.threshold values → count_of side rows ≡ no_run
@@ -219,7 +221,7 @@ module _ (kind : Kind) (limits : Limits) (counted_needs : AreCounted kind limits
   ended [] rows side e k none = none
   ended (value ∷ values) rows side e k none =
       ended values (row_of limits value ∷ rows) side e k.1 (one_counted side value rows k.0
-          ∙ ap (λ b. count_after b (needed side limits) (count_of side rows)) e)
+      ∙ ap (λ b. count_after b (needed side limits) (count_of side rows)) e)
 
   -- a run of the other side ends at the first sample
   pub none_after : (values : List ℕ) (rows : List Row) (side : Side) → past kind side ≡ false
@@ -228,7 +230,7 @@ module _ (kind : Kind) (limits : Limits) (counted_needs : AreCounted kind limits
   none_after [] rows side e k some = absurd (omega arith)
   none_after (value ∷ values) rows side e k some =
       ended values (row_of limits value ∷ rows) side e k.1 (one_counted side value rows k.0
-          ∙ ap (λ b. count_after b (needed side limits) (count_of side rows)) e)
+      ∙ ap (λ b. count_after b (needed side limits) (count_of side rows)) e)
 
 are_counted : (kind : Kind) (state : State) → IsLimiter state → AreCounted kind (limits_of state)
 are_counted kind state fit OverThreshold e = let small = fit.over_duration in omega (arith, small)
@@ -263,7 +265,7 @@ pub quiet_up_to : (kind : Kind) (state : State) (rows : List Row) (values : List
     length values ≤ quiet_count kind state → IsQuiet (limits_of state) values rows
 quiet_up_to kind state rows values fit keeps k few =
     are_quiet kind (limits_of state) (are_counted kind state fit) values rows k
-        (room_of kind state rows (length values) keeps few)
+    (room_of kind state rows (length values) keeps few)
 
 fired_if : (b : Bool) (need : ℕ) (count : Count) → count.fired ≡ b → need ≤ cap
     → (if b then 2 ^ 64 - 1 else need - 1 - count.run) ≡ 2 ^ 64 - 1 → count.fired ≡ true
@@ -280,13 +282,13 @@ room_for_all : (kind : Kind) (state : State) (rows : List Row) (n : ℕ) → IsL
     → Keeps state rows → quiet_count kind state ≡ 2 ^ 64 - 1 → HasRoom kind (limits_of state) n rows
 room_for_all Over state rows n fit keeps all OverThreshold e =
     room_always n (need_of state.settings.min_over_threshold_duration) state.over
-        (count_of OverThreshold rows) keeps.over (are_counted Over state fit OverThreshold e) all
+    (count_of OverThreshold rows) keeps.over (are_counted Over state fit OverThreshold e) all
 room_for_all Over state rows n fit keeps all UnderThreshold e = cc
 room_for_all Under state rows n fit keeps all OverThreshold e = cc
 room_for_all Under state rows n fit keeps all UnderThreshold e =
     room_always n (need_of state.settings.min_under_threshold_duration) state.under
-        (count_of UnderThreshold rows) keeps.under
-        (are_counted Under state fit UnderThreshold e) all
+    (count_of UnderThreshold rows) keeps.under
+    (are_counted Under state fit UnderThreshold e) all
 room_for_all Equal state rows n fit keeps all side e = cc
 
 -- if no sample would ever fire, any number of them does not
@@ -295,7 +297,7 @@ pub quiet_for_ever : (kind : Kind) (state : State) (rows : List Row) (values : L
     quiet_count kind state ≡ 2 ^ 64 - 1 → IsQuiet (limits_of state) values rows
 quiet_for_ever kind state rows values fit keeps k all =
     are_quiet kind (limits_of state) (are_counted kind state fit) values rows k
-        (room_for_all kind state rows (length values) fit keeps all)
+    (room_for_all kind state rows (length values) fit keeps all)
 
 unfired_if : (b : Bool) (n need : ℕ) (count : Count) → count.fired ≡ b → n
     ≡ (if b then 2 ^ 64 - 1 else need - 1 - count.run) → n < 2 ^ 64 - 1 → (count.fired ≡ false)
@@ -316,58 +318,58 @@ fires_then : (n need : ℕ) (count other : Count) → count ≡ other → need �
 fires_then n need count other same small is few =
     let P : Count → Type 0 = λ c. fires_at true need (count_after_run n c) ≡ true in
     let found : (count.fired ≡ false) × (n ≡ need - 1 - count.run) =
-        unfired_if count.fired n need count refl is few in
+    unfired_if count.fired n need count refl is few in
     subst P same (and_both (nat_le need (min (min (count.run + n) cap + 1) cap)) count.fired
-        (at_last n need count.run small found.1) found.0)
+    (at_last n need count.run small found.1) found.0)
 
 -- one sample more than those that do not fire
 pub fires_next : (kind : Kind) (state : State) (rows : List Row) (values : List ℕ) (value : ℕ)
     → IsLimiter state → Keeps state rows → AreOfKind kind (limits_of state).threshold values →
     kind_of (limits_of state).threshold value ≡ kind → length values ≡ quiet_count kind state
-        → length values < 2 ^ 64 - 1 →
+    → length values < 2 ^ 64 - 1 →
     fire_of (row_of (limits_of state) value ∷ rows_after (limits_of state) values rows)
-        ≡ fire_on kind
+    ≡ fire_on kind
 fires_next Over state rows values value fit keeps k last all few =
     let limits : Limits = limits_of state in
     let small : AreCounted Over limits = are_counted Over state fit in
     let room : HasRoom Over limits (length values) rows =
-        room_of Over state rows (length values) keeps (omega (arith, all)) in
+    room_of Over state rows (length values) keeps (omega (arith, all)) in
     let count : count_of OverThreshold (rows_after limits values rows)
-        ≡ count_after_run (length values) (count_of OverThreshold rows) =
-        run_after Over limits small values rows OverThreshold refl k room in
+    ≡ count_after_run (length values) (count_of OverThreshold rows) =
+    run_after Over limits small values rows OverThreshold refl k room in
     let fires : fires_at true (needed OverThreshold limits)
-        (count_of OverThreshold (rows_after limits values rows)) ≡ true =
+    (count_of OverThreshold (rows_after limits values rows)) ≡ true =
     ap (fires_at true (needed OverThreshold limits)) count
     ∙ fires_then (length values) (needed OverThreshold limits) state.over
-        (count_of OverThreshold rows) keeps.over (small OverThreshold refl) all few in
+    (count_of OverThreshold rows) keeps.over (small OverThreshold refl) all few in
     one_fire Over limits small value (rows_after limits values rows) last
-        ∙ ap (λ b. if b then fire_past OverThreshold else Quiet) fires
+    ∙ ap (λ b. if b then fire_past OverThreshold else Quiet) fires
 fires_next Under state rows values value fit keeps k last all few =
     let limits : Limits = limits_of state in
     let small : AreCounted Under limits = are_counted Under state fit in
     let room : HasRoom Under limits (length values) rows =
-        room_of Under state rows (length values) keeps (omega (arith, all)) in
+    room_of Under state rows (length values) keeps (omega (arith, all)) in
     let count : count_of UnderThreshold (rows_after limits values rows)
-        ≡ count_after_run (length values) (count_of UnderThreshold rows) =
-        run_after Under limits small values rows UnderThreshold refl k room in
+    ≡ count_after_run (length values) (count_of UnderThreshold rows) =
+    run_after Under limits small values rows UnderThreshold refl k room in
     let fires : fires_at true (needed UnderThreshold limits)
-        (count_of UnderThreshold (rows_after limits values rows)) ≡ true =
+    (count_of UnderThreshold (rows_after limits values rows)) ≡ true =
     ap (fires_at true (needed UnderThreshold limits)) count
     ∙ fires_then (length values) (needed UnderThreshold limits) state.under
-        (count_of UnderThreshold rows) keeps.under (small UnderThreshold refl) all few in
+    (count_of UnderThreshold rows) keeps.under (small UnderThreshold refl) all few in
     one_fire Under limits small value (rows_after limits values rows) last
-        ∙ ap (λ b. if b then fire_past UnderThreshold else Quiet) fires
+    ∙ ap (λ b. if b then fire_past UnderThreshold else Quiet) fires
 fires_next Equal state rows values value fit keeps k last all few = absurd (omega (arith, all))
 
 over_after : (kind : Kind) (state : State) (rows : List Row) (values : List ℕ) (side : Side)
     → past kind side ≡ true → IsLimiter state → Keeps state rows
     → AreOfKind kind (limits_of state).threshold values →
     length values ≤ quiet_count kind state → count_of side
-        (rows_after (limits_of state) values rows)
-        ≡ count_after_run (length values) (count_of side rows)
+    (rows_after (limits_of state) values rows)
+    ≡ count_after_run (length values) (count_of side rows)
 over_after kind state rows values side e fit keeps k few =
     run_after kind (limits_of state) (are_counted kind state fit) values rows side e k
-        (room_of kind state rows (length values) keeps few)
+    (room_of kind state rows (length values) keeps few)
 
 other_after : (kind : Kind) (state : State) (rows : List Row) (values : List ℕ) (side : Side)
     → past kind side ≡ false → IsLimiter state → AreOfKind kind (limits_of state).threshold values →
@@ -378,8 +380,8 @@ other_after kind state rows values side e fit k some =
 jumped_keeps : (kind : Kind) (state : State) (rows : List Row) (values : List ℕ) (last : ℕ)
     → IsLimiter state → Keeps state rows → AreOfKind kind (limits_of state).threshold values →
     0 < length values → length values ≤ quiet_count kind state
-        → Keeps (state_after_run kind (length values) last state)
-        (rows_after (limits_of state) values rows)
+    → Keeps (state_after_run kind (length values) last state)
+    (rows_after (limits_of state) values rows)
 jumped_keeps Over state rows values last fit keeps k some few = record {
   over = ap (count_after_run (length values)) keeps.over
       ∙ sym (over_after Over state rows values OverThreshold refl fit keeps k few);
@@ -399,11 +401,11 @@ jumped_keeps Equal state rows values last fit keeps k some few = record {
 pub keeps_after : (kind : Kind) (state new : State) (rows : List Row) (values : List ℕ) (n last : ℕ)
     → IsLimiter state → Keeps state rows → AreOfKind kind (limits_of state).threshold values →
     length values ≡ n → 0 < n → n ≤ quiet_count kind state → new ≡ state_after_run kind n last state
-        → Keeps new (rows_after (limits_of state) values rows)
+    → Keeps new (rows_after (limits_of state) values rows)
 keeps_after kind state new rows values n last fit keeps k e some few is =
     let P : State → Type 0 = λ v. Keeps v (rows_after (limits_of state) values rows) in
     subst P (ap (λ m. state_after_run kind m last state) e ∙ sym is)
-        (jumped_keeps kind state rows values last fit keeps k (omega arith) (omega arith))
+    (jumped_keeps kind state rows values last fit keeps k (omega arith) (omega arith))
 
 fits_if : (b : Bool) (n need : ℕ) (count : Count) → count.fired ≡ b → 0 < n → need ≤ cap
     → n ≤ (if b then 2 ^ 64 - 1 else need - 1 - count.run) → IsFitCount count
@@ -444,11 +446,14 @@ pub jumped_under : (state : State) (n last : ℕ) → 0 < n → n ≤ quiet_coun
 jumped_under state n last some few k fit =
     let limits : Limits = limits_of state in
     let small : limits.threshold < 2 ^ 32 = threshold_small state.settings state.moment
-        fit.threshold_normal fit.threshold_emergency in
+    fit.threshold_normal fit.threshold_emergency in
     record {
       counts = record {
-        over_fits = record { within = omega arith; none = λ zero. refl;
-            full = λ full. absurd (omega (arith, full)) };
+        over_fits = record {
+          within = omega arith;
+          none = λ zero. refl;
+          full = λ full. absurd (omega (arith, full));
+        };
         under_fits = skip_fits n (needed UnderThreshold limits) state.under some
             (are_counted Under state fit UnderThreshold refl) few fit.counts.under_fits;
         one = λ over. absurd (omega (arith, over));
@@ -467,13 +472,23 @@ jumped_under state n last some few k fit =
 pub jump_under : (inside state : State) (over under : Count) (n last : ℕ) → inside ≡ state → over
     ≡ no_run → under ≡ count_after_run n inside.under → 0 < n → n ≤ quiet_count Under state →
     kind_of (limits_of state).threshold last ≡ Under → IsLimiter inside
-        → IsLimiter (record { settings = inside.settings; moment = inside.moment; last = last;
-        over = over; under = under })
+    → IsLimiter (record {
+      settings = inside.settings;
+      moment = inside.moment;
+      last = last;
+      over = over;
+      under = under;
+    })
 jump_under inside state over under n last is none skip some few k fit =
     let Few : State → Type 0 = λ v. n ≤ quiet_count Under v in
     let IsUnder : State → Type 0 = λ v. kind_of (limits_of v).threshold last ≡ Under in
-    let make : Count → Count → State = λ a b. record { settings = inside.settings;
-        moment = inside.moment; last = last; over = a; under = b } in
+    let make : Count → Count → State = λ a b. record {
+      settings = inside.settings;
+      moment = inside.moment;
+      last = last;
+      over = a;
+      under = b;
+    } in
     subst IsLimiter (ap (λ a. make a (count_after_run n inside.under)) (sym none)
-        ∙ ap (make over) (sym skip))
+    ∙ ap (make over) (sym skip))
     (jumped_under inside n last some (subst Few (sym is) few) (subst IsUnder (sym is) k) fit)

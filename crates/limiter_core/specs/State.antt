@@ -95,8 +95,11 @@ fire_on Equal = Quiet
 
 -- the limiter after n samples of a kind that do not fire
 abbrev pub state_after_run : Kind → ℕ → ℕ → State → State
-state_after_run Over n last state = record state { last = last; over = count_after_run n state.over;
-    under = no_run }
+state_after_run Over n last state = record state {
+  last = last;
+  over = count_after_run n state.over;
+  under = no_run;
+}
 state_after_run Under n last state =
     record state { last = last; over = no_run; under = count_after_run n state.under }
 state_after_run Equal n last state = record state { last = last; over = no_run; under = no_run }

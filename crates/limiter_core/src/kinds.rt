@@ -1,3 +1,6 @@
+//! The comparison of a sample with the active threshold, and the action of the limiter that a
+//! sample fires (IEC 62056-6-2, class 71).
+
 /// The action that a sample fires, if any.
 #[derive(Clone, Copy, Debug, PartialEq, Eq)]
 pub enum Fire {

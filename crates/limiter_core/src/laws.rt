@@ -1,3 +1,5 @@
+//! Theorems that explain the definitions of runs: when a run has fired, that it is the longest, and
+//! that one sample never fires on both sides.
 ghost use Rattle.std.specs.Prelude.{◌≡◌, ℕ, ◌<◌, ◌≤◌, ◌↔◌, List, length, reverse, drop, slice_index_or, IsTrue, IsFalse};
 ghost use Rattle.std.specs.List.{suffix_len};
 ghost use Rattle.limiter_core.specs.declared.count.Count.{Count};

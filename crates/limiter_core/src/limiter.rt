@@ -1,3 +1,5 @@
+//! A limiter (IEC 62056-6-2, class 71): its attributes, and the runs of samples past its threshold
+//! that fire its actions.
 ghost use Rattle.std.specs.Prelude.{◌≡◌, ℕ, ◌+◌, ◌-◌, ◌<◌, ◌≤◌, ◌^◌, nat_lt, if◌then◌else◌, List, [], ◌∷◌, length, Some, None, OnOk, OnErr, IfOk, IsSome, IfSome, ◌↔◌};
 ghost use Rattle.limiter_core.specs.declared.kinds.Fire.TheVariants.{Quiet};
 ghost use Rattle.limiter_core.specs.Counting.{no_run};

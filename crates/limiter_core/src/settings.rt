@@ -1,3 +1,5 @@
+//! The attributes of a limiter that clients write (IEC 62056-6-2, class 71), the active threshold,
+//! and the number of samples of a duration.
 ghost use Rattle.std.specs.Prelude.{◌≡◌, ◌≤◌, ◌<◌, ◌^◌, [], length, IfOk};
 ghost use Rattle.limiter_core.specs.Settings.{is_active, active_threshold, is_within, need_of, new_settings};
 

@@ -22,9 +22,17 @@ use Rattle.boxed_parts.specs.contracts.parts.BoxParts as BoxParts
 use Rattle.meter.specs.contracts.slot.Slot as Own
 
 abbrev pub E : Bx
-E = record { row = Held.the_row; laws = held.the_row_laws;
-    al = record { row = Heap.the_row; laws = heap.the_row_laws; g = ghosts; d = dict;
-    drops = impl [] tnil dnil } }
+E = record {
+  row = Held.the_row;
+  laws = held.the_row_laws;
+  al = record {
+    row = Heap.the_row;
+    laws = heap.the_row_laws;
+    g = ghosts;
+    d = dict;
+    drops = impl [] tnil dnil;
+  };
+}
 
 abbrev pub FromParts : Slot 0
 FromParts = plain (λ _. BoxParts.the_row Held.the_row Heap.the_row ghosts)
@@ -51,5 +59,10 @@ module _ (P Q : RattleType) where
         ∷ Γ) G (‵ (P.own_val x (v ∷ [])) ∷ ‵ (Q.own_val y (w ∷ [])) ∷ Γ) G
     two_in t v w = step (λ s. nothing t $ move t (1 ∷ 2 ∷ 0 ∷ []) $ fjoin3 t $ feq_i t (List Val)
         (both v w ∷ []) (both v w ∷ []) refl $ fjoin t $
-        fpack t (Valss (P ∷ Q ∷ [])) (within (record { name = []; args = []; types = []; fields = P
-            ∷ Q ∷ [] }) (x, (y, tt)) (both v w ∷ [])) (v ∷ [], (w ∷ [], tt)) $ s)
+        fpack t (Valss (P ∷ Q ∷ [])) (within (record {
+          name = [];
+          args = [];
+          types = [];
+          fields = P
+              ∷ Q ∷ [];
+        }) (x, (y, tt)) (both v w ∷ [])) (v ∷ [], (w ∷ [], tt)) $ s)

@@ -1,3 +1,4 @@
+//! The handle that C code holds, `struct meter` of `meter.h`: open with a meter, or closed.
 ghost use Rattle.std.specs.Prelude.{◌≡◌};
 ghost use Rattle.meter.specs.Held.{is_held};
 

@@ -1,3 +1,4 @@
+//! The result codes of `meter.h`, and the code of each fault.
 ghost use Rattle.std.specs.Prelude.{◌≡◌};
 ghost use Rattle.meter.specs.Outcomes.{code_of, of_fault};
 

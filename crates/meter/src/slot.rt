@@ -1,3 +1,4 @@
+//! The owning pointer in a handle: a meter's box as C stores it, or null.
 ghost use Rattle.std.specs.Prelude.{◌≡◌, Option, Some, None};
 ghost use Rattle.supply_meter.specs.Meterings.{Metering};
 ghost use Rattle.meter.specs.Kept.{ownership_of, ownership_coded};

@@ -11,32 +11,49 @@ use Rattle.meter_console.proofs.Shorts.{first_read, first_skipped}
 -- the event of a line was taken
 pub one_taken : (line : List ℕ) (event : Event) (listed taken : Option (List Event))
     → Brings line event → Gains listed event taken → TakesFrom line 0 listed taken
-one_taken line event listed taken brings gains before e =
-    (event ∷ [], inl (event, [], brings, refl, (refl, refl)),
-        subst (λ (o : Option (List Event)). Gains o event taken) e gains)
+one_taken line event listed taken brings gains before e = (
+  event ∷ [],
+  inl (event, [], brings, refl, (refl, refl)),
+  subst (λ (o : Option (List Event)). Gains o event taken) e gains,
+)
 
 -- a line without an event leaves the sink unchanged
 pub none_taken : (line : List ℕ) (taken : Option (List Event))
     → ((event : Event) → ¬ (Brings line event)) → TakesFrom line 0 taken taken
-none_taken line taken none before e = ([], inr (inl (none, (refl, refl))), e
-    ∙ ap Some (sym (append-nil before)))
+none_taken line taken none before e = (
+  [],
+  inr (inl (none, (refl, refl))),
+  e
+      ∙ ap Some (sym (append-nil before)),
+)
 
 -- a line that is lost leaves the sink unchanged
 pub lost_taken : (line : List ℕ) (taken : Option (List Event)) → IsOwnLine line
     → TakesFrom line 1 taken taken
-lost_taken line taken own before e = ([], inr (inr (0, own, refl, (refl, refl))), e
-    ∙ ap Some (sym (append-nil before)))
+lost_taken line taken own before e = (
+  [],
+  inr (inr (0, own, refl, (refl, refl))),
+  e
+      ∙ ap Some (sym (append-nil before)),
+)
 
 -- a line was read and its event taken
 pub line_passed : (input line : List ℕ) (lost : ℕ) (left : Option (List ℕ)) (before : List Event)
     (listed taken : Option (List Event))
     → TakesLine input line left → TakesFrom line lost listed taken → listed ≡ Some before
-        → HandsOn input before lost left taken
+    → HandsOn input before lost left taken
 line_passed input line lost left before listed taken t from e =
     let (events, brought, taken_is) = from before e in
-    record { read = line ∷ []; rest = t.rest; events = events; left_is = t.left_is;
-        lines = first_read input line t.rest t.lines t.short; brought =
-        brought; taken_is = taken_is }
+    record {
+      read = line ∷ [];
+      rest = t.rest;
+      events = events;
+      left_is = t.left_is;
+      lines = first_read input line t.rest t.lines t.short;
+      brought =
+          brought;
+      taken_is = taken_is;
+    }
 
 -- a line was skipped
 pub line_skipped : (input : List ℕ) (left : Option (List ℕ)) (before : List Event)
@@ -58,10 +75,15 @@ brought_append : (xs ys : List (List ℕ)) (es fs : List Event) (m n : ℕ) → 
 brought_append [] ys es fs m n (none, zero) later =
     let all : n ≡ m + n = omega arith in
     subst (λ (l : List Event). Brought ys (l ++ fs) (m + n)) (sym none)
-        (subst (Brought ys fs) all later)
+    (subst (Brought ys fs) all later)
 brought_append (line ∷ lines) ys es fs m n (inl (event, rest, brings, e, more)) later =
-    inl (event, rest ++ fs, brings, ap (λ (l : List Event). l ++ fs) e,
-        brought_append lines ys rest fs m n more later)
+    inl (
+      event,
+      rest ++ fs,
+      brings,
+      ap (λ (l : List Event). l ++ fs) e,
+      brought_append lines ys rest fs m n more later,
+    )
 brought_append (line ∷ lines) ys es fs m n (inr (inl (none, more))) later =
     inr (inl (none, brought_append lines ys es fs m n more later))
 brought_append (line ∷ lines) ys es fs m n (inr (inr (others, own, e, more))) later =
@@ -84,7 +106,7 @@ hands_none known listed input before e f = record {
 pub hands_on : {known left left' : Option (List ℕ)} {listed taken taken' : Option
     (List Event)} {m n k : ℕ}
     → Hands known listed m left taken → Hands left taken n left' taken' → m + n ≡ k
-        → Hands known listed k left' taken'
+    → Hands known listed k left' taken'
 hands_on {left' = left'} {taken' = taken'} {m = m} {n = n} a b sum input before e f =
     let h = a input before e f in
     let i = b h.rest (before ++ h.events) h.left_is h.taken_is in
@@ -104,7 +126,7 @@ hands_on {left' = left'} {taken' = taken'} {m = m} {n = n} a b sum input before 
 pub ends_all : {known left : Option (List ℕ)} {listed taken taken' : Option (List Event)} {lost : ℕ}
     (end : ConsoleEnd)
     → Hands known listed lost left taken → ((bytes : List ℕ) → left ≡ Some bytes → lines_in bytes
-        ≡ []) → taken' ≡ taken → lost_lines end ≡ lost
+    ≡ []) → taken' ≡ taken → lost_lines end ≡ lost
     → Ends known listed end taken'
 ends_all end h none same lost_is input before e f =
     let i = h input before e f in
@@ -122,7 +144,7 @@ ends_all end h none same lost_is input before e f =
 pub ends_some : {known left : Option (List ℕ)} {listed taken taken' : Option (List Event)}
     {lost : ℕ} (end : ConsoleEnd)
     → Hands known listed lost left taken → taken' ≡ taken → lost_lines end ≡ lost → has_failed end
-        ≡ true
+    ≡ true
     → Ends known listed end taken'
 ends_some end h same lost_is failed input before e f =
     let i = h input before e f in

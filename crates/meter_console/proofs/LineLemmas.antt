@@ -36,13 +36,13 @@ starts known line e = record {
 none_more : (bytes : List ℕ) (byte : ℕ) → HasNo 10 bytes → byte ≢ 10 → HasNo 10 (bytes ++ byte ∷ [])
 none_more bytes byte none ne =
     All-append (λ b. is_byte 10 b ≡ false) bytes (byte ∷ []) none
-        (All-cons (λ b. is_byte 10 b ≡ false) byte [] (ne_eqb byte 10 ne)
-        (All-nil (λ b. is_byte 10 b ≡ false)))
+    (All-cons (λ b. is_byte 10 b ≡ false) byte [] (ne_eqb byte 10 ne)
+    (All-nil (λ b. is_byte 10 b ≡ false)))
 
 -- a byte was read and kept
 more : (known left left' : Option (List ℕ)) (line : List ℕ) (is_long : Bool) (byte : ℕ)
     → Partial known left line is_long → Consumes left left' (byte ∷ []) → byte ≢ 10
-        → length line + 1 < 8192
+    → length line + 1 < 8192
     → Partial known left' (line ++ byte ∷ []) is_long
 more known left left' line true byte p c ne room = absurd (omega (arith, p.full refl))
 more known left left' line false byte p c ne room = record {
@@ -58,18 +58,18 @@ more known left left' line false byte p c ne room = record {
 pub keeps : {known left left' : Option (List ℕ)} {line line' : List ℕ}
     {is_long is_long' : Bool} {byte : ℕ}
     → Partial known left line is_long → Consumes left left' (byte ∷ []) → byte ≢ 10
-        → length line + 1 < 8192
+    → length line + 1 < 8192
     → line' ≡ line ++ byte ∷ [] → is_long' ≡ is_long → Partial known left' line' is_long'
 keeps {known = known} {left = left} {left' = left'} {line = line} {line' = line'}
     {is_long = is_long} {byte = byte} p c ne room e same =
     subst (λ (b : Bool). Partial known left' line' b) (sym same)
-        (subst (λ (l : List ℕ). Partial known left' l is_long) (sym e)
-        (more known left left' line is_long byte p c ne room))
+    (subst (λ (l : List ℕ). Partial known left' l is_long) (sym e)
+    (more known left left' line is_long byte p c ne room))
 
 -- a byte was read that does not fit into the buffer
 skip : (known left left' : Option (List ℕ)) (line : List ℕ) (is_long : Bool) (byte : ℕ)
     → Partial known left line is_long → Consumes left left' (byte ∷ []) → byte ≢ 10
-        → 8192 ≤ length line + 1
+    → 8192 ≤ length line + 1
     → Partial known left' line true
 skip known left left' line is_long byte p c ne none = record {
   bytes = p.bytes ++ byte ∷ [];
@@ -88,13 +88,13 @@ skip known left left' line is_long byte p c ne none = record {
 pub skips : {known left left' : Option (List ℕ)} {line line' : List ℕ}
     {is_long is_long' : Bool} {byte : ℕ}
     → Partial known left line is_long → Consumes left left' (byte ∷ []) → byte ≢ 10
-        → 8192 ≤ length line + 1
+    → 8192 ≤ length line + 1
     → line' ≡ line → is_long' ≡ true → Partial known left' line' is_long'
 skips {known = known} {left = left} {left' = left'} {line = line} {line' = line'}
     {is_long = is_long} {byte = byte} p c ne none e same =
     subst (λ (b : Bool). Partial known left' line' b) (sym same)
-        (subst (λ (l : List ℕ). Partial known left' l true) (sym e)
-        (skip known left left' line is_long byte p c ne none))
+    (subst (λ (l : List ℕ). Partial known left' l true) (sym e)
+    (skip known left left' line is_long byte p c ne none))
 
 -- the bytes that were read are the first of the known bytes
 record Begins (input bytes : List ℕ) (left : Option (List ℕ)) : Type 0 where
@@ -114,25 +114,33 @@ begins (Some xs) (Some ys) input bytes e c =
 ends : (known left left' : Option (List ℕ)) (line : List ℕ) (is_long : Bool)
     (p : Partial known left line is_long) → Consumes left left' (10 ∷ [])
     → (input : List ℕ) → known ≡ Some input → (rest : List ℕ) × (left' ≡ Some rest)
-        × (lines_of input ≡ p.bytes ∷ lines_of rest)
+    × (lines_of input ≡ p.bytes ∷ lines_of rest)
 ends known left left' line is_long p c input e =
     let b = begins known left' input (p.bytes ++ 10 ∷ []) e
-        (Consumes-trans known left left' p.bytes (10 ∷ []) p.read c) in
-    (b.rest, b.left_is, ap lines_of (b.input_is ∙ append_assoc p.bytes (10 ∷ []) b.rest)
-        ∙ lines_of-line p.bytes b.rest p.none)
+    (Consumes-trans known left left' p.bytes (10 ∷ []) p.read c) in (
+      b.rest,
+      b.left_is,
+      ap lines_of (b.input_is ∙ append_assoc p.bytes (10 ∷ []) b.rest)
+          ∙ lines_of-line p.bytes b.rest p.none,
+    )
 
 -- a whole line was read
 pub takes : {known left left' : Option (List ℕ)} {line : List ℕ} {is_long : Bool} {byte : ℕ}
     → Partial known left line is_long → Consumes left left' (byte ∷ []) → byte ≡ 10
-        → is_long ≡ false
+    → is_long ≡ false
     → (input : List ℕ) → known ≡ Some input → TakesLine input line left'
 takes {known = known} {left = left} {left' = left'} {line = line} {is_long = is_long} p c is short
     input e =
     let (rest, left_is, lines) = ends known left left' line is_long p
-        (subst (λ (b : ℕ). Consumes left left' (b ∷ [])) is c) input e in
-    record { rest = rest; left_is = left_is; lines = lines
-        ∙ ap (λ (l : List ℕ). l ∷ lines_of rest) (sym (p.kept short)); short =
-        omega (arith, p.within) }
+    (subst (λ (b : ℕ). Consumes left left' (b ∷ [])) is c) input e in
+    record {
+      rest = rest;
+      left_is = left_is;
+      lines = lines
+          ∙ ap (λ (l : List ℕ). l ∷ lines_of rest) (sym (p.kept short));
+      short =
+          omega (arith, p.within);
+    }
 
 -- a line that is too long was skipped
 pub passes : {known left left' : Option (List ℕ)} {line : List ℕ} {is_long : Bool} {byte : ℕ}
@@ -141,9 +149,14 @@ pub passes : {known left left' : Option (List ℕ)} {line : List ℕ} {is_long :
 passes {known = known} {left = left} {left' = left'} {line = line} {is_long = is_long} p c is long
     input e =
     let (rest, left_is, lines) = ends known left left' line is_long p
-        (subst (λ (b : ℕ). Consumes left left' (b ∷ [])) is c) input e in
-    record { line = p.bytes; rest = rest; left_is = left_is; lines = lines;
-        long = omega (arith, p.long long) }
+    (subst (λ (b : ℕ). Consumes left left' (b ∷ [])) is c) input e in
+    record {
+      line = p.bytes;
+      rest = rest;
+      left_is = left_is;
+      lines = lines;
+      long = omega (arith, p.long long);
+    }
 
 -- bytes without the byte 0A have no line
 no_lines : (bytes : List ℕ) → HasNo 10 bytes → lines_of bytes ≡ []

@@ -10,7 +10,7 @@ unfolding lines_in
 first_read input line rest e short =
     let yes : nat_le (length line + 1) max_line ≡ true = grind (arith) in
     ap (filter (λ (l : List ℕ). nat_le (length l + 1) max_line)) e
-        ∙ ap (λ b. cond b (line ∷ lines_in rest) (lines_in rest)) yes
+    ∙ ap (λ b. cond b (line ∷ lines_in rest) (lines_in rest)) yes
 
 -- a line that is too long is skipped
 pub first_skipped : (input line rest : List ℕ) → lines_of input ≡ line ∷ lines_of rest
@@ -19,7 +19,7 @@ unfolding lines_in
 first_skipped input line rest e long =
     let no : nat_le (length line + 1) max_line ≡ false = grind (arith) in
     ap (filter (λ (l : List ℕ). nat_le (length l + 1) max_line)) e
-        ∙ ap (λ b. cond b (line ∷ lines_in rest) (lines_in rest)) no
+    ∙ ap (λ b. cond b (line ∷ lines_in rest) (lines_in rest)) no
 
 -- no line is read from an input without lines
 pub none_read : (input : List ℕ) → lines_of input ≡ [] → lines_in input ≡ []

@@ -55,7 +55,7 @@ calls_of_run : (given : Given) (served : Result Served ServeFault) (lock : Table
     (o : Opening) (q : MeterPort) (kept : KeptRecorder)
     → (y : Yields (λ (x : KeptRecorder). x.origin) Stands IsLegal q.known kept)
     → ServesAll given (first_port lock bound o) q served
-        → AreOfRun kept.origin given served y.history
+    → AreOfRun kept.origin given served y.history
 calls_of_run given served lock bound o q kept y s = record {
   lawful = y.lawful;
   blocks = ended_map served (Acted q (0 ∷ []) (AllBlocks given.blocks))
@@ -70,11 +70,11 @@ calls_of_run given served lock bound o q kept y s = record {
   ports = q.known.splits;
   sessions = λ i from below.
       let joined : IsAmong (i ∷ []) q.known.joined = subst
-          (λ (n : List ℕ). IsAmong (n ++ i ∷ []) q.known.joined) s.goes.number
-          (s.joined i (omega arith) below) in
+      (λ (n : List ℕ). IsAmong (n ++ i ∷ []) q.known.joined) s.goes.number
+      (s.joined i (omega arith) below) in
       let asked : AreAsked given.password (events_by (i ∷ []) q) =
       subst (λ (n : List ℕ). AreAsked given.password (events_by (n ++ i ∷ []) q)) s.goes.number
-          (s.sessions i from below) in
+      (s.sessions i from below) in
       subst (AreAsked given.password) (sym (same_events q kept y (i ∷ []) joined)) asked;
   counted = s.counted;
   own = y.own_calls [] (inl (sym s.goes.number)) ∙ s.goes.own [] (inl refl);
@@ -83,7 +83,7 @@ calls_of_run given served lock bound o q kept y s = record {
 run_at : (recorder : Recording) (given : Given) (served : Result Served ServeFault) (text : List ℕ)
     (lock : TableId) (bound : ℕ) (q : MeterPort) (o : Opening)
     → o ≡ opening_of recorder.core → ServesAll given (first_port lock bound o) q served
-        → Traces q.known text → IsRun recorder given served text
+    → Traces q.known text → IsRun recorder given served text
 run_at recorder given served text lock bound q o is serves traces =
     let y = traces.yields in
     record {
@@ -98,19 +98,22 @@ run_at recorder given served text lock bound q o is serves traces =
 pub run_of : (recorder : Recording) (given : Given) (served : Result Served ServeFault)
     (text : List ℕ) (p q : MeterPort) (o : Opening)
     → p.known ≡ first_known o → o ≡ opening_of recorder.core → ServesAll given p q served
-        → Traces q.known text → IsRun recorder given served text
+    → Traces q.known text → IsRun recorder given served text
 run_of recorder given served text p q o first is serves traces =
     let whole : p ≡ first_port p.lock p.bound o = ap
-        (λ (k : Known Event Reply Opening). let port : MeterPort = record { lock = p.lock;
-        bound = p.bound; known = k } in port) first in
+    (λ (k : Known Event Reply Opening). let port : MeterPort = record {
+      lock = p.lock;
+      bound = p.bound;
+      known = k;
+    } in port) first in
     run_at recorder given served text p.lock p.bound q o is
-        (subst (λ (port : MeterPort). ServesAll given port q served) whole serves) traces
+    (subst (λ (port : MeterPort). ServesAll given port q served) whole serves) traces
 
 -- the text of a trace is that of a run
 pub run_if : {E : Type 0} (recorder : Recording) (given : Given) (served : Result Served ServeFault)
     (result : Result (List ℕ) E) (p q : MeterPort)
     → p.known ≡ first_known (opening_of recorder.core) → ServesAll given p q served
-        → IfOk result (Traces q.known)
+    → IfOk result (Traces q.known)
     → IfOk result (IsRun recorder given served)
 run_if recorder given served (Ok text) p q first serves traces =
     run_of recorder given served text p q (opening_of recorder.core) first refl serves traces

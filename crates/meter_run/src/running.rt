@@ -1,3 +1,5 @@
+//! `run_meter`: one run from the recorder to the text of the trace, with clients and the meter's
+//! own events in parallel.
 ghost use Rattle.std.specs.Prelude.{◌≡◌, ◌⊎◌, ⊤, ◌+◌, [], IfOk, IfErr};
 ghost use Rattle.acse_ber.specs.Password.{IsPassword};
 ghost use Rattle.meter_run.specs.Runs.{IsRun, ServesAll, Traces};

@@ -29,26 +29,26 @@ use Rattle.turn_lock.specs.declared.turned.Entry.{Entry}
 last_fits : (w : World) (calls : List (Entry Event Reply)) (by : List ℕ) (event : Event)
     (reply : Reply)
     → replies_of (events_and_replies (calls ++ entry by event reply ∷ []))
-        ≡ replies_from w (events_of (events_and_replies (calls ++ entry by event reply ∷ [])))
-        → Fits event reply
+    ≡ replies_from w (events_of (events_and_replies (calls ++ entry by event reply ∷ [])))
+    → Fits event reply
 last_fits w [] by event reply legal =
     let same : reply ≡ (at_event event w).reply = cc in
     subst (Fits event) (sym same) (reply_fits event w)
 last_fits w (call ∷ calls) by event reply legal =
     let after : World = (at_event call.event w).world in
     let rest : replies_of (events_and_replies (calls ++ entry by event reply ∷ []))
-        ≡ replies_from after (events_of (events_and_replies (calls ++ entry by event reply ∷ []))) =
-        cc in
+    ≡ replies_from after (events_of (events_and_replies (calls ++ entry by event reply ∷ []))) =
+    cc in
     last_fits after calls by event reply rest
 
 called_fits : (k : Known Event Reply Opening) (event : Event) (reply : Reply)
     (l : Known Event Reply Opening) → Called IsLegal k event reply l → Fits event reply
 called_fits k event reply l called =
     let legal : IsLegal called.lawful.origin ((k.seen ++ called.seen.0)
-        ++ entry k.number event reply ∷ []) = subst (IsLegal called.lawful.origin) called.seen.1
-        called.lawful.legal_history in
+    ++ entry k.number event reply ∷ []) = subst (IsLegal called.lawful.origin) called.seen.1
+    called.lawful.legal_history in
     last_fits (world_of_opening called.lawful.origin) (k.seen ++ called.seen.0) k.number event reply
-        legal
+    legal
 
 -- a reply that a port returned has the kind of its event
 pub port_fits : (k : Known Event Reply Opening) (event : Event) (result : Result Reply CallFault)
@@ -61,8 +61,8 @@ port_fits k event (Err fault) l called = tt
 -- the last meter of a session
 module _ {M : Type 0} (steps : M → Event → Result Reply CallFault → M → Type 0) (P : M → M → Type 0)
     (here : (m : M) → P m m) (on : (a b c : M) → P a b → P b c → P a c)
-        (by : (m : M) (event : Event) (result : Result Reply CallFault) (n : M)
-        → steps m event result n → P m n) where
+    (by : (m : M) (event : Event) (result : Result Reply CallFault) (n : M)
+    → steps m event result n → P m n) where
   pub replied_on : (m : M) (events : List Event) (replies : List Reply) (n : M)
       → RepliesTo steps m events replies n → P m n
   replied_on m [] [] n same = subst (P m) (sym same) (here m)
@@ -75,7 +75,7 @@ module _ {M : Type 0} (steps : M → Event → Result Reply CallFault → M → 
       → RefusesLast steps m events replies fault n → P m n
   refused_on m events replies fault n refused =
       on m refused.before n (replied_on m refused.taken replies refused.before refused.replied)
-          (by refused.before refused.event (Err fault) n refused.refused)
+      (by refused.before refused.event (Err fault) n refused.refused)
 
   effect_on : (plan : Plan) (seen : List ℕ) (before : Sides M)
       (result : Result SessionEnd ServeFault) (after : Sides M)
@@ -88,15 +88,21 @@ module _ {M : Type 0} (steps : M → Event → Result Reply CallFault → M → 
       replied_on before.outlets.meter effect.asked effect.replies after.outlets.meter effect.replied
   effect_on plan seen before (Err fault.Memory) after effect =
       ⊎_elim (replied_on before.outlets.meter effect.asked effect.replies after.outlets.meter)
-          (refused_on before.outlets.meter effect.asked effect.replies _ after.outlets.meter)
-          effect.replied
+      (refused_on before.outlets.meter effect.asked effect.replies _ after.outlets.meter)
+      effect.replied
   effect_on plan seen before (Err fault.Exhausted) after effect = refused_on before.outlets.meter
       effect.asked effect.replies _ after.outlets.meter effect.refused
   effect_on plan seen before (Err fault.Listen) after effect = absurd effect
 
 pub is_same : (p : MeterPort) → IsSame p p
-is_same p = record { lock = refl; bound = refl; origin = refl; number = refl; splits = refl;
-    joined = refl }
+is_same p = record {
+  lock = refl;
+  bound = refl;
+  origin = refl;
+  number = refl;
+  splits = refl;
+  joined = refl;
+}
 
 pub same_on : (p q s : MeterPort) → IsSame p q → IsSame q s → IsSame p s
 same_on p q s a b = record {
@@ -111,21 +117,33 @@ same_on p q s a b = record {
 pub step_same : (p : MeterPort) (event : Event) (result : Result Reply CallFault) (q : MeterPort)
     → PortSteps p event result q → IsSame p q
 step_same p event (Ok reply) q step =
-    record { lock = step.lock; bound = step.bound; origin = step.calls.origin;
-        number = step.calls.number; splits = step.calls.splits; joined = step.calls.joined }
+    record {
+      lock = step.lock;
+      bound = step.bound;
+      origin = step.calls.origin;
+      number = step.calls.number;
+      splits = step.calls.splits;
+      joined = step.calls.joined;
+    }
 step_same p event (Err fault) q step =
-    record { lock = step.lock; bound = step.bound; origin = step.calls.0.sees.origin;
-        number = step.calls.0.sees.number; splits = step.calls.0.sees.splits; joined =
-        step.calls.0.joined }
+    record {
+      lock = step.lock;
+      bound = step.bound;
+      origin = step.calls.0.sees.origin;
+      number = step.calls.0.sees.number;
+      splits = step.calls.0.sees.splits;
+      joined =
+          step.calls.0.joined;
+    }
 
 -- a port that served a session is the same port
 pub served_same : (password : List ℕ) (before : Sides MeterPort)
     (result : Result SessionEnd ServeFault) (after : Sides MeterPort)
     → ServesSession PortSteps password before result after
-        → IsSame before.outlets.meter after.outlets.meter
+    → IsSame before.outlets.meter after.outlets.meter
 served_same password before result after served =
     effect_on PortSteps IsSame is_same same_on step_same (plan_of password) served.seen before
-        result after served.effect
+    result after served.effect
 
 -- ports are related if their equals are
 pub between : (P : MeterPort → MeterPort → Type 0) (p m n q : MeterPort) → m ≡ p → q ≡ n
@@ -142,10 +160,10 @@ entered p (event ∷ events) [] q never = absurd never
 entered p (event ∷ events) (reply ∷ replies) q (next, step, rest) =
     let by : List ℕ = p.known.number in
     let P : List ℕ → Type 0 = λ n. calls_by n q.known.seen ≡ calls_by n next.known.seen
-        ++ entries n events replies in
+    ++ entries n events replies in
     let later : P by = subst P step.calls.number (entered next events replies q rest) in
     later
     ∙ (ap (λ (calls : List (Entry Event Reply)). calls
-        ++ entries by events replies) step.calls.own_calls
+    ++ entries by events replies) step.calls.own_calls
     ∙ append_assoc (calls_by by p.known.seen) (entry by event reply
-        ∷ []) (entries by events replies))
+    ∷ []) (entries by events replies))

@@ -35,7 +35,7 @@ pub whole_blocks : (told : Option (List Samples)) (own back : MeterPort) (events
 whole_blocks None own back events e fresh hands = tt
 whole_blocks (Some blocks) own back events e fresh hands =
     let those : hands.1.events ≡ events = sym (e ∙ hands.1.handed
-        ∙ ap (λ xs. xs ++ hands.1.events) fresh) in
+    ∙ ap (λ xs. xs ++ hands.1.events) fresh) in
     let P : List Event → Type 0 = λ xs. AreOfBlocks 0 blocks xs in (
       ap unread e ∙ hands.0 ∙ ap (λ xs. unread xs ++ map event.Samples blocks) fresh,
       subst P those hands.1.are,
@@ -64,7 +64,7 @@ did_all : {W : Type 0} (hands : W → MeterPort → MeterPort → Type 0) (worke
     → Ended (Did hands worker) own back end → end ≡ Some (Ok tt) → hands worker own back
 did_all hands worker own back end ended is =
     let E : Option (Result (Unit {0}) CallFault) → Type 0 =
-        λ e. Ended (Did hands worker) own back e in
+    λ e. Ended (Did hands worker) own back e in
     (subst E is ended).1
 
 acted_as : (own back q : MeterPort) (Whole : List Event → Type 0) → IsSame own back
@@ -79,20 +79,20 @@ their_events : (own back before q : MeterPort) → IsSame own back → TakesIn b
     → events_by own.known.number q ≡ own_events back
 their_events own back before q same taken =
     ap (map (λ (call : Entry Event Reply). call.event))
-        (ap (λ n. calls_by n q.known.seen) (sym same.number) ∙ taken.theirs)
+    (ap (λ n. calls_by n q.known.seen) (sym same.number) ∙ taken.theirs)
 
 -- the worker whose port was returned did all its work, if it came to its end
 acted_own : {W : Type 0} (hands : W → MeterPort → MeterPort → Type 0) (worker : W)
     (own before q : MeterPort) (end : Option (Result (Unit {0}) CallFault))
     (Whole : List Event → Type 0)
     → ((begun back : MeterPort) (events : List Event) → events ≡ own_events back → own_events begun
-        ≡ [] → hands worker begun back → Whole events)
+    ≡ [] → hands worker begun back → Whole events)
     → ComesBack (Did hands worker) own end before q → calls_by own.known.number own.known.seen ≡ []
-        → end ≡ Some (Ok tt) → Acted q own.known.number Whole
+    → end ≡ Some (Ok tt) → Acted q own.known.number Whole
 acted_own hands worker own before q end Whole whole back fresh is =
     acted_as own back.back q Whole back.same back.taken.joined
     (whole own back.back _ (their_events own back.back before q back.same back.taken)
-        (fresh_handed own fresh) (did_all hands worker own back.back end back.ended is))
+    (fresh_handed own fresh) (did_all hands worker own back.back end back.ended is))
 
 -- a property of a port's number is preserved
 acted_on : (p q : MeterPort) (number : List ℕ) (Whole : List Event → Type 0) → GoesOn p q
@@ -116,7 +116,7 @@ joined_on : (q last : MeterPort) (from : ℕ) → GoesOn q last → last.known.s
 joined_on q last from goes splits joined i low high =
     let J : List ℕ → Type 0 = λ n. IsAmong n last.known.joined in
     subst J (ap (λ n. child n i) (sym goes.number))
-        (goes.joined _ (joined i low (omega (arith, high, splits))))
+    (goes.joined _ (joined i low (omega (arith, high, splits))))
 
 -- one more port was split off before the others
 joined_more : (p own lent last : MeterPort) → SplitsOff p own lent → GoesOn lent last
@@ -182,7 +182,7 @@ on_end : (served result : Result Served ServeFault) (end : Option (Result (Unit 
 on_end served result end X is f =
     let O : Result Served ServeFault → Type 0 = λ r. OnEnded r X in
     subst O (sym is) (ended_first served (worker_fault end) X ⊤ (quiet end X) (any_ended served)
-        (λ none any. f (no_fault end none)))
+    (λ none any. f (no_fault end none)))
 
 ok_first : (served : Result Served ServeFault) (worker : Option ServeFault) (P : Served → Type 0)
     → IfOk served P → IfOk (first_of served worker) P
@@ -258,11 +258,11 @@ worker_stops (Some (Err call.Exhausted)) B F spent = spent refl
 stops_by : (served result : Result Served ServeFault) (end : Option (Result (Unit {0}) CallFault))
     (A B F : Type 0) → result ≡ first_of served (worker_fault end)
     → IfErr served (StopsFor A F) → (A → B) → (end ≡ Some (Err call.Exhausted) → B)
-        → IfErr result (StopsFor B F)
+    → IfErr result (StopsFor B F)
 stops_by served result end A B F is why so spent =
     let O : Result Served ServeFault → Type 0 = λ r. IfErr r (StopsFor B F) in
     subst O (sym is) (stops_first served (worker_fault end) (StopsFor B F)
-        (worker_stops end B F spent) (map_stops served A B F why so))
+    (worker_stops end B F spent) (map_stops served A B F why so))
 
 -- a worker was refused a call, so the port into which its port was joined is spent
 spent_by : {W : Type 0} (hands : W → MeterPort → MeterPort → Type 0) (worker : W)
@@ -271,10 +271,10 @@ spent_by : {W : Type 0} (hands : W → MeterPort → MeterPort → Type 0) (work
     → GoesOn begun before → own.bound ≡ begun.bound → end ≡ Some (Err call.Exhausted) → IsSpent q
 spent_by hands worker own begun before q end back goes bound is =
     let E : Option (Result (Unit {0}) CallFault) → Type 0 =
-        λ e. Ended (Did hands worker) own back.back e in
+    λ e. Ended (Did hands worker) own back.back e in
     let spent : back.back.bound ≤ back.back.known.drawn = (subst E is back.ended).2 in
     let same : q.bound ≡ back.back.bound = back.taken.goes.bound ∙ goes.bound ∙ sym bound
-        ∙ sym back.same.bound in
+    ∙ sym back.same.bound in
     omega (arith, spent, same, back.taken.drawn)
 
 -- a spent port remains spent
@@ -286,7 +286,7 @@ spent_on p q goes spent = omega (arith, goes.bound, goes.drawn, spent)
 module _ {did : MeterPort → MeterPort → Result (Unit {0}) CallFault
     → Type 0} {p own lent mid last : MeterPort} {served result : Result Served ServeFault}
     (off : SplitsOff p own lent) (goes : GoesOn lent mid)
-        (ends : EndsWith did own served result mid last) where
+    (ends : EndsWith did own served result mid last) where
   since : GoesOn lent last
   since = goes_trans lent mid last goes ends.back.taken.goes
 
@@ -297,7 +297,7 @@ module _ {did : MeterPort → MeterPort → Result (Unit {0}) CallFault
   joined_beside joined =
       let J : List ℕ → Type 0 = λ n. IsAmong n last.known.joined in
       joined_more p own lent last off since (joined_on mid last _ ends.back.taken.goes
-          ends.back.taken.splits joined) (subst J ends.back.same.number ends.back.taken.joined)
+      ends.back.taken.splits joined) (subst J ends.back.same.number ends.back.taken.joined)
 
   pub limit_beside : (P : Served → Type 0) → IfOk served P → IfOk result P
   limit_beside P so = if_ok served result ends.end P ends.first so
@@ -314,7 +314,7 @@ module _ {did : MeterPort → MeterPort → Result (Unit {0}) CallFault
       → AreSessions password from mid → AreSessions password before last
   sessions_beside password from before same early joined sessions =
       sessions_on password lent.known.splits from before mid last same early ends.back.taken.goes
-          ends.back.taken.splits joined sessions
+      ends.back.taken.splits joined sessions
 
   -- facts about another worker are preserved
   pub acted_beside : (i j : ℕ) (Whole : List Event → Type 0) → i ≡ j
@@ -323,23 +323,23 @@ module _ {did : MeterPort → MeterPort → Result (Unit {0}) CallFault
   acted_beside i j Whole same so =
       on_ok served result ends.end _ _ ends.first so
       (λ acted. acted_by last _ _ Whole (ap (λ n. child n i) off.goes.number
-          ∙ ap (λ k. child p.known.number k) same)
-          (acted_on mid last _ Whole ends.back.taken.goes acted))
+      ∙ ap (λ k. child p.known.number k) same)
+      (acted_on mid last _ Whole ends.back.taken.goes acted))
 
 module _ {W : Type 0} (hands : W → MeterPort → MeterPort → Type 0)
     (worker : W) {p own lent mid last : MeterPort} {served result : Result Served ServeFault}
     (off : SplitsOff p own lent) (goes : GoesOn lent mid)
-        (ends : EndsWith (Did hands worker) own served result mid last) where
+    (ends : EndsWith (Did hands worker) own served result mid last) where
   -- the work of the worker, for an equal worker
   pub acted_itself : (All : W → List Event → Type 0) (given : W) → worker ≡ given
       → ((begun back : MeterPort) (events : List Event) → events ≡ own_events back
-          → own_events begun ≡ [] → hands worker begun back → All worker events)
+      → own_events begun ≡ [] → hands worker begun back → All worker events)
       → OnEnded result (Acted last (child p.known.number p.known.splits) (All given))
   acted_itself All given same whole =
       let P : W → Type 0 = λ w. Acted last (child p.known.number p.known.splits) (All w) in
       on_end served result ends.end _ ends.first
       (λ is. subst P same (acted_by last _ _ (All worker) off.number
-          (acted_own hands worker own mid last ends.end (All worker) whole ends.back off.fresh is)))
+      (acted_own hands worker own mid last ends.end (All worker) whole ends.back off.fresh is)))
 
   pub stops_beside : (A F : Type 0) → IfErr served (StopsFor A F) → (A → IsSpent mid)
       → IfErr result (StopsFor (IsSpent last) F)
@@ -347,4 +347,4 @@ module _ {W : Type 0} (hands : W → MeterPort → MeterPort → Type 0)
       stops_by served result ends.end A _ F ends.first why
       (λ spent. spent_on mid last ends.back.taken.goes (so spent))
       (λ refused. spent_by hands worker own lent mid last ends.end ends.back goes (off.bound
-          ∙ sym off.goes.bound) refused)
+      ∙ sym off.goes.bound) refused)

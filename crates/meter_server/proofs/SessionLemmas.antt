@@ -35,7 +35,7 @@ entries_events by p (event ∷ events) (reply ∷ replies) q (next, step, rest) 
 
 replied_events : (p : MeterPort) (events : List Event) (replies : List Reply) (q : MeterPort)
     → RepliesTo PortSteps p events replies q → events_by p.known.number q
-        ≡ events_by p.known.number p ++ events
+    ≡ events_by p.known.number p ++ events
 replied_events p events replies q replied =
     let by : List ℕ = p.known.number in
     ap (map event_of) (entered p events replies q replied)
@@ -45,7 +45,7 @@ replied_events p events replies q replied =
 by_replied : (password seen : List ℕ) (p : MeterPort) (events later : List Event)
     (replies : List Reply) (q : MeterPort)
     → Asks password seen ≡ events ++ later → RepliesTo PortSteps p events replies q
-        → AsksThrough password p q
+    → AsksThrough password p q
 by_replied password seen p events later replies q all replied = record {
   asked = events;
   are = record { input = seen; later = later; all = all };
@@ -55,14 +55,14 @@ by_replied password seen p events later replies q all replied = record {
 by_refused : (password seen : List ℕ) (p : MeterPort) (events later : List Event)
     (replies : List Reply) (refusal : CallFault) (q : MeterPort)
     → Asks password seen ≡ events ++ later → RefusesLast PortSteps p events replies refusal q
-        → AsksThrough password p q
+    → AsksThrough password p q
 by_refused password seen p events later replies refusal q all r =
     let same = replied_on PortSteps IsSame is_same same_on step_same p r.taken replies r.before
-        r.replied in
+    r.replied in
     let N : List ℕ → Type 0 = λ n. events_by n q ≡ events_by n r.before in
     let still : events_by p.known.number q ≡ events_by p.known.number r.before =
     subst N same.number (ap (map event_of) (r.refused.calls.0.sees.own_calls r.before.known.number
-        (inl refl))) in record {
+    (inl refl))) in record {
       asked = r.taken;
       are = record {
         input = seen;
@@ -76,31 +76,31 @@ by_refused password seen p events later replies refusal q all r =
 effect_asks : (password seen : List ℕ) (before : Sides MeterPort)
     (result : Result SessionEnd ServeFault) (after : Sides MeterPort)
     → HasEffect PortSteps (plan_of password) seen before result after
-        → AsksThrough password before.outlets.meter after.outlets.meter
+    → AsksThrough password before.outlets.meter after.outlets.meter
 effect_asks password seen before (Ok end) after effect =
     by_replied password seen before.outlets.meter _ [] effect.0.replies after.outlets.meter
-        (sym (append-nil (Asks password seen))) effect.0.replied
+    (sym (append-nil (Asks password seen))) effect.0.replied
 effect_asks password seen before (Err fault.Read) after effect =
     by_replied password seen before.outlets.meter _ [] effect.0.replies after.outlets.meter
-        (sym (append-nil (Asks password seen))) effect.0.replied
+    (sym (append-nil (Asks password seen))) effect.0.replied
 effect_asks password seen before (Err fault.Write) after effect =
     by_replied password seen before.outlets.meter effect.asked effect.later effect.replies
-        after.outlets.meter effect.all_asked effect.replied
+    after.outlets.meter effect.all_asked effect.replied
 effect_asks password seen before (Err fault.Memory) after effect =
     ⊎_elim (by_replied password seen before.outlets.meter effect.asked effect.later effect.replies
-        after.outlets.meter effect.all_asked)
+    after.outlets.meter effect.all_asked)
     (by_refused password seen before.outlets.meter effect.asked effect.later effect.replies _
-        after.outlets.meter effect.all_asked) effect.replied
+    after.outlets.meter effect.all_asked) effect.replied
 effect_asks password seen before (Err fault.Exhausted) after effect =
     by_refused password seen before.outlets.meter effect.asked effect.later effect.replies _
-        after.outlets.meter effect.all_asked effect.refused
+    after.outlets.meter effect.all_asked effect.refused
 effect_asks password seen before (Err fault.Listen) after effect = absurd effect
 
 -- a port that served a session made the calls of the session
 pub served_asks : (password : List ℕ) (before : Sides MeterPort)
     (result : Result SessionEnd ServeFault) (after : Sides MeterPort)
     → ServesSession PortSteps password before result after
-        → AsksThrough password before.outlets.meter after.outlets.meter
+    → AsksThrough password before.outlets.meter after.outlets.meter
 served_asks password before result after served =
     effect_asks password served.seen before result after served.effect
 
@@ -116,15 +116,15 @@ calls_asked password number calls c =
     elim c.returned [
       | inl unused ↦
           let empty : map event_of calls ≡ [] = ap (map event_of) c.calls_are
-              ∙ ap (λ (x : MeterPort). events_by number x) unused ∙ none in
+          ∙ ap (λ (x : MeterPort). events_by number x) unused ∙ none in
           subst A (sym empty) record { input = []; later = Asks password []; all = refl }
       | inr session ↦
           let N : List ℕ → Type 0 = λ n. events_by n c.back ≡ events_by n c.lent
-              ++ session.1.asked in
+          ++ session.1.asked in
           let mine : events_by number c.back ≡ events_by number c.lent ++ session.1.asked =
-              subst N c.named session.1.entered in
+          subst N c.named session.1.entered in
           let those : map event_of calls ≡ session.1.asked = ap (map event_of) c.calls_are ∙ mine
-              ∙ ap (λ (es : List Event). es ++ session.1.asked) none in
+          ∙ ap (λ (es : List Event). es ++ session.1.asked) none in
           subst A (sym those) session.1.are
     ]
 
@@ -149,5 +149,5 @@ sessions_on password first from before p q same early goes splits joined session
     let A : List Event → Type 0 = λ es. AreAsked password es in
     let N : List ℕ → Type 0 = λ n. AreAsked password (events_by (child n i) q) in
     let kept : events_by number q ≡ events_by number p =
-        ap (map event_of) (goes.own number (inr (joined i (omega (arith, early, late)) within))) in
+    ap (map event_of) (goes.own number (inr (joined i (omega (arith, early, late)) within))) in
     subst N (sym goes.number) (subst A (sym kept) (sessions i late within))

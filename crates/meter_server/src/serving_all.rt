@@ -229,7 +229,15 @@ fn serve_with_sampler<
     let Some(running) = start_worker(rt, alloc, Sampler { source: blocks }, port) else {
         return Err(ServeFault::Memory);
     };
-    let served = serve_with_clock(rt, alloc, listener, (moments, buttons), port, password, limit);
+    let served = serve_with_clock(
+        rt,
+        alloc,
+        listener,
+        (moments, buttons),
+        port,
+        password,
+        limit,
+    );
     join_both(rt, running, port, served)
 }
 
@@ -287,7 +295,7 @@ pub fn serve_all<
     ensures served { IfOk result (λ r. IsServed (port.known.splits + 3) r.0.known.splits r.1) }
     ensures blocks { IfOk result
         (λ r. Acted r.0 (child port.known.number port.known.splits)
-            (AllBlocks (B.forecast blocks))) }
+        (AllBlocks (B.forecast blocks))) }
     ensures moments { IfOk result
         (λ r. Acted r.0 (child port.known.number (port.known.splits + 1))
         (AllMoments (M.forecast moments))) }

@@ -28,7 +28,7 @@ replies_alike (event ∷ events) v w range agree =
     let b = at_event event w in
     ap (λ (reply : Reply). reply ∷ replies_from a.world events) go.reply
     ∙ ap (λ (replies : List Reply). b.reply ∷ replies)
-        (replies_alike events a.world b.world go.range go.world)
+    (replies_alike events a.world b.world go.range go.world)
 
 -- worlds that agree, the first of them in range
 record AgreeInRange (v w : World) : Type 0 where
@@ -42,7 +42,7 @@ worlds_after [] v w alike = alike
 worlds_after (event ∷ events) v w alike =
     let go = event_alike event v w alike.range alike.agree in
     worlds_after events (at_event event v).world (at_event event w).world
-        (record { range = go.range; agree = go.world })
+    (record { range = go.range; agree = go.world })
 
 -- the events before the last n, followed by these, are all events
 split_world : (n : ℕ) (events : List Event) (w : World)
@@ -63,14 +63,17 @@ trace_agrees r trace history origin fit range traced stands =
     let before = world_after (all_but_last n (events_of history)) origin in
     let fit_here : IsFitOpening (opening_of r.opening) = subst IsFitOpening traced.opening fit in
     let agree = opening_agrees r.opening before fit_here.import.runs fit_here.export.runs
-        stands.opening in
+    stands.opening in
     let first : AgreeInRange (world_of_opening trace.opening) before =
-    record { range = range; agree = subst (λ (o : Opening). Agree (world_of_opening o) before)
-        (sym traced.opening) agree } in
+    record {
+      range = range;
+      agree = subst (λ (o : Opening). Agree (world_of_opening o) before)
+          (sym traced.opening) agree;
+    } in
     let after = worlds_after trace.events (world_of_opening trace.opening) before first in
     let same : world_after trace.events before ≡ world_after (events_of history) origin =
     ap (λ (es : List Event). world_after es before) (traced.events ∙ stands.kept)
-        ∙ split_world n (events_of history) origin in
+    ∙ split_world n (events_of history) origin in
     subst (λ (w : World). AgreeInRange (world_of trace) w) same after
 
 pub goes_on : (trace : Trace) → IsFitOpening trace.opening
@@ -78,4 +81,4 @@ pub goes_on : (trace : Trace) → IsFitOpening trace.opening
 goes_on trace fit range = λ r traced history origin stands further.
     let alike = trace_agrees r trace history origin fit range traced stands in
     replies_alike further (world_of trace) (world_after (events_of history) origin)
-        alike.range alike.agree
+    alike.range alike.agree

@@ -67,7 +67,7 @@ cut_by : (x : ℕ) (xs : List ℕ) (b : Bool) (part next : List ℕ) (parts : Li
     ≡ b
     → cond b ([] ∷ parts_at 10 xs) (onto_first x (parts_at 10 xs)) ≡ part ∷ next ∷ parts
     → ((short : List ℕ) → parts_at 10 xs ≡ short ∷ next ∷ parts → Cut xs short (next ∷ parts))
-        → CutBy x xs b part (next ∷ parts)
+    → CutBy x xs b part (next ∷ parts)
 cut_by x xs true part next parts is e before =
     let empty : [] ≡ part = heads [] part (parts_at 10 xs) (next ∷ parts) e in record {
       front = ap (λ (n : ℕ). n ∷ []) (eqb-true x 10 is) ∙ ap (λ (p : List ℕ). p ++ 10 ∷ []) empty;
@@ -95,9 +95,15 @@ cut : (text part next : List ℕ) (parts : List (List ℕ)) → parts_at 10 text
 cut [] part next parts e = absurd cc
 cut (x ∷ xs) part next parts e =
     let by = cut_by x xs (x == 10) part next parts refl e (λ short is. cut xs short next parts is)
-        in
-    record { front = by.front; others_are = by.others_are; alone = by.alone; whole = by.whole;
-        taken = by.taken; dropped = by.dropped }
+    in
+    record {
+      front = by.front;
+      others_are = by.others_are;
+      alone = by.alone;
+      whole = by.whole;
+      taken = by.taken;
+      dropped = by.dropped;
+    }
 
 -- the first line is the first part
 record TwoParts (all : List (List ℕ)) (row : Row) (rows : List Row) : Type 0 where
@@ -136,9 +142,13 @@ unfolding rows_of lines_of unended_of
 first_line text row rows e =
     let two = two_parts (parts_at 10 text) row rows e in
     let at = cut text two.part two.next two.parts two.all_is in record {
-      own = record { line = two.part; ended = at.front; words = two.words;
-          alone = ap (λ (ps : List (List ℕ)). map words_of (all_but_last ps)) at.alone
-          ∙ ap (λ (r : Row). r ∷ []) two.words };
+      own = record {
+        line = two.part;
+        ended = at.front;
+        words = two.words;
+        alone = ap (λ (ps : List (List ℕ)). map words_of (all_but_last ps)) at.alone
+            ∙ ap (λ (r : Row). r ∷ []) two.words;
+      };
       rows_are = ap (λ (ps : List (List ℕ)). map words_of (all_but_last ps)) at.others_are
           ∙ two.rows_are;
       ended = ap last_of at.others_are ∙ sym (ap last_of two.all_is);
@@ -162,13 +172,12 @@ line_read text rest row rows old new left left' ahead took dropped =
     let front = take_through 10 ahead.still in
     let behind = drop_through 10 ahead.still in
     let grown : new ≡ old ++ take_through 10 (ahead.still ++ rest) = subst
-        (λ (l : Option (List ℕ)). IfSome l (λ bytes. new ≡ old ++ take_through 10 bytes))
-        ahead.left_is took in
+    (λ (l : Option (List ℕ)). IfSome l (λ bytes. new ≡ old ++ take_through 10 bytes))
+    ahead.left_is took in
     let new_is : new ≡ old ++ front = grown ∙ ap (λ (bytes : List ℕ). old ++ bytes)
-        (first.taken rest) in
+    (first.taken rest) in
     let past : left' ≡ Some (drop_through 10 (ahead.still ++ rest)) =
-        subst (λ (l : Option (List ℕ)). DropsThrough l left' 10) ahead.left_is dropped in
-    (
+    subst (λ (l : Option (List ℕ)). DropsThrough l left' 10) ahead.left_is dropped in (
       record {
         still = behind;
         whole = ahead.whole ∙ ap (λ (bytes : List ℕ). old ++ bytes) first.whole
@@ -192,10 +201,10 @@ took old new bytes (Some all) added through = added ∙ ap (λ (more : List ℕ)
 pub line_on : (text rest : List ℕ) (row : Row) (rows : List Row) (old new : List ℕ) (count : ℕ)
     (left left' : Option (List ℕ)) → Ahead text rest (row ∷ rows) old left
     → ReadsLine left old count left' new → Ahead text rest rows new left'
-        × IsLine (drop (length old) new) row
+    × IsLine (drop (length old) new) row
 line_on text rest row rows old new count left left' ahead line =
     line_read text rest row rows old new left left' ahead
-        (took old new line.bytes left line.added line.through) line.rest
+    (took old new line.bytes left line.added line.through) line.rest
 
 -- if a line is still to be read, one of no bytes is not the next
 pub line_left : (text rest : List ℕ) (row : Row) (rows : List Row) (old new : List ℕ) (count : ℕ)
@@ -204,32 +213,40 @@ pub line_left : (text rest : List ℕ) (row : Row) (rows : List Row) (old new : 
 line_left text rest row rows old new count left left' ahead line none =
     let first = first_line ahead.still row rows ahead.rows_are in
     let through : line.bytes ≡ take_through 10 (ahead.still ++ rest) = subst
-        (λ (l : Option (List ℕ)). IfSome l (λ all. line.bytes ≡ take_through 10 all)) ahead.left_is
-        line.through in
+    (λ (l : Option (List ℕ)). IfSome l (λ all. line.bytes ≡ take_through 10 all)) ahead.left_is
+    line.through in
     let long : length line.bytes ≡ length (first.own.line ++ 10 ∷ []) =
-        ap (λ (bytes : List ℕ). length bytes) (through ∙ first.taken rest ∙ first.own.ended) in
+    ap (λ (bytes : List ℕ). length bytes) (through ∙ first.taken rest ∙ first.own.ended) in
     absurd (omega (arith, long, line.counted, none, length-append first.own.line (10 ∷ [])))
 
 -- a line of a text within a limit is not past it
 pub line_fits : (text rest : List ℕ) (row : Row) (rows : List Row) (old : List ℕ)
     (left : Option (List ℕ)) (limit : ℕ) → Ahead text rest (row ∷ rows) old left
     → IfSome left (λ all. limit < length old + length (take_through 10 all)) → length text ≤ limit
-        → ⊥
+    → ⊥
 line_fits text rest row rows old left limit ahead over within =
     let first = first_line ahead.still row rows ahead.rows_are in
     let front = take_through 10 ahead.still in
     let behind = drop_through 10 ahead.still in
     let past : limit < length old + length (take_through 10 (ahead.still ++ rest)) = subst
-        (λ (l : Option (List ℕ)). IfSome l (λ all. limit < length old
-        + length (take_through 10 all))) ahead.left_is over in
+    (λ (l : Option (List ℕ)). IfSome l (λ all. limit < length old
+    + length (take_through 10 all))) ahead.left_is over in
     let taken : length (take_through 10 (ahead.still ++ rest)) ≡ length front =
-        ap (λ (bytes : List ℕ). length bytes) (first.taken rest) in
+    ap (λ (bytes : List ℕ). length bytes) (first.taken rest) in
     let whole : length text ≡ length (old ++ ahead.still) =
-        ap (λ (bytes : List ℕ). length bytes) ahead.whole in
+    ap (λ (bytes : List ℕ). length bytes) ahead.whole in
     let cut : length ahead.still ≡ length (front ++ behind) =
-        ap (λ (bytes : List ℕ). length bytes) first.whole in
-    omega (arith, past, taken, whole, cut, within, length-append old ahead.still,
-        length-append front behind)
+    ap (λ (bytes : List ℕ). length bytes) first.whole in
+    omega (
+      arith,
+      past,
+      taken,
+      whole,
+      cut,
+      within,
+      length-append old ahead.still,
+      length-append front behind,
+    )
 
 -- ---- several lines
 
@@ -237,30 +254,32 @@ line_fits text rest row rows old left limit ahead over within =
 next_row : (i : ℕ) (front rows : List Row) → i < length front → (row : Row)
     × (drop i front ++ rows ≡ row ∷ (drop (i + 1) front ++ rows))
 next_row i [] rows lt = absurd (omega arith)
-next_row i (row ∷ front) rows lt = (get_or (row ∷ front) i row,
-    ap (λ (all : List Row). all ++ rows) (drop_more (row ∷ front) i row lt))
+next_row i (row ∷ front) rows lt = (
+  get_or (row ∷ front) i row,
+  ap (λ (all : List Row). all ++ rows) (drop_more (row ∷ front) i row lt),
+)
 
 -- one more of several lines
 pub lines_on : (text rest : List ℕ) (front rows : List Row) (i : ℕ) (old new : List ℕ)
     (left left' : Option (List ℕ)) → i < length front
     → Ahead text rest (drop i front ++ rows) old left
     → ((row : Row) (others : List Row) → Ahead text rest (row ∷ others) old left
-        → Ahead text rest others new left' × IsLine (drop (length old) new) row)
+    → Ahead text rest others new left' × IsLine (drop (length old) new) row)
     → Ahead text rest (drop (i + 1) front ++ rows) new left'
 lines_on text rest front rows i old new left left' lt ahead on =
     let next = next_row i front rows lt in
     (on next.0 (drop (i + 1) front ++ rows) (subst
-        (λ (all : List Row). Ahead text rest all old left) next.1 ahead)).0
+    (λ (all : List Row). Ahead text rest all old left) next.1 ahead)).0
 
 -- if one of several lines is still to be read, and no next line can be, nothing is
 pub lines_left : (text rest : List ℕ) (front rows : List Row) (i : ℕ) (old : List ℕ)
     (left : Option (List ℕ)) → i < length front
     → Ahead text rest (drop i front ++ rows) old left
-        → ((row : Row) (others : List Row) → Ahead text rest (row ∷ others) old left → ⊥) → ⊥
+    → ((row : Row) (others : List Row) → Ahead text rest (row ∷ others) old left → ⊥) → ⊥
 lines_left text rest front rows i old left lt ahead never =
     let next = next_row i front rows lt in
     never next.0 (drop (i + 1) front ++ rows)
-        (subst (λ (all : List Row). Ahead text rest all old left) next.1 ahead)
+    (subst (λ (all : List Row). Ahead text rest all old left) next.1 ahead)
 
 -- after all of the lines
 pub lines_over : (text rest : List ℕ) (front rows : List Row) (i : ℕ) (now : List ℕ)

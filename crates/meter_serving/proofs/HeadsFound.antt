@@ -45,7 +45,7 @@ same_word (x ∷ xs) [] e = absurd cc
 same_word (x ∷ xs) (y ∷ ys) e =
     let both = and_parts (nat_eq x y) (pointwise nat_eq xs ys) e in
     ap (λ (n : ℕ). n ∷ xs) (eqb-true x y both.0)
-        ∙ ap (λ (zs : List ℕ). y ∷ zs) (same_word xs ys both.1)
+    ∙ ap (λ (zs : List ℕ). y ∷ zs) (same_word xs ys both.1)
 
 -- ---- what the line of the version determines
 
@@ -56,7 +56,7 @@ behind_found label [] x e = absurd cc
 behind_found label (word ∷ words) x e =
     let both = guard_ok (pointwise nat_eq word label) _ _ x e in
     ap (λ (w : Word). w ∷ words) (same_word word label both.0)
-        ∙ ap (λ (pair : Unit {0} × Row). label ∷ pair.1) (ok_is (tt, words) x both.1)
+    ∙ ap (λ (pair : Unit {0} × Row). label ∷ pair.1) (ok_is (tt, words) x both.1)
 
 -- the last word
 last_found : (words : Row) (version : Version) → last_as version_in words ≡ Ok version
@@ -70,9 +70,12 @@ two_words : (label : Word) (row : Row) (version : Version) → labelled_value la
     ≡ Ok version → (word : Word) × (row ≡ label ∷ word ∷ []) × (version_in word ≡ Ok version)
 two_words label row version e =
     let first = bind_ok (behind label row) _ version e in
-    let last = last_found first.0.1 version first.2 in
-    (last.0, behind_found label row first.0 first.1
-        ∙ ap (λ (words : Row). label ∷ words) last.1, last.2)
+    let last = last_found first.0.1 version first.2 in (
+      last.0,
+      behind_found label row first.0 first.1
+          ∙ ap (λ (words : Row). label ∷ words) last.1,
+      last.2,
+    )
 
 -- the test of a word's digits is that of std, and so is their value
 digits_model : IsNumeralModel (λ word. list_all is_ascii_digit word ≡ true) (digits_value 10)
@@ -87,10 +90,13 @@ record IsDecimal (word : List ℕ) : Type 0 where
 decimal_parts : (word : List ℕ) → is_decimal word ≡ true → IsDecimal word
 decimal_parts word e =
     let front = and_parts (nat_lt 0 (length word) && list_all is_ascii_digit word) (length word == 1
-        || not (slice_index word 0 == 48)) e in
+    || not (slice_index word 0 == 48)) e in
     let both = and_parts (nat_lt 0 (length word)) (list_all is_ascii_digit word) front.0 in
-    record { some = grind (arith, nat_tests); digits = both.1;
-        lead = λ zero. grind (arith, nat_tests) }
+    record {
+      some = grind (arith, nat_tests);
+      digits = both.1;
+      lead = λ zero. grind (arith, nat_tests);
+    }
 
 below : (m limit : ℕ) → nat_le m limit ≡ true → limit < 2 ^ 64 → m < 2 ^ 64
 below m limit le small = grind (arith, nat_tests)
@@ -101,11 +107,11 @@ number_word : (limit n : ℕ) (word : Word) → limit < 2 ^ 64 → number_of lim
 unfolding number_of
 number_word limit n word small e =
     let found = chosen_some (is_decimal word && nat_le (digits_value 10 word) limit)
-        (digits_value 10 word) n e in
+    (digits_value 10 word) n e in
     let both = and_parts (is_decimal word) (nat_le (digits_value 10 word) limit) found.0 in
     let parts = decimal_parts word both.0 in
     sym (decimal-digits_value digits_model word parts.digits parts.some parts.lead
-        (below (digits_value 10 word) limit both.1 small)) ∙ ap decimal found.1
+    (below (digits_value 10 word) limit both.1 small)) ∙ ap decimal found.1
 
 wanted_found : (o : Option ℕ) (n : ℕ) → or_wrong o ≡ Ok n → o ≡ Some n
 wanted_found (Some m) n e = ap (λ (k : ℕ). Some k) (ok_is m n e)
@@ -119,12 +125,12 @@ version_by n version e = ⊎_elim
     (λ (one : ((n == 1) ≡ true) × (Ok One ≡ Ok version)).
     ap (λ (k : ℕ). line_of (codes "RELAYTRACE" ∷ decimal k ∷ []) ++ 10 ∷ []) (eqb-true n 1 one.0)
     ∙ ap (λ (word : Word). line_of (codes "RELAYTRACE" ∷ word ∷ []) ++ 10
-        ∷ []) (decimal_digit 1 (omega arith)) ∙ ap first_line (ok_is One version one.1))
+    ∷ []) (decimal_digit 1 (omega arith)) ∙ ap first_line (ok_is One version one.1))
     (λ (other : ((n == 1) ≡ false) × ((if n == 2 then Ok Two else Err Wrong) ≡ Ok version)). ⊎_elim
     (λ (two : ((n == 2) ≡ true) × (Ok Two ≡ Ok version)).
     ap (λ (k : ℕ). line_of (codes "RELAYTRACE" ∷ decimal k ∷ []) ++ 10 ∷ []) (eqb-true n 2 two.0)
     ∙ ap (λ (word : Word). line_of (codes "RELAYTRACE" ∷ word ∷ []) ++ 10
-        ∷ []) (decimal_digit 2 (omega arith)) ∙ ap first_line (ok_is Two version two.1))
+    ∷ []) (decimal_digit 2 (omega arith)) ∙ ap first_line (ok_is Two version two.1))
     (λ (none : ((n == 2) ≡ false) × (Err Wrong ≡ Ok version)). let never = none.1 in absurd cc)
     (chosen (n == 2) (Ok Two) (Err Wrong) (Ok version) other.1))
     (chosen (n == 1) (Ok One) (if n == 2 then Ok Two else Err Wrong) (Ok version) e)
@@ -136,11 +142,11 @@ version_line bytes row version line told =
     let two = two_words (codes "RELAYTRACE") row version told in
     let number = bind_ok (number_in 2 two.0) _ version two.2 in
     let word : two.0 ≡ decimal number.0 = number_word 2 number.0 two.0 (omega arith)
-        (wanted_found (number_of 2 two.0) number.0 number.1) in
+    (wanted_found (number_of 2 two.0) number.0 number.1) in
     line.ended
     ∙ ap (λ (l : List ℕ). l ++ 10 ∷ []) (sym (line_of-words_of line.line)
-        ∙ ap line_of (line.words ∙ two.1) ∙ ap (λ (w : Word). line_of (codes "RELAYTRACE" ∷ w ∷ []))
-        word)
+    ∙ ap line_of (line.words ∙ two.1) ∙ ap (λ (w : Word). line_of (codes "RELAYTRACE" ∷ w ∷ []))
+    word)
     ∙ version_by number.0 version number.2
 
 -- ---- from the first line to the last
@@ -157,8 +163,13 @@ pub ahead_new : (text rest now : List ℕ) (left : Option (List ℕ)) (laid : Is
     → left ≡ Some (text ++ rest)
     → Ahead text rest (laid.first ∷ behind_first laid) now left
 ahead_new text rest now left laid none is =
-    record { still = text; whole = ap (λ (bytes : List ℕ). bytes ++ text) (sym none); left_is = is;
-        rows_are = laid.rows; ended = laid.ended }
+    record {
+      still = text;
+      whole = ap (λ (bytes : List ℕ). bytes ++ text) (sym none);
+      left_is = is;
+      rows_are = laid.rows;
+      ended = laid.ended;
+    }
 
 -- the first line read is the whole text so far
 pub whole_line : (old new : List ℕ) (row : Row) → old ≡ [] → IsLine (drop (length old) new) row
@@ -172,10 +183,10 @@ pub line_cut : (bytes old new : List ℕ) (start : ℕ) (row : Row) → bytes �
     → IsLine (take (length bytes - start) (drop start bytes)) row
 line_cut bytes old new start row same long line =
     let whole : take (length bytes - start) (drop start bytes)
-        ≡ drop start bytes = take_all (length bytes - start) (drop start bytes)
-        (omega (arith, length-drop start bytes)) in
+    ≡ drop start bytes = take_all (length bytes - start) (drop start bytes)
+    (omega (arith, length-drop start bytes)) in
     let cut : drop start bytes ≡ drop (length old) new = ap (λ (bs : List ℕ). drop start bs) same
-        ∙ ap (λ (n : ℕ). drop n new) long in
+    ∙ ap (λ (n : ℕ). drop n new) long in
     subst (λ (bs : List ℕ). IsLine bs row) (sym (whole ∙ cut)) line
 
 -- the fault of a call that is returned
@@ -197,9 +208,9 @@ pub ahead_end : (text rest so_far : List ℕ) (left : Option (List ℕ))
 ahead_end text rest so_far left ahead =
     let none : [] ++ [] ≡ ahead.still =
     ap (λ (bytes : List ℕ). bytes ++ []) (sym rows_text-nil)
-        ∙ ap (λ (rows : List Row). rows_text rows ++ []) (sym ahead.rows_are)
+    ∙ ap (λ (rows : List Row). rows_text rows ++ []) (sym ahead.rows_are)
     ∙ ap (λ (bytes : List ℕ). rows_text (rows_of ahead.still) ++ bytes) (sym ahead.ended)
-        ∙ rows_text-rows_of ahead.still in
+    ∙ rows_text-rows_of ahead.still in
     sym (ahead.whole ∙ ap (λ (bytes : List ℕ). so_far ++ bytes) (sym none) ∙ append-nil so_far)
 
 -- a text that is read as a trace is not too long
@@ -207,11 +218,11 @@ small_text : (text : List ℕ) (trace : Trace) → trace_of text ≡ Ok trace �
 unfolding trace_of
 small_text text trace e = ⊎_elim
     (λ (long : (nat_lt most_bytes (length text) ≡ true) × (Err TooLong ≡ Ok trace)). let never =
-        long.1 in absurd cc)
+    long.1 in absurd cc)
     (λ (short : (nat_lt most_bytes (length text) ≡ false)
-        × (trace_from (place_of text) ≡ Ok trace)). let fits = short.0 in grind (arith, nat_tests))
+    × (trace_from (place_of text) ≡ Ok trace)). let fits = short.0 in grind (arith, nat_tests))
     (chosen (nat_lt most_bytes (length text)) (Err TooLong) (trace_from (place_of text))
-        (Ok trace) e)
+    (Ok trace) e)
 
 -- an input that does not begin with the lines of a trace has no trace at its head
 pub no_head : (left : Option (List ℕ)) → ((text rest : List ℕ) → left ≡ Some (text ++ rest)
@@ -219,18 +230,18 @@ pub no_head : (left : Option (List ℕ)) → ((text rest : List ℕ) → left �
 no_head None never = tt
 no_head (Some bytes) never = λ head.
     never head.text head.rest (ap (λ (b : List ℕ). Some b) head.cut)
-        (small_text head.text head.trace head.told) (laid_out head.text head.trace head.told)
+    (small_text head.text head.trace head.told) (laid_out head.text head.trace head.told)
 
 -- nor has an input whose first lines are not a trace
 pub wrong_head : (left : Option (List ℕ)) (read : List ℕ) (fault : TraceFault)
     → ((text rest : List ℕ) → left ≡ Some (text ++ rest) → IsLaidOut text → read ≡ text)
     → Fails Memory fault (trace_of read) → (fault ≡ Memory → ⊥)
-        → IfSome left (λ bytes. ¬ (HasHead bytes))
+    → IfSome left (λ bytes. ¬ (HasHead bytes))
 wrong_head None read fault is fails other = tt
 wrong_head (Some bytes) read fault is (inl memory) other = absurd (other memory)
 wrong_head (Some bytes) read fault is (inr e) other = λ head.
     let same : read ≡ head.text = is head.text head.rest (ap (λ (b : List ℕ). Some b) head.cut)
-        (laid_out head.text head.trace head.told) in
+    (laid_out head.text head.trace head.told) in
     let told : trace_of read ≡ Ok head.trace = ap trace_of same ∙ head.told in
     absurd cc
 

@@ -59,7 +59,7 @@ events_takes version zero place = takes_none _ _
 events_takes version (suc count) place = counted
     (takes_then 1 count _ _ _ (takes_line _ place) (λ event.
     counted_none (takes_then count 0 _ _ _ (events_takes version count event.1)
-        (λ others. takes_none _ _))))
+    (λ others. takes_none _ _))))
   where
     counted : {X : Type 0} {r : ReadLines X} → Takes (1 + count) place r → Takes (suc count) place r
     counted takes x q e =
@@ -103,7 +103,7 @@ trace_laid text trace e =
       events = events.rows;
       rows = opened.rows ∙ ap (λ (rows : List Row). opened.first ∷ (opened.opening ++ rows))
           (line.took.lines ∙ ap (λ (rows : List Row). line.row ∷ rows) (events.took.lines
-              ∙ ap (λ (rows : List Row). events.rows ++ rows) end.0));
+          ∙ ap (λ (rows : List Row). events.rows ++ rows) end.0));
       ended = sym opened.unended ∙ sym line.took.unended ∙ sym events.took.unended ∙ end.1;
       told = opened.told;
       before = opened.before;

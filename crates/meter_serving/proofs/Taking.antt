@@ -17,10 +17,10 @@ Took old new events = (w : World) → StandsFor old w → StandsFor new (world_a
 pub took_more : (old now next : RelayCore) (events : List Event) (i : ℕ) (event : Event)
     → i < length events → event ≡ get_or events i event
     → Took old now (take i events) → ((w : World) → StandsFor now w
-        → StandsFor next (at_event event w).world) → Took old next (take (i + 1) events)
+    → StandsFor next (at_event event w).world) → Took old next (take (i + 1) events)
 took_more old now next events i event below is took goes = λ w stands.
     let all : take (i + 1) events ≡ take i events ++ event ∷ [] =
-        take_more events i event below ∙ ap (λ e. take i events ++ e ∷ []) (sym is) in
+    take_more events i event below ∙ ap (λ e. take i events ++ e ∷ []) (sym is) in
     subst (λ (es : List Event). StandsFor next (world_after es w)) (sym all)
     (subst (λ (v : World). StandsFor next v) (sym (world_after-append (take i events) (event
-        ∷ []) w)) (goes (world_after (take i events) w) (took w stands)))
+    ∷ []) w)) (goes (world_after (take i events) w) (took w stands)))

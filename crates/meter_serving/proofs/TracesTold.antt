@@ -30,7 +30,7 @@ fits_text r trace is fit = record {
 tells : (r : Recording) (trace : Trace) (text : List ℕ) → IsExport r trace → PrintsTheEnd r trace
     → text ≡ trace_text trace
     → (FitsText trace → length text ≤ most_bytes → trace_of text ≡ Ok trace)
-        → (FitsText trace → length trace.events ≤ 1024 → length text ≤ most_bytes) → TellsRun r text
+    → (FitsText trace → length trace.events ≤ 1024 → length text ≤ most_bytes) → TellsRun r text
 tells r trace text is prints written again short = record {
   trace = trace;
   written = written;
@@ -43,13 +43,13 @@ tells r trace text is prints written again short = record {
 pub tells_run : {E : Type 0} (r exported : Recording) (trace : Trace) (result : Result (List ℕ) E)
     → exported ≡ r → IsExport exported trace
     → ((s : Recording) (t : Trace) → t.events ≡ s.events → Replays s (world_of_opening t.opening)
-        → PrintsTheEnd s t)
+    → PrintsTheEnd s t)
     → IfOk result (λ text. text ≡ trace_text trace)
-        → IfOk result (λ text. FitsText trace → length text ≤ most_bytes → trace_of text ≡ Ok trace)
+    → IfOk result (λ text. FitsText trace → length text ≤ most_bytes → trace_of text ≡ Ok trace)
     → IfOk result (λ text. FitsText trace → length trace.events ≤ 1024 → length text ≤ most_bytes)
-        → IfOk result (TellsRun r)
+    → IfOk result (TellsRun r)
 tells_run r exported trace (Ok text) same is prints written again short =
     subst (λ (s : Recording). TellsRun s text) same
-        (tells exported trace text is (prints exported trace is.events is.replays) written
-        again short)
+    (tells exported trace text is (prints exported trace is.events is.replays) written
+    again short)
 tells_run r exported trace (Err error) same is prints written again short = tt

@@ -11,13 +11,20 @@ use Rattle.meter_workers.specs.Thresholds.{threshold_read}
 
 pub none_ahead : (place : ℕ) (before after : List Event) → after ≡ before
     → GoesAhead place before after
-none_ahead place before after same = record { ahead = []; is = inl refl; handed = same
-    ∙ sym (append-nil before) }
+none_ahead place before after same = record {
+  ahead = [];
+  is = inl refl;
+  handed = same
+      ∙ sym (append-nil before);
+}
 
 pub read_ahead : (before after : List Event) → after ≡ before ++ threshold_read ∷ []
     → GoesAhead 0 before after
-read_ahead before after more = record { ahead = threshold_read ∷ []; is = inr (refl, refl);
-    handed = more }
+read_ahead before after more = record {
+  ahead = threshold_read ∷ [];
+  is = inr (refl, refl);
+  handed = more;
+}
 
 pub brings : (place : ℕ) (block : Samples) (before between after : List Event)
     → GoesAhead place before between
@@ -73,7 +80,7 @@ next_place place since since' is next = omega (arith, is, next)
 left_on : (blocks : List Samples) (before : List Event) (left next : Option (List Samples))
     (block : Samples) (after after' : List Event) (since since' : ℕ)
     → Left blocks before left after since → Gives left (Some block) next
-        → BringsBlock since block after after' → since' ≡ (since + 1) % 64
+    → BringsBlock since block after after' → since' ≡ (since + 1) % 64
     → Left blocks before next after' since'
 left_on blocks before None next block after after' since since' had gives brought count =
     let is = had.left_is in
@@ -97,17 +104,21 @@ left_on blocks before (Some (y ∷ ys)) next block after after' since since' had
           ∙ append_assoc before had.so_far brought_here;
       go_on = λ events are.
           let whole : AreOfBlocks had.place (block ∷ ys) (brought.ahead
-              ++ event.Samples block ∷ events) =
-          (brought.ahead, events, ahead_again had.place since brought.ahead had.since_is brought.is,
-              refl, are) in
+          ++ event.Samples block ∷ events) = (
+            brought.ahead,
+            events,
+            ahead_again had.place since brought.ahead had.since_is brought.is,
+            refl,
+            are,
+          ) in
           let those : AreOfBlocks had.place had.rest (brought.ahead ++ event.Samples block ∷ events)
-              =
+          =
           subst (λ (xs : List Samples). AreOfBlocks had.place xs (brought.ahead
-              ++ event.Samples block ∷ events))
+          ++ event.Samples block ∷ events))
           (ap (λ (b : Samples). b ∷ ys) (sym same) ∙ sym parts) whole in
           subst (AreOfBlocks 0 blocks)
           (ap (λ (xs : List Event). had.so_far
-              ++ xs) (sym (append_assoc brought.ahead (event.Samples block ∷ []) events))
+          ++ xs) (sym (append_assoc brought.ahead (event.Samples block ∷ []) events))
           ∙ sym (append_assoc had.so_far brought_here events))
           (had.go_on (brought.ahead ++ event.Samples block ∷ events) those);
     }
@@ -116,12 +127,12 @@ left_on blocks before (Some (y ∷ ys)) next block after after' since since' had
 pub blocks_on : (told left next : Option (List Samples)) (block : Samples)
     (before after after' : List Event) (since since' : ℕ)
     → LeavesBlocks told before left after since → Gives left (Some block) next
-        → BringsBlock since block after after' → since' ≡ (since + 1) % 64
+    → BringsBlock since block after after' → since' ≡ (since + 1) % 64
     → LeavesBlocks told before next after' since'
 blocks_on told left next block before after after' since since' leaves gives brought count blocks is
     =
     left_on blocks before left next block after after' since since' (leaves blocks is) gives brought
-        count
+    count
 
 hands_all : (blocks : List Samples) (before : List Event) (left next : Option (List Samples))
     (after : List Event) (since : ℕ)
@@ -135,7 +146,7 @@ hands_all blocks before (Some []) next after since had gives =
       handed = had.handed;
       are = subst (AreOfBlocks 0 blocks) (append-nil had.so_far)
           (had.go_on [] (subst (λ (xs : List Samples). AreOfBlocks had.place xs [])
-              (sym none) refl));
+          (sym none) refl));
     }
 hands_all blocks before (Some (y ∷ ys)) next after since had gives =
     let some : None ≡ Some y = gives.0 in
@@ -161,7 +172,7 @@ are_blocks place (block ∷ blocks) events are =
     ap unread are.3
     ∙ filter-append (λ (e : Event). not (is_read e)) are.0 (event.Samples block ∷ are.1)
     ∙ ap (λ (xs : List Event). xs ++ event.Samples block ∷ unread are.1)
-        (ahead_is_read place are.0 are.2)
+    (ahead_is_read place are.0 are.2)
     ∙ ap (λ (xs : List Event). event.Samples block ∷ xs) (are_blocks (place + 1) blocks are.1 are.4)
 
 hands_unread : (blocks : List Samples) (before after : List Event) → Hands blocks before after
@@ -174,8 +185,8 @@ hands_unread blocks before after hands =
 pub blocks_unread : (told left next : Option (List Samples)) (before after : List Event) (since : ℕ)
     → LeavesBlocks told before left after since
     → Gives left None next → IfSome told (λ blocks. unread after ≡ unread before
-        ++ map event.Samples blocks)
+    ++ map event.Samples blocks)
 blocks_unread None left next before after since leaves gives = tt
 blocks_unread (Some blocks) left next before after since leaves gives =
     hands_unread blocks before after (hands_all blocks before left next after since
-        (leaves blocks refl) gives)
+    (leaves blocks refl) gives)

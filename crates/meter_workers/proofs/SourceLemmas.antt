@@ -43,7 +43,7 @@ module _ {X : Type 0} (event : X → Event) where
   pub leaves_on : (told left next : Option (List X)) (x : X) (before after after' : List Event)
       → Leaves event told before left after
       → Gives left (Some x) next → after' ≡ after ++ event x ∷ []
-          → Leaves event told before next after'
+      → Leaves event told before next after'
   leaves_on told left next x before after after' leaves gives more xs is =
       let had = leaves xs is in
       handed_on left next x (before ++ map event xs) after after' had.0 gives more had.1 had.2
@@ -79,7 +79,7 @@ presses_first told before n is = (n, is, refl)
 pressed_on : (left next : Option ℕ) (all after after' : List Event) (m : ℕ) → Presses left true next
     → after' ≡ after ++ Button ∷ []
     → left ≡ Some m → all ≡ after ++ replicate m Button → (k : ℕ) × (next ≡ Some k)
-        × (all ≡ after' ++ replicate k Button)
+    × (all ≡ after' ++ replicate k Button)
 pressed_on None next all after after' m presses more is whole = cc
 pressed_on (Some zero) next all after after' m presses more is whole =
     let none : true ≡ false = presses.0 in

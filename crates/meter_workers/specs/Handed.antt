@@ -33,7 +33,7 @@ unread events = filter (λ (e : Event). not (is_read e)) events
 abbrev pub HandsBlocks : Option (List Samples) → MeterPort → MeterPort → Type 0
 HandsBlocks told p q =
     IfSome told (λ blocks. unread (own_events q) ≡ unread (own_events p)
-        ++ map event.Samples blocks)
+    ++ map event.Samples blocks)
 
 -- all moments that the source declared were passed on since, in order, each once
 abbrev pub HandsMoments : Option (List ℕ) → MeterPort → MeterPort → Type 0

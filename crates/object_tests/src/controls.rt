@@ -1,3 +1,5 @@
+//! Sequences of triggers on the supply switch in each mode, and the numbers of modes and attributes
+//! (IEC 62056-6-2, class 70).
 use cosem_axdr::Data;
 use cosem_names::{ResultCode, WriteFault};
 use disconnect_control::{

@@ -1,3 +1,5 @@
+//! Masks of power samples against a threshold, vectorized and one by one, at each length; runs and
+//! stored scans.
 use lane_sampler::{Block, BlockMade, Masks, Scan, Scans, classify, classify_plain, run_from};
 use std::alloc::Global;
 use std::process::Abort;

@@ -1,3 +1,5 @@
+//! Classes, rights, result codes and the object list, for each object and each access level (IEC
+//! 62056-6-2).
 use crate::texts::{data, is_text};
 use cosem_axdr::{Octets, write};
 use cosem_names::{

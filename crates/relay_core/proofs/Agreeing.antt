@@ -39,7 +39,7 @@ pub record Alike (a b : Outcome) : Type 0 where
 -- what holds for every world with other rows holds for one that agrees
 pub of_rows : (P : World → Type 0) (v w : World) → Agree v w
     → ((rows others : List Row) → AreCountedAlike v.import.rows rows
-        → AreCountedAlike v.export.rows others → P (with_rows rows others v)) → P w
+    → AreCountedAlike v.export.rows others → P (with_rows rows others v)) → P w
 of_rows P v w agree all = subst P (sym agree.same)
     (all w.import.rows w.export.rows agree.import agree.export)
 
@@ -59,15 +59,20 @@ entries_alike xs ys = record {
 noted_alike : (before : Control) (v : World) (rows others : List Row)
     → AreCountedAlike v.import.rows rows
     → AreCountedAlike v.export.rows others → Agree (with_entries_since before v)
-        (with_entries_since before (with_rows rows others v))
+    (with_entries_since before (with_rows rows others v))
 unfolding with_entries_since
 noted_alike before v rows others i e =
-    let noted : Bool → World → World = λ b w. if b then record w { import = with_entry w.import;
-        export = with_entry w.export } else w in
+    let noted : Bool → World → World = λ b w. if b then record w {
+      import = with_entry w.import;
+      export = with_entry w.export;
+    } else w in
     let cases : (b : Bool) → Agree (noted b v) (noted b (with_rows rows others v)) =
     λ b. elim b as (λ b. Agree (noted b v) (noted b (with_rows rows others v))) [
-      | true ↦ record { same = refl; import = entries_alike v.import.rows rows;
-          export = entries_alike v.export.rows others }
+      | true ↦ record {
+        same = refl;
+        import = entries_alike v.import.rows rows;
+        export = entries_alike v.export.rows others;
+      }
       | false ↦ rows_agree v rows others i e
     ] in
     cases (enters before v.control)
@@ -75,8 +80,10 @@ noted_alike before v rows others i e =
 noted_in_range : (before : Control) (v : World) → IsWorld v → IsWorld (with_entries_since before v)
 unfolding with_entries_since
 noted_in_range before v range =
-    let noted : Bool → World = λ b. if b then record v { import = with_entry v.import;
-        export = with_entry v.export } else v in
+    let noted : Bool → World = λ b. if b then record v {
+      import = with_entry v.import;
+      export = with_entry v.export;
+    } else v in
     let cases : (b : Bool) → IsWorld (noted b) =
     λ b. elim b as (λ b. IsWorld (noted b)) [
       | true ↦ record { import = range.import; export = range.export; scripts = range.scripts }
@@ -91,8 +98,11 @@ trigger_alike trigger v w range agree = of_rows
     (λ w. Alike (at_trigger trigger v) (at_trigger trigger w)) v w agree
     (λ rows others i e.
     let pulled : World = record v { control = control_after trigger v.control } in
-    let pulled_range : IsWorld pulled = record { import = range.import; export = range.export;
-        scripts = range.scripts } in
+    let pulled_range : IsWorld pulled = record {
+      import = range.import;
+      export = range.export;
+      scripts = range.scripts;
+    } in
     record {
       code = refl;
       world = noted_alike v.control pulled rows others i e;
@@ -133,17 +143,23 @@ setting_alike Import one v w small range agree =
     (λ rows others i e. record {
       code = refl;
       world = record { same = refl; import = i; export = e };
-      range = record { import = setting_in_range one v.import.settings small range.import;
-          export = range.export; scripts = range.scripts };
+      range = record {
+        import = setting_in_range one v.import.settings small range.import;
+        export = range.export;
+        scripts = range.scripts;
+      };
     })
 setting_alike Export one v w small range agree =
     of_rows (λ w. Alike (at_setting Export one v) (at_setting Export one w)) v w agree
     (λ rows others i e. record {
       code = refl;
       world = record { same = refl; import = i; export = e };
-      range = record { import = range.import;
-          export = setting_in_range one v.export.settings small range.export; scripts =
-          range.scripts };
+      range = record {
+        import = range.import;
+        export = setting_in_range one v.export.settings small range.export;
+        scripts =
+            range.scripts;
+      };
     })
 
 pub step_alike : (origin : Origin) (one : Step) (v w : World) → IsStepInRange one
@@ -169,7 +185,7 @@ pub either_alike : (p q : Bool) (a b c d : Outcome) → p ≡ q → Alike a b �
     → Alike (if p then a else c) (if q then b else d)
 either_alike p q a b c d is first second =
     let cases : (p : Bool) → Alike (if p then a else c) (if p then b else d) = λ p. elim p as
-        (λ p. Alike (if p then a else c) (if p then b else d)) [ true ↦ first | false ↦ second ] in
+    (λ p. Alike (if p then a else c) (if p then b else d)) [ true ↦ first | false ↦ second ] in
     subst (λ (q : Bool). Alike (if p then a else c) (if q then b else d)) is (cases p)
 
 pub script_alike : (origin : Origin) (steps : List Step) (v w : World) → AreStepsInRange steps
@@ -181,7 +197,7 @@ script_alike origin (one ∷ steps) v w small range agree =
     let first = step_alike origin one v w small.0 range agree in
     either_alike _ _ _ _ _ _ (ap is_success first.code)
     (script_alike origin steps (at_step origin one v).world (at_step origin one w).world small.1
-        first.range first.world) first
+    first.range first.world) first
 
 -- the steps of a selector's script are in range
 found_in_range : (selector : ℕ) (scripts : List Script) → AreScriptsInRange scripts
@@ -189,9 +205,9 @@ found_in_range : (selector : ℕ) (scripts : List Script) → AreScriptsInRange 
 found_in_range selector [] range = tt
 found_in_range selector (script ∷ scripts) range =
     let cases : (b : Bool) → IfSome (if b then Some script else script_at selector scripts)
-        (λ script. AreStepsInRange script.steps) =
+    (λ script. AreStepsInRange script.steps) =
     λ b. elim b as (λ b. IfSome (if b then Some script else script_at selector scripts)
-        (λ script. AreStepsInRange script.steps)) [
+    (λ script. AreStepsInRange script.steps)) [
       | true ↦ range.0
       | false ↦ found_in_range selector scripts range.1
     ] in
@@ -202,17 +218,17 @@ pub steps_in_range : (selector : ℕ) (scripts : List Script) → AreScriptsInRa
 unfolding steps_at
 steps_in_range selector scripts range =
     let found : (o : Option Script) → IfSome o (λ script. AreStepsInRange script.steps)
-        → IfSome (option_map (λ script. script.steps) o) AreStepsInRange =
+    → IfSome (option_map (λ script. script.steps) o) AreStepsInRange =
     λ o. elim o as (λ o. IfSome o (λ script. AreStepsInRange script.steps)
-        → IfSome (option_map (λ script. script.steps) o) AreStepsInRange) [
+    → IfSome (option_map (λ script. script.steps) o) AreStepsInRange) [
       | None ↦ λ none. tt
       | Some script ↦ λ some. some
     ] in
     let rest = found (script_at selector scripts) (found_in_range selector scripts range) in
     let cases : (b : Bool) → IfSome (if b then Some [] else option_map (λ script. script.steps)
-        (script_at selector scripts)) AreStepsInRange =
+    (script_at selector scripts)) AreStepsInRange =
     λ b. elim b as (λ b. IfSome (if b then Some [] else option_map (λ script. script.steps)
-        (script_at selector scripts)) AreStepsInRange) [
+    (script_at selector scripts)) AreStepsInRange) [
       | true ↦ tt
       | false ↦ rest
     ] in
@@ -222,9 +238,9 @@ pub running_in_range : (selector : ℕ) (scripts : List Script) → AreScriptsIn
     → AreStepsInRange (running_steps selector scripts)
 running_in_range selector scripts range =
     let of_some : (o : Option (List Step)) → IfSome o AreStepsInRange
-        → AreStepsInRange (unwrap_or o []) =
+    → AreStepsInRange (unwrap_or o []) =
     λ o. elim o as (λ o. IfSome o AreStepsInRange → AreStepsInRange (unwrap_or o []))
-        [ None ↦ λ none. tt | Some steps ↦ λ some. some ] in
+    [ None ↦ λ none. tt | Some steps ↦ λ some. some ] in
     of_some (steps_at selector scripts) (steps_in_range selector scripts range)
 
 -- the number of samples for a duration in range is at most the cap
@@ -235,7 +251,7 @@ need_counted seconds small = grind (arith, small)
 rows_alike : (settings : Settings) (now : Option ℕ) (value : ℕ) (xs ys : List Row)
     → AreInRange settings → AreCountedAlike xs ys
     → AreCountedAlike (row_of (limits_at settings now) value
-        ∷ xs) (row_of (limits_at settings now) value ∷ ys)
+    ∷ xs) (row_of (limits_at settings now) value ∷ ys)
 rows_alike settings now value xs ys range alike =
     let row = row_of (limits_at settings now) value in
     record {
@@ -243,30 +259,30 @@ rows_alike settings now value xs ys range alike =
           (λ _. need_counted settings.min_over_threshold_duration range.over)
           ∙ ap (count_after (is_past OverThreshold row) (need OverThreshold row)) alike.over
           ∙ sym (row_counted OverThreshold row ys
-              (λ _. need_counted settings.min_over_threshold_duration range.over));
+          (λ _. need_counted settings.min_over_threshold_duration range.over));
       under = row_counted UnderThreshold row xs
           (λ _. need_counted settings.min_under_threshold_duration range.under)
           ∙ ap (count_after (is_past UnderThreshold row) (need UnderThreshold row)) alike.under
           ∙ sym (row_counted UnderThreshold row ys
-              (λ _. need_counted settings.min_under_threshold_duration range.under));
+          (λ _. need_counted settings.min_under_threshold_duration range.under));
     }
 
 fires_alike : (settings : Settings) (now : Option ℕ) (value : ℕ) (xs ys : List Row)
     → AreInRange settings → AreCountedAlike xs ys
     → fire_of (row_of (limits_at settings now) value ∷ xs)
-        ≡ fire_of (row_of (limits_at settings now) value ∷ ys)
+    ≡ fire_of (row_of (limits_at settings now) value ∷ ys)
 fires_alike settings now value xs ys range alike =
     let row = row_of (limits_at settings now) value in
     let fire : Count → Count → Fire = λ over under.
     if fires_at (is_past OverThreshold row) (need OverThreshold row) over then Over
     else if fires_at (is_past UnderThreshold row) (need UnderThreshold row) under then Under
-        else Quiet in
+    else Quiet in
     fire_counted row xs (λ _. need_counted settings.min_over_threshold_duration range.over)
-        (λ _. need_counted settings.min_under_threshold_duration range.under)
+    (λ _. need_counted settings.min_under_threshold_duration range.under)
     ∙ ap (λ (over : Count). fire over (count_of UnderThreshold xs)) alike.over
     ∙ ap (fire (count_of OverThreshold ys)) alike.under
     ∙ sym (fire_counted row ys (λ _. need_counted settings.min_over_threshold_duration range.over)
-        (λ _. need_counted settings.min_under_threshold_duration range.under))
+    (λ _. need_counted settings.min_under_threshold_duration range.under))
 
 -- Worlds that agree, the first of them in range.
 pub record AreAlike (v w : World) : Type 0 where
@@ -278,13 +294,13 @@ same_scripts v w agree = ap (λ (u : World). u.scripts) agree.same
 
 selected_alike : (selector : ℕ) (v w : World) → IsWorld v → Agree v w
     → AreAlike (at_script Local (running_steps selector v.scripts) v).world
-        (at_script Local (running_steps selector w.scripts) w).world
+    (at_script Local (running_steps selector w.scripts) w).world
 selected_alike selector v w range agree =
     let after = script_alike Local (running_steps selector v.scripts) v w
-        (running_in_range selector v.scripts range.scripts) range agree in
+    (running_in_range selector v.scripts range.scripts) range agree in
     let P : List Script → Type 0 = λ scripts.
     AreAlike (at_script Local (running_steps selector v.scripts) v).world
-        (at_script Local (running_steps selector scripts) w).world in
+    (at_script Local (running_steps selector scripts) w).world in
     subst P (sym (same_scripts v w agree)) (record { world = after.world; range = after.range })
 
 fire_alike : (fire : Fire) (actions : Actions) (v w : World) → IsWorld v → Agree v w
@@ -302,47 +318,53 @@ pub record AreMeasuredAlike (x : Measurement) (v w : World) : Type 0 where
 sample_of_alike : (which : Which) (value : ℕ) (v : World) (rows others : List Row) → IsWorld v
     → AreCountedAlike v.import.rows rows
     → AreCountedAlike v.export.rows others → AreMeasuredAlike
-        (record { which = which; value = value }) v (with_rows rows others v)
+    (record { which = which; value = value }) v (with_rows rows others v)
 unfolding fire_at after_sample
 sample_of_alike Import value v rows others range i e =
     let settings = v.import.settings in
     let taken_in : World = record v { import = with_sample v.moment value v.import } in
     let fires = fires_alike settings v.moment value v.import.rows rows range.import i in
-    let taken_range : IsWorld taken_in = record { import = range.import; export = range.export;
-        scripts = range.scripts } in
+    let taken_range : IsWorld taken_in = record {
+      import = range.import;
+      export = range.export;
+      scripts = range.scripts;
+    } in
     let agree : Agree taken_in (record (with_rows rows others v)
-        { import = with_sample v.moment value (with_rows rows others v).import }) = record {
+    { import = with_sample v.moment value (with_rows rows others v).import }) = record {
       same = refl;
       import = rows_alike settings v.moment value v.import.rows rows range.import i;
       export = e;
     } in
     let after = fire_alike (fire_of (row_of (limits_at settings v.moment) value ∷ v.import.rows))
-        settings.actions taken_in _ taken_range agree in
+    settings.actions taken_in _ taken_range agree in
     let P : Fire → Type 0 = λ fire. AreAlike (after_fire
-        (fire_of (row_of (limits_at settings v.moment) value ∷ v.import.rows))
-        settings.actions taken_in)
+    (fire_of (row_of (limits_at settings v.moment) value ∷ v.import.rows))
+    settings.actions taken_in)
     (after_fire fire settings.actions (record (with_rows rows others v)
-        { import = with_sample v.moment value (with_rows rows others v).import })) in
+    { import = with_sample v.moment value (with_rows rows others v).import })) in
     record { fire = fires; after = subst P fires after }
 sample_of_alike Export value v rows others range i e =
     let settings = v.export.settings in
     let taken_in : World = record v { export = with_sample v.moment value v.export } in
     let fires = fires_alike settings v.moment value v.export.rows others range.export e in
-    let taken_range : IsWorld taken_in = record { import = range.import; export = range.export;
-        scripts = range.scripts } in
+    let taken_range : IsWorld taken_in = record {
+      import = range.import;
+      export = range.export;
+      scripts = range.scripts;
+    } in
     let agree : Agree taken_in (record (with_rows rows others v)
-        { export = with_sample v.moment value (with_rows rows others v).export }) = record {
+    { export = with_sample v.moment value (with_rows rows others v).export }) = record {
       same = refl;
       import = i;
       export = rows_alike settings v.moment value v.export.rows others range.export e;
     } in
     let after = fire_alike (fire_of (row_of (limits_at settings v.moment) value ∷ v.export.rows))
-        settings.actions taken_in _ taken_range agree in
+    settings.actions taken_in _ taken_range agree in
     let P : Fire → Type 0 = λ fire. AreAlike (after_fire
-        (fire_of (row_of (limits_at settings v.moment) value ∷ v.export.rows))
-        settings.actions taken_in)
+    (fire_of (row_of (limits_at settings v.moment) value ∷ v.export.rows))
+    settings.actions taken_in)
     (after_fire fire settings.actions (record (with_rows rows others v)
-        { export = with_sample v.moment value (with_rows rows others v).export })) in
+    { export = with_sample v.moment value (with_rows rows others v).export })) in
     record { fire = fires; after = subst P fires after }
 
 -- The effect of several samples on two worlds.
@@ -357,8 +379,8 @@ samples_alike [] a b alike = alike
 samples_alike (x ∷ xs) a b alike =
     let P : World → Type 0 = λ w. AreMeasuredAlike x a.world w in
     let one = of_rows P a.world b.world alike.worlds.world
-        (λ rows others i e. sample_of_alike x.which x.value a.world rows others alike.worlds.range i
-        e) in
+    (λ rows others i e. sample_of_alike x.which x.value a.world rows others alike.worlds.range i
+    e) in
     samples_alike xs (metering_after x a) (metering_after x b) (record {
       firings = ap (λ (fire : Fire). with_firing x.which fire a.firings) one.fire
           ∙ ap (with_firing x.which (fire_at x b.world)) alike.firings;

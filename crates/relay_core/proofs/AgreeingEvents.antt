@@ -70,7 +70,7 @@ refused_alike code v w range agree = record { code = refl; world = agree; range 
 own_value_alike : (level : Level) (instance : Instance) (number : ℕ) (v : World)
     (rows others : List Row)
     → own_value_in level instance number v ≡ own_value_in level instance number
-        (with_rows rows others v)
+    (with_rows rows others v)
 own_value_alike level Association number v rows others = refl
 own_value_alike level DeviceName number v rows others = refl
 own_value_alike level (Register Import) number v rows others = refl
@@ -88,7 +88,7 @@ unfolding value_in
 read_alike level (Err refusal) attr v rows others = refl
 read_alike level (Ok instance) attr v rows others =
     let here : GetResult → GetResult = λ own. if attr.number == 1 then result.Value
-        (OctetString attr.name.0) else own in
+    (OctetString attr.name.0) else own in
     ap here (own_value_alike level instance attr.number v rows others)
 
 get_alike : (level : Level) (attr : AttrRef) (selected : Bool) (v w : World) → Agree v w
@@ -97,16 +97,16 @@ unfolding get_result
 get_alike level attr selected v w agree = of_rows (λ w. get_result level attr selected v
     ≡ get_result level attr selected w) v w agree
     (λ rows others i e. read_alike level (target_of attr.name attr.class (rights_of level attr).read
-        selected) attr v rows others)
+    selected) attr v rows others)
 
 gets_alike : (level : Level) (items : List AttributeSelection) (v w : World) → Agree v w
     → get_results level items v ≡ get_results level items w
 gets_alike level [] v w agree = refl
 gets_alike level (item ∷ items) v w agree =
     ap (λ (one : GetResult). one ∷ get_results level items v)
-        (get_alike level item.attr item.selected v w agree)
+    (get_alike level item.attr item.selected v w agree)
     ∙ ap (λ (rest : List GetResult). get_result level item.attr item.selected w ∷ rest)
-        (gets_alike level items v w agree)
+    (gets_alike level items v w agree)
 
 -- writes to agreeing worlds
 setting_form_alike : (which : Which) (read : Result (Option Setting) WriteFault) (v w : World)
@@ -119,15 +119,18 @@ setting_form_alike which (Ok (Some one)) v w small range agree =
 
 groups_alike : (which : Which) (ids : List ℕ) (v w : World) → IsWorld v → Agree v w
     → Alike (at_list (written.Groups which) (groups_part (Ok ids)) v)
-        (at_list (written.Groups which) (groups_part (Ok ids)) w)
+    (at_list (written.Groups which) (groups_part (Ok ids)) w)
 groups_alike Import ids v w range agree = of_rows
     (λ w. Alike (at_list (written.Groups Import) (groups_part (Ok ids)) v)
     (at_list (written.Groups Import) (groups_part (Ok ids)) w)) v w agree
     (λ rows others i e. record {
       code = refl;
       world = record { same = refl; import = i; export = e };
-      range = record { import = record { over = range.import.over; under = range.import.under };
-          export = range.export; scripts = range.scripts };
+      range = record {
+        import = record { over = range.import.over; under = range.import.under };
+        export = range.export;
+        scripts = range.scripts;
+      };
     })
 groups_alike Export ids v w range agree = of_rows
     (λ w. Alike (at_list (written.Groups Export) (groups_part (Ok ids)) v)
@@ -135,15 +138,18 @@ groups_alike Export ids v w range agree = of_rows
     (λ rows others i e. record {
       code = refl;
       world = record { same = refl; import = i; export = e };
-      range = record { import = range.import;
-          export = record { over = range.export.over; under = range.export.under }; scripts =
-          range.scripts };
+      range = record {
+        import = range.import;
+        export = record { over = range.export.over; under = range.export.under };
+        scripts =
+            range.scripts;
+      };
     })
 
 group_ids_alike : (which : Which) (read : Result (List ℕ) WriteFault) (v w : World)
     → IsWorld v → Agree v w
     → Alike (at_list (written.Groups which) (groups_part read) v)
-        (at_list (written.Groups which) (groups_part read) w)
+    (at_list (written.Groups which) (groups_part read) w)
 group_ids_alike which (Err fault) v w range agree = refused_alike _ v w range agree
 group_ids_alike which (Ok ids) v w range agree = groups_alike which ids v w range agree
 
@@ -191,7 +197,7 @@ plain_alike (Limiter which) number value v w range agree =
 scripts_alike : (read : Result (List Script) WriteFault) (v w : World) → IfOk read AreScriptsInRange
     → IsWorld v → Agree v w
     → Alike (at_list written.Scripts (scripts_part read) v)
-        (at_list written.Scripts (scripts_part read) w)
+    (at_list written.Scripts (scripts_part read) w)
 scripts_alike (Err fault) v w small range agree = refused_alike _ v w range agree
 scripts_alike (Ok scripts) v w small range agree =
     let at : World → Outcome = at_list written.Scripts (scripts_part (Ok scripts)) in
@@ -205,7 +211,7 @@ scripts_alike (Ok scripts) v w small range agree =
 entries_alike : (which : ScheduleNumber) (read : Result (List EntryPattern) WriteFault)
     (v w : World) → IsWorld v → Agree v w
     → Alike (at_list (written.Entries which) (entries_part read) v)
-        (at_list (written.Entries which) (entries_part read) w)
+    (at_list (written.Entries which) (entries_part read) w)
 entries_alike which (Err fault) v w range agree = refused_alike _ v w range agree
 entries_alike which (Ok entries) v w range agree =
     let at : World → Outcome = at_list (written.Entries which) (entries_part (Ok entries)) in
@@ -263,11 +269,11 @@ selected_alike : (selector : Option ℕ) (v w : World) → IsWorld v → Agree v
 selected_alike None v w range agree = refused_alike _ v w range agree
 selected_alike (Some selector) v w range agree =
     let P : List Script → Type 0 = λ scripts. Alike
-        (at_optional_script (steps_at selector v.scripts) v)
-        (at_optional_script (steps_at selector scripts) w) in
+    (at_optional_script (steps_at selector v.scripts) v)
+    (at_optional_script (steps_at selector scripts) w) in
     let scripts : w.scripts ≡ v.scripts = ap (λ (u : World). u.scripts) agree.same in
     subst P (sym scripts) (found_alike (steps_at selector v.scripts) v w
-        (steps_in_range selector v.scripts range.scripts) range agree)
+    (steps_in_range selector v.scripts range.scripts) range agree)
 
 method_alike : (instance : Instance) (number : ℕ) (parameter : Option Data) (v w : World)
     → IsWorld v → Agree v w
@@ -278,8 +284,8 @@ method_alike DeviceName number parameter v w range agree = refused_alike _ v w r
 method_alike (Register which) number parameter v w range agree = refused_alike _ v w range agree
 method_alike ScriptTable number parameter v w range agree =
     either_alike (number == 1) (number == 1) _ _ _ _ refl
-        (selected_alike (option_and_then long_unsigned_of parameter) v w range agree)
-        (refused_alike _ v w range agree)
+    (selected_alike (option_and_then long_unsigned_of parameter) v w range agree)
+    (refused_alike _ v w range agree)
 method_alike (Schedule which) number parameter v w range agree = refused_alike _ v w range agree
 method_alike DisconnectControl number parameter v w range agree =
     pulled_alike (switch_trigger number) v w range agree
@@ -296,9 +302,9 @@ button_alike : (v w : World) → IsWorld v → Agree v w → Alike (at_button v)
 unfolding at_button
 button_alike v w range agree =
     let trigger : Control → Trigger = λ control. if is_state control.state Connected
-        then ManualDisconnect else ManualReconnect in
+    then ManualDisconnect else ManualReconnect in
     let P : Control → Type 0 = λ control. Alike (at_trigger (trigger v.control) v)
-        (at_trigger (trigger control) w) in
+    (at_trigger (trigger control) w) in
     let control : w.control ≡ v.control = ap (λ (u : World). u.control) agree.same in
     subst P (sym control) (trigger_alike (trigger v.control) v w range agree)
 
@@ -309,18 +315,18 @@ unfolding after_schedule
 schedule_alike last now schedule v w range agree =
     let scripts : w.scripts ≡ v.scripts = ap (λ (u : World). u.scripts) agree.same in
     let P : List Script → Type 0 = λ scripts. AreAlike
-        (at_script Remote (running_steps schedule.selector v.scripts) v).world
+    (at_script Remote (running_steps schedule.selector v.scripts) v).world
     (at_script Remote (running_steps schedule.selector scripts) w).world in
     let after = script_alike Remote (running_steps schedule.selector v.scripts) v w
-        (running_in_range schedule.selector v.scripts range.scripts) range agree in
+    (running_in_range schedule.selector v.scripts range.scripts) range agree in
     let due : AreAlike (at_script Remote (running_steps schedule.selector v.scripts) v).world
     (at_script Remote (running_steps schedule.selector w.scripts) w).world =
     subst P (sym scripts) (record { world = after.world; range = after.range }) in
     let cases : (b : Bool) → AreAlike (if b then (at_script Remote
-        (running_steps schedule.selector v.scripts) v).world else v)
+    (running_steps schedule.selector v.scripts) v).world else v)
     (if b then (at_script Remote (running_steps schedule.selector w.scripts) w).world else w) =
     λ b. elim b as (λ b. AreAlike (if b then (at_script Remote
-        (running_steps schedule.selector v.scripts) v).world else v)
+    (running_steps schedule.selector v.scripts) v).world else v)
     (if b then (at_script Remote (running_steps schedule.selector w.scripts) w).world else w)) [
       | true ↦ due
       | false ↦ record { world = agree; range = range }
@@ -334,13 +340,16 @@ schedules_alike last now [] v w range agree = record { world = agree; range = ra
 schedules_alike last now (schedule ∷ schedules) v w range agree =
     let one = schedule_alike last now schedule v w range agree in
     schedules_alike last now schedules (after_schedule last now schedule v)
-        (after_schedule last now schedule w) one.range one.world
+    (after_schedule last now schedule w) one.range one.world
 
 clock_alike : (now : ℕ) (v w : World) → IsWorld v → Agree v w
     → AreAlike (with_moment now v) (with_moment now w)
 clock_alike now v w range agree = record {
-  world = record { same = ap (with_moment now) agree.same; import = agree.import;
-      export = agree.export };
+  world = record {
+    same = ap (with_moment now) agree.same;
+    import = agree.import;
+    export = agree.export;
+  };
   range = record { import = range.import; export = range.export; scripts = range.scripts };
 }
 
@@ -350,7 +359,7 @@ ran_alike last now v w range agree = of_rows (λ w. GoAlike (clock_step last now
     (clock_step last now w)) v w agree
     (λ rows others i e.
     let after = schedules_alike last now (all_schedules v.schedules) v (with_rows rows others v)
-        range (record { same = refl; import = i; export = e }) in
+    range (record { same = refl; import = i; export = e }) in
     record { reply = refl; world = after.world; range = after.range })
 
 moment_alike : (before : Option ℕ) (now : ℕ) (v w : World) → IsWorld v → Agree v w
@@ -362,9 +371,9 @@ moment_alike (Some last) now v w range agree =
     let clock = clock_alike now v w range agree in
     let P : Bool → Bool → Type 0 = λ early same. GoAlike
     (if early then record { world = v; reply = reply.Stale last } else if same then record
-        { world = v; reply = reply.Ran 0 } else clock_step last now (with_moment now v))
+    { world = v; reply = reply.Ran 0 } else clock_step last now (with_moment now v))
     (if early then record { world = w; reply = reply.Stale last } else if same then record
-        { world = w; reply = reply.Ran 0 } else clock_step last now (with_moment now w)) in
+    { world = w; reply = reply.Ran 0 } else clock_step last now (with_moment now w)) in
     let cases : (early same : Bool) → P early same =
     λ early same. elim early as (λ early. P early same) [
       | true ↦ record { reply = refl; world = agree; range = range }
@@ -377,34 +386,46 @@ moment_alike (Some last) now v w range agree =
 
 -- calls that are alike are steps that are alike
 outcome_alike : (a b : Outcome) → Alike a b → GoAlike (step_of a) (step_of b)
-outcome_alike a b alike = record { reply = ap reply.Code alike.code; world = alike.world;
-    range = alike.range }
+outcome_alike a b alike = record {
+  reply = ap reply.Code alike.code;
+  world = alike.world;
+  range = alike.range;
+}
 
 -- every event, in agreeing worlds
 pub event_alike : (one : Event) (v w : World) → IsWorld v → Agree v w
     → GoAlike (at_event one v) (at_event one w)
 unfolding at_event at_set at_execute at_samples at_moment
 event_alike (event.Get level attr selected) v w range agree =
-    record { reply = ap reply_of (get_alike level attr selected v w agree); world = agree;
-        range = range }
+    record {
+      reply = ap reply_of (get_alike level attr selected v w agree);
+      world = agree;
+      range = range;
+    }
 event_alike (event.GetList level items) v w range agree =
-    record { reply = ap reply.Values (gets_alike level items v w agree); world = agree;
-        range = range }
+    record {
+      reply = ap reply.Values (gets_alike level items v w agree);
+      world = agree;
+      range = range;
+    }
 event_alike (event.Set level attr selected value) v w range agree =
     outcome_alike _ _ (write_at_alike (target_of attr.name attr.class (rights_of level attr).write
-        selected) attr.number value v w range agree)
+    selected) attr.number value v w range agree)
 event_alike (event.Execute level method parameter) v w range agree =
     outcome_alike _ _ (execute_at_alike (target_of method.name method.class
-        (may_execute_of level method) false) method.number parameter v w range agree)
+    (may_execute_of level method) false) method.number parameter v w range agree)
 event_alike event.Button v w range agree = outcome_alike _ _ (button_alike v w range agree)
 event_alike (event.Samples block) v w range agree =
     let after = samples_alike (measurements block) (record { world = v; firings = no_firings })
-        (record { world = w; firings = no_firings })
+    (record { world = w; firings = no_firings })
     (record { firings = refl; worlds = record { world = agree; range = range } }) in
-    record { reply = ap (reply_of_firings block.export) after.firings; world = after.worlds.world;
-        range = after.worlds.range }
+    record {
+      reply = ap (reply_of_firings block.export) after.firings;
+      world = after.worlds.world;
+      range = after.worlds.range;
+    }
 event_alike (event.Moment now) v w range agree =
     let P : Option ℕ → Type 0 = λ before. GoAlike (moment_after v.moment now v)
-        (moment_after before now w) in
+    (moment_after before now w) in
     let moment : w.moment ≡ v.moment = ap (λ (u : World). u.moment) agree.same in
     subst P (sym moment) (moment_alike v.moment now v w range agree)

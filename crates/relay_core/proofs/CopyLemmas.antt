@@ -21,32 +21,39 @@ module _ (core : RelayCore) where
   abbrev with_parts : (device : List ℕ) → IsDeviceName device → (import export : State)
       → OneClock import export → List Script → Schedules → RelayCore
   with_parts device named import export clock scripts schedules =
-      record core { device = device; named = named; import = import; export = export;
-          scripts = scripts; schedules = schedules; one_clock = clock }
+      record core {
+        device = device;
+        named = named;
+        import = import;
+        export = export;
+        scripts = scripts;
+        schedules = schedules;
+        one_clock = clock;
+      }
 
   pub copied : (device : List ℕ) (named : IsDeviceName device) (import export : State)
       (clock : OneClock import export) (scripts : List Script) (schedules : Schedules)
       → device ≡ core.device → import ≡ core.import → export ≡ core.export → scripts ≡ core.scripts
-          → schedules ≡ core.schedules
+      → schedules ≡ core.schedules
       → with_parts device named import export clock scripts schedules ≡ core
   copied device named import export clock scripts schedules same_device same_import same_export
       same_scripts same_schedules =
       let D : List ℕ → Type 0 = λ name. (is_one : IsDeviceName name) →
       with_parts name is_one import export clock scripts schedules
-          ≡ with_parts core.device core.named import export clock scripts schedules in
+      ≡ with_parts core.device core.named import export clock scripts schedules in
       let P : State → State → Type 0 = λ a b. (one : OneClock a b)
-          → with_parts core.device core.named a b one core.scripts core.schedules ≡ core in
+      → with_parts core.device core.named a b one core.scripts core.schedules ≡ core in
       let limiters : P import export = subst (λ (a : State). P a export) (sym same_import)
-          (subst (P core.import) (sym same_export) (λ one.
+      (subst (P core.import) (sym same_export) (λ one.
       ap (λ (c : OneClock core.import core.export). with_parts core.device core.named core.import
-          core.export c core.scripts core.schedules)
+      core.export c core.scripts core.schedules)
       (one_clock core.import core.export one core.one_clock))) in
       let name : D device = subst D (sym same_device) (λ is_one.
       ap (λ (n : IsDeviceName core.device). with_parts core.device n import export clock scripts
-          schedules) (one_name core.device is_one core.named)) in
+      schedules) (one_name core.device is_one core.named)) in
       name named
       ∙ (ap (λ (x : List Script). with_parts core.device core.named import export clock x schedules)
-          same_scripts
+      same_scripts
       ∙ (ap (λ (x : Schedules). with_parts core.device core.named import export clock core.scripts
-          x) same_schedules
+      x) same_schedules
       ∙ limiters clock))

@@ -21,10 +21,13 @@ use Rattle.script_steps.specs.Table.{IsStep, IsScript, IsTable}
 metered_back : (limiter : State) (now : Option ℕ) (m : Metered) → MeteredStands limiter now m
     → m ≡ record (opened_limiter (limiter_opening_of limiter)) { rows = m.rows }
 metered_back limiter now m stands =
-    let with : Settings → ℕ → Metered = λ settings last. record { settings = settings; last = last;
-        rows = m.rows } in
+    let with : Settings → ℕ → Metered = λ settings last. record {
+      settings = settings;
+      last = last;
+      rows = m.rows;
+    } in
     ap (λ (settings : Settings). with settings m.last) (sym stands.settings)
-        ∙ ap (with limiter.settings) (sym stands.last)
+    ∙ ap (with limiter.settings) (sym stands.last)
 
 -- the rows of an opened limiter are counted like the rows of the limiter that was saved
 counted_back : (limiter : State) (now : Option ℕ) (m : Metered)
@@ -38,13 +41,17 @@ counted_back limiter now m fit stands =
 back_stands : (limiter : State) (now : Option ℕ) → IsFit limiter.last limiter.over limiter.under
     → limiter.moment ≡ now
     → MeteredStands limiter now (opened_limiter (limiter_opening_of limiter))
-back_stands limiter now fit clock = record { settings = refl; moment = clock; last = refl;
-    rows = rows_opened limiter fit }
+back_stands limiter now fit clock = record {
+  settings = refl;
+  moment = clock;
+  last = refl;
+  rows = rows_opened limiter fit;
+}
 
 -- a core represents the world that its opening gives
 pub opening_stands : (core : RelayCore) → IsFit core.import.last core.import.over core.import.under
     → IsFit core.export.last core.export.over core.export.under
-        → StandsFor core (world_of_opening (opening_of core))
+    → StandsFor core (world_of_opening (opening_of core))
 opening_stands core import_fit export_fit = record {
   device = refl;
   control = refl;
@@ -58,33 +65,40 @@ opening_stands core import_fit export_fit = record {
 pub opening_agrees : (core : RelayCore) (w : World)
     → IsFit core.import.last core.import.over core.import.under
     → IsFit core.export.last core.export.over core.export.under → StandsFor core w
-        → Agree (world_of_opening (opening_of core)) w
+    → Agree (world_of_opening (opening_of core)) w
 opening_agrees core w import_fit export_fit stands =
     let make : List ℕ → Control → Option ℕ → Metered → Metered → List Script → Schedules → World =
-        λ device control moment import export scripts schedules.
-    record { device = device; control = control; moment = moment; import = import; export = export;
-        scripts = scripts; schedules = schedules } in
+    λ device control moment import export scripts schedules.
+    record {
+      device = device;
+      control = control;
+      moment = moment;
+      import = import;
+      export = export;
+      scripts = scripts;
+      schedules = schedules;
+    } in
     let now = core.import.moment in
     let import : Metered = record (opened_limiter (limiter_opening_of core.import))
-        { rows = w.import.rows } in
+    { rows = w.import.rows } in
     let export : Metered = record (opened_limiter (limiter_opening_of core.export))
-        { rows = w.export.rows } in
+    { rows = w.export.rows } in
     record {
       same =
           ap (λ (x : List ℕ). make x w.control w.moment w.import w.export w.scripts w.schedules)
-              (sym stands.device)
+          (sym stands.device)
           ∙ ap (λ (x : Control). make core.device x w.moment w.import w.export w.scripts
-              w.schedules) (sym stands.control)
+          w.schedules) (sym stands.control)
           ∙ ap (λ (x : Option ℕ). make core.device core.control x w.import w.export w.scripts
-              w.schedules) (sym stands.import.moment)
+          w.schedules) (sym stands.import.moment)
           ∙ ap (λ (x : Metered). make core.device core.control now x w.export w.scripts w.schedules)
-              (metered_back core.import w.moment w.import stands.import)
+          (metered_back core.import w.moment w.import stands.import)
           ∙ ap (λ (x : Metered). make core.device core.control now import x w.scripts w.schedules)
-              (metered_back core.export w.moment w.export stands.export)
+          (metered_back core.export w.moment w.export stands.export)
           ∙ ap (λ (x : List Script). make core.device core.control now import export x w.schedules)
-              (sym stands.scripts)
+          (sym stands.scripts)
           ∙ ap (λ (x : Schedules). make core.device core.control now import export core.scripts x)
-              (sym stands.schedules);
+          (sym stands.schedules);
       import = counted_back core.import w.moment w.import import_fit stands.import;
       export = counted_back core.export w.moment w.export export_fit stands.export;
     }
@@ -102,16 +116,19 @@ step_in_range step.Reconnect fits = tt
 
 steps_in_range : (steps : List Step) → All IsStep steps → AreStepsInRange steps
 steps_in_range [] fits = tt
-steps_in_range (one ∷ steps) fits =
-    (step_in_range one (fits 0 one (omega arith)),
-        steps_in_range steps (λ k d less. fits (suc k) d (omega (arith, less))))
+steps_in_range (one ∷ steps) fits = (
+  step_in_range one (fits 0 one (omega arith)),
+  steps_in_range steps (λ k d less. fits (suc k) d (omega (arith, less))),
+)
 
 scripts_in_range : (scripts : List Script) → All IsScript scripts → AreScriptsInRange scripts
 scripts_in_range [] fits = tt
 scripts_in_range (script ∷ scripts) fits =
-    let first : IsScript script = fits 0 script (omega arith) in
-    (steps_in_range script.steps first.fit, scripts_in_range scripts
-        (λ k d less. fits (suc k) d (omega (arith, less))))
+    let first : IsScript script = fits 0 script (omega arith) in (
+      steps_in_range script.steps first.fit,
+      scripts_in_range scripts
+          (λ k d less. fits (suc k) d (omega (arith, less))),
+    )
 
 pub table_in_range : (scripts : List Script) → IsTable scripts → AreScriptsInRange scripts
 table_in_range scripts table = scripts_in_range scripts table.fit

@@ -42,5 +42,5 @@ reply_fits (Execute level method parameter) w = tt
 reply_fits Button w = tt
 reply_fits (Samples block) w =
     sampled_fits block.export (after_samples (measurements block)
-        (record { world = w; firings = no_firings })).firings
+    (record { world = w; firings = no_firings })).firings
 reply_fits (Moment now) w = moment_fits w.moment now w

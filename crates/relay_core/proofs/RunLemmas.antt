@@ -40,7 +40,7 @@ ran_more old now next events event lines line ran goes answers = record {
   answered = λ w stands.
       ap (λ done. done ++ line ∷ []) (ran.answered w stands)
       ∙ ap (λ one. lines_of events w ++ one ∷ [])
-          (answers (world_after events w) (ran.world w stands))
+      (answers (world_after events w) (ran.world w stands))
       ∙ sym (lines_of-append events (event ∷ []) w);
 }
 
@@ -61,13 +61,13 @@ ran_further old now next events i event lines line below is ran goes answers =
 -- a line equals the line of a step if its parts do
 pub same_line : (reply : Reply) (state : ControlState) (output : Bool) (s : Stepped)
     → reply ≡ s.reply → state ≡ s.world.control.state → output
-        ≡ is_state s.world.control.state Connected
+    ≡ is_state s.world.control.state Connected
     → record { reply = reply; state = state; output = output } ≡ line_of s
 same_line reply state output s e1 e2 e3 =
     let made : Reply → ControlState → Bool → Line =
-        λ r st o. record { reply = r; state = st; output = o } in
+    λ r st o. record { reply = r; state = st; output = o } in
     ap (λ r. made r state output) e1 ∙ ap (λ st. made s.reply st output) e2
-        ∙ ap (λ o. made s.reply s.world.control.state o) e3
+    ∙ ap (λ o. made s.reply s.world.control.state o) e3
 
 -- a Boolean that can't be true is false
 pub refuted : (b : Bool) → (IsTrue b → false ≡ true) → b ≡ false
@@ -87,6 +87,9 @@ stops_at old now next events i event lines below is ran same unsure = record {
   count = i;
   within = omega arith;
   ran = subst (λ (core : RelayCore). Runs old core (take i events) lines) (sym same) ran;
-  cause = inr (event, slice_get_read events (length events) i event refl below is,
-      refuted (is_sure event) unsure);
+  cause = inr (
+    event,
+    slice_get_read events (length events) i event refl below is,
+    refuted (is_sure event) unsure,
+  );
 }

@@ -60,16 +60,18 @@ equal_list threshold xs zero within are = tt
 equal_list threshold [] (suc n) within are = absurd (omega (arith, within))
 equal_list threshold (x ∷ xs) (suc n) within are =
     let here : x ≡ threshold = are 0 (omega arith) in
-    let kind : kind_of threshold x ≡ Equal = grind (arith, here) in
-    (kind, equal_list threshold xs n (omega (arith, within))
-        (λ k below. are (suc k) (omega (arith, below))))
+    let kind : kind_of threshold x ≡ Equal = grind (arith, here) in (
+      kind,
+      equal_list threshold xs n (omega (arith, within))
+          (λ k below. are (suc k) (omega (arith, below))),
+    )
 
 pub equal_are_of_kind : (threshold : ℕ) (values : List ℕ) (at n : ℕ) → at + n ≤ length values
     → ((k : ℕ) → k < n → get_or values (at + k) 0 ≡ threshold)
-        → AreOfKind Equal threshold (take n (drop at values))
+    → AreOfKind Equal threshold (take n (drop at values))
 equal_are_of_kind threshold values at n within are =
     equal_list threshold (drop at values) n (omega (arith, within, length-drop at values))
-        (λ k below. get_or-drop at values k 0 ∙ are k below)
+    (λ k below. get_or-drop at values k 0 ∙ are k below)
 
 -- if no element passes, the first does not
 none_passes : (test : ℕ → Bool) (x : ℕ) (xs : List ℕ) → prefix_len test (x ∷ xs) ≤ 0
@@ -77,13 +79,13 @@ none_passes : (test : ℕ → Bool) (x : ℕ) (xs : List ℕ) → prefix_len tes
 none_passes test x xs none =
     let cases : (b : Bool) → (if b then 1 + prefix_len test xs else 0) ≤ 0 → b ≡ false =
     λ b. elim b as (λ b. (if b then 1 + prefix_len test xs else 0) ≤ 0 → b
-        ≡ false) [ true ↦ λ some. absurd (omega (arith, some)) | false ↦ λ _. refl ] in
+    ≡ false) [ true ↦ λ some. absurd (omega (arith, some)) | false ↦ λ _. refl ] in
     cases (test x) none
 
 -- a value that is neither over nor under the threshold equals it
 pub neither_is_equal : (values : List ℕ) (at threshold : ℕ) → at < length values
     → prefix_len (λ v. nat_lt threshold v) (drop at values) ≤ 0
-        → prefix_len (λ v. nat_lt v threshold) (drop at values) ≤ 0
+    → prefix_len (λ v. nat_lt v threshold) (drop at values) ≤ 0
     → get_or values at 0 ≡ threshold
 neither_is_equal values at threshold below over under =
     let x = get_or values at 0 in
@@ -91,9 +93,9 @@ neither_is_equal values at threshold below over under =
     let P : List ℕ → Type 0 = λ xs. prefix_len (λ v. nat_lt threshold v) xs ≤ 0 in
     let Q : List ℕ → Type 0 = λ xs. prefix_len (λ v. nat_lt v threshold) xs ≤ 0 in
     let not_over : nat_lt threshold x ≡ false =
-        none_passes (λ v. nat_lt threshold v) x (drop (suc at) values) (subst P front over) in
+    none_passes (λ v. nat_lt threshold v) x (drop (suc at) values) (subst P front over) in
     let not_under : nat_lt x threshold ≡ false =
-        none_passes (λ v. nat_lt v threshold) x (drop (suc at) values) (subst Q front under) in
+    none_passes (λ v. nat_lt v threshold) x (drop (suc at) values) (subst Q front under) in
     grind (arith, not_over, not_under)
 
 -- each element of a list of one kind is of that kind
@@ -144,9 +146,9 @@ same_limits limiter now m stands = cc (stands.settings, stands.moment)
 pub metered_stands : (old new : State) (now : Option ℕ) (m : Metered) (values : List ℕ)
     → MeteredStands old now m
     → new.settings ≡ old.settings → new.moment ≡ old.moment → 0 < length values → new.last
-        ≡ get_or values (length values - 1) 0
+    ≡ get_or values (length values - 1) 0
     → Keeps new (rows_after (limits_of old) values m.rows)
-        → MeteredStands new now (metered_after now values m)
+    → MeteredStands new now (metered_after now values m)
 metered_stands old new now m values stands settings moment some last keeps = record {
   settings = settings ∙ stands.settings ∙ sym (metered_after-settings now values m);
   moment = moment ∙ stands.moment;
@@ -154,7 +156,7 @@ metered_stands old new now m values stands settings moment some last keeps = rec
   rows =
       let P : Limits → Type 0 = λ limits. Keeps new (rows_after limits values m.rows) in
       subst (Keeps new) (sym (metered_after-rows now values m))
-          (subst P (same_limits old now m stands) keeps);
+      (subst P (same_limits old now m stands) keeps);
 }
 
 -- the effect of two lists of samples, in sequence
@@ -176,7 +178,7 @@ pairs-append [] ws (x ∷ xs) ys even = absurd (omega (arith, even))
 pairs-append (v ∷ vs) ws [] ys even = absurd (omega (arith, even))
 pairs-append (v ∷ vs) ws (x ∷ xs) ys even =
     ap (λ (ms : List Measurement). record { which = Import; value = v }
-        ∷ record { which = Export; value = x } ∷ ms)
+    ∷ record { which = Export; value = x } ∷ ms)
     (pairs-append vs ws xs ys (omega (arith, even)))
 
 -- a core that took no samples
@@ -190,11 +192,11 @@ pub takes_on : (old now next : RelayCore) (f g h : FiringCounts) (xs ys : List M
     → Takes old next f h (xs ++ ys)
 takes_on old now next f g h xs ys first later =
     let both : (w : World) → StandsFor old w → after_samples (xs ++ ys) (metering_in w f)
-        ≡ after_samples ys (metering_in (after_samples xs (metering_in w f)).world g) =
+    ≡ after_samples ys (metering_in (after_samples xs (metering_in w f)).world g) =
     λ w stands. after_samples-append xs ys (metering_in w f)
     ∙ ap (λ (i : FiringCounts). after_samples ys
-        (metering_in (after_samples xs (metering_in w f)).world i)) (sym (first.firings w stands))
-        in
+    (metering_in (after_samples xs (metering_in w f)).world i)) (sym (first.firings w stands))
+    in
     record {
       world = λ w stands. subst (λ (m : Metering). StandsFor next m.world) (sym (both w stands))
           (later.world (after_samples xs (metering_in w f)).world (first.world w stands));
@@ -206,12 +208,12 @@ takes_on old now next f g h xs ys first later =
 pub takes_values_on : (old now next : RelayCore) (f g h : FiringCounts) (values : List ℕ) (at n : ℕ)
     → Takes old now f g (imports (take at values))
     → Takes now next g h (imports (take n (drop at values)))
-        → Takes old next f h (imports (take (at + n) values))
+    → Takes old next f h (imports (take (at + n) values))
 takes_values_on old now next f g h values at n first later =
     subst (Takes old next f h) (sym (ap imports (take-add at n values)
-        ∙ imports-append (take at values) (take n (drop at values))))
+    ∙ imports-append (take at values) (take n (drop at values))))
     (takes_on old now next f g h (imports (take at values)) (imports (take n (drop at values)))
-        first later)
+    first later)
 
 pub even_take : (n : ℕ) (vs xs : List ℕ) → length vs ≡ length xs → length (take n vs)
     ≡ length (take n xs)
@@ -229,14 +231,14 @@ pub takes_pairs_on : (old now next : RelayCore) (f g h : FiringCounts) (values o
 takes_pairs_on old now next f g h values others at n even first later =
     let cut : pairs (take (at + n) values) (take (at + n) others)
     ≡ pairs (take at values) (take at others)
-        ++ pairs (take n (drop at values)) (take n (drop at others)) =
+    ++ pairs (take n (drop at values)) (take n (drop at others)) =
     ap (λ (vs : List ℕ). pairs vs (take (at + n) others)) (take-add at n values)
     ∙ ap (pairs (take at values ++ take n (drop at values))) (take-add at n others)
     ∙ pairs-append (take at values) (take n (drop at values)) (take at others)
-        (take n (drop at others)) (even_take at values others (sym even)) in
+    (take n (drop at others)) (even_take at values others (sym even)) in
     subst (Takes old next f h) (sym cut)
     (takes_on old now next f g h (pairs (take at values) (take at others))
-        (pairs (take n (drop at values)) (take n (drop at others))) first later)
+    (pairs (take n (drop at values)) (take n (drop at others))) first later)
 
 -- a core that took one sample
 pub takes_one : (old next : RelayCore) (f g : FiringCounts) (x : Measurement) (fire : Fire)
@@ -262,8 +264,8 @@ at_most_more n m firings more most = record {
 -- a sample that fires nothing
 pub measured-quiet : (x : Measurement) (w : World) (firings : FiringCounts) → fire_at x w ≡ Quiet
     → metering_after x (metering_in w firings)
-        ≡ metering_in (with_metered x.which (with_sample w.moment x.value (metered_of x.which w)) w)
-        firings
+    ≡ metering_in (with_metered x.which (with_sample w.moment x.value (metered_of x.which w)) w)
+    firings
 unfolding metering_after after_sample after_fire with_firing
 measured-quiet x w firings quiet =
     let go : Fire → Metering = λ fire. record {
@@ -277,23 +279,25 @@ measured-quiet x w firings quiet =
 pub quiet_values : (values : List ℕ) (w : World) (firings : FiringCounts)
     → IsQuiet (limits_at w.import.settings w.moment) values w.import.rows
     → after_samples (imports values) (metering_in w firings)
-        ≡ metering_in (record w { import = metered_after w.moment values w.import }) firings
+    ≡ metering_in (record w { import = metered_after w.moment values w.import }) firings
 unfolding after_samples fire_at
 quiet_values [] w firings quiet = refl
 quiet_values (value ∷ values) w firings quiet =
     ap (after_samples (imports values)) (measured-quiet (record { which = Import; value = value }) w
-        firings quiet.0)
+    firings quiet.0)
     ∙ quiet_values values (record w { import = with_sample w.moment value w.import })
-        firings quiet.1
+    firings quiet.1
 
 -- pairs that fire nothing
 pub quiet_pairs : (values others : List ℕ) (w : World) (firings : FiringCounts) → length values
     ≡ length others
     → IsQuiet (limits_at w.import.settings w.moment) values w.import.rows
-        → IsQuiet (limits_at w.export.settings w.moment) others w.export.rows
+    → IsQuiet (limits_at w.export.settings w.moment) others w.export.rows
     → after_samples (pairs values others) (metering_in w firings)
-    ≡ metering_in (record w { import = metered_after w.moment values w.import;
-        export = metered_after w.moment others w.export }) firings
+    ≡ metering_in (record w {
+      import = metered_after w.moment values w.import;
+      export = metered_after w.moment others w.export;
+    }) firings
 unfolding after_samples fire_at
 quiet_pairs [] [] w firings even quiet other_quiet = refl
 quiet_pairs [] (other ∷ others) w firings even quiet other_quiet = absurd (omega (arith, even))
@@ -301,39 +305,42 @@ quiet_pairs (value ∷ values) [] w firings even quiet other_quiet = absurd (ome
 quiet_pairs (value ∷ values) (other ∷ others) w firings even quiet other_quiet =
     let between : World = record w { import = with_sample w.moment value w.import } in
     ap (λ (m : Metering). after_samples (pairs values others)
-        (metering_after (record { which = Export; value = other }) m))
+    (metering_after (record { which = Export; value = other }) m))
     (measured-quiet (record { which = Import; value = value }) w firings quiet.0)
     ∙ ap (after_samples (pairs values others))
-        (measured-quiet (record { which = Export; value = other }) between firings other_quiet.0)
+    (measured-quiet (record { which = Export; value = other }) between firings other_quiet.0)
     ∙ quiet_pairs values others (record between { export = with_sample w.moment other w.export })
-        firings (omega (arith, even)) quiet.1 other_quiet.1
+    firings (omega (arith, even)) quiet.1 other_quiet.1
 
 -- a core that took import values that fire nothing
 pub skipped_values : (old : RelayCore) (limiter : State) (values : List ℕ)
     (named : IsDeviceName old.device)
     (clock : old.export.moment ≡ limiter.moment) → 0 < length values
     → limiter.settings ≡ old.import.settings → limiter.moment ≡ old.import.moment → limiter.last
-        ≡ get_or values (length values - 1) 0
+    ≡ get_or values (length values - 1) 0
     → ((rows : List Row) → Keeps old.import rows
-        → Keeps limiter (rows_after (limits_of old.import) values rows))
+    → Keeps limiter (rows_after (limits_of old.import) values rows))
     → ((rows : List Row) → Keeps old.import rows → IsQuiet (limits_of old.import) values rows)
-    → (firings : FiringCounts) → Takes old (record old { import = limiter; named = named;
-        one_clock = clock }) firings firings (imports values)
+    → (firings : FiringCounts) → Takes old (record old {
+      import = limiter;
+      named = named;
+      one_clock = clock;
+    }) firings firings (imports values)
 skipped_values old limiter values named clock some settings moment last keeps quiet firings =
     let new : RelayCore = record old { import = limiter; named = named; one_clock = clock } in
     let after : (w : World) → StandsFor old w
     → after_samples (imports values) (metering_in w firings)
-        ≡ metering_in (record w { import = metered_after w.moment values w.import }) firings =
+    ≡ metering_in (record w { import = metered_after w.moment values w.import }) firings =
     λ w stands.
     let P : Limits → Type 0 = λ limits. IsQuiet limits values w.import.rows in
     quiet_values values w firings (subst P (same_limits old.import w.moment w.import stands.import)
-        (quiet w.import.rows stands.import.rows)) in
+    (quiet w.import.rows stands.import.rows)) in
     record {
       world = λ w stands.
           let import = metered_stands old.import limiter w.moment w.import values stands.import
-              settings moment some last (keeps w.import.rows stands.import.rows) in
+          settings moment some last (keeps w.import.rows stands.import.rows) in
           let stands_after : StandsFor new (record w
-              { import = metered_after w.moment values w.import }) = record {
+          { import = metered_after w.moment values w.import }) = record {
             device = stands.device;
             control = stands.control;
             import = import;
@@ -350,38 +357,50 @@ pub skipped_pairs : (old : RelayCore) (import export : State) (values others : L
     (named : IsDeviceName old.device)
     (clock : export.moment ≡ import.moment) → 0 < length values → length others ≡ length values
     → import.settings ≡ old.import.settings → import.moment ≡ old.import.moment → import.last
-        ≡ get_or values (length values - 1) 0
+    ≡ get_or values (length values - 1) 0
     → export.settings ≡ old.export.settings → export.moment ≡ old.export.moment → export.last
-        ≡ get_or others (length others - 1) 0
+    ≡ get_or others (length others - 1) 0
     → ((rows : List Row) → Keeps old.import rows
-        → Keeps import (rows_after (limits_of old.import) values rows))
+    → Keeps import (rows_after (limits_of old.import) values rows))
     → ((rows : List Row) → Keeps old.export rows
-        → Keeps export (rows_after (limits_of old.export) others rows))
+    → Keeps export (rows_after (limits_of old.export) others rows))
     → ((rows : List Row) → Keeps old.import rows → IsQuiet (limits_of old.import) values rows)
     → ((rows : List Row) → Keeps old.export rows → IsQuiet (limits_of old.export) others rows)
-    → (firings : FiringCounts) → Takes old (record old { import = import; export = export;
-        named = named; one_clock = clock }) firings firings (pairs values others)
+    → (firings : FiringCounts) → Takes old (record old {
+      import = import;
+      export = export;
+      named = named;
+      one_clock = clock;
+    }) firings firings (pairs values others)
 skipped_pairs old import export values others named clock some even settings moment last
     other_settings other_moment other_last keeps other_keeps quiet other_quiet firings =
-    let new : RelayCore = record old { import = import; export = export; named = named;
-        one_clock = clock } in
+    let new : RelayCore = record old {
+      import = import;
+      export = export;
+      named = named;
+      one_clock = clock;
+    } in
     let after : (w : World) → StandsFor old w
     → after_samples (pairs values others) (metering_in w firings)
-    ≡ metering_in (record w { import = metered_after w.moment values w.import;
-        export = metered_after w.moment others w.export }) firings =
+    ≡ metering_in (record w {
+      import = metered_after w.moment values w.import;
+      export = metered_after w.moment others w.export;
+    }) firings =
     λ w stands.
     let P : Limits → Type 0 = λ limits. IsQuiet limits values w.import.rows in
     let Q : Limits → Type 0 = λ limits. IsQuiet limits others w.export.rows in
     quiet_pairs values others w firings (sym even)
-        (subst P (same_limits old.import w.moment w.import stands.import)
-        (quiet w.import.rows stands.import.rows))
+    (subst P (same_limits old.import w.moment w.import stands.import)
+    (quiet w.import.rows stands.import.rows))
     (subst Q (same_limits old.export w.moment w.export stands.export)
-        (other_quiet w.export.rows stands.export.rows)) in
+    (other_quiet w.export.rows stands.export.rows)) in
     record {
       world = λ w stands.
           let stands_after : StandsFor new
-          (record w { import = metered_after w.moment values w.import;
-              export = metered_after w.moment others w.export }) = record {
+          (record w {
+            import = metered_after w.moment values w.import;
+            export = metered_after w.moment others w.export;
+          }) = record {
             device = stands.device;
             control = stands.control;
             import = metered_stands old.import import w.moment w.import values stands.import

@@ -33,18 +33,18 @@ pub at_script-more : (origin : Origin) (step : Step) (steps : List Step) (v : Wo
 unfolding at_script
 at_script-more origin step steps v code =
     let go : ResultCode → Outcome = λ c. if is_success c then at_script origin steps
-        (at_step origin step v).world else at_step origin step v in
+    (at_step origin step v).world else at_step origin step v in
     sym (ap go code)
 
 -- a script stops at a step that is refused
 pub at_script-stops : (origin : Origin) (step : Step) (steps : List Step) (v : World)
     (code : ResultCode) → is_success code ≡ false
     → code ≡ (at_step origin step v).code → at_script origin (step ∷ steps) v
-        ≡ at_step origin step v
+    ≡ at_step origin step v
 unfolding at_script
 at_script-stops origin step steps v code refused is =
     let go : Bool → Outcome = λ b. if b then at_script origin steps (at_step origin step v).world
-        else at_step origin step v in
+    else at_step origin step v in
     ap go (ap is_success (sym is) ∙ refused)
 
 -- a script without steps succeeds
@@ -66,7 +66,7 @@ pub record Underway (old now : RelayCore) (origin : Origin) (selector i : ℕ) :
   pub schedules : now.schedules ≡ old.schedules
   pub so_far : (w : World) → StandsFor old w
       → Left now origin (drop i (running_steps selector old.scripts))
-          (at_script origin (running_steps selector old.scripts) w)
+      (at_script origin (running_steps selector old.scripts) w)
 
 -- A core after a script, and the script's result.
 pub record Ended (old next : RelayCore) (origin : Origin) (selector : ℕ) (result : ResultCode) :
@@ -88,21 +88,21 @@ begun core origin selector = record {
 -- what remains before a step, with that step first
 left_before : (old now : RelayCore) (origin : Origin) (selector i : ℕ) (step : Step)
     → drop i (running_steps selector now.scripts) ≡ step
-        ∷ drop (i + 1) (running_steps selector now.scripts)
+    ∷ drop (i + 1) (running_steps selector now.scripts)
     → (under : Underway old now origin selector i) (w : World) → StandsFor old w
     → Left now origin (step ∷ drop (i + 1) (running_steps selector old.scripts))
-        (at_script origin (running_steps selector old.scripts) w)
+    (at_script origin (running_steps selector old.scripts) w)
 left_before old now origin selector i step rest under w stands =
     let front : List Script → Type 0 = λ scripts. drop i (running_steps selector scripts) ≡ step
-        ∷ drop (i + 1) (running_steps selector scripts) in
+    ∷ drop (i + 1) (running_steps selector scripts) in
     let P : List Step → Type 0 = λ steps. Left now origin steps
-        (at_script origin (running_steps selector old.scripts) w) in
+    (at_script origin (running_steps selector old.scripts) w) in
     subst P (subst front under.scripts rest) (under.so_far w stands)
 
 -- after a step that succeeds
 pub further : (old now next : RelayCore) (origin : Origin) (selector i : ℕ) (step : Step)
     → drop i (running_steps selector now.scripts) ≡ step
-        ∷ drop (i + 1) (running_steps selector now.scripts)
+    ∷ drop (i + 1) (running_steps selector now.scripts)
     → ((w : World) → StandsFor now w → StandsFor next (at_step origin step w).world)
     → ((w : World) → StandsFor now w → Success ≡ (at_step origin step w).code)
     → next.scripts ≡ now.scripts
@@ -125,18 +125,18 @@ further old now next origin selector i step rest goes succeeds kept kept_too und
 -- a claim about the old core's scripts holds for each world that the core represents
 told_of_worlds : (old next : RelayCore) (origin : Origin) (selector : ℕ) (result : ResultCode)
     → ((w : World) → StandsFor old w → StandsFor next
-        (at_script origin (running_steps selector old.scripts) w).world)
+    (at_script origin (running_steps selector old.scripts) w).world)
     → ((w : World) → StandsFor old w → result
-        ≡ (at_script origin (running_steps selector old.scripts) w).code)
+    ≡ (at_script origin (running_steps selector old.scripts) w).code)
     → Ended old next origin selector result
 told_of_worlds old next origin selector result world code = record {
   world = λ w stands.
       let P : List Script → Type 0 = λ scripts. StandsFor next
-          (at_script origin (running_steps selector scripts) w).world in
+      (at_script origin (running_steps selector scripts) w).world in
       subst P stands.scripts (world w stands);
   code = λ w stands.
       let P : List Script → Type 0 = λ scripts. result
-          ≡ (at_script origin (running_steps selector scripts) w).code in
+      ≡ (at_script origin (running_steps selector scripts) w).code in
       subst P stands.scripts (code w stands);
 }
 
@@ -144,7 +144,7 @@ told_of_worlds old next origin selector result world code = record {
 pub stopped : (old now next : RelayCore) (origin : Origin) (selector i : ℕ) (step : Step)
     (refused : ResultCode)
     → drop i (running_steps selector now.scripts) ≡ step
-        ∷ drop (i + 1) (running_steps selector now.scripts)
+    ∷ drop (i + 1) (running_steps selector now.scripts)
     → ((w : World) → StandsFor now w → StandsFor next (at_step origin step w).world)
     → ((w : World) → StandsFor now w → refused ≡ (at_step origin step w).code)
     → is_success refused ≡ false
@@ -155,13 +155,13 @@ stopped old now next origin selector i step refused rest goes answers fails unde
     (λ w stands.
     let left = left_before old now origin selector i step rest under w stands in
     let is = sym (at_script-stops origin step _ left.world refused fails
-        (answers left.world left.stands)) ∙ left.same in
+    (answers left.world left.stands)) ∙ left.same in
     let P : Outcome → Type 0 = λ o. StandsFor next o.world in
     subst P is (goes left.world left.stands))
     (λ w stands.
     let left = left_before old now origin selector i step rest under w stands in
     let is = sym (at_script-stops origin step _ left.world refused fails
-        (answers left.world left.stands)) ∙ left.same in
+    (answers left.world left.stands)) ∙ left.same in
     let P : Outcome → Type 0 = λ o. refused ≡ o.code in
     subst P is (answers left.world left.stands))
 
@@ -179,13 +179,13 @@ finished old now origin selector i counted under =
     (λ w stands.
     let left = under.so_far w stands in
     let is = sym (ap (λ (rest : List Step). at_script origin rest left.world) last
-        ∙ at_script-none origin left.world) ∙ left.same in
+    ∙ at_script-none origin left.world) ∙ left.same in
     let P : Outcome → Type 0 = λ o. StandsFor now o.world in
     subst P is left.stands)
     (λ w stands.
     let left = under.so_far w stands in
     let is = sym (ap (λ (rest : List Step). at_script origin rest left.world) last
-        ∙ at_script-none origin left.world) ∙ left.same in
+    ∙ at_script-none origin left.world) ∙ left.same in
     let P : Outcome → Type 0 = λ o. Success ≡ o.code in
     subst P is refl)
 
@@ -196,7 +196,7 @@ pub no_script : (origin : Origin) (selector : ℕ) (scripts : List Script) (w : 
 no_script origin selector scripts w none =
     let P : Option (List Step) → Type 0 = λ found.
     None ≡ option_map length found → at_script origin (unwrap_or found []) w
-        ≡ record { world = w; code = Success } in
+    ≡ record { world = w; code = Success } in
     let cases : (found : Option (List Step)) → P found = λ found. elim found as P
-        [ None ↦ λ _. at_script-none origin w | Some steps ↦ λ other. absurd (cc) ] in
+    [ None ↦ λ _. at_script-none origin w | Some steps ↦ λ other. absurd (cc) ] in
     cases (steps_at selector scripts) none

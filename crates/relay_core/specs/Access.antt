@@ -1,3 +1,5 @@
+-- The object that a request names, or the result code that refuses it: name, class, rights and
+-- selective access, in this order.
 use Rattle.std.specs.Prelude.{Bool, Option, Some, None, Result, Ok, Err, ◌==◌, not, if◌then◌else◌}
 use Rattle.cosem_names.specs.declared.name.Obis.{Obis}
 use Rattle.cosem_names.specs.declared.name.ClassId.{ClassId}

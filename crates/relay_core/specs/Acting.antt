@@ -1,3 +1,5 @@
+-- The effect of a client's ACTION on the switch or the script table, and of a press of the button
+-- (IEC 62056-5-3).
 use Rattle.std.specs.Prelude.{ℕ, false, List, option_and_then, Option, Some, None, Result, Ok, Err, ◌==◌, if◌then◌else◌}
 use Rattle.cosem_axdr.specs.declared.value.Data.{Data}
 use Rattle.cosem_axdr.specs.Forms.{long_unsigned_of}

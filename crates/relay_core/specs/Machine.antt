@@ -1,3 +1,5 @@
+-- The meter as a state machine: the world and the reply after each event, and which events never
+-- allocate.
 use Rattle.std.specs.Prelude.{Bool, true, false}
 use Rattle.cosem_names.specs.declared.service.GetResult.{GetResult}
 use Rattle.cosem_names.specs.declared.service.GetResult.TheVariants as result

@@ -1,3 +1,4 @@
+-- The result of a client's GET, for every object and attribute of the meter (IEC 62056-5-3).
 use Rattle.std.specs.Prelude.{ℕ, Bool, List, Result, Ok, Err, ◌==◌, map, Option, Some, None, if◌then◌else◌}
 use Rattle.action_schedule.specs.Attributes.{attribute_numbered as schedule_attribute}
 use Rattle.action_schedule.specs.Writing.{data_at as schedule_data}
@@ -49,7 +50,7 @@ own_value_in level DisconnectControl number w =
     result_of_attribute (λ attribute. control_data attribute w.control) (control_attribute number)
 own_value_in level (Limiter which) number w =
     result_of_attribute (λ attribute. limiter_data which attribute
-        (metered_of which w).settings w.moment)
+    (metered_of which w).settings w.moment)
     (limiter_attribute number)
 
 -- the result of reading an attribute of an object; attribute 1 is the logical name in every class

@@ -1,3 +1,5 @@
+-- Lists of events: the world after them, their lines, and how a run of the core that ran out of
+-- memory stops.
 use Rattle.std.specs.Prelude.{◌≡◌, ℕ, ◌≤◌, ◌⊎◌, false, List, [], ◌∷◌, Some, length, take, slice_get}
 use Rattle.disconnect_control.specs.declared.state.ControlState.TheVariants.{Connected}
 use Rattle.disconnect_control.specs.Transitions.{is_state}

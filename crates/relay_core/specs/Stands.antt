@@ -1,3 +1,5 @@
+-- The relation between a core and the world that it represents: equal parts, and runs of samples
+-- instead of all samples.
 use Rattle.std.specs.Prelude.{◌≡◌, ℕ, Option}
 use Rattle.relay_core.specs.declared.relay.RelayCore.{RelayCore}
 use Rattle.limiter_core.specs.State.{State, Keeps}

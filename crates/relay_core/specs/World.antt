@@ -1,3 +1,4 @@
+-- The mathematical model of the meter, with every sample it ever took, and a new meter.
 use Rattle.std.specs.Prelude.{ℕ, ◌≤◌, List, [], length, Option, None}
 use Rattle.cosem_names.specs.declared.result_code.ResultCode.{ResultCode}
 use Rattle.disconnect_control.specs.declared.state.ControlState.TheVariants.{Connected}

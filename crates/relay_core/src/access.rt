@@ -1,3 +1,4 @@
+//! Finds the object that a request names, or the first result code that refuses the request.
 ghost use Rattle.std.specs.Prelude.{◌≡◌};
 ghost use Rattle.relay_core.specs.Access.{target_of};
 

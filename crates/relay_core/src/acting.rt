@@ -1,3 +1,5 @@
+//! ACTIONs and the button: a method of the switch or of the script table, executed on the core (IEC
+//! 62056-5-3).
 ghost use Rattle.std.specs.Prelude.{◌≡◌};
 ghost use Rattle.relay_core.specs.World.{World};
 ghost use Rattle.relay_core.specs.Stands.{StandsFor};

@@ -1,3 +1,5 @@
+//! Moments of the clock: a later one runs the scripts of all schedules that are due since the last
+//! (IEC 62056-6-2, class 22).
 ghost use Rattle.std.specs.Prelude.{◌≡◌};
 ghost use Rattle.std.specs.List.{count_by};
 ghost use Rattle.action_schedule.specs.Fitting.{is_due};

@@ -1,3 +1,5 @@
+//! Theorems about the core: limiters depend on runs alone, replies fit their events, and a script's
+//! steps act like client requests.
 ghost use Rattle.std.specs.Prelude.{◌≡◌};
 ghost use Rattle.relay_events.specs.declared.event.Event.{Event};
 ghost use Rattle.cosem_axdr.specs.declared.value.Data.{Data};

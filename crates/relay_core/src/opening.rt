@@ -1,3 +1,4 @@
+//! The saved state of a core: saving, validating and restoring it.
 ghost use Rattle.std.specs.Prelude.{◌≡◌, ◌↔◌, IfOk, IsErrOf, IfSome, IsSome, IsTrue};
 ghost use Rattle.relay_core.specs.Numbers.{fault_number};
 ghost use Rattle.limiter_core.specs.State.{IsFit};

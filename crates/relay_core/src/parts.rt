@@ -1,3 +1,5 @@
+//! Decodes the list that a SET stores before the event is applied, so that applying it does not
+//! allocate.
 ghost use Rattle.std.specs.Prelude.{◌≡◌, IfOk, IsOk, IsTrue};
 ghost use Rattle.action_schedule.specs.Reading.{entries_of};
 ghost use Rattle.limiter_attributes.specs.Reading.{groups_of};

@@ -1,3 +1,5 @@
+//! GETs: the value of an attribute of each object, or the result code that refuses the read (IEC
+//! 62056-5-3).
 ghost use Rattle.std.specs.Prelude.{◌≡◌, ◌≢◌, IfOk, IsOk, IsTrue};
 ghost use Rattle.relay_core.specs.World.{World};
 ghost use Rattle.relay_core.specs.Stands.{StandsFor};
@@ -44,7 +46,7 @@ impl RelayCore {
     ) -> Result<GetResult, AllocError>
         ensures value { IfOk result (λ r. (w : World) → StandsFor self.now w
             → r ≡ result_of_attribute (λ attribute. register_data attribute
-                (metered_of which w).last)
+            (metered_of which w).last)
             (register_attribute number)) }
         ensures plain { IsTrue (is_plain_where is_plain_register (register_attribute number))
             → IsOk result }

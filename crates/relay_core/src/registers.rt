@@ -1,3 +1,4 @@
+//! The registers of active power: value and scaler_unit, in watts (IEC 62056-6-2, class 3).
 ghost use Rattle.std.specs.Prelude.{◌≡◌, IfOk, IsOk, IsTrue};
 ghost use Rattle.relay_core.specs.Registers.{attribute_numbered, data_at, is_plain};
 

@@ -1,3 +1,4 @@
+//! `RelayCore`, the state of the meter: a new meter, copies, and the values that callers read.
 ghost use Rattle.std.specs.Prelude.{◌≡◌, IfOk};
 ghost use Rattle.relay_core.specs.World.{IsDeviceName};
 

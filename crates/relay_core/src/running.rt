@@ -1,3 +1,5 @@
+//! Applies events to the core: one with its reply, one without allocating, or a list with a line
+//! for each.
 ghost use Rattle.std.specs.Prelude.{◌≡◌, IfOk, IfErr, IsOk, IsTrue, OnOk, OnErr};
 ghost use Rattle.relay_core.specs.World.{World};
 ghost use Rattle.relay_core.specs.Stands.{StandsFor};

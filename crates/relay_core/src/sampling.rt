@@ -1,3 +1,5 @@
+//! Blocks of power samples: both limiters take them in order, and each firing runs its script (IEC
+//! 62056-6-2, class 71).
 ghost use Rattle.std.specs.Prelude.{◌≡◌, ℕ, ◌+◌, ◌≤◌, length, IfSome};
 ghost use Rattle.lane_sampler.specs.Scans.{IsRightScan};
 ghost use Rattle.relay_events.specs.Kinds.{IsOfSamples};

@@ -1,3 +1,5 @@
+//! The meter's four single action schedules, and how clients read and write their attributes (IEC
+//! 62056-6-2, class 22).
 ghost use Rattle.std.specs.Prelude.{◌≡◌, IfOk, IsOk, IsTrue};
 ghost use Rattle.action_schedule.specs.Attributes.{attribute_numbered, is_plain};
 ghost use Rattle.action_schedule.specs.Reading.{selector_of, kind_of};
@@ -92,7 +94,7 @@ pub(crate) fn read_schedule(
 ) -> Result<GetResult, AllocError>
     ensures value { IfOk result (λ r. r
         ≡ result_of_attribute (λ attribute. data_at attribute schedule.now)
-            (attribute_numbered number)) }
+        (attribute_numbered number)) }
     ensures plain { IsTrue (is_plain_where is_plain (attribute_numbered number)) → IsOk result }
 {
     let Some(attribute) = ScheduleAttribute::of_number(number) else {

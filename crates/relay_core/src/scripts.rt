@@ -1,3 +1,4 @@
+//! Runs a script on the core, step by step, until a step is refused (IEC 62056-6-2, class 9).
 ghost use Rattle.std.specs.Prelude.{◌≡◌, length};
 ghost use Rattle.relay_core.specs.Scripts.{disconnect_by, reconnect_by, at_step, at_script};
 ghost use Rattle.relay_core.specs.Stands.{StandsFor};

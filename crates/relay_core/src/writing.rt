@@ -1,3 +1,5 @@
+//! SETs: writes an attribute of the switch, a limiter, a schedule or the script table, and returns
+//! the result code (IEC 62056-5-3).
 ghost use Rattle.std.specs.Prelude.{◌≡◌, IfOk, IsOk, IsTrue, OnOk, OnErr};
 ghost use Rattle.disconnect_control.specs.Attributes.{attribute_numbered as control_attribute};
 ghost use Rattle.limiter_attributes.specs.Attributes.{attribute_numbered};

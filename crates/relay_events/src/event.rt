@@ -1,3 +1,5 @@
+//! The inputs of a meter: client requests, presses of the button, blocks of power samples, moments
+//! of the clock.
 ghost use Rattle.std.specs.Prelude.{◌≡◌, IfOk};
 ghost use Rattle.relay_events.specs.Kinds.{is_read};
 

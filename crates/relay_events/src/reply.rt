@@ -1,3 +1,4 @@
+//! The meter's reply to an event, and the line of a run: reply, control state and supply output.
 use cosem_axdr::Data;
 use cosem_names::{GetResult, ResultCode};
 use disconnect_control::ControlState;

@@ -18,7 +18,7 @@ use Rattle.relay_recorder.proofs.Pushed.{keep_last-more, all_but_last-more}
 -- the replies of a run with one more event
 replies_from-push : (events : List Event) (event : Event) (origin : World)
     → replies_from origin (events ++ event ∷ []) ≡ replies_from origin events
-        ++ (at_event event (world_after events origin)).reply ∷ []
+    ++ (at_event event (world_after events origin)).reply ∷ []
 replies_from-push events event origin =
     let reply_in : Line → Reply = λ line. line.reply in
     ap (map reply_in) (lines_of-append events (event ∷ []) origin)
@@ -31,7 +31,7 @@ pub continues : (old new : Recording) (event : Event) (reply : Reply)
     → ((w : World) → StandsFor old.core w → reply ≡ (at_event event w).reply)
     → new.events ≡ keep_last old.capacity (old.events ++ event ∷ [])
     → ((w : World) → StandsFor old.opening w → StandsFor new.opening
-        (world_after (all_but_last old.capacity (old.events ++ event ∷ [])) w))
+    (world_after (all_but_last old.capacity (old.events ++ event ∷ [])) w))
     → new.capacity ≡ old.capacity
     → Continues old new event reply
 continues old new event reply core_goes answers kept opening_goes same = record {
@@ -42,15 +42,15 @@ continues old new event reply core_goes answers kept opening_goes same = record 
       let before = world_after events origin in
       let first_world = world_after (all_but_last n events) origin in
       let all_events : events_of (history ++ told ∷ []) ≡ events ++ event ∷ [] =
-          map_push (λ (t : Exchange). t.0) history told in
+      map_push (λ (t : Exchange). t.0) history told in
       let all_replies : replies_of (history ++ told ∷ []) ≡ replies_of history ++ reply ∷ [] =
-          map_push (λ (t : Exchange). t.1) history told in
+      map_push (λ (t : Exchange). t.1) history told in
       let pushed : keep_last n events ++ event ∷ [] ≡ old.events ++ event ∷ [] =
-          ap (λ es. es ++ event ∷ []) (sym stands.kept) in
+      ap (λ es. es ++ event ∷ []) (sym stands.kept) in
       let opened : all_but_last n (events ++ event ∷ []) ≡ all_but_last n events
-          ++ all_but_last n (old.events ++ event ∷ []) =
+      ++ all_but_last n (old.events ++ event ∷ []) =
       all_but_last-more n events event ∙ ap (λ es. all_but_last n events
-          ++ all_but_last n es) pushed in
+      ++ all_but_last n es) pushed in
       record {
         legal =
             all_replies
@@ -61,8 +61,8 @@ continues old new event reply core_goes answers kept opening_goes same = record 
         core = subst (λ (es : List Event). StandsFor new.core (world_after es origin))
             (sym all_events)
             (subst (λ (w : World). StandsFor new.core w)
-                (sym (world_after-append events (event ∷ []) origin))
-                (core_goes before stands.core));
+            (sym (world_after-append events (event ∷ []) origin))
+            (core_goes before stands.core));
         kept =
             kept
             ∙ ap (keep_last n) (sym pushed)
@@ -72,7 +72,7 @@ continues old new event reply core_goes answers kept opening_goes same = record 
             (sym opened ∙ (λ i. all_but_last (sym same i) (sym all_events i)))
             (subst (λ (w : World). StandsFor new.opening w)
             (sym (world_after-append (all_but_last n events)
-                (all_but_last n (old.events ++ event ∷ [])) origin))
+            (all_but_last n (old.events ++ event ∷ [])) origin))
             (opening_goes first_world stands.opening));
       };
 }
@@ -85,17 +85,17 @@ pub applied : (core opening next next_opening : RelayCore) (kept ring : Buffer E
     → newest ≡ event
     → ring ≡ buffer (keep_last kept.capacity (kept.items ++ newest ∷ [])) kept.capacity
     → ((w : World) → StandsFor opening w → StandsFor next_opening
-        (world_after (all_but_last kept.capacity (kept.items ++ newest ∷ [])) w))
+    (world_after (all_but_last kept.capacity (kept.items ++ newest ∷ [])) w))
     → Continues (recording core opening kept) (recording next next_opening ring) event reply
 applied core opening next next_opening kept ring event newest reply core_goes answers same pushed
     opening_goes =
     continues (recording core opening kept) (recording next next_opening ring) event reply core_goes
-        answers
+    answers
     (ap (λ (b : Buffer Event). b.items) pushed
-        ∙ ap (λ (e : Event). keep_last kept.capacity (kept.items ++ e ∷ [])) same)
+    ∙ ap (λ (e : Event). keep_last kept.capacity (kept.items ++ e ∷ [])) same)
     (λ w stands. subst (λ (e : Event). StandsFor next_opening
-        (world_after (all_but_last kept.capacity (kept.items ++ e ∷ [])) w)) same
-        (opening_goes w stands))
+    (world_after (all_but_last kept.capacity (kept.items ++ e ∷ [])) w)) same
+    (opening_goes w stands))
     (ap (λ (b : Buffer Event). b.capacity) pushed)
 
 -- no event is dropped from an empty list, and none remains in it

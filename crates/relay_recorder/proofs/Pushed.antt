@@ -21,8 +21,13 @@ module _ {X : Type 0} where
       + (length (keep_last n xs ++ x ∷ []) - n)
   cut_at n xs x =
       let within : length xs - n ≤ length xs = omega arith in
-      omega (arith, length_push xs x, length_push (keep_last n xs) x,
-          length-drop (length xs - n) xs, length-take-le (length xs - n) xs within)
+      omega (
+        arith,
+        length_push xs x,
+        length_push (keep_last n xs) x,
+        length-drop (length xs - n) xs,
+        length-take-le (length xs - n) xs within,
+      )
 
   -- the last n items of a longer list are those of its last n items and the new one
   pub keep_last-more : (n : ℕ) (xs : List X) (x : X) → keep_last n (xs ++ x ∷ [])
@@ -30,17 +35,17 @@ module _ {X : Type 0} where
   keep_last-more n xs x =
       (λ i. drop (cut_at n xs x i) (parted n xs x i))
       ∙ drop-append-add (all_but_last n xs) (keep_last n xs ++ x
-          ∷ []) (length (keep_last n xs ++ x ∷ []) - n)
+      ∷ []) (length (keep_last n xs ++ x ∷ []) - n)
 
   -- the items before the last n of a longer list: those before, then those that the new item pushes
   -- out
   pub all_but_last-more : (n : ℕ) (xs : List X) (x : X)
       → all_but_last n (xs ++ x ∷ []) ≡ all_but_last n xs
-          ++ all_but_last n (keep_last n xs ++ x ∷ [])
+      ++ all_but_last n (keep_last n xs ++ x ∷ [])
   all_but_last-more n xs x =
       (λ i. take (cut_at n xs x i) (parted n xs x i))
       ∙ take-append-add (all_but_last n xs) (keep_last n xs ++ x
-          ∷ []) (length (keep_last n xs ++ x ∷ []) - n)
+      ∷ []) (length (keep_last n xs ++ x ∷ []) - n)
 
   first_item : (xs : List X) → take 1 xs ≡ option_to_list (slice_get xs 0)
   first_item [] = refl
@@ -56,11 +61,11 @@ module _ {X : Type 0} where
       → all_but_last n (xs ++ x ∷ []) ≡ option_to_list r
   pushed_by n xs x r true test within is =
       let none : length (xs ++ x ∷ []) - n ≡ 0 =
-          omega (arith, length_push xs x, ltb-true (length xs) n test) in
+      omega (arith, length_push xs x, ltb-true (length xs) n test) in
       ap (λ k. take k (xs ++ x ∷ [])) none ∙ no_item (xs ++ x ∷ []) ∙ ap option_to_list (sym is)
   pushed_by n xs x r false test within is =
       let one : length (xs ++ x ∷ []) - n ≡ 1 =
-          omega (arith, length_push xs x, ltb-false (length xs) n test) in
+      omega (arith, length_push xs x, ltb-false (length xs) n test) in
       ap (λ k. take k (xs ++ x ∷ [])) one ∙ first_item (xs ++ x ∷ []) ∙ ap option_to_list (sym is)
 
   -- the item that a push returns is the one that it pushes out

@@ -23,10 +23,13 @@ use Rattle.relay_recorder.specs.Replaying.{RunsAgain}
 -- worlds that agree give equal lines
 line_alike : (a b : Stepped) → GoAlike a b → line_of a ≡ line_of b
 line_alike a b go =
-    let make : Reply → Control → Line = λ reply control. record { reply = reply;
-        state = control.state; output = is_state control.state Connected } in
+    let make : Reply → Control → Line = λ reply control. record {
+      reply = reply;
+      state = control.state;
+      output = is_state control.state Connected;
+    } in
     ap (λ reply. make reply a.world.control) go.reply
-        ∙ ap (λ (w : World). make b.reply w.control) (sym go.world.same)
+    ∙ ap (λ (w : World). make b.reply w.control) (sym go.world.same)
 
 pub lines_alike : (events : List Event) (v w : World) → IsWorld v → Agree v w → lines_of events v
     ≡ lines_of events w
@@ -37,7 +40,7 @@ lines_alike (event ∷ events) v w range agree =
     let b = at_event event w in
     ap (λ (line : Line). line ∷ lines_of events a.world) (line_alike a b go)
     ∙ ap (λ (lines : List Line). line_of b ∷ lines)
-        (lines_alike events a.world b.world go.range go.world)
+    (lines_alike events a.world b.world go.range go.world)
 
 lines_length : (events : List Event) (w : World) → length (lines_of events w) ≡ length events
 lines_length [] w = refl
@@ -46,19 +49,23 @@ lines_length (event ∷ events) w = ap suc (lines_length events (at_event event 
 -- the lines of a run are those of the events before the last n, followed by those of the last n
 last_lines : (n : ℕ) (events : List Event) (w : World)
     → drop (length events - length (keep_last n events)) (lines_of events w)
-        ≡ lines_of (keep_last n events) (world_after (all_but_last n events) w)
+    ≡ lines_of (keep_last n events) (world_after (all_but_last n events) w)
 last_lines n events w =
     let before = all_but_last n events in
     let kept = keep_last n events in
     let within : length events - n ≤ length events = omega arith in
     let count : length events - length kept ≡ length (lines_of before w) + 0 =
-    omega (arith, length-drop (length events - n) events,
-        length-take-le (length events - n) events within, lines_length before w) in
+    omega (
+      arith,
+      length-drop (length events - n) events,
+      length-take-le (length events - n) events within,
+      lines_length before w,
+    ) in
     let parts : lines_of events w ≡ lines_of before w ++ lines_of kept (world_after before w) =
     ap (λ (es : List Event). lines_of es w) (sym (take-append-drop (length events - n) events))
-        ∙ lines_of-append before kept w in
+    ∙ lines_of-append before kept w in
     (λ i. drop (count i) (parts i)) ∙ drop-append-add (lines_of before w)
-        (lines_of kept (world_after before w)) 0
+    (lines_of kept (world_after before w)) 0
 
 drop_map : {X Y : Type 0} (f : X → Y) (n : ℕ) (xs : List X) → map f (drop n xs) ≡ drop n (map f xs)
 drop_map f zero [] = refl
@@ -76,19 +83,19 @@ runs_again r history origin world stands range agrees =
     let n = r.capacity in
     let before = world_after (all_but_last n events) origin in
     let alike : lines_of r.events world ≡ lines_of r.events before =
-        lines_alike r.events world before range (agrees before stands.opening) in
+    lines_alike r.events world before range (agrees before stands.opening) in
     let kept : lines_of r.events before ≡ lines_of (keep_last n events) before =
-        ap (λ (es : List Event). lines_of es before) stands.kept in
+    ap (λ (es : List Event). lines_of es before) stands.kept in
     let long : length events ≡ length history = length-map history (λ (told : Exchange). told.0) in
     let count : length events - length (keep_last n events) ≡ length history - length r.events =
     (λ i. long i - length (sym stands.kept i)) in
     let last = ap (λ (k : ℕ). drop k (lines_of events origin)) (sym count)
-        ∙ last_lines n events origin in
+    ∙ last_lines n events origin in
     let lines = alike ∙ kept ∙ sym last in
     record {
       lines = lines;
       replies = ap (map (λ (line : Line). line.reply)) lines
           ∙ drop_map (λ (line : Line). line.reply) (length history - length r.events)
-              (lines_of events origin)
+          (lines_of events origin)
           ∙ ap (drop (length history - length r.events)) (sym stands.legal);
     }

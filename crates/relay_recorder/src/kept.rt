@@ -1,3 +1,4 @@
+//! The ring of the last events: a full ring moves its oldest event into the opening core.
 ghost use Rattle.std.specs.Prelude.{◌≡◌, [], ◌∷◌, ◌++◌, ◌≤◌, length};
 ghost use Rattle.circular_buffer.specs.Buffer.{buffer, keep_last};
 ghost use Rattle.relay_core.specs.Moving.{parts_of};

@@ -1,3 +1,5 @@
+//! `Recorder`: a core with its last events, at most 1,024, and the core as it was before them, from
+//! which a trace is made.
 ghost use Rattle.std.specs.Prelude.{◌≡◌, ◌<◌, ◌≤◌, [], ◌∷◌, ◌++◌, length, slice_get, IfOk, IsOk, IsTrue, OnOk, OnErr, Some};
 ghost use Rattle.circular_buffer.specs.Buffer.{keep_last};
 ghost use Rattle.relay_core.specs.Machine.{is_sure};

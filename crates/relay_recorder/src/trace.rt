@@ -1,3 +1,4 @@
+//! `Trace`: a saved state of a core and the events after it, enough to replay a run.
 use relay_core::Opening;
 use relay_events::Events;
 

@@ -19,7 +19,7 @@ given_by lists = record {
 
 listed : (recorder : Recording) (lists : Lists) (served : Served) (text : List ℕ)
     → IsRun recorder (given_by lists) (Ok served) text
-        → IsListedRun recorder lists served.served text
+    → IsListedRun recorder lists served.served text
 listed recorder lists served text run = record {
   calls = run.calls;
   listed = record {

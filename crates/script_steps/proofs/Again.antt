@@ -72,8 +72,8 @@ step_again : (s : Step) → IsStep s → step_of (step_data s) ≡ Ok s
 unfolding step_of
 step_again s fits =
     ap (λ o. ok_or o Unmatched >>= with_action) (parts_again s)
-        ∙ ap (λ o. ok_or o Value >>= λ a. step_with a (parameter_of s)) (action_again (action_of s))
-        ∙ parameter_again s fits
+    ∙ ap (λ o. ok_or o Value >>= λ a. step_with a (parameter_of s)) (action_again (action_of s))
+    ∙ parameter_again s fits
 
 -- the parts of a written script
 script_parts_again : (s : Script) → script_parts_of (script_data s)
@@ -94,8 +94,10 @@ within s fits = grind (arith, nat_tests, fits.named, fits.few, length-map)
 
 -- a script from its parts
 abbrev as_script : Result (ℕ × List Data) WriteFault → Result Script WriteFault
-as_script judged = judged >>= λ parts. Ok (record { identifier = parts.0;
-    steps = values step_of parts.1 })
+as_script judged = judged >>= λ parts. Ok (record {
+  identifier = parts.0;
+  steps = values step_of parts.1;
+})
 
 -- a written script reads as itself
 script_again : (s : Script) → IsScript s → script_of (script_data s) ≡ Ok s
@@ -105,7 +107,7 @@ script_again s fits =
     let are = all_again step_of step_data IsStep step_again s.steps fits.fit in
     ap (λ o. as_script (ok_or o Unmatched >>= judged_with)) (script_parts_again s)
     ∙ ap (λ r. as_script (r >> (guard (not (parts.0 == 0) && nat_le (length parts.1) max_steps)
-        Value >> done WriteFault parts))) (told_again are)
+    Value >> done WriteFault parts))) (told_again are)
     ∙ ap (λ b. as_script (guard b Value >> done WriteFault parts)) (within s fits)
     ∙ ap (λ steps. done WriteFault (record { identifier = s.identifier; steps = steps })) are.are
 
@@ -113,10 +115,10 @@ script_again s fits =
 table_within : (scripts : List Script) → IsTable scripts
     → AreRead script_of (map script_data scripts) scripts
     → nat_le (length (map script_data scripts)) max_scripts
-        && are_distinct identifier_of (map script_data scripts) ≡ true
+    && are_distinct identifier_of (map script_data scripts) ≡ true
 table_within scripts fits are =
     ap₂ (λ a b. a && b) few (same_distinct (map script_data scripts) are.faultless
-        ∙ ap (λ xs. are_distinct (λ script. script.identifier) xs) are.are ∙ fits.distinct)
+    ∙ ap (λ xs. are_distinct (λ script. script.identifier) xs) are.are ∙ fits.distinct)
   where
     few : nat_le (length (map script_data scripts)) max_scripts ≡ true
     few = grind (arith, nat_tests, fits.few, length-map)
@@ -134,17 +136,17 @@ table_again scripts fits =
     let are = all_again script_of script_data IsScript script_again scripts fits.fit in
     ap (λ read. with_items read) (list_of_trees items)
     ∙ ap (λ r. (r >> guard (nat_le (length items) max_scripts && are_distinct identifier_of items)
-        Value) >> done WriteFault (values script_of items)) (told_again are)
+    Value) >> done WriteFault (values script_of items)) (told_again are)
     ∙ ap (λ b. guard b Value >> done WriteFault (values script_of items))
-        (table_within scripts fits are)
+    (table_within scripts fits are)
     ∙ ap (λ xs. done WriteFault xs) are.are
 
 -- a table whose writing did not run out of memory reads as itself
 pub written_again : {E : Type 0} (result : Result Data E) (written scripts table : List Script)
     → IsTable scripts → written ≡ scripts → scripts ≡ table
     → IfOk result (λ value. value ≡ data_of written)
-        → IfOk result (λ value. table_of value ≡ Ok table)
+    → IfOk result (λ value. table_of value ≡ Ok table)
 written_again (Ok value) written scripts table fits same view is =
     ap table_of is ∙ ap (λ xs. table_of (data_of xs)) same ∙ table_again scripts fits
-        ∙ ap (λ xs. Ok xs) view
+    ∙ ap (λ xs. Ok xs) view
 written_again (Err error) written scripts table fits same view is = tt

@@ -29,7 +29,7 @@ seconds_of : (parameter : Data) (make : ℕ → Step) (s : Step)
 seconds_of parameter make s small e =
     let found = bind_ok (number_of parameter) (λ n. done WriteFault (make n)) s e in
     subst IsStepInRange (ok_is {F = WriteFault} (make found.0) s found.2)
-        (small found.0 (number_small parameter found.0 found.1))
+    (small found.0 (number_small parameter found.0 found.1))
 
 -- a number or a profile that becomes no duration
 no_seconds : {A : Type 0} (read : Result A WriteFault) (make : A → Step) (s : Step)
@@ -63,7 +63,7 @@ step_in_range : (value : Data) (s : Step) → step_of value ≡ Ok s → IsStepI
 unfolding step_of
 step_in_range value s e =
     let parts = bind_ok (ok_or (step_parts_of value) Unmatched) (λ p. ok_or (action_at p.0) Value
-        >>= λ a. step_with a p.1) s e in
+    >>= λ a. step_with a p.1) s e in
     let acts = bind_ok (ok_or (action_at parts.0.0) Value) (λ a. step_with a parts.0.1) s parts.2 in
     with_in_range acts.0 parts.0.1 s acts.2
 
@@ -86,9 +86,9 @@ script_in_range : (value : Data) (script : Script) → script_of value ≡ Ok sc
 unfolding script_of
 script_in_range value script e =
     let b = bind_ok (judged_script value) (λ parts. done WriteFault
-        (record { identifier = parts.0; steps = values step_of parts.1 })) script e in
+    (record { identifier = parts.0; steps = values step_of parts.1 })) script e in
     let same = ok_is {F = WriteFault} (record { identifier = b.0.0; steps = values step_of b.0.1 })
-        script b.2 in
+    script b.2 in
     subst (λ (s : Script). AreStepsInRange s.steps) same (steps_in_range b.0.1)
 
 one_script : (r : Result Script WriteFault) (others : List Script)
@@ -108,8 +108,8 @@ pub table_in_range : (value : Data) (scripts : List Script) → table_of value �
 unfolding table_of
 table_in_range value scripts e =
     let items = bind_ok (ok_or (array_of value) Unmatched)
-        (λ items. judged_scripts items >> done WriteFault (values script_of items)) scripts e in
+    (λ items. judged_scripts items >> done WriteFault (values script_of items)) scripts e in
     let judged = bind_ok (judged_scripts items.0) (λ _. done WriteFault (values script_of items.0))
-        scripts items.2 in
+    scripts items.2 in
     subst AreScriptsInRange (ok_is {F = WriteFault} (values script_of items.0) scripts judged.2)
-        (scripts_in_range items.0)
+    (scripts_in_range items.0)

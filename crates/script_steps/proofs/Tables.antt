@@ -33,13 +33,13 @@ pub judged_parts : (value : Data) (parts : ℕ × List Data) → judged_script v
 unfolding judged_script
 judged_parts value parts e =
     let b = bind_ok (ok_or (script_parts_of value) Unmatched)
-        (λ p. fault_of_items step_of p.1 >> (guard (not (p.0 == 0) && nat_le (length p.1) max_steps)
-        Value >> Ok p)) parts e in
+    (λ p. fault_of_items step_of p.1 >> (guard (not (p.0 == 0) && nat_le (length p.1) max_steps)
+    Value >> Ok p)) parts e in
     let t = bind_ok (fault_of_items step_of b.0.1)
-        (λ _. guard (not (b.0.0 == 0) && nat_le (length b.0.1) max_steps) Value >> Ok b.0) parts b.2
-        in
+    (λ _. guard (not (b.0.0 == 0) && nat_le (length b.0.1) max_steps) Value >> Ok b.0) parts b.2
+    in
     let g = guard_ok (not (b.0.0 == 0) && nat_le (length b.0.1) max_steps) Value
-        (done WriteFault b.0) parts t.2 in
+    (done WriteFault b.0) parts t.2 in
     there (script_parts_of value) b.0 b.1 ∙ ap (λ p. Some p) (ok_is {F = WriteFault} b.0 parts g.1)
   where
     there : (o : Option (ℕ × List Data)) (p : ℕ × List Data) → ok_or o Unmatched ≡ Ok p → o ≡ Some p
@@ -52,12 +52,12 @@ pub named : (value : Data) (script : Script) → script_of value ≡ Ok script �
 unfolding script_of
 named value script e =
     let b = bind_ok (judged_script value) (λ parts. done WriteFault
-        (record { identifier = parts.0; steps = values step_of parts.1 })) script e in
+    (record { identifier = parts.0; steps = values step_of parts.1 })) script e in
     let same = ok_is {F = WriteFault} (record { identifier = b.0.0; steps = values step_of b.0.1 })
-        script b.2 in
+    script b.2 in
     sym (ap (λ (s : Script). s.identifier) same)
-        ∙ sym (ap (λ o. unwrap_or (option_map (λ (parts : ℕ × List Data). parts.0) o) 0)
-        (judged_parts value b.0 b.1))
+    ∙ sym (ap (λ o. unwrap_or (option_map (λ (parts : ℕ × List Data). parts.0) o) 0)
+    (judged_parts value b.0 b.1))
 
 -- if no item has a fault, neither the first nor any other has one
 first_read : (b : Bool) (rest : Bool) → b || rest ≡ false → (b ≡ false) × (rest ≡ false)
@@ -77,33 +77,33 @@ first_script item items script e = ap (λ r. cons_option (result_ok r) (values s
 -- an item has an identifier exactly if a script has it
 same_among : (items : List Data) (n : ℕ) → list_any (λ item. is_err (script_of item)) items ≡ false
     → list_any (λ item. identifier_of item == n) items
-        ≡ list_any (λ script. script.identifier == n) (values script_of items)
+    ≡ list_any (λ script. script.identifier == n) (values script_of items)
 same_among [] n none = refl
 same_among (item ∷ items) n none =
     let split = first_read (is_err (script_of item))
-        (list_any (λ i. is_err (script_of i)) items) none in
+    (list_any (λ i. is_err (script_of i)) items) none in
     let read = is_read (script_of item) split.0 in
     ap₂ (λ (m : ℕ) (rest : Bool). (m == n) || rest) (sym (named item read.0 read.1))
-        (same_among items n split.1)
+    (same_among items n split.1)
     ∙ ap (λ scripts. list_any (λ script. script.identifier == n) scripts)
-        (sym (first_script item items read.0 read.1))
+    (sym (first_script item items read.0 read.1))
 
 -- the items have different identifiers exactly if their scripts have
 pub same_distinct : (items : List Data) → list_any (λ item. is_err (script_of item)) items ≡ false
     → are_distinct identifier_of items ≡ are_distinct (λ script. script.identifier)
-        (values script_of items)
+    (values script_of items)
 same_distinct [] none = refl
 same_distinct (item ∷ items) none =
     let split = first_read (is_err (script_of item))
-        (list_any (λ i. is_err (script_of i)) items) none in
+    (list_any (λ i. is_err (script_of i)) items) none in
     let read = is_read (script_of item) split.0 in
     ap₂ (λ (b rest : Bool). not b && rest) (same_among items (identifier_of item) split.1)
-        (same_distinct items split.1)
+    (same_distinct items split.1)
     ∙ ap (λ n. not (list_any (λ script. script.identifier == n) (values script_of items))
-        && are_distinct (λ script. script.identifier) (values script_of items))
-        (sym (named item read.0 read.1))
+    && are_distinct (λ script. script.identifier) (values script_of items))
+    (sym (named item read.0 read.1))
     ∙ ap (λ scripts. are_distinct (λ script. script.identifier) scripts)
-        (sym (first_script item items read.0 read.1))
+    (sym (first_script item items read.0 read.1))
 
 -- there are at most as many scripts as items
 few_values : (items : List Data) → length (values script_of items) ≤ length items
@@ -126,7 +126,7 @@ pub table_fits : (items : List Data) (u : Unit {0}) (scripts : List Script) → 
 unfolding judged_scripts
 table_fits items u scripts e is fit =
     let t = bind_ok (fault_of_items script_of items) (λ _. guard (nat_le (length items) max_scripts
-        && are_distinct identifier_of items) Value) u e in
+    && are_distinct identifier_of items) Value) u e in
     let g = here (nat_le (length items) max_scripts && are_distinct identifier_of items) u t.2 in
     let halves = both (nat_le (length items) max_scripts) (are_distinct identifier_of items) g in
     let few : length items ≤ max_scripts = search (rules, tests) in

@@ -1,3 +1,5 @@
+//! The thirteen steps that scripts may have, and the service, object and attribute or method of
+//! each (IEC 62056-6-2, class 9).
 ghost use Rattle.std.specs.Prelude.{◌≡◌};
 ghost use Rattle.script_steps.specs.Addresses.{attribute_of, method_of, limiter_attribute_of, address_of, action_at, action_of};
 

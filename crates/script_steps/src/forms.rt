@@ -1,3 +1,4 @@
+//! Takes the parts of a script and of a step from Data (IEC 62056-6-2, class 9, scripts).
 ghost use Rattle.std.specs.Prelude.{◌≡◌, option_map};
 ghost use Rattle.script_steps.specs.Forms.{step_parts_of, script_parts_of, identifier_of};
 

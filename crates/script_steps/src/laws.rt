@@ -1,3 +1,5 @@
+//! Proves that a written script table is read back, and that each step names an attribute or a
+//! method of the meter that the management client may use.
 ghost use Rattle.std.specs.Prelude.{◌≡◌, ◌↔◌, List, Ok};
 ghost use Rattle.cosem_axdr.specs.declared.value.Data.{Data};
 ghost use Rattle.script_steps.specs.Ranges.{AreScriptsInRange};

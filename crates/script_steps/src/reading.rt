@@ -1,3 +1,5 @@
+//! Validates and reads the scripts that a client writes to the script table (IEC 62056-6-2, class
+//! 9).
 ghost use Rattle.std.specs.Prelude.{◌≡◌, ◌==◌, ◌<◌, ◌≤◌, length, IfOk, IfSome, IsErrOf};
 ghost use Rattle.std.specs.Result.{result_map_both, result_ok};
 ghost use Rattle.std.specs.List.{All, list_any};

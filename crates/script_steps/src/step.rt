@@ -1,3 +1,5 @@
+//! A script and its steps as values: each writes an attribute or executes a method (IEC 62056-6-2,
+//! class 9).
 use cosem_names::Which;
 use disconnect_control::ControlMode;
 use limiter_core::Profile;

@@ -1,3 +1,5 @@
+//! The script table (IEC 62056-6-2, class 9): at most 16 scripts, found by selector, with the null
+//! script always present.
 ghost use Rattle.std.specs.Prelude.{◌≡◌, ◌↔◌, ◌+◌, ◌<◌, ◌≤◌, [], ◌∷◌, length, drop, Some, Ok, Err, IsOk, IfOk, IfSome, IsErrOf, option_map, slice_get};
 ghost use Rattle.cosem_names.specs.declared.write_fault.WriteFault.TheVariants.{Unmatched, Value, Memory};
 ghost use Rattle.script_steps.specs.Reading.{max_steps, table_of};

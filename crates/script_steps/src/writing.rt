@@ -1,3 +1,4 @@
+//! Converts the script table to the Data that a client reads (IEC 62056-6-2, class 9, scripts).
 ghost use Rattle.std.specs.Prelude.{◌≡◌, map, IfOk};
 ghost use Rattle.cosem_names.specs.Forms.{array_with};
 ghost use Rattle.script_steps.specs.Writing.{parameter_of, addressed_step, step_data, script_data, data_of};

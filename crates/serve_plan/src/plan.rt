@@ -1,3 +1,5 @@
+//! Validates the options of `meter_server serve` and makes its meter: a new one, or one that
+//! resumes from a trace.
 ghost use Rattle.std.specs.Prelude.{◌≡◌, ◌≤◌, [], length, true, false, ⊤, IfOk, IfErr, IsErrOf};
 ghost use Rattle.std.specs.String.{string_bytes};
 ghost use Rattle.acse_ber.specs.Password.{IsPassword};

@@ -1,3 +1,4 @@
+//! Requests without frames to a core, in hexadecimal, and the bytes of their responses.
 use crate::repeated::repeated;
 use cosem_axdr::Octets;
 use relay_core::RelayCore;

@@ -1,3 +1,5 @@
+//! Sessions from their first byte to their end: frames and answers in hexadecimal, cut inputs,
+//! failed reads and writes.
 ghost use Rattle.std.specs.Prelude.{IfOk};
 ghost use Rattle.acse_ber.specs.Password.{IsPassword};
 

@@ -1,3 +1,5 @@
+//! Sessions with block transfers: long object lists and script tables, wrong block numbers, and cut
+//! or changed frames.
 use crate::sessions::{
     AMPLE, BY_BYTES, MANAGEMENT, PUBLIC_AARQ, SMALL, front, gives, gives_both, push_payload, run,
 };

@@ -39,13 +39,16 @@ use Rattle.xdlms_blocks.specs.Transfer.{Sending}
 single_of : (conformance id high low a b c d e f number : ℕ)
     → (bit_and conformance 0x10 == 0x10) ≡ true
     → IsSingleGet conformance (0xC0 ∷ 0x01 ∷ id ∷ high ∷ low ∷ a ∷ b ∷ c ∷ d ∷ e ∷ f ∷ number ∷ 0x00
-        ∷ []) (record { 0 = id })
-    (record { class = record { 0 = from_be_bytes w16 (high ∷ low ∷ []) };
-        name = record { 0 = a ∷ b ∷ c ∷ d ∷ e ∷ f ∷ [] }; number = number })
+    ∷ []) (record { 0 = id })
+    (record {
+      class = record { 0 = from_be_bytes w16 (high ∷ low ∷ []) };
+      name = record { 0 = a ∷ b ∷ c ∷ d ∷ e ∷ f ∷ [] };
+      number = number;
+    })
 unfolding call_of is_negotiated request_form request_of
 single_of conformance id high low a b c d e f number negotiated =
     let payload : List ℕ = 0xC0 ∷ 0x01 ∷ id ∷ high ∷ low ∷ a ∷ b ∷ c ∷ d ∷ e ∷ f ∷ number
-        ∷ 0x00 ∷ [] in
+    ∷ 0x00 ∷ [] in
     record {
       opens = refl;
       calls = refl;
@@ -56,22 +59,36 @@ single_of conformance id high low a b c d e f number negotiated =
 pub reads_single : (conformance : ℕ) (s : List ℕ) (class : ℕ) → 13 ≤ length s → length s < 14
     → get_or s 0 0 ≡ 0xC0 → get_or s 1 0 ≡ 0x01 → get_or s 12 0 ≡ 0x00
     → (bit_and conformance 0x10 == 0x10) ≡ true → class
-        ≡ big_number 2 (get_or s 3 0 ∷ get_or s 4 0 ∷ [])
+    ≡ big_number 2 (get_or s 3 0 ∷ get_or s 4 0 ∷ [])
     → IsSingleGet conformance s (record { 0 = get_or s 2 0 })
-    (record { class = record { 0 = class }; name = record { 0 = get_or s 5 0 ∷ get_or s 6 0
-        ∷ get_or s 7 0 ∷ get_or s 8 0 ∷ get_or s 9 0 ∷ get_or s 10 0 ∷ [] };
-        number = get_or s 11 0 })
+    (record {
+      class = record { 0 = class };
+      name = record {
+        0 = get_or s 5 0 ∷ get_or s 6 0
+            ∷ get_or s 7 0 ∷ get_or s 8 0 ∷ get_or s 9 0 ∷ get_or s 10 0 ∷ [];
+      };
+      number = get_or s 11 0;
+    })
 reads_single conformance s class least most tag form selection negotiated is_class =
     let read : List ℕ =
     0xC0 ∷ 0x01 ∷ get_or s 2 0 ∷ get_or s 3 0 ∷ get_or s 4 0 ∷ get_or s 5 0 ∷ get_or s 6 0
-        ∷ get_or s 7 0 ∷ get_or s 8 0 ∷ get_or s 9 0 ∷ get_or s 10 0 ∷ get_or s 11 0 ∷ 0x00 ∷ [] in
+    ∷ get_or s 7 0 ∷ get_or s 8 0 ∷ get_or s 9 0 ∷ get_or s 10 0 ∷ get_or s 11 0 ∷ 0x00 ∷ [] in
     let spelled : s ≡ read =
-    text_from_reads s read (omega (arith, least, most))
-    (tag, (form,
-        (refl, (refl,
-        (refl, (refl, (refl, (refl, (refl, (refl, (refl, (refl, (selection, tt))))))))))))) in
+    text_from_reads s read (omega (arith, least, most)) (
+      tag,
+      (
+        form,
+        (
+          refl,
+          (
+            refl,
+            (refl, (refl, (refl, (refl, (refl, (refl, (refl, (refl, (selection, tt))))))))),
+          ),
+        ),
+      ),
+    ) in
     let class_is : class ≡ from_be_bytes w16 (get_or s 3 0 ∷ get_or s 4 0 ∷ []) =
-        omega (arith, is_class) in
+    omega (arith, is_class) in
     rw (spelled, class_is) (single_of conformance _ _ _ _ _ _ _ _ _ _ negotiated)
 
 -- ---- its frame
@@ -81,7 +98,7 @@ pub hears_single : (s : State) (src : ℕ) (payload : List ℕ) (link : Link) (i
     (attr : AttrRef) → s.link ≡ Some link → link.source ≡ src
     → IsSingleGet link.conformance.0 payload id attr
     → HearsGet s (heard_frame src payload) (record { link = link; form = form.Get id }) attr
-        (record { link = s.link; incoming = None; outgoing = None })
+    (record { link = s.link; incoming = None; outgoing = None })
 unfolding turn_of link_after incoming_after outgoing_after
 hears_single s src payload link id attr linked same get =
     let here : (link.source == src) ≡ true = eq-eqb link.source src same in
@@ -95,19 +112,24 @@ hears_single s src payload link id attr linked same get =
 pub asks_single : (s t : Session) (pending payload : List ℕ) (kept : State) (src dst n : ℕ)
     (asked : Asked) (attr : AttrRef) → s.task ≡ Listen
     → head_of s.deframer ≡ head.Whole n → src ≡ src_of s.deframer → dst ≡ dst_of s.deframer → dst
-        ≡ management_device → payload ≡ take n (drop header_size s.deframer)
+    ≡ management_device → payload ≡ take n (drop header_size s.deframer)
     → pending ≡ after_first n s.deframer → GoesOn s.deframer
-        (Some (first_frame n s.deframer)) pending
+    (Some (first_frame n s.deframer)) pending
     → HearsGet s.state (heard_frame src payload) asked attr kept
-    → t ≡ record { password = s.password; deframer = pending; is_finished = s.is_finished;
-        state = kept; task = Await asked } → AsksFor s asked.link.level attr t
+    → t ≡ record {
+      password = s.password;
+      deframer = pending;
+      is_finished = s.is_finished;
+      state = kept;
+      task = Await asked;
+    } → AsksFor s asked.link.level attr t
 unfolding is_asking_value
 asks_single s t pending payload kept src dst n asked attr listening whole src_is dst_is here
     payload_is left goes_on heard after =
     let event : Event = event.Get asked.link.level attr false in
     let works : WorksBy {E = ℕ} s (Ok (Some (next.Ask event))) t =
     hears_any ℕ s t pending payload kept src dst n (step.Ask event asked) (Some (next.Ask event))
-        listening whole src_is dst_is here payload_is left goes_on
+    listening whole src_is dst_is here payload_is left goes_on
     (sym (heard.outcome s.password)) (heard.after s.password) refl after in
     record { steps = works.0; awaits = works.1.0; value = rw after heard.form; less = works.1.1 }
 
@@ -117,19 +139,31 @@ asks_single s t pending payload kept src dst n asked attr listening whole src_is
 pub answers_any : (s t : Session) (asked : Asked) (reply : Reply) (text : List ℕ)
     (outgoing : Option Sending) → s.task ≡ Await asked
     → text ≡ reply_text asked reply → outgoing ≡ outgoing_by asked reply
-    → t ≡ record { password = s.password; deframer = s.deframer; is_finished = s.is_finished;
-        state = record { link = s.state.link; incoming = s.state.incoming; outgoing = outgoing };
-        task = Listen }
+    → t ≡ record {
+      password = s.password;
+      deframer = s.deframer;
+      is_finished = s.is_finished;
+      state = record { link = s.state.link; incoming = s.state.incoming; outgoing = outgoing };
+      task = Listen;
+    }
     → AnswersBy s reply text t
 unfolding is_asking load
 answers_any s t asked reply text outgoing awaiting e o after =
-    let kept : State = record { link = s.state.link; incoming = s.state.incoming;
-        outgoing = outgoing } in
-    let between : Session = record { password = s.password; deframer = s.deframer;
-        is_finished = s.is_finished; state = kept; task = Send text } in
+    let kept : State = record {
+      link = s.state.link;
+      incoming = s.state.incoming;
+      outgoing = outgoing;
+    } in
+    let between : Session = record {
+      password = s.password;
+      deframer = s.deframer;
+      is_finished = s.is_finished;
+      state = kept;
+      task = Send text;
+    } in
     let gives : WorksBy {E = ℕ} between (Ok (Some (next.Send text))) t = subst
-        (λ (u : Session). WorksBy {E = ℕ} between (Ok (Some (next.Send text))) u) (sym after)
-        (gives_any ℕ between text Listen refl refl) in
+    (λ (u : Session). WorksBy {E = ℕ} between (Ok (Some (next.Send text))) u) (sym after)
+    (gives_any ℕ between text Listen refl refl) in
     let before : task_load s.task ≡ 3 = ap task_load awaiting in
     record {
       between = between;

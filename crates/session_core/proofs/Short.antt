@@ -28,7 +28,7 @@ few_if false false false w x y z e p q r = cc
 length_few : (n : ℕ) → n ≤ greatest_raw → length (length_text n) ≤ 3
 length_few n h =
     few_if (nat_lt n 0x80) (nat_lt n (2 ^ 8)) (nat_lt n (2 ^ 16)) (n ∷ []) (0x81
-        ∷ bytes_high_first 1 n) (0x82 ∷ bytes_high_first 2 n) _
+    ∷ bytes_high_first 1 n) (0x82 ∷ bytes_high_first 2 n) _
     (le-leb (suc n) (2 ^ 16) (omega arith)) (lit≤ tt) (lit≤ tt) (lit≤ tt)
 
 short_aare : (result diagnostic : ℕ) (i : Info)

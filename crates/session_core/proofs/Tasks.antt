@@ -72,8 +72,10 @@ sending_with (asks event asked) (Some reply) outgoing = outgoing_by asked reply
 -- a value that arrived in blocks begins no long GET
 read_by : (link : Link) (p : Purpose) (id : InvokeId) (number : ℕ) (reply : Option Reply)
     (event : Event)
-    → None ≡ sending_with (asks event (record { link = link;
-        form = form_by p id number })) reply None
+    → None ≡ sending_with (asks event (record {
+      link = link;
+      form = form_by p id number;
+    })) reply None
 unfolding begun_by
 read_by link (purpose.Set target) id number None event = refl
 read_by link (purpose.Set target) id number (Some reply) event = refl
@@ -84,8 +86,8 @@ read_whole : (joined : Joined) (reply : Option Reply) → None
     ≡ sending_with (whole_outcome joined) reply None
 unfolding whole_outcome
 read_whole joined reply =
-    elim (whole_data joined.bytes) as (λ d. None ≡ sending_with (whole_by_data joined d) reply None)
-        [
+    elim (whole_data joined.bytes)
+    as (λ d. None ≡ sending_with (whole_by_data joined d) reply None) [
       | Some value ↦ read_by joined.link joined.purpose joined.id joined.number reply
           (event_by joined.link.level joined.purpose value)
       | None ↦ refl
@@ -96,7 +98,7 @@ block_by : (link : Link) (id : InvokeId) (p : Purpose) (block : DataBlock) (j : 
 unfolding block_outcome_of
 block_by link id p block j reply =
     elim (fault_of block j) as (λ f. None ≡ sending_with (outcome_by_fault link id p block j f)
-        reply None) [
+    reply None) [
       | Some fault ↦ refl
       | None ↦ last_by block.last
     ]
@@ -117,8 +119,8 @@ later_by link s id block (Some incoming) reply =
 request_by : (link : Link) (incoming : Option Incoming) (outgoing : Option Sending)
     (reply : Option Reply) (r : Request)
     → outgoing_by_role link (role_of_request r) reply outgoing
-        ≡ sending_with (outcome_of_turn outgoing (request_turn link incoming r)) reply
-        (outgoing_by_role link (role_of_request r) None outgoing)
+    ≡ sending_with (outcome_of_turn outgoing (request_turn link incoming r)) reply
+    (outgoing_by_role link (role_of_request r) None outgoing)
 unfolding begun_by
 request_by link incoming outgoing None (request.Get id target) = refl
 request_by link incoming outgoing (Some reply) (request.Get id target) = refl
@@ -141,8 +143,8 @@ request_by link incoming outgoing reply (request.ActionNext id block) =
 call_by : (link : Link) (incoming : Option Incoming) (outgoing : Option Sending)
     (reply : Option Reply) (c : Call)
     → outgoing_by_role link (role_of c) reply outgoing
-        ≡ sending_with (outcome_of_turn outgoing (call_turn link incoming c)) reply
-        (outgoing_by_role link (role_of c) None outgoing)
+    ≡ sending_with (outcome_of_turn outgoing (call_turn link incoming c)) reply
+    (outgoing_by_role link (role_of c) None outgoing)
 call_by link incoming outgoing reply call.Release = refl
 call_by link incoming outgoing reply (call.Service r) = request_by link incoming outgoing reply r
 call_by link incoming outgoing reply (call.Refused exception) = refl
@@ -152,8 +154,8 @@ client_by : (link : Link) (incoming : Option Incoming) (outgoing : Option Sendin
     (reply : Option Reply) (f : Frame) (here : Bool)
     → (if true && here then outgoing_by_role link (role_in link f) reply outgoing else outgoing)
     ≡ sending_with (outcome_of_turn outgoing (if here then call_turn link incoming
-        (call_in link f) else settled (says f.src (exception_answer NotAllowed)))) reply (if true
-        && here then outgoing_by_role link (role_in link f) None outgoing else outgoing)
+    (call_in link f) else settled (says f.src (exception_answer NotAllowed)))) reply (if true
+    && here then outgoing_by_role link (role_in link f) None outgoing else outgoing)
 client_by link incoming outgoing reply f true =
     call_by link incoming outgoing reply (call_in link f)
 client_by link incoming outgoing reply f false = refl
@@ -163,28 +165,28 @@ called_by : (link : Option Link) (incoming : Option Incoming) (outgoing : Option
     (reply : Option Reply) (f : Frame) (calls : Bool) → is_call f.payload ≡ calls
     → outgoing_in link f reply outgoing
     ≡ sending_with (outcome_of_turn outgoing (if calls then turn_in link incoming f else settled
-        (says f.src (exception_answer Unknown)))) reply (outgoing_in link f None outgoing)
+    (says f.src (exception_answer Unknown)))) reply (outgoing_in link f None outgoing)
 called_by None incoming outgoing reply f true e = refl
 called_by None incoming outgoing reply f false e = refl
 called_by (Some link) incoming outgoing reply f true e =
     ap (λ (b : Bool). if b && link.source == f.src then outgoing_by_role link
-        (role_in link f) reply outgoing else outgoing) e
+    (role_in link f) reply outgoing else outgoing) e
     ∙ client_by link incoming outgoing reply f (link.source == f.src)
     ∙ ap (λ (b : Bool). sending_with (outcome_of_turn outgoing (turn_in (Some link) incoming f))
-        reply (if b && link.source == f.src then outgoing_by_role link
-        (role_in link f) None outgoing else outgoing)) (sym e)
+    reply (if b && link.source == f.src then outgoing_by_role link
+    (role_in link f) None outgoing else outgoing)) (sym e)
 called_by (Some link) incoming outgoing reply f false e =
     ap (λ (b : Bool). if b && link.source == f.src then outgoing_by_role link
-        (role_in link f) reply outgoing else outgoing) e
+    (role_in link f) reply outgoing else outgoing) e
     ∙ ap (λ (b : Bool). if b && link.source == f.src then outgoing_by_role link
-        (role_in link f) None outgoing else outgoing) (sym e)
+    (role_in link f) None outgoing else outgoing) (sym e)
 
 opened_or : (password : List ℕ) (s : State) (f : Frame) (reply : Option Reply) (o : Bool)
     → (if o then None else outgoing_in s.link f reply s.outgoing)
     ≡ sending_with (outcome_of_turn s.outgoing
-        (if o then settled (says f.src (opening_answer password f.src (aarq_of f.payload)))
-        else if is_call f.payload then turn_in s.link s.incoming f else settled
-        (says f.src (exception_answer Unknown)))) reply
+    (if o then settled (says f.src (opening_answer password f.src (aarq_of f.payload)))
+    else if is_call f.payload then turn_in s.link s.incoming f else settled
+    (says f.src (exception_answer Unknown)))) reply
     (if o then None else outgoing_in s.link f None s.outgoing)
 opened_or password s f reply true = refl
 opened_or password s f reply false = called_by s.link s.incoming s.outgoing reply f
@@ -192,14 +194,17 @@ opened_or password s f reply false = called_by s.link s.incoming s.outgoing repl
 
 sending_after : (password : List ℕ) (s : State) (f : Frame) (reply : Option Reply)
     → outgoing_after s.link f reply s.outgoing
-        ≡ sending_with (outcome_at password s f) reply (outgoing_after s.link f None s.outgoing)
+    ≡ sending_with (outcome_at password s f) reply (outgoing_after s.link f None s.outgoing)
 unfolding turn_of outgoing_after
 sending_after password s f reply = opened_or password s f reply (opens f)
 
 -- the state after an outcome, in terms of the long GET
 after_by : (outcome : Outcome) (reply : Option Reply) (state : State)
-    → after_outcome outcome reply state ≡ record { link = state.link; incoming = state.incoming;
-        outgoing = sending_with outcome reply state.outgoing }
+    → after_outcome outcome reply state ≡ record {
+      link = state.link;
+      incoming = state.incoming;
+      outgoing = sending_with outcome reply state.outgoing;
+    }
 after_by (says to answer) reply state = refl
 after_by (asks event asked) None state = refl
 after_by (asks event asked) (Some reply) state = refl
@@ -207,7 +212,7 @@ after_by (asks event asked) (Some reply) state = refl
 -- the state after a frame and a reply is the state after the frame, changed by the reply
 replied_after : (password : List ℕ) (s : State) (f : Frame) (reply : Option Reply)
     → state_after password s f reply ≡ after_outcome (outcome_at password s f) reply
-        (state_after password s f None)
+    (state_after password s f None)
 replied_after password s f reply =
     let a = after_by (outcome_at password s f) reply (state_after password s f None) in
     let b = sending_after password s f reply in
@@ -218,10 +223,10 @@ replied_after password s f reply =
 -- the texts of a frame are those of its outcome
 frame_texts : (password : List ℕ) (s : State) (f : Frame) (fs : List Frame) (replies : List Reply)
     → answers_on password s (f ∷ fs) replies ≡ texts_from password (state_after password s f None)
-        (outcome_at password s f) fs replies
+    (outcome_at password s f) fs replies
 frame_texts password s f fs replies =
     same_from (outcome_at password s f) _ _ (λ reply rest. ap
-        (λ (t : State). answers_on password t fs rest) (replied_after password s f reply)) replies
+    (λ (t : State). answers_on password t fs rest) (replied_after password s f reply)) replies
 
 awaited_texts : (password : List ℕ) (s : State) (event : Event) (asked : Asked) (fs : List Frame)
     (replies : List Reply)
@@ -232,7 +237,7 @@ awaited_texts password s event asked fs (reply ∷ replies) = refl
 step_texts : (password : List ℕ) (s : State) (st : TurnStep) (fs : List Frame)
     (replies : List Reply)
     → texts_from password s (step_outcome st) fs replies
-        ≡ texts_of password s (task_by st) fs replies
+    ≡ texts_of password s (task_by st) fs replies
 step_texts password s (step.Ask event asked) fs replies =
     awaited_texts password s event asked fs replies
 step_texts password s (step.Say due) fs replies = refl
@@ -246,11 +251,11 @@ turn_asks outgoing (continues to id number) = refl
 
 frame_asks : (password : List ℕ) (s : State) (f : Frame) (fs : List Frame)
     → asks_on password (known_in s) (f ∷ fs) ≡ option_to_list (event_of (outcome_at password s f))
-        ++ asks_on password (known_in (state_after password s f None)) fs
+    ++ asks_on password (known_in (state_after password s f None)) fs
 frame_asks password s f fs =
     ap (λ (event : Option Event). option_to_list event
-        ++ asks_on password (known_in (state_after password s f None)) fs)
-        (turn_asks s.outgoing (turn_of password s.link s.incoming f))
+    ++ asks_on password (known_in (state_after password s f None)) fs)
+    (turn_asks s.outgoing (turn_of password s.link s.incoming f))
 
 -- the events that a step asks
 abbrev asked_in : Option Next → List Event
@@ -259,7 +264,7 @@ asked_in (Some next) = asked_by next
 
 step_asks : (password : List ℕ) (s : State) (st : TurnStep) (fs : List Frame)
     → option_to_list (event_of (step_outcome st)) ++ asks_on password (known_in s) fs
-        ≡ asked_in (next_by st) ++ asks_of password s (task_by st) fs
+    ≡ asked_in (next_by st) ++ asks_of password s (task_by st) fs
 step_asks password s (step.Ask event asked) fs = refl
 step_asks password s (step.Say due) fs = refl
 step_asks password s (step.Join joined) fs = refl
@@ -268,8 +273,13 @@ step_asks password s (step.Join joined) fs = refl
 
 -- a session made of these parts
 abbrev session : List ℕ → List ℕ → Bool → State → SessionTask → Session
-session password pending finished state task = record { password = password; deframer = pending;
-    is_finished = finished; state = state; task = task }
+session password pending finished state task = record {
+  password = password;
+  deframer = pending;
+  is_finished = finished;
+  state = state;
+  task = task;
+}
 
 -- the bytes yet to come
 abbrev tail : Bool → List ℕ → List ℕ
@@ -292,7 +302,7 @@ record ComesTo (password : List ℕ) (s : State) (task : SessionTask) (t : State
 steps_to : (password pending : List ℕ) (finished : Bool) (s t : State) (task : SessionTask)
     (st : TurnStep) → ComesTo password s task t st
     → Steps (session password pending finished s task) (asked_in (next_by st)) []
-        (session password pending finished t (task_by st))
+    (session password pending finished t (task_by st))
 unfolding still_asks still_sends still_ends is_finished
 steps_to password pending finished s t task st c = record {
   asks = λ more. c.asks (to_server (frames_of (pending ++ tail finished more)))
@@ -308,11 +318,12 @@ works_to : (E : Type 0) (password pending : List ℕ) (finished : Bool) (s t : S
     (task : SessionTask) (st : TurnStep) → ComesTo password s task t st
     → task_load (task_by st) < task_load task
     → WorksBy {E = E} (session password pending finished s task) (Ok (next_by st))
-        (session password pending finished t (task_by st))
+    (session password pending finished t (task_by st))
 unfolding load is_asking still_sends
-works_to E password pending finished s t task (step.Ask event asked) c less =
-    (steps_to password pending finished s t task (step.Ask event asked) c,
-        (record { asking = refl; sends = λ more. refl }, omega arith))
+works_to E password pending finished s t task (step.Ask event asked) c less = (
+  steps_to password pending finished s t task (step.Ask event asked) c,
+  (record { asking = refl; sends = λ more. refl }, omega arith),
+)
 works_to E password pending finished s t task (step.Say due) c less =
     (steps_to password pending finished s t task (step.Say due) c, (refl, omega arith))
 works_to E password pending finished s t task (step.Join joined) c less =
@@ -328,7 +339,7 @@ pub reads : (E : Type 0) (password pending : List ℕ) (finished : Bool) (s : St
     (st : TurnStep)
     → step_outcome st ≡ whole_outcome joined → IsTrue (is_settled st)
     → WorksBy {E = E} (session password pending finished s (Read joined)) (Ok (next_by st))
-        (session password pending finished s (task_by st))
+    (session password pending finished s (task_by st))
 reads E password pending finished s joined st outcome done =
     works_to E password pending finished s s (Read joined) st
     (record {
@@ -342,7 +353,7 @@ reads E password pending finished s joined st outcome done =
 says_steps : (password pending : List ℕ) (finished : Bool) (s : State) (due : Due) (text : List ℕ)
     → text ≡ due_text due.to (answer_text due.answer)
     → Steps (session password pending finished s (Say due)) [] (text
-        ∷ []) (session password pending finished s Listen)
+    ∷ []) (session password pending finished s Listen)
 unfolding still_asks still_sends still_ends is_finished
 says_steps password pending finished s due text e = record {
   asks = λ more. refl;
@@ -357,41 +368,50 @@ says_steps password pending finished s due text e = record {
 pub says_text : (E : Type 0) (password pending : List ℕ) (finished : Bool) (s : State) (due : Due)
     (text : List ℕ) → text ≡ due_text due.to (answer_text due.answer)
     → WorksBy {E = E} (session password pending finished s (Say due)) (Ok (Some (next.Send text)))
-        (session password pending finished s Listen)
+    (session password pending finished s Listen)
 unfolding still_asks still_sends still_ends is_finished is_asking load
 says_text E password pending finished s due text e =
     (says_steps password pending finished s due text e, (refl, omega arith))
 
 gives_steps : (password pending : List ℕ) (finished : Bool) (s : State) (text : List ℕ)
     → Steps (session password pending finished s (Send text)) [] (text
-        ∷ []) (session password pending finished s Listen)
+    ∷ []) (session password pending finished s Listen)
 unfolding still_asks still_sends still_ends is_finished
-gives_steps password pending finished s text = record { asks = λ more. refl;
-    sends = λ more replies. refl; ends = λ more. refl; finished = refl }
+gives_steps password pending finished s text = record {
+  asks = λ more. refl;
+  sends = λ more replies. refl;
+  ends = λ more. refl;
+  finished = refl;
+}
 
 -- a frame is returned
 pub gives_text : (E : Type 0) (password pending : List ℕ) (finished : Bool) (s : State)
     (text : List ℕ)
     → WorksBy {E = E} (session password pending finished s (Send text)) (Ok (Some (next.Send text)))
-        (session password pending finished s Listen)
+    (session password pending finished s Listen)
 unfolding still_asks still_sends still_ends is_finished is_asking load
 gives_text E password pending finished s text =
     (gives_steps password pending finished s text, (refl, omega arith))
 
 -- no change is a step without events and texts
 pub stays : (s : Session) → Steps s [] [] s
-stays s = record { asks = λ more. refl; sends = λ more replies. refl; ends = λ more. refl;
-    finished = refl }
+stays s = record {
+  asks = λ more. refl;
+  sends = λ more replies. refl;
+  ends = λ more. refl;
+  finished = refl;
+}
 
 -- a reply is awaited
 pub awaits_reply : (E : Type 0) (password pending : List ℕ) (finished : Bool) (s : State)
     (asked : Asked)
     → WorksBy {E = E} (session password pending finished s (Await asked)) (Ok (Some next.Wait))
-        (session password pending finished s (Await asked))
+    (session password pending finished s (Await asked))
 unfolding is_asking still_sends
-awaits_reply E password pending finished s asked =
-    (stays (session password pending finished s (Await asked)),
-    inl (refl, record { asking = refl; sends = λ more. refl }))
+awaits_reply E password pending finished s asked = (
+  stays (session password pending finished s (Await asked)),
+  inl (refl, record { asking = refl; sends = λ more. refl }),
+)
 
 -- ---- frames are taken
 
@@ -426,23 +446,23 @@ ends_alike bytes others e = ap (λ (rest : List ℕ). end_by (head_of rest) rest
 hears_steps : (password old new : List ℕ) (finished : Bool) (s t : State) (f : Frame)
     (st : TurnStep) → GoesOn old (Some f) new → (f.dst == management_device) ≡ true
     → ((fs : List Frame) → asks_on password (known_in s) (f ∷ fs)
-        ≡ option_to_list (event_of (step_outcome st)) ++ asks_on password (known_in t) fs)
+    ≡ option_to_list (event_of (step_outcome st)) ++ asks_on password (known_in t) fs)
     → ((fs : List Frame) (replies : List Reply) → answers_on password s (f ∷ fs) replies
-        ≡ texts_from password t (step_outcome st) fs replies)
+    ≡ texts_from password t (step_outcome st) fs replies)
     → Steps (session password old finished s Listen) (asked_in (next_by st)) []
-        (session password new finished t (task_by st))
+    (session password new finished t (task_by st))
 unfolding still_asks still_sends still_ends is_finished
 hears_steps password old new finished s t f st goes_on here events texts = record {
   asks = λ more. ap (λ (fs : List Frame). asks_on password (known_in s) (to_server fs))
       (goes_on.frames (tail finished more))
       ∙ ap (asks_on password (known_in s)) (to_server_by true f
-          (frames_of (new ++ tail finished more)) here)
+      (frames_of (new ++ tail finished more)) here)
       ∙ events (to_server (frames_of (new ++ tail finished more)))
       ∙ step_asks password t st (to_server (frames_of (new ++ tail finished more)));
   sends = λ more replies. ap (λ (fs : List Frame). answers_on password s (to_server fs) replies)
       (goes_on.frames (tail finished more))
       ∙ ap (λ (heard : List Frame). answers_on password s heard replies)
-          (to_server_by true f (frames_of (new ++ tail finished more)) here)
+      (to_server_by true f (frames_of (new ++ tail finished more)) here)
       ∙ texts (to_server (frames_of (new ++ tail finished more))) replies
       ∙ step_texts password t st (to_server (frames_of (new ++ tail finished more))) replies;
   ends = λ more. ends_alike (old ++ tail finished more) (new ++ tail finished more)
@@ -458,10 +478,10 @@ heard_load old new (step.Join joined) less = omega arith
 
 heard_by : (E : Type 0) (password old new : List ℕ) (finished : Bool) (s t : State) (st : TurnStep)
     → Steps (session password old finished s Listen) (asked_in (next_by st)) []
-        (session password new finished t (task_by st))
+    (session password new finished t (task_by st))
     → length new + task_load (task_by st) < length old + task_load Listen
     → WorksBy {E = E} (session password old finished s Listen) (Ok (next_by st))
-        (session password new finished t (task_by st))
+    (session password new finished t (task_by st))
 unfolding load is_asking still_sends
 heard_by E password old new finished s t (step.Ask event asked) steps less =
     (steps, (record { asking = refl; sends = λ more. refl }, less))
@@ -471,10 +491,10 @@ heard_by E password old new finished s t (step.Join joined) steps less = (steps,
 pub hears : (E : Type 0) (password old new : List ℕ) (finished : Bool) (s t : State) (f : Frame)
     (n : ℕ) (st : TurnStep)
     → head_of old ≡ head.Whole n → new ≡ after_first n old → GoesOn old (Some f) new
-        → (f.dst == management_device) ≡ true
+    → (f.dst == management_device) ≡ true
     → step_outcome st ≡ outcome_at password s f → t ≡ state_after password s f None
     → WorksBy {E = E} (session password old finished s Listen) (Ok (next_by st))
-        (session password new finished t (task_by st))
+    (session password new finished t (task_by st))
 hears E password old new finished s t f n st whole after goes_on here outcome state =
     heard_by E password old new finished s t st
     (hears_steps password old new finished s t f st goes_on here
@@ -486,20 +506,20 @@ hears E password old new finished s t f n st whole after goes_on here outcome st
 pub passes_frame : (E : Type 0) (password old new : List ℕ) (finished : Bool) (s : State)
     (f : Frame) (n : ℕ)
     → head_of old ≡ head.Whole n → new ≡ after_first n old → GoesOn old (Some f) new
-        → (f.dst == management_device) ≡ false
+    → (f.dst == management_device) ≡ false
     → WorksBy {E = E} (session password old finished s Listen) (Ok None)
-        (session password new finished s Listen)
+    (session password new finished s Listen)
 unfolding still_asks still_sends still_ends is_finished load is_asking
 passes_frame E password old new finished s f n whole after goes_on elsewhere = (
   (record {
     asks = λ more. ap (λ (fs : List Frame). asks_on password (known_in s) (to_server fs))
         (goes_on.frames (tail finished more))
         ∙ ap (asks_on password (known_in s)) (to_server_by false f
-            (frames_of (new ++ tail finished more)) elsewhere);
+        (frames_of (new ++ tail finished more)) elsewhere);
     sends = λ more replies. ap (λ (fs : List Frame). answers_on password s (to_server fs) replies)
         (goes_on.frames (tail finished more))
         ∙ ap (λ (heard : List Frame). answers_on password s heard replies)
-            (to_server_by false f (frames_of (new ++ tail finished more)) elsewhere);
+        (to_server_by false f (frames_of (new ++ tail finished more)) elsewhere);
     ends = λ more. ends_alike (old ++ tail finished more) (new ++ tail finished more)
         (goes_on.rest (tail finished more));
     finished = refl;
@@ -536,9 +556,11 @@ is_quiet password pending s part = record {
 -- with part of a frame, the session waits for more input
 pub wants_more : (E : Type 0) (password pending : List ℕ) (s : State) → IsPart pending
     → WorksBy {E = E} (session password pending false s Listen) (Ok (Some next.Wait))
-        (session password pending false s Listen)
-wants_more E password pending s part = (stays (session password pending false s Listen),
-    inr (is_quiet password pending s part))
+    (session password pending false s Listen)
+wants_more E password pending s part = (
+  stays (session password pending false s Listen),
+  inr (is_quiet password pending s part),
+)
 
 -- There is no whole frame, and there never will be.
 pub record NoFrame (finished : Bool) (pending : List ℕ) (end : SessionEnd) : Type 0 where
@@ -548,7 +570,7 @@ pub record NoFrame (finished : Bool) (pending : List ℕ) (end : SessionEnd) : T
 ends_steps : (password pending : List ℕ) (finished : Bool) (s : State) (end : SessionEnd)
     → NoFrame finished pending end
     → Steps (session password pending finished s Listen) [] []
-        (session password pending finished s (Over end))
+    (session password pending finished s (Over end))
 unfolding still_asks still_sends still_ends is_finished
 ends_steps password pending finished s end none = record {
   asks = λ more. ap (λ (fs : List Frame). asks_on password (known_in s) (to_server fs))
@@ -568,7 +590,7 @@ is_over_now password pending finished s end =
 pub comes_to_end : (E : Type 0) (password pending : List ℕ) (finished : Bool) (s : State)
     (end : SessionEnd) → NoFrame finished pending end
     → WorksBy {E = E} (session password pending finished s Listen) (Ok (Some (next.End end)))
-        (session password pending finished s (Over end))
+    (session password pending finished s (Over end))
 comes_to_end E password pending finished s end none =
     (ends_steps password pending finished s end none, is_over_now password pending finished s end)
 
@@ -576,9 +598,11 @@ comes_to_end E password pending finished s end none =
 pub is_over : (E : Type 0) (password pending : List ℕ) (finished : Bool) (s : State)
     (end : SessionEnd)
     → WorksBy {E = E} (session password pending finished s (Over end)) (Ok (Some (next.End end)))
-        (session password pending finished s (Over end))
-is_over E password pending finished s end = (stays (session password pending finished s (Over end)),
-    is_over_now password pending finished s end)
+    (session password pending finished s (Over end))
+is_over E password pending finished s end = (
+  stays (session password pending finished s (Over end)),
+  is_over_now password pending finished s end,
+)
 
 -- the input ended between two frames, or within one
 end_in_part : (bytes : List ℕ) (end : SessionEnd) → IsPart bytes → end_by head.Part bytes ≡ end
@@ -642,14 +666,20 @@ fresh_by password p pending s same empty none = rw (same, empty, none) (fresh pa
 pub feeds_finished : (password pending : List ℕ) (s : State) (task : SessionTask) (bytes : List ℕ)
     → Feeds (session password pending true s task) bytes (session password pending true s task)
 unfolding still_asks still_sends still_ends
-feeds_finished password pending s task bytes = record { asks = λ more. refl;
-    sends = λ more replies. refl; ends = λ more. refl; asking = refl; over = refl; finished = refl }
+feeds_finished password pending s task bytes = record {
+  asks = λ more. refl;
+  sends = λ more replies. refl;
+  ends = λ more. refl;
+  asking = refl;
+  over = refl;
+  finished = refl;
+}
 
 -- once the session is over no bytes are taken
 pub feeds_over : (password pending : List ℕ) (finished : Bool) (s : State) (end : SessionEnd)
     (bytes : List ℕ)
     → Feeds (session password pending finished s (Over end)) bytes
-        (session password pending finished s (Over end))
+    (session password pending finished s (Over end))
 unfolding still_asks still_sends still_ends
 feeds_over password pending finished s end bytes = record {
   asks = λ more. refl;
@@ -716,8 +746,11 @@ pub takes_reply : (password pending : List ℕ) (finished : Bool) (s : State) (a
     (reply : Reply) (text : List ℕ) (outgoing : Option Sending)
     → text ≡ reply_text asked reply → outgoing ≡ outgoing_by asked reply
     → Takes (session password pending finished s (Await asked)) reply
-        (session password pending finished (record { link = s.link; incoming = s.incoming;
-        outgoing = outgoing }) (Send text))
+    (session password pending finished (record {
+      link = s.link;
+      incoming = s.incoming;
+      outgoing = outgoing;
+    }) (Send text))
 unfolding still_asks still_sends still_ends is_asking is_finished load
 takes_reply password pending finished s asked reply text outgoing t o = record {
   asks = λ more. refl;
@@ -749,8 +782,8 @@ by_parts : (P : Session → Type 0) (s : Session) (finished : Bool) (task : Sess
     → P (session s.password s.deframer finished s.state task) → P s
 by_parts P s finished task f t p =
     subst (λ (b : Bool). P (session s.password s.deframer b s.state s.task)) (sym f)
-        (subst (λ (u : SessionTask). P (session s.password s.deframer finished s.state u)) (sym t)
-        p)
+    (subst (λ (u : SessionTask). P (session s.password s.deframer finished s.state u)) (sym t)
+    p)
 
 -- the frame at the front, by the fields that were read
 front_frame : (bytes payload : List ℕ) (src dst n : ℕ) → src ≡ src_of bytes → dst ≡ dst_of bytes
@@ -763,93 +796,93 @@ front_frame bytes payload src dst n a b c d =
 pub hears_any : (E : Type 0) (s t : Session) (pending payload : List ℕ) (kept : State)
     (src dst n : ℕ) (st : TurnStep) (r : Option Next) → s.task ≡ Listen
     → head_of s.deframer ≡ head.Whole n → src ≡ src_of s.deframer → dst ≡ dst_of s.deframer → dst
-        ≡ management_device → payload ≡ take n (drop header_size s.deframer)
+    ≡ management_device → payload ≡ take n (drop header_size s.deframer)
     → pending ≡ after_first n s.deframer → GoesOn s.deframer
-        (Some (first_frame n s.deframer)) pending
+    (Some (first_frame n s.deframer)) pending
     → step_outcome st ≡ outcome_at s.password s.state (heard_frame src payload) → kept
-        ≡ state_after s.password s.state (heard_frame src payload) None
+    ≡ state_after s.password s.state (heard_frame src payload) None
     → r ≡ next_by st → t ≡ session s.password pending s.is_finished kept (task_by st)
-        → WorksBy {E = E} s (Ok r) t
+    → WorksBy {E = E} s (Ok r) t
 hears_any E s t pending payload kept src dst n st r listening whole src_is dst_is here payload_is
     left goes_on outcome state given after =
     subst (λ (u : Session). WorksBy {E = E} s (Ok r) u) (sym after)
     (subst (λ (q : Option Next). WorksBy {E = E} s (Ok q)
-        (session s.password pending s.is_finished kept (task_by st))) (sym given)
+    (session s.password pending s.is_finished kept (task_by st))) (sym given)
     (by_parts (λ (u : Session). WorksBy {E = E} u (Ok (next_by st))
-        (session s.password pending s.is_finished kept (task_by st))) s s.is_finished Listen
-        refl listening
+    (session s.password pending s.is_finished kept (task_by st))) s s.is_finished Listen
+    refl listening
     (hears E s.password s.deframer pending s.is_finished s.state kept (heard_frame src payload) n st
-        whole left
+    whole left
     (subst (λ (f : Frame). GoesOn s.deframer (Some f) pending)
-        (front_frame s.deframer payload src dst n src_is dst_is payload_is here) goes_on)
+    (front_frame s.deframer payload src dst n src_is dst_is payload_is here) goes_on)
     refl outcome state)))
 
 pub passes_any : (E : Type 0) (s : Session) (pending : List ℕ) (dst n : ℕ) → s.task ≡ Listen
     → head_of s.deframer ≡ head.Whole n
     → dst ≡ dst_of s.deframer → (dst == management_device) ≡ false → pending
-        ≡ after_first n s.deframer → GoesOn s.deframer (Some (first_frame n s.deframer)) pending
+    ≡ after_first n s.deframer → GoesOn s.deframer (Some (first_frame n s.deframer)) pending
     → WorksBy {E = E} s (Ok None) (session s.password pending s.is_finished s.state s.task)
 passes_any E s pending dst n listening whole dst_is elsewhere left goes_on =
     subst (λ (u : SessionTask). WorksBy {E = E}
-        (session s.password s.deframer s.is_finished s.state u) (Ok None)
-        (session s.password pending s.is_finished s.state u)) (sym listening)
+    (session s.password s.deframer s.is_finished s.state u) (Ok None)
+    (session s.password pending s.is_finished s.state u)) (sym listening)
     (passes_frame E s.password s.deframer pending s.is_finished s.state (first_frame n s.deframer) n
-        whole left goes_on (ap (λ (d : ℕ). d == management_device) (sym dst_is) ∙ elsewhere))
+    whole left goes_on (ap (λ (d : ℕ). d == management_device) (sym dst_is) ∙ elsewhere))
 
 pub listens_on : (E : Type 0) (s : Session) (h : Head) → s.task ≡ Listen → s.is_finished ≡ false → h
     ≡ head.Part → Fronts s.deframer h → WorksBy {E = E} s (Ok (Some next.Wait)) s
 listens_on E s h listens goes_on is means =
     by_parts (λ (u : Session). WorksBy {E = E} u (Ok (Some next.Wait)) u) s false Listen
-        goes_on listens
+    goes_on listens
     (wants_more E s.password s.deframer s.state (subst (Fronts s.deframer) is means))
 
 listens_to_end : (E : Type 0) (s t : Session) (end : SessionEnd) (r : Option Next) → s.task ≡ Listen
     → NoFrame s.is_finished s.deframer end
     → r ≡ Some (next.End end) → t ≡ session s.password s.deframer s.is_finished s.state (Over end)
-        → WorksBy {E = E} s (Ok r) t
+    → WorksBy {E = E} s (Ok r) t
 listens_to_end E s t end r listens none given after =
     subst (λ (u : Session). WorksBy {E = E} s (Ok r) u) (sym after)
     (subst (λ (q : Option Next). WorksBy {E = E} s (Ok q)
-        (session s.password s.deframer s.is_finished s.state (Over end))) (sym given)
+    (session s.password s.deframer s.is_finished s.state (Over end))) (sym given)
     (by_parts (λ (u : Session). WorksBy {E = E} u (Ok (Some (next.End end)))
-        (session s.password s.deframer s.is_finished s.state (Over end))) s s.is_finished Listen
-        refl listens
+    (session s.password s.deframer s.is_finished s.state (Over end))) s s.is_finished Listen
+    refl listens
     (comes_to_end E s.password s.deframer s.is_finished s.state end none)))
 
 pub listens_to_close : (E : Type 0) (s t : Session) (h : Head) (r : Option Next) → s.task ≡ Listen
     → s.is_finished ≡ true → h ≡ head.Part → Fronts s.deframer h → s.deframer ≡ []
     → r ≡ Some (next.End ending.Closed) → t ≡ session s.password s.deframer s.is_finished s.state
-        (Over ending.Closed) → WorksBy {E = E} s (Ok r) t
+    (Over ending.Closed) → WorksBy {E = E} s (Ok r) t
 listens_to_close E s t h r listens finished is means empty given after =
     listens_to_end E s t ending.Closed r listens
     (subst (λ (b : Bool). NoFrame b s.deframer ending.Closed) (sym finished)
-        (is_closed s.deframer (subst (Fronts s.deframer) is means) empty)) given after
+    (is_closed s.deframer (subst (Fronts s.deframer) is means) empty)) given after
 
 pub listens_to_cut : (E : Type 0) (s t : Session) (h : Head) (r : Option Next) → s.task ≡ Listen
     → s.is_finished ≡ true → h ≡ head.Part → Fronts s.deframer h → s.deframer ≢ []
     → r ≡ Some (next.End ending.Cut) → t ≡ session s.password s.deframer s.is_finished s.state
-        (Over ending.Cut) → WorksBy {E = E} s (Ok r) t
+    (Over ending.Cut) → WorksBy {E = E} s (Ok r) t
 listens_to_cut E s t h r listens finished is means some given after =
     listens_to_end E s t ending.Cut r listens
     (subst (λ (b : Bool). NoFrame b s.deframer ending.Cut) (sym finished)
-        (is_cut s.deframer (subst (Fronts s.deframer) is means) some)) given after
+    (is_cut s.deframer (subst (Fronts s.deframer) is means) some)) given after
 
 pub listens_to_bad_version : (E : Type 0) (s t : Session) (h : Head) (r : Option Next) → s.task
     ≡ Listen → h ≡ head.BadVersion → Fronts s.deframer h
     → r ≡ Some (next.End ending.BadVersion) → t
-        ≡ session s.password s.deframer s.is_finished s.state (Over ending.BadVersion)
-        → WorksBy {E = E} s (Ok r) t
+    ≡ session s.password s.deframer s.is_finished s.state (Over ending.BadVersion)
+    → WorksBy {E = E} s (Ok r) t
 listens_to_bad_version E s t h r listens is means given after =
     listens_to_end E s t ending.BadVersion r listens
-        (is_bad_version s.is_finished s.deframer (subst (Fronts s.deframer) is means)) given after
+    (is_bad_version s.is_finished s.deframer (subst (Fronts s.deframer) is means)) given after
 
 pub listens_to_too_long : (E : Type 0) (s t : Session) (h : Head) (r : Option Next) → s.task
     ≡ Listen → h ≡ head.TooLong → Fronts s.deframer h
     → r ≡ Some (next.End ending.TooLong) → t ≡ session s.password s.deframer s.is_finished s.state
-        (Over ending.TooLong) → WorksBy {E = E} s (Ok r) t
+    (Over ending.TooLong) → WorksBy {E = E} s (Ok r) t
 listens_to_too_long E s t h r listens is means given after =
     listens_to_end E s t ending.TooLong r listens
-        (is_too_long s.is_finished s.deframer (subst (Fronts s.deframer) is means)) given after
+    (is_too_long s.is_finished s.deframer (subst (Fronts s.deframer) is means)) given after
 
 -- the header that a fault of `feed` means
 pub bad_version : (bytes : List ℕ) (f : WrapperFault) → f ≡ fault.Version → StopsBy f bytes
@@ -878,22 +911,22 @@ ends_again s end = over_by s.task end
 pub feeds_after_end : (s : Session) (bytes : List ℕ) → s.is_finished ≡ true → Feeds s bytes s
 feeds_after_end s bytes finished =
     by_parts (λ (u : Session). Feeds u bytes u) s true s.task finished refl
-        (feeds_finished s.password s.deframer s.state s.task bytes)
+    (feeds_finished s.password s.deframer s.state s.task bytes)
 
 pub feeds_after_over : (s : Session) (bytes : List ℕ) (end : SessionEnd) → reported_end s ≡ Some end
     → Feeds s bytes s
 feeds_after_over s bytes end over =
     by_parts (λ (u : Session). Feeds u bytes u) s s.is_finished (Over end) refl
-        (ends_again s end over)
+    (ends_again s end over)
     (feeds_over s.password s.deframer s.is_finished s.state end bytes)
 
 pub feeds_any : (s : Session) (bytes pending : List ℕ) → s.is_finished ≡ false → pending
     ≡ s.deframer ++ bytes → Feeds s bytes (session s.password pending s.is_finished s.state s.task)
 feeds_any s bytes pending goes_on longer =
     subst (λ (p : List ℕ). Feeds s bytes (session s.password p s.is_finished s.state s.task))
-        (sym longer)
+    (sym longer)
     (subst (λ (b : Bool). Feeds (session s.password s.deframer b s.state s.task) bytes
-        (session s.password (s.deframer ++ bytes) b s.state s.task)) (sym goes_on)
+    (session s.password (s.deframer ++ bytes) b s.state s.task)) (sym goes_on)
     (feeds s.password s.deframer s.state s.task bytes))
 
 feeds_behind : (s : Session) (bytes pending : List ℕ) (end : SessionEnd) → s.is_finished ≡ false
@@ -901,9 +934,9 @@ feeds_behind : (s : Session) (bytes pending : List ℕ) (end : SessionEnd) → s
     → Feeds s bytes (session s.password pending s.is_finished s.state s.task)
 feeds_behind s bytes pending end goes_on same none =
     subst (λ (p : List ℕ). Feeds s bytes (session s.password p s.is_finished s.state s.task)) (sym
-        same)
+    same)
     (subst (λ (b : Bool). Feeds (session s.password s.deframer b s.state s.task) bytes
-        (session s.password s.deframer b s.state s.task)) (sym goes_on)
+    (session s.password s.deframer b s.state s.task)) (sym goes_on)
     (feeds_none s.password s.deframer s.state s.task bytes end none))
 
 pub feeds_behind_version : (s : Session) (bytes pending : List ℕ) → s.is_finished ≡ false → pending
@@ -923,51 +956,51 @@ feeds_behind_length s bytes pending goes_on same stops =
 pub reads_any : (E : Type 0) (s t : Session) (joined : Joined) (st : TurnStep) (r : Option Next)
     → s.task ≡ Read joined → step_outcome st ≡ whole_outcome joined → IsTrue (is_settled st)
     → r ≡ next_by st → t ≡ session s.password s.deframer s.is_finished s.state (task_by st)
-        → WorksBy {E = E} s (Ok r) t
+    → WorksBy {E = E} s (Ok r) t
 reads_any E s t joined st r reading outcome done given after =
     subst (λ (u : Session). WorksBy {E = E} s (Ok r) u) (sym after)
     (subst (λ (q : Option Next). WorksBy {E = E} s (Ok q)
-        (session s.password s.deframer s.is_finished s.state (task_by st))) (sym given)
+    (session s.password s.deframer s.is_finished s.state (task_by st))) (sym given)
     (by_parts (λ (u : Session). WorksBy {E = E} u (Ok (next_by st))
-        (session s.password s.deframer s.is_finished s.state (task_by st))) s s.is_finished
-        (Read joined) refl reading
+    (session s.password s.deframer s.is_finished s.state (task_by st))) s s.is_finished
+    (Read joined) refl reading
     (reads E s.password s.deframer s.is_finished s.state joined st outcome done)))
 
 pub awaits_any : (E : Type 0) (s : Session) (asked : Asked) → s.task ≡ Await asked
     → WorksBy {E = E} s (Ok (Some next.Wait)) s
 awaits_any E s asked awaiting =
     by_parts (λ (u : Session). WorksBy {E = E} u (Ok (Some next.Wait)) u) s s.is_finished
-        (Await asked) refl awaiting (awaits_reply E s.password s.deframer s.is_finished
-        s.state asked)
+    (Await asked) refl awaiting (awaits_reply E s.password s.deframer s.is_finished
+    s.state asked)
 
 pub says_any : (E : Type 0) (s t : Session) (due : Due) (text : List ℕ) → s.task ≡ Say due → text
     ≡ due_text due.to (answer_text due.answer)
     → t ≡ session s.password s.deframer s.is_finished s.state Listen
-        → WorksBy {E = E} s (Ok (Some (next.Send text))) t
+    → WorksBy {E = E} s (Ok (Some (next.Send text))) t
 says_any E s t due text saying e after =
     subst (λ (u : Session). WorksBy {E = E} s (Ok (Some (next.Send text))) u) (sym after)
     (by_parts (λ (u : Session). WorksBy {E = E} u (Ok (Some (next.Send text)))
-        (session s.password s.deframer s.is_finished s.state Listen)) s s.is_finished
-        (Say due) refl saying
+    (session s.password s.deframer s.is_finished s.state Listen)) s s.is_finished
+    (Say due) refl saying
     (says_text E s.password s.deframer s.is_finished s.state due text e))
 
 pub gives_any : (E : Type 0) (s : Session) (text : List ℕ) (task : SessionTask) → s.task ≡ Send text
     → task ≡ Listen
     → WorksBy {E = E} s (Ok (Some (next.Send text)))
-        (session s.password s.deframer s.is_finished s.state task)
+    (session s.password s.deframer s.is_finished s.state task)
 gives_any E s text task sending after =
     subst (λ (u : SessionTask). WorksBy {E = E} s (Ok (Some (next.Send text)))
-        (session s.password s.deframer s.is_finished s.state u)) (sym after)
+    (session s.password s.deframer s.is_finished s.state u)) (sym after)
     (by_parts (λ (u : Session). WorksBy {E = E} u (Ok (Some (next.Send text)))
-        (session s.password s.deframer s.is_finished s.state Listen)) s s.is_finished
-        (Send text) refl sending
+    (session s.password s.deframer s.is_finished s.state Listen)) s s.is_finished
+    (Send text) refl sending
     (gives_text E s.password s.deframer s.is_finished s.state text))
 
 pub over_any : (E : Type 0) (s : Session) (end : SessionEnd) → s.task ≡ Over end
     → WorksBy {E = E} s (Ok (Some (next.End end))) s
 over_any E s end over =
     by_parts (λ (u : Session). WorksBy {E = E} u (Ok (Some (next.End end))) u) s s.is_finished
-        (Over end) refl over (is_over E s.password s.deframer s.is_finished s.state end)
+    (Over end) refl over (is_over E s.password s.deframer s.is_finished s.state end)
 
 -- a session that waits for more input
 pub idles : (s : Session) (h : Head) → s.task ≡ Listen → s.is_finished ≡ false → h ≡ head.Part
@@ -979,14 +1012,14 @@ pub takes_any : (s t : Session) (asked : Asked) (reply : Reply) (text : List ℕ
     (outgoing : Option Sending) → s.task ≡ Await asked
     → text ≡ reply_text asked reply → outgoing ≡ outgoing_by asked reply
     → t ≡ session s.password s.deframer s.is_finished
-        (record { link = s.state.link; incoming = s.state.incoming; outgoing = outgoing })
-        (Send text) → Takes s reply t
+    (record { link = s.state.link; incoming = s.state.incoming; outgoing = outgoing })
+    (Send text) → Takes s reply t
 takes_any s t asked reply text outgoing awaiting e o after =
     subst (λ (u : Session). Takes s reply u) (sym after)
     (by_parts (λ (u : Session). Takes u reply
-        (session s.password s.deframer s.is_finished
-        (record { link = s.state.link; incoming = s.state.incoming; outgoing = outgoing })
-        (Send text))) s s.is_finished (Await asked) refl awaiting
+    (session s.password s.deframer s.is_finished
+    (record { link = s.state.link; incoming = s.state.incoming; outgoing = outgoing })
+    (Send text))) s s.is_finished (Await asked) refl awaiting
     (takes_reply s.password s.deframer s.is_finished s.state asked reply text outgoing e o))
 
 -- a session that awaits a reply, and below, one that is over
@@ -1014,5 +1047,5 @@ pub asks_or_ends : (s : Session) (end : SessionEnd) → is_asking s ≡ true →
 unfolding is_asking
 asks_or_ends s end asking e =
     let over : awaits (Over end) ≡ true = subst (λ (t : SessionTask). awaits t ≡ true)
-        (ends_again s end e) asking in
+    (ends_again s end e) asking in
     absurd cc

@@ -35,13 +35,22 @@ link_by source (InitiateError error) = None
 -- the answer to an AARQ, by its verdict; the server receives PDUs of up to 1,024 bytes
 abbrev pub aare_by : Verdict → Aare
 aare_by (Accepted level bits limit) =
-    record { result = result_accepted; diagnostic = null_diagnostic;
-        info = Response bits greatest_pdu }
-aare_by (Rejected diagnostic) = record { result = result_rejected; diagnostic = diagnostic;
-    info = Absent }
+    record {
+      result = result_accepted;
+      diagnostic = null_diagnostic;
+      info = Response bits greatest_pdu;
+    }
+aare_by (Rejected diagnostic) = record {
+  result = result_rejected;
+  diagnostic = diagnostic;
+  info = Absent;
+}
 aare_by (InitiateError error) =
-    record { result = result_rejected; diagnostic = no_reason_given;
-        info = info.InitiateError error }
+    record {
+      result = result_rejected;
+      diagnostic = no_reason_given;
+      info = info.InitiateError error;
+    }
 
 -- the association that an AARQ from a port opens, if it was readable and is accepted
 abbrev pub link_from : List ℕ → ℕ → Result Aarq AcseFault → Option Link

@@ -247,7 +247,7 @@ is_named_in_order (number ∷ earlier) =
 abbrev pub outgoing_by_get : LongGet → Option Sending
 outgoing_by_get get =
     if is_named_in_order get.named_blocks then transfer_after
-        (block_count get.named_blocks) get.text
+    (block_count get.named_blocks) get.text
     else None
 
 -- the transfer in progress after these requests

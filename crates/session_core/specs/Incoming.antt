@@ -156,7 +156,7 @@ transfer_of service (Some incoming) = if is_of service incoming.purpose then Som
 abbrev pub later_outcome : Link → LongService → InvokeId → DataBlock → Option Incoming → Outcome
 later_outcome link service id block None =
     says link.source (Service (refusal_response service id block.number
-        (block_code service NoTransfer)))
+    (block_code service NoTransfer)))
 later_outcome link service id block (Some incoming) =
     block_outcome_of link id incoming.purpose block incoming.blocks
 

@@ -90,8 +90,11 @@ value_answer id value =
 
 abbrev pub values_answer : InvokeId → List GetResult → LongAnswer
 values_answer id results =
-    record { id = id; normal = response.GetList id results;
-        raw = (list_part result_part).text results }
+    record {
+      id = id;
+      normal = response.GetList id results;
+      raw = (list_part result_part).text results;
+    }
 
 -- the answer with a reply's values, if the form is of a GET and the reply has values
 abbrev pub long_answer : ReplyForm → Reply → Option LongAnswer

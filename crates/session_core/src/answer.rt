@@ -1,3 +1,4 @@
+//! The answers of the server and their bytes, with or without the header of a frame.
 ghost use Rattle.std.specs.Prelude.{◌≡◌, ◌≤◌, length, drop, IfOk};
 ghost use Rattle.session_core.specs.Answers.{answer_text, due_text, way_size, way_text};
 ghost use Rattle.session_core.specs.Standard.{greatest_pdu};

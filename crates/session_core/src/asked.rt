@@ -1,3 +1,5 @@
+//! The part of a request that a session remembers until the meter's reply: the association, the
+//! invoke id and the form of the answer.
 use crate::link::Link;
 use xdlms_apdu::InvokeId;
 

@@ -1,3 +1,5 @@
+//! Reads the request in a payload: a release, a GET, SET or ACTION, or one that is answered by an
+//! exception (IEC 62056-5-3).
 ghost use Rattle.std.specs.Prelude.{◌≡◌, IfOk};
 ghost use Rattle.session_core.specs.Calls.{tag_is, is_call, call_of, request_call};
 

@@ -1,3 +1,4 @@
+//! An answer that is ready to be sent, with the port of its client.
 ghost use Rattle.std.specs.Prelude.{◌≡◌, ◌≤◌, length, IfOk};
 ghost use Rattle.session_core.specs.Answers.{answer_text, due_text, way_text, IsSmall};
 ghost use Rattle.session_core.specs.Standard.{greatest_pdu};

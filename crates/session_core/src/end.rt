@@ -1,3 +1,5 @@
+//! The ends of a session: closed or cut by its client, or stopped by a header that is not valid
+//! (IEC 62056-4-7).
 ghost use Rattle.std.specs.Prelude.{◌≡◌};
 ghost use Rattle.session_core.specs.Numbers.{end_number};
 

@@ -1,3 +1,5 @@
+//! A long SET or ACTION that arrives in blocks (IEC 62056-5-3): its blocks, its responses and its
+//! faults.
 ghost use Rattle.std.specs.Prelude.{◌≡◌, IfOk, OnOk, OnErr};
 ghost use Rattle.session_core.specs.Incoming.{block_response, refusal_response, block_code, service_of, block_outcome_of, block_after, outcome_of_added, after_adding, is_over, is_of, transfer_of, later_outcome, later_after};
 ghost use Rattle.session_core.specs.Answers.{IsSmall};

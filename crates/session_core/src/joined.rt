@@ -1,3 +1,5 @@
+//! A long SET or ACTION whose last block has arrived: its bytes are decoded to the event for the
+//! meter.
 ghost use Rattle.std.specs.Prelude.{◌≡◌, IfOk, IsTrue};
 ghost use Rattle.session_core.specs.Incoming.{whole_data, whole_outcome, event_by, form_by};
 ghost use Rattle.session_core.specs.Outcome.{asks};

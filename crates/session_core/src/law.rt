@@ -1,3 +1,5 @@
+//! Proves that two definitions of a session agree: one looks back over all earlier frames, one
+//! keeps a state.
 ghost use Rattle.session_core.specs.Law.{HasSameEvents, HasSameAnswers};
 
 /// Proves that the session defined by looking back over earlier frames has the events and the

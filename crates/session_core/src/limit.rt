@@ -1,3 +1,5 @@
+//! The limits of PDU sizes: at most 1,024 bytes, and the size that the client proposed (IEC
+//! 62056-5-3).
 ghost use Rattle.std.specs.Prelude.{◌≡◌, ◌≤◌, ◌-◌};
 ghost use Rattle.session_core.specs.Association.{limit_of};
 ghost use Rattle.session_core.specs.Standard.{block_header, greatest_raw};

@@ -1,3 +1,5 @@
+//! An open association (client, rights, negotiated services and PDU size), and the AARE for each
+//! verdict (IEC 62056-5-3).
 ghost use Rattle.std.specs.Prelude.{◌≡◌};
 ghost use Rattle.session_core.specs.Association.{aare_by, link_by};
 

@@ -1,3 +1,5 @@
+//! The requests of a session to its caller: reply to an event, send a frame, feed more input, or
+//! nothing more.
 use crate::end::SessionEnd;
 use cosem_axdr::Octets;
 use relay_events::Event;

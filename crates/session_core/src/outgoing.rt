@@ -1,3 +1,4 @@
+//! A long GET response that is sent in blocks, one for each GET-next (IEC 62056-5-3).
 ghost use Rattle.std.specs.Prelude.{◌≡◌, ◌≢◌, ◌*◌, ◌-◌, ◌<◌, ◌≤◌, ◌↔◌, length, true, false, IsErrOf, IfOk, IfErr, OnOk, OnErr, Err};
 ghost use Rattle.session_core.specs.Outgoing.{unsent_by, get_code, block_response, continued_response, transfer_after_next};
 ghost use Rattle.session_core.specs.Standard.{block_header, greatest_raw};

@@ -1,3 +1,4 @@
+//! The management client's password, 1 to 32 bytes.
 ghost use Rattle.std.specs.Prelude.{◌≡◌, IfOk};
 ghost use Rattle.acse_ber.specs.Password.{IsPassword};
 

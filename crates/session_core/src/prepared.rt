@@ -1,3 +1,4 @@
+//! An answer that is allocated before its event, so that the reply completes it without allocating.
 ghost use Rattle.std.specs.Prelude.{◌≡◌, IfOk};
 ghost use Rattle.session_core.specs.Answers.{answer_text};
 ghost use Rattle.session_core.specs.Outgoing.{code_place, code_response, form_of, reply_code};

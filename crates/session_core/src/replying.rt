@@ -1,3 +1,5 @@
+//! Turns the meter's reply into the answer to its request: values, result codes, or the first block
+//! of a long value.
 ghost use Rattle.std.specs.Prelude.{◌≡◌, ◌≤◌, ◌<◌, ◌*◌, ◌-◌, None, length, option_and_then, true, IfOk, IfErr, OnOk, OnErr};
 ghost use Rattle.session_core.specs.Answers.{answer_text, due_text, way_text, IsSmall};
 ghost use Rattle.session_core.specs.Outgoing.{transfer_after, unsent_by, can_go_in_blocks, long_response, long_text, response_in_blocks, text_in_blocks, block_response, code_response, reply_code, reply_response, answer_with_header, reply_in, outgoing_by};
@@ -118,7 +120,7 @@ fn answer_value(
         ≡ due_text link.source
         (answer_text (Service
         (long_response link (answer_with_header id
-            (Response.Get id (GetResult.Value value.now)) 4))))) }
+        (Response.Get id (GetResult.Value value.now)) 4))))) }
     ensures outgoing { OnOk result (outgoing.new
         ≡ option_and_then (transfer_after 1)
         (long_text link (answer_with_header id (Response.Get id (GetResult.Value value.now)) 4))) }
@@ -152,7 +154,7 @@ fn answer_values(
         (answer_text (Service (long_response link (answer_with_header id normal header))))) }
     ensures outgoing { IfOk result (λ answered. answered.outgoing
         ≡ option_and_then (transfer_after 1) (long_text link
-            (answer_with_header id normal header))) }
+        (answer_with_header id normal header))) }
     ensures err { IfErr result (λ failed. failed.1 ≡ reply_in normal) }
 {
     match answer_long(alloc, link, way, id, &normal, header) {
@@ -268,7 +270,7 @@ fn answer_long(
         (answer_text (Service (long_response link (answer_with_header id normal.now header))))) }
     ensures outgoing { IfOk result (λ answered. answered.outgoing
         ≡ option_and_then (transfer_after 1) (long_text link
-            (answer_with_header id normal.now header))) }
+        (answer_with_header id normal.now header))) }
 {
     let text = way.write(alloc, normal)?;
     if way.payload(&text).len() <= usize::from(link.limit.bytes()) {

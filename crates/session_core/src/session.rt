@@ -1,3 +1,4 @@
+//! `Session`: the bytes of a client in, events for the meter and frames for the client out.
 ghost use Rattle.std.specs.Prelude.{◌≡◌, ◌≤◌, ◌+◌, length, true, false, Some, IfSome, IfNone, IfOk, IfErr, IsOk, OnOk, OnErr, Ok};
 ghost use Rattle.acse_ber.specs.Password.{IsPassword};
 ghost use Rattle.session_core.specs.declared.task.SessionTask.TheVariants.{Listen, Over};

@@ -1,3 +1,5 @@
+//! The state of a session between two frames, the association and its block transfers, and the
+//! effect of each frame on it.
 ghost use Rattle.std.specs.Prelude.{◌≡◌, ◌≤◌, Some, None, length, true, false, IfSome, IfNone, IfOk, OnOk, OnErr};
 ghost use Rattle.acse_ber.specs.Reading.{aarq_of};
 ghost use Rattle.session_core.specs.Association.{opened_by};

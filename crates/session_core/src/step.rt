@@ -1,3 +1,5 @@
+//! The result of a frame: an event for the meter, an answer, or the bytes of a long request to
+//! decode.
 use crate::asked::Asked;
 use crate::due::Due;
 use crate::incoming::Added;

@@ -1,3 +1,4 @@
+//! The next task of a session, from taking a frame to the end of the session.
 use crate::asked::Asked;
 use crate::due::Due;
 use crate::end::SessionEnd;

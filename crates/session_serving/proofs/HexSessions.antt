@@ -46,7 +46,7 @@ pub on_all : (password input : List ℕ) (s fed : Session) (before after : Outle
     → DoesAll CoreSteps hex_line (work_for (plan_of password) input) before after
 on_all password input s fed before after owes feeds all =
     subst (λ (seen : List ℕ). DoesAll CoreSteps hex_line (work_for (plan_of password) seen) before
-        after) (append-nil input)
+    after) (append-nil input)
     (does_all_on input [] fed before after (fed_all password input s fed before owes feeds) all)
 
 -- the session ran out of memory
@@ -56,9 +56,9 @@ on_short : (password input : List ℕ) (s fed : Session) (before after : Outlets
     → StopsShort CoreSteps hex_line (work_for (plan_of password) input) before after
 on_short password input s fed before after owes feeds stops =
     subst (λ (seen : List ℕ). StopsShort CoreSteps hex_line (work_for (plan_of password) seen)
-        before after) (append-nil input)
+    before after) (append-nil input)
     (stops_on input [] fed before after fault.Memory
-        (fed_all password input s fed before owes feeds) refl stops)
+    (fed_all password input s fed before owes feeds) refl stops)
 
 -- a fault that is out of memory, in the session
 pub on_short_by : (password input : List ℕ) (s fed : Session) (before after : Outlets RelayCore)
@@ -69,19 +69,19 @@ pub on_short_by : (password input : List ℕ) (s fed : Session) (before after : 
 on_short_by password input s fed before after f is owes feeds stops =
     on_short password input s fed before after owes feeds
     (subst (λ (g : ServeFault). Stops CoreSteps hex_line (work_for (remaining_plan fed) []) before g
-        after) is stops)
+    after) is stops)
 
 -- the result for a meter that was new
 pub played_new : (device password input : List ℕ) (core core' : RelayCore) (before after : Output)
     (result : Result (Unit {0}) HexFault)
     → StandsFor core (new_world device) → PlaysOn password input (pair before core) result
-        (pair after core')
+    (pair after core')
     → PlaysNew device password input before result after
 played_new device password input core core' before after (Ok done) is_new all =
     subst (λ (replies : List Reply). Appends before.written after.written
-        (flat_map hex_line (Answers password input replies)))
+    (flat_map hex_line (Answers password input replies)))
     (replies_are core core' (Asks password input) all.replies (new_world device) all.replied is_new)
-        all.wrote
+    all.wrote
 played_new device password input core core' before after (Err hex_fault.Digits) is_new none = absurd
     none
 played_new device password input core core' before after (Err hex_fault.TooLong) is_new

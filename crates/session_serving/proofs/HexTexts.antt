@@ -31,7 +31,7 @@ kept false rest later more e = absurd cc
 one_taken : (c : ℕ) (blank : Bool) (digits : List ℕ) (later : Bool)
     → (list_all is_hex_digit digits ≡ true → later ≡ true)
     → list_all is_hex_digit (cond (not blank) (c ∷ digits) digits) ≡ true
-        → ((is_hex_digit c || blank) && later) ≡ true
+    → ((is_hex_digit c || blank) && later) ≡ true
 one_taken c true digits later more e = skipped (is_hex_digit c) later (more e)
 one_taken c false digits later more e = kept (is_hex_digit c) (list_all is_hex_digit digits) later
     more e
@@ -52,7 +52,7 @@ no_hex : (text : List ℕ) (index : ℕ) → position is_wrong text ≡ Some ind
 no_hex text index found input hex =
     let digits = decode_of-ok (filter keeps text) input hex in
     let taken = AllPass-from_list_all is_taken text
-        (all_taken text (list_all-from_AllPass is_hex_digit (filter keeps text) digits.1)) in
+    (all_taken text (list_all-from_AllPass is_hex_digit (filter keeps text) digits.1)) in
     let place = position-Some is_wrong text index 0 found in
     clash (is_taken (get_or text index 0)) place.1 (taken index 0 place.0)
 
@@ -80,7 +80,7 @@ undecoded_odd text error none e = (sym (ap fault_at none), no_bytes (bytes_of te
 -- a whole text that was read and not decoded
 pub undecoded : (text : List ℕ) (before after : Input) (f : TextFault)
     → Consumes before.left after.left text → IsAtEnd after.left → length text ≤ most_characters
-        → IsUndecoded text f → StopsReading before f after
+    → IsUndecoded text f → StopsReading before f after
 undecoded text before after (text_fault.Digit character) read at_end within wrong =
     record { text = text; read = read; cause = (wrong, within, at_end) }
 undecoded text before after text_fault.OddDigits read at_end within wrong =

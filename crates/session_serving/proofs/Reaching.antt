@@ -26,22 +26,22 @@ use Rattle.call_fault.specs.declared.fault.CallFault.TheVariants as call
 
 wrote_more : (written_as : List ℕ → List ℕ) (a b c : Output) (sent : List (List ℕ)) (text : List ℕ)
     → WritesTexts written_as sent a b → Appends b.written c.written (written_as text)
-        → WritesTexts written_as (sent ++ text ∷ []) a c
+    → WritesTexts written_as (sent ++ text ∷ []) a c
 wrote_more written_as a b c sent text before now =
     subst (Appends a.written c.written)
     (sym (flat_map-append written_as sent (text ∷ [])
-        ∙ ap (λ (bytes : List ℕ). flat_map written_as sent ++ bytes)
-        (append-nil (written_as text))))
+    ∙ ap (λ (bytes : List ℕ). flat_map written_as sent ++ bytes)
+    (append-nil (written_as text))))
     (Appends-trans a.written b.written c.written (flat_map written_as sent) (written_as text) before
-        now)
+    now)
 
 wrote_on : (written_as : List ℕ → List ℕ) (a b c : Output) (sent more : List (List ℕ))
     → WritesTexts written_as sent a b → WritesTexts written_as more b c
-        → WritesTexts written_as (sent ++ more) a c
+    → WritesTexts written_as (sent ++ more) a c
 wrote_on written_as a b c sent more before now =
     subst (Appends a.written c.written) (sym (flat_map-append written_as sent more))
     (Appends-trans a.written b.written c.written (flat_map written_as sent)
-        (flat_map written_as more) before now)
+    (flat_map written_as more) before now)
 
 -- ---- the start
 
@@ -75,8 +75,11 @@ reached_none s before = record {
 
 -- the plan for this input, whatever follows it
 abbrev pub fixed : Plan → List ℕ → Plan
-fixed plan input = record { asks = λ _. plan.asks input; sends = λ _. plan.sends input;
-    ends = λ _. plan.ends input }
+fixed plan input = record {
+  asks = λ _. plan.asks input;
+  sends = λ _. plan.sends input;
+  ends = λ _. plan.ends input;
+}
 
 -- a writer and a meter
 abbrev pub pair : {M : Type 0} → Output → M → Outlets M
@@ -99,7 +102,7 @@ module _ {M : Type 0} {steps : M → Event → Result Reply CallFault → M → 
     sends_rest = λ more later. ap (λ (input : List ℕ). plan.sends input (r.replies ++ later))
         (append_assoc seen bytes more)
         ∙ r.sends_rest (bytes ++ more) later ∙ ap (λ (ts : List (List ℕ)). r.sent
-            ++ ts) (sym (fed.sends more later));
+        ++ ts) (sym (fed.sends more later));
     ends_rest = λ more. ap plan.ends (append_assoc seen bytes more) ∙ r.ends_rest (bytes ++ more)
         ∙ sym (fed.ends more);
     replied = r.replied;
@@ -124,7 +127,7 @@ module _ {M : Type 0} {steps : M → Event → Result Reply CallFault → M → 
   pub reached_sent : (seen : List ℕ) (old new : Session) (now : Outlets M) (output : Output)
       (text : List ℕ)
       → HasDone steps written_as plan before seen old now → Steps old [] (text ∷ []) new
-          → Appends now.output.written output.written (written_as text)
+      → Appends now.output.written output.written (written_as text)
       → HasDone steps written_as plan before seen new (pair output now.meter)
   reached_sent seen old new now output text r st wrote = record {
     asked = r.asked;
@@ -142,7 +145,7 @@ module _ {M : Type 0} {steps : M → Event → Result Reply CallFault → M → 
   pub reached_asked : (seen : List ℕ) (old middle new : Session) (now : Outlets M) (meter : M)
       (event : Event) (reply : Reply)
       → HasDone steps written_as plan before seen old now → Steps old (event ∷ []) [] middle
-          → steps now.meter event (Ok reply) meter → Takes middle reply new
+      → steps now.meter event (Ok reply) meter → Takes middle reply new
       → HasDone steps written_as plan before seen new (pair now.output meter)
   reached_asked seen old middle new now meter event reply r st step takes = record {
     asked = r.asked ++ event ∷ [];
@@ -150,12 +153,12 @@ module _ {M : Type 0} {steps : M → Event → Result Reply CallFault → M → 
     sent = r.sent;
     asks_rest = λ more. r.asks_rest more
         ∙ ap (λ (es : List Event). r.asked ++ es) (st.asks more
-            ∙ ap (λ (es : List Event). event ∷ es) (sym (takes.asks more)))
+        ∙ ap (λ (es : List Event). event ∷ es) (sym (takes.asks more)))
         ∙ sym (append_assoc r.asked (event ∷ []) (still_asks new more));
     sends_rest = λ more later. ap (plan.sends (seen ++ more))
         (append_assoc r.replies (reply ∷ []) later) ∙ r.sends_rest more (reply ∷ later)
         ∙ ap (λ (ts : List (List ℕ)). r.sent ++ ts) (st.sends more (reply ∷ later)
-            ∙ sym (takes.sends more later));
+        ∙ sym (takes.sends more later));
     ends_rest = λ more. r.ends_rest more ∙ st.ends more ∙ sym (takes.ends more);
     replied = replied_more steps before.meter now.meter meter r.asked r.replies event reply
         r.replied step;
@@ -166,14 +169,14 @@ module _ {M : Type 0} {steps : M → Event → Result Reply CallFault → M → 
   pub reached_answered : (seen : List ℕ) (old middle new : Session) (now : Outlets M) (meter : M)
       (output : Output) (event : Event) (reply : Reply) (text : List ℕ)
       → HasDone steps written_as plan before seen old now → Steps old (event ∷ []) [] middle
-          → steps now.meter event (Ok reply) meter
+      → steps now.meter event (Ok reply) meter
       → AnswersBy middle reply text new → Appends now.output.written output.written
-          (written_as text)
+      (written_as text)
       → HasDone steps written_as plan before seen new (pair output meter)
   reached_answered seen old middle new now meter output event reply text r st step answered wrote =
       reached_sent seen answered.between new (pair now.output meter) output text
-          (reached_asked seen old middle answered.between now meter event reply r st step
-          answered.takes)
+      (reached_asked seen old middle answered.between now meter event reply r st step
+      answered.takes)
       answered.sends wrote
 
   -- after the end of the input, no bytes change anything
@@ -189,7 +192,7 @@ module _ {M : Type 0} {steps : M → Event → Result Reply CallFault → M → 
     sends_rest = λ more later. ap (λ (input : List ℕ). plan.sends input (r.replies ++ later))
         (sym (append-nil seen))
         ∙ r.sends_rest [] later ∙ ap (λ (ts : List (List ℕ)). r.sent
-            ++ ts) (sym (finished.sends more later));
+        ++ ts) (sym (finished.sends more later));
     ends_rest = λ more. ap plan.ends (sym (append-nil seen)) ∙ r.ends_rest []
         ∙ sym (finished.ends more);
     replied = r.replied;
@@ -207,13 +210,13 @@ module _ {M : Type 0} {steps : M → Event → Result Reply CallFault → M → 
     sent = r.sent ++ next.sent;
     asks_rest = λ more. ap plan.asks (append_assoc seen bytes more) ∙ r.asks_rest (bytes ++ more)
         ∙ ap (λ (es : List Event). r.asked ++ es) (next.asks_rest more)
-            ∙ sym (append_assoc r.asked next.asked (still_asks new more));
+        ∙ sym (append_assoc r.asked next.asked (still_asks new more));
     sends_rest = λ more later. ap (λ (input : List ℕ). plan.sends input ((r.replies ++ next.replies)
         ++ later)) (append_assoc seen bytes more)
         ∙ ap (plan.sends (seen ++ (bytes ++ more))) (append_assoc r.replies next.replies later)
         ∙ r.sends_rest (bytes ++ more) (next.replies ++ later)
         ∙ ap (λ (ts : List (List ℕ)). r.sent ++ ts) (next.sends_rest more later)
-            ∙ sym (append_assoc r.sent next.sent (still_sends new more later));
+        ∙ sym (append_assoc r.sent next.sent (still_sends new more later));
     ends_rest = λ more. ap plan.ends (append_assoc seen bytes more) ∙ r.ends_rest (bytes ++ more)
         ∙ next.ends_rest more;
     replied = replied_on steps before.meter now.meter after.meter r.asked next.asked r.replies
@@ -234,14 +237,14 @@ module _ {M : Type 0} {steps : M → Event → Result Reply CallFault → M → 
   -- a session that has nothing left to do has done everything
   pub does_all : (seen more : List ℕ) (s : Session) (now : Outlets M)
       → HasDone steps written_as plan before seen s now → still_asks s more ≡ []
-          → ((replies : List Reply) → still_sends s more replies ≡ [])
+      → ((replies : List Reply) → still_sends s more replies ≡ [])
       → DoesAll steps written_as (work_for plan (seen ++ more)) before now
   does_all seen more s now r no_asks no_sends =
       let all_asked : plan.asks (seen ++ more) ≡ r.asked =
-          r.asks_rest more ∙ ap (λ (es : List Event). r.asked ++ es) no_asks ∙ append-nil r.asked in
+      r.asks_rest more ∙ ap (λ (es : List Event). r.asked ++ es) no_asks ∙ append-nil r.asked in
       let all_sent : plan.sends (seen ++ more) r.replies ≡ r.sent =
       sent_so_far seen s now r more ∙ ap (λ (ts : List (List ℕ)). r.sent ++ ts) (no_sends [])
-          ∙ append-nil r.sent in
+      ∙ append-nil r.sent in
       record {
         replies = r.replies;
         replied = subst (λ (es : List Event). RepliesTo steps before.meter es r.replies now.meter)
@@ -286,17 +289,17 @@ module _ {M : Type 0} {steps : M → Event → Result Reply CallFault → M → 
       → plan.asks (seen ++ more) ≡ (r.asked ++ event ∷ []) ++ still_asks new more
   asked_next seen more old new now event r st =
       r.asks_rest more ∙ ap (λ (es : List Event). r.asked ++ es) (st.asks more)
-          ∙ sym (append_assoc r.asked (event ∷ []) (still_asks new more))
+      ∙ sym (append_assoc r.asked (event ∷ []) (still_asks new more))
 
   pub refused : (seen more : List ℕ) (old new : Session) (now : Outlets M) (meter : M)
       (event : Event) (f : CallFault) (given : ServeFault)
       → HasDone steps written_as plan before seen old now → Steps old (event ∷ []) [] new
-          → IsAwaiting new
+      → IsAwaiting new
       → steps now.meter event (Err f) meter → given ≡ fault_of f
       → Stops steps written_as (work_for plan (seen ++ more)) before given (pair now.output meter)
   refused seen more old new now meter event call.Memory given r st awaits step same =
       subst (λ (g : ServeFault). Stops steps written_as (work_for plan (seen ++ more)) before g
-          (pair now.output meter)) (sym same)
+      (pair now.output meter)) (sym same)
       (record {
         asked = r.asked ++ event ∷ [];
         later = still_asks new more;
@@ -312,9 +315,9 @@ module _ {M : Type 0} {steps : M → Event → Result Reply CallFault → M → 
   refused seen more old new now meter event call.Exhausted given r st awaits step same =
       let all_sent : plan.sends (seen ++ more) r.replies ≡ r.sent =
       sent_so_far seen old now r more ∙ ap (λ (ts : List (List ℕ)). r.sent ++ ts) (st.sends more []
-          ∙ awaits.sends more) ∙ append-nil r.sent in
+      ∙ awaits.sends more) ∙ append-nil r.sent in
       subst (λ (g : ServeFault). Stops steps written_as (work_for plan (seen ++ more)) before g
-          (pair now.output meter)) (sym same)
+      (pair now.output meter)) (sym same)
       (record {
         asked = r.asked ++ event ∷ [];
         later = still_asks new more;
@@ -329,21 +332,21 @@ module _ {M : Type 0} {steps : M → Event → Result Reply CallFault → M → 
   pub starved_by : {X : Type 0} (seen more : List ℕ) (old new : Session) (now : Outlets M)
       (result : Result X ServeFault)
       → HasDone steps written_as plan before seen old now → Steps old [] [] new
-          → IsErrAnd result (λ f. f ≡ fault.Memory)
+      → IsErrAnd result (λ f. f ≡ fault.Memory)
       → IfErr result (λ f. Stops steps written_as (work_for plan (seen ++ more)) before f now)
   starved_by seen more old new now (Ok x) r st is = tt
   starved_by seen more old new now (Err f) r st is =
       subst (λ (g : ServeFault). Stops steps written_as (work_for plan (seen ++ more)) before g now)
-          (sym is)
+      (sym is)
       (starved seen more new now (reached_steps seen old new now r st))
 
   pub refused_by : {X : Type 0} (seen more : List ℕ) (old new : Session) (now : Outlets M)
       (meter : M) (event : Event) (f : CallFault) (result : Result X ServeFault)
       → HasDone steps written_as plan before seen old now → Steps old (event ∷ []) [] new
-          → IsAwaiting new
+      → IsAwaiting new
       → steps now.meter event (Err f) meter → IsErrAnd result (λ g. g ≡ fault_of f)
       → IfErr result (λ g. Stops steps written_as (work_for plan (seen ++ more)) before g
-          (pair now.output meter))
+      (pair now.output meter))
   refused_by seen more old new now meter event f (Ok x) r st awaits step is = tt
   refused_by seen more old new now meter event f (Err g) r st awaits step is =
       refused seen more old new now meter event f g r st awaits step is
@@ -352,7 +355,7 @@ module _ {M : Type 0} {steps : M → Event → Result Reply CallFault → M → 
   pub unanswered : (seen more : List ℕ) (old new : Session) (now : Outlets M) (meter : M)
       (event : Event) (reply : Reply)
       → HasDone steps written_as plan before seen old now → Steps old (event ∷ []) [] new
-          → steps now.meter event (Ok reply) meter
+      → steps now.meter event (Ok reply) meter
       → StopsShort steps written_as (work_for plan (seen ++ more)) before (pair now.output meter)
   unanswered seen more old new now meter event reply r st step = record {
     asked = r.asked ++ event ∷ [];
@@ -394,7 +397,7 @@ module _ {M : Type 0} {steps : M → Event → Result Reply CallFault → M → 
     wrote = subst (Appends before.output.written output.written)
         (append-nil (flat_map written_as r.sent))
         (Appends-trans before.output.written now.output.written output.written
-            (flat_map written_as r.sent) [] r.wrote fails);
+        (flat_map written_as r.sent) [] r.wrote fails);
   }
   unsent seen more old now output fault.Exhausted r even fails = absurd fails
   unsent seen more old now output fault.Listen r even fails = absurd fails
@@ -403,13 +406,13 @@ module _ {M : Type 0} {steps : M → Event → Result Reply CallFault → M → 
       (output : Output) (f : ServeFault) (result : Result X ServeFault)
       → HasDone steps written_as plan before seen old now
       → now.output.failures ≡ before.output.failures → FailsToWrite now.output f output
-          → IsErrAnd result (λ g. g ≡ f)
+      → IsErrAnd result (λ g. g ≡ f)
       → IfErr result (λ g. Stops steps written_as (work_for plan (seen ++ more)) before g
-          (pair output now.meter))
+      (pair output now.meter))
   unsent_by seen more old now output f (Ok x) r even fails is = tt
   unsent_by seen more old now output f (Err g) r even fails is =
       subst (λ (h : ServeFault). Stops steps written_as (work_for plan (seen ++ more)) before h
-          (pair output now.meter)) (sym is)
+      (pair output now.meter)) (sym is)
       (unsent seen more old now output f r even fails)
 
   -- ---- errors in a later stretch
@@ -426,11 +429,11 @@ module _ {M : Type 0} {steps : M → Event → Result Reply CallFault → M → 
     replies = r.replies ++ stop.replies;
     replied = ⊎_elim
         (λ (ran : RepliesTo steps now.meter stop.asked stop.replies after.meter). inl
-            (replied_on steps before.meter now.meter after.meter r.asked stop.asked r.replies
-            stop.replies r.replied ran))
+        (replied_on steps before.meter now.meter after.meter r.asked stop.asked r.replies
+        stop.replies r.replied ran))
         (λ (ran : RefusesLast steps now.meter stop.asked stop.replies call.Memory after.meter).
         inr (refused_on steps before.meter now.meter after.meter r.asked stop.asked r.replies
-            stop.replies call.Memory r.replied ran)) stop.replied;
+        stop.replies call.Memory r.replied ran)) stop.replied;
     sent = r.sent ++ stop.sent;
     unsent = stop.unsent;
     all_sent = r.sends_rest more stop.replies
@@ -455,12 +458,12 @@ module _ {M : Type 0} {steps : M → Event → Result Reply CallFault → M → 
     wrote = subst (λ (ts : List (List ℕ)). WritesTexts written_as ts before.output after.output)
         (sym (r.sends_rest more stop.replies))
         (wrote_on written_as before.output now.output after.output r.sent
-            (still_sends s more stop.replies) r.wrote stop.wrote);
+        (still_sends s more stop.replies) r.wrote stop.wrote);
   }
 
   unwritten_on : (seen more : List ℕ) (s : Session) (now after : Outlets M)
       → HasDone steps written_as plan before seen s now → now.output.failures
-          ≡ before.output.failures
+      ≡ before.output.failures
       → IsUnwritten steps written_as (work_for (remaining_plan s) more) now after
       → IsUnwritten steps written_as (work_for plan (seen ++ more)) before after
   unwritten_on seen more s now after r even stop = record {
@@ -476,7 +479,7 @@ module _ {M : Type 0} {steps : M → Event → Result Reply CallFault → M → 
 
   pub stops_on : (seen more : List ℕ) (s : Session) (now after : Outlets M) (f : ServeFault)
       → HasDone steps written_as plan before seen s now → now.output.failures
-          ≡ before.output.failures
+      ≡ before.output.failures
       → Stops steps written_as (work_for (remaining_plan s) more) now f after
       → Stops steps written_as (work_for plan (seen ++ more)) before f after
   stops_on seen more s now after fault.Read r even stop = absurd stop
@@ -495,16 +498,20 @@ module _ {M : Type 0} {steps : M → Event → Result Reply CallFault → M → 
     replied = subst (λ (es : List Event). RepliesTo steps before.meter es (r.replies
         ++ all.replies) after.meter) (sym (r.asks_rest more))
         (replied_on steps before.meter now.meter after.meter r.asked (still_asks s more) r.replies
-            all.replies r.replied all.replied);
+        all.replies r.replied all.replied);
     wrote = subst (λ (ts : List (List ℕ)). WritesTexts written_as ts before.output after.output)
         (sym (r.sends_rest more all.replies))
         (wrote_on written_as before.output now.output after.output r.sent
-            (still_sends s more all.replies) r.wrote all.wrote);
+        (still_sends s more all.replies) r.wrote all.wrote);
   }
 
 pub steps_none : (s : Session) → Steps s [] [] s
-steps_none s = record { asks = λ more. refl; sends = λ more replies. refl; ends = λ more. refl;
-    finished = refl }
+steps_none s = record {
+  asks = λ more. refl;
+  sends = λ more replies. refl;
+  ends = λ more. refl;
+  finished = refl;
+}
 
 -- ---- everything that the input asks for was done
 
@@ -566,7 +573,7 @@ module _ {M : Type 0} (steps : M → Event → Result Reply CallFault → M → 
     reached = subst (λ (seen : List ℕ). HasDone steps written_as (remaining_plan old) before seen
         new after) (append-nil bytes)
         (reached_on bytes [] middle new before after
-            (reached_fed [] bytes old middle before (reached_none old before) fed) settled.reached);
+        (reached_fed [] bytes old middle before (reached_none old before) fed) settled.reached);
     settled = settled.settled;
     done = settled.done;
     silent = settled.silent;
@@ -583,7 +590,7 @@ module _ {M : Type 0} (steps : M → Event → Result Reply CallFault → M → 
   pub settled_in : (old middle new : Session) (bytes : List ℕ) (before after : Outlets M)
       (result : Result (Option SessionEnd) ServeFault)
       → Feeds old bytes middle → IfOk result (λ end. Settles steps written_as middle before [] end
-          new after)
+      new after)
       → IfOk result (λ end. Settles steps written_as old before bytes end new after)
   settled_in old middle new bytes before after (Ok end) fed settled =
       settled_fed old middle new bytes before after end fed settled
@@ -592,15 +599,15 @@ module _ {M : Type 0} (steps : M → Event → Result Reply CallFault → M → 
   pub stopped_in : (old middle : Session) (bytes : List ℕ) (before after : Outlets M)
       (result : Result (Option SessionEnd) ServeFault)
       → Feeds old bytes middle → IfErr result
-          (λ f. Stops steps written_as (work_for (remaining_plan middle) []) before f after)
+      (λ f. Stops steps written_as (work_for (remaining_plan middle) []) before f after)
       → IfErr result (λ f. Stops steps written_as (work_for (remaining_plan old) bytes)
-          before f after)
+      before f after)
   stopped_in old middle bytes before after (Ok end) fed stops = tt
   stopped_in old middle bytes before after (Err f) fed stops =
       subst (λ (seen : List ℕ). Stops steps written_as (work_for (remaining_plan old) seen) before f
-          after) (append-nil bytes)
+      after) (append-nil bytes)
       (stops_on bytes [] middle before after f
-          (reached_fed [] bytes old middle before (reached_none old before) fed) refl stops)
+      (reached_fed [] bytes old middle before (reached_none old before) fed) refl stops)
 
   -- the input ended
   reached_end : (old middle new : Session) (before after : Outlets M) (end : Option SessionEnd)
@@ -608,26 +615,26 @@ module _ {M : Type 0} (steps : M → Event → Result Reply CallFault → M → 
       → HasDone steps written_as (fixed (remaining_plan old) []) before [] new after
   reached_end old middle new before after end finishes settled =
       reached_on [] [] middle new before after
-          (reached_finished [] old middle before (reached_none old before) finishes) settled.reached
+      (reached_finished [] old middle before (reached_none old before) finishes) settled.reached
 
   pub ended_all : (old middle new : Session) (before after : Outlets M) (end : Option SessionEnd)
       → Finishes old middle → Settles steps written_as middle before [] end new after
       → DoesAll steps written_as (work_for (remaining_plan old) []) before after
   ended_all old middle new before after end finishes settled =
       does_all [] [] new after (reached_end old middle new before after end finishes settled)
-          settled.settled.asks settled.settled.sends
+      settled.settled.asks settled.settled.sends
 
   pub ended_so : (old middle new : Session) (before after : Outlets M) (end : SessionEnd)
       → Finishes old middle → Settles steps written_as middle before [] (Some end) new after
       → end ≡ still_ends old []
   ended_so old middle new before after end finishes settled =
       sym ((reached_end old middle new before after (Some end) finishes settled).ends_rest []
-          ∙ settled.done.ends [])
+      ∙ settled.done.ends [])
 
   pub ended_stop : (old middle : Session) (before after : Outlets M) (f : ServeFault)
       → Finishes old middle → Stops steps written_as (work_for (remaining_plan middle) []) before f
-          after
+      after
       → Stops steps written_as (work_for (remaining_plan old) []) before f after
   ended_stop old middle before after f finishes stops =
       stops_on [] [] middle before after f (reached_finished [] old middle before
-          (reached_none old before) finishes) refl stops
+      (reached_none old before) finishes) refl stops

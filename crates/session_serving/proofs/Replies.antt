@@ -10,7 +10,7 @@ module _ {M : Type 0} (steps : M → Event → Result Reply CallFault → M → 
   pub replied_more : (first next last : M) (events : List Event) (replies : List Reply)
       (event : Event) (reply : Reply)
       → RepliesTo steps first events replies next → steps next event (Ok reply) last
-          → RepliesTo steps first (events ++ event ∷ []) (replies ++ reply ∷ []) last
+      → RepliesTo steps first (events ++ event ∷ []) (replies ++ reply ∷ []) last
   replied_more first next last [] [] event reply ran step =
       (last, subst (λ (m : M). steps m event (Ok reply) last) ran step, refl)
   replied_more first next last [] (r ∷ replies) event reply ran step = absurd ran
@@ -21,7 +21,7 @@ module _ {M : Type 0} (steps : M → Event → Result Reply CallFault → M → 
   -- several more events
   pub replied_on : (first next last : M) (events more : List Event) (replies later : List Reply)
       → RepliesTo steps first events replies next → RepliesTo steps next more later last
-          → RepliesTo steps first (events ++ more) (replies ++ later) last
+      → RepliesTo steps first (events ++ more) (replies ++ later) last
   replied_on first next last [] more [] later ran then_ran =
       subst (λ (m : M). RepliesTo steps m more later last) ran then_ran
   replied_on first next last [] more (r ∷ replies) later ran then_ran = absurd ran
@@ -32,7 +32,7 @@ module _ {M : Type 0} (steps : M → Event → Result Reply CallFault → M → 
   pub refused_on : (first next last : M) (events more : List Event) (replies later : List Reply)
       (fault : CallFault)
       → RepliesTo steps first events replies next → RefusesLast steps next more later fault last
-          → RefusesLast steps first (events ++ more) (replies ++ later) fault last
+      → RefusesLast steps first (events ++ more) (replies ++ later) fault last
   refused_on first next last events more replies later fault ran refused = record {
     taken = events ++ refused.taken;
     event = refused.event;

@@ -10,8 +10,15 @@ use Rattle.relay_events.specs.contracts.event.Event as event
 use Rattle.relay_events.specs.contracts.reply.Reply as reply
 
 pub event_send : IsSend event.the_row
-event_send = search (sendable, crosses, send-Data, send-Items, octets_send, selection_send,
-    block_send) depth 40 fits 100000
+event_send = search (
+  sendable,
+  crosses,
+  send-Data,
+  send-Items,
+  octets_send,
+  selection_send,
+  block_send,
+) depth 40 fits 100000
 
 get_result_send : IsSend get_result.the_row
 get_result_send = search (sendable, crosses, send-Data, send-Items, octets_send) depth

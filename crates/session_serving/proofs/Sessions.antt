@@ -198,13 +198,18 @@ module _ {M : Type 0} (steps : M → Event → Result Reply CallFault → M → 
   served_none password before (Err f) is = record {
     seen = [];
     read = Consumes-nil before.input.left;
-    stops = record { earlier = []; last = []; all = refl; short = omega arith;
-        ends = nothing_ends };
+    stops = record {
+      earlier = [];
+      last = [];
+      all = refl;
+      short = omega arith;
+      ends = nothing_ends;
+    };
     pieces = record { count = 0; most = omega arith; short = omega arith; counted = omega arith };
     effect = did_stop (plan_of password) [] before before f
         (subst
         (λ (g : ServeFault). Stops steps as_bytes (work_for (plan_of password) []) before.outlets g
-            before.outlets)
+        before.outlets)
         (sym is)
         (record {
           asked = [];
@@ -271,7 +276,7 @@ module _ {M : Type 0} (steps : M → Event → Result Reply CallFault → M → 
       → count < most_reads → after.input.reads ≡ before.input.reads + (count + 1)
       → now.outlets.output.failures ≡ before.outlets.output.failures
       → OnOk result (DoesAll steps as_bytes (work_for (remaining_plan s) []) now.outlets
-          after.outlets)
+      after.outlets)
       → IfOk result (λ end. end ≡ still_ends s [])
       → IfErr result
       (λ f. Stops steps as_bytes (work_for (remaining_plan s) []) now.outlets f after.outlets)
@@ -279,7 +284,7 @@ module _ {M : Type 0} (steps : M → Event → Result Reply CallFault → M → 
   served_end password count old s before now after (Ok end) owes st consumed at_end few counted even
       all so stop =
       let far = owed steps as_bytes password st.seen old s before.outlets now.outlets owes
-          st.reached in
+      st.reached in
       record {
         seen = st.seen ++ [];
         read = Consumes-trans before.input.left now.input.left after.input.left st.seen [] st.read
@@ -312,7 +317,7 @@ module _ {M : Type 0} (steps : M → Event → Result Reply CallFault → M → 
   served_over password bytes count old s new before now after end owes st consumed piece few counted
       settled early =
       let far = owed steps as_bytes password (st.seen ++ bytes) old new before.outlets after.outlets
-          owes
+      owes
       (reached_on st.seen bytes s new now.outlets after.outlets st.reached settled.reached) in
       record {
         seen = (st.seen ++ bytes) ++ [];
@@ -345,7 +350,7 @@ module _ {M : Type 0} (steps : M → Event → Result Reply CallFault → M → 
       (record { input = input; outlets = now.outlets })
   served_unread password count old s before now input owes st consumed most counted cause =
       let far = owed steps as_bytes password st.seen old s before.outlets now.outlets owes
-          st.reached in
+      st.reached in
       record {
         seen = st.seen ++ [];
         read = Consumes-trans before.input.left now.input.left input.left st.seen [] st.read

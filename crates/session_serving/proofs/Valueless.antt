@@ -54,7 +54,7 @@ valueless_reply (Moment now) reply e fits = clock_has_none reply fits
 pub prepared_text : (event : Event) (asked : Asked) (reply : Reply) → is_read event ≡ false
     → Fits event reply
     → answer_text (Service (reply_response asked reply))
-        ≡ answer_text (Service (code_response (form_of asked) (reply_code reply)))
+    ≡ answer_text (Service (code_response (form_of asked) (reply_code reply)))
 prepared_text event asked reply e fits = ap (λ r. answer_text (Service r))
     (valueless asked reply (valueless_reply event reply e fits))
 
@@ -62,7 +62,7 @@ prepared_text event asked reply e fits = ap (λ r. answer_text (Service r))
 pub prepared_answer : (event : Event) (asked : Asked) (reply given : Reply) (form : ReplyForm)
     (text : List ℕ) → is_read event ≡ false → Fits event given
     → form ≡ form_of asked → given ≡ reply → text
-        ≡ answer_text (Service (code_response form (reply_code given)))
+    ≡ answer_text (Service (code_response form (reply_code given)))
     → text ≡ answer_text (Service (reply_response asked reply))
 prepared_answer event asked reply given form text e fits formed gave same =
     same ∙ rw formed (rw (sym gave) (sym (prepared_text event asked given e fits)))

@@ -1,3 +1,4 @@
+//! Answers one xDLMS request on a core, without a frame or an association (IEC 62056-5-3).
 ghost use Rattle.std.specs.Prelude.{◌≡◌, false, IfOk, IsTrue, OnOk, OnErr};
 ghost use Rattle.relay_core.specs.Machine.{at_event};
 ghost use Rattle.relay_events.specs.Kinds.{is_read};

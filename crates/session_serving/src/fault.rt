@@ -1,3 +1,4 @@
+//! The errors of serving a client and of the commands on hexadecimal text, with their numbers.
 ghost use Rattle.std.specs.Prelude.{◌≡◌};
 ghost use Rattle.session_serving.specs.Numbers.{serve_number, hex_number};
 ghost use Rattle.session_serving.specs.Hexadecimal.{hex_fault_of};

@@ -1,3 +1,4 @@
+//! The forms in which frames are written: as their bytes, or as lines of hexadecimal.
 ghost use Rattle.std.specs.Prelude.{◌≡◌, ℕ, List, IfErr, IfOk, OnOk, string_bytes};
 ghost use Rattle.std.specs.Io.KnownBytes.{Appends};
 ghost use Rattle.session_serving.specs.Hexadecimal.{hex_line};

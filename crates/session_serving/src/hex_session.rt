@@ -1,3 +1,4 @@
+//! Serves one session on a new meter from a text of hexadecimal, and writes each frame as a line.
 ghost use Rattle.acse_ber.specs.Password.{IsPassword};
 ghost use Rattle.session_serving.specs.Hexadecimal.{PlaysNew, PlaysOn, RunsHex};
 ghost use Rattle.session_serving.specs.Sides.{input_of, output_of, outlets_of};

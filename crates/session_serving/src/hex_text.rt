@@ -1,3 +1,4 @@
+//! Reads a text of hexadecimal digits, with blanks and line ends skipped, into bytes.
 ghost use Rattle.std.specs.Prelude.{◌≡◌, ◌≤◌, length, None, not, filter, position, IfOk, IfErr};
 ghost use Rattle.std.specs.Io.KnownBytes.{Consumes, IsAtEnd};
 ghost use Rattle.session_serving.specs.Hexadecimal.{IsHex, IsUndecoded, ReadsHex, StopsReading, is_blank, is_taken, most_characters};

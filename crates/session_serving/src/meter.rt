@@ -1,3 +1,5 @@
+//! The trait of a meter that a session calls: a core, or a port of a lock that is shared by several
+//! sessions.
 ghost use Rattle.std.specs.Prelude.{Result, IfOk};
 ghost use Rattle.session_serving.specs.Meters.{CoreSteps};
 ghost use Rattle.relay_events.specs.Kinds.{Fits};

@@ -1,3 +1,5 @@
+//! Serves one client from its first byte to its last: reads, calls of the meter and writes, in
+//! order.
 ghost use Rattle.std.specs.Prelude.{◌≡◌, ℕ, List, [], ◌++◌, false, Some, IfSome, IfNone, IfOk, IfErr, OnOk};
 ghost use Rattle.acse_ber.specs.Password.{IsPassword};
 ghost use Rattle.session_serving.specs.Serving.{DoesAll, ServesSession, Stops, as_bytes, remaining_plan, work_for};

@@ -32,7 +32,7 @@ pub counted_on : (before mid after : Option ℕ) (count later : ℕ)
 counted_on before mid after count later first next counted rises below =
     let few : count < 18446744073709551615 = omega (arith, rises, below) in
     subst (λ n. RisesBy before n after) (sym (counted few))
-        (rises_on before mid after count (first few) next)
+    (rises_on before mid after count (first few) next)
 
 rises_still : (before mid after : Option ℕ) (count : ℕ) → RisesBy before count mid
     → RisesBy mid 0 after
@@ -40,7 +40,7 @@ rises_still : (before mid after : Option ℕ) (count : ℕ) → RisesBy before c
 rises_still None mid after count first next = tt
 rises_still (Some number) mid after count first next =
     let same_count : after ≡ Some (number + count + 0) =
-        subst (λ m. RisesBy m 0 after) first next in
+    subst (λ m. RisesBy m 0 after) first next in
     let same : number + count + 0 ≡ number + count = omega arith in
     same_count ∙ ap (λ n. Some n) same
 

@@ -27,8 +27,11 @@ among_at e (k ∷ ms) ns = inr (among_at e ms ns)
 module _ {E R O : Type 0} where
   own_later : (p q : ShownPort E R O) → GoesOn p q → (n : List ℕ) → IsOwn p.known n
       → IsOwn q.known n
-  own_later p q s n h = elim h [ inl e ↦ inl (e ∙ sym s.number) | inr among ↦ inr
-      (s.joined n among) ]
+  own_later p q s n h = elim h [
+    | inl e ↦ inl (e ∙ sym s.number)
+    | inr among ↦ inr
+        (s.joined n among)
+  ]
 
   pub goes_refl : (p : ShownPort E R O) → GoesOn p p
   goes_refl p =

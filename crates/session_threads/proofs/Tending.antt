@@ -15,9 +15,15 @@ pub returned_same : {E R O : Type 0} (did : ShownPort E R O → ShownPort E R O 
     (p q : ShownPort E R O)
     → ((r s : ShownPort E R O) → did r s → IsSame r s) → Returns did p q → IsSame p q
 returned_same did p q same (inl e) =
-    record { lock = ap (λ r. r.lock) e; bound = ap (λ r. r.bound) e;
-        origin = ap (λ r. r.known.origin) e; number = ap (λ r. r.known.number) e; splits =
-        ap (λ r. r.known.splits) e; joined = ap (λ r. r.known.joined) e }
+    record {
+      lock = ap (λ r. r.lock) e;
+      bound = ap (λ r. r.bound) e;
+      origin = ap (λ r. r.known.origin) e;
+      number = ap (λ r. r.known.number) e;
+      splits =
+          ap (λ r. r.known.splits) e;
+      joined = ap (λ r. r.known.joined) e;
+    }
 returned_same did p q same (inr done) = same p q done
 
 -- a property of the connection that was given
@@ -43,8 +49,8 @@ module _ {H E R O : Type 0} (port_of : H → ShownPort E R O) (terms_of : H → 
   pub tends_trans : (p : ShownPort E R O) (held : Slab H) (q : ShownPort E R O) (later : Slab H)
       (r : ShownPort E R O) (last : Slab H)
       → Tends port_of terms_of did terms p held q later
-          → Tends port_of terms_of did terms q later r last
-          → Tends port_of terms_of did terms p held r last
+      → Tends port_of terms_of did terms q later r last
+      → Tends port_of terms_of did terms p held r last
   tends_trans p held q later r last s t =
       record {
         goes = goes_trans p q r s.goes t.goes;
@@ -56,7 +62,7 @@ module _ {H E R O : Type 0} (port_of : H → ShownPort E R O) (terms_of : H → 
   pub tends_by : (other : List ℕ) (p : ShownPort E R O) (held : Slab H) (q : ShownPort E R O)
       (later : Slab H) → terms ≡ other
       → Tends port_of terms_of did terms p held q later
-          → Tends port_of terms_of did other p held q later
+      → Tends port_of terms_of did other p held q later
   tends_by other p held q later same tends =
       let T : List ℕ → Type 0 = λ t. Tends port_of terms_of did t p held q later in
       subst T same tends
@@ -88,9 +94,15 @@ module _ {H E R O : Type 0} (port_of : H → ShownPort E R O) (terms_of : H → 
             let equal : o.session ≡ s = cc in
             let P : H → Type 0 = λ h. IsThis h number in
             inl (subst P equal record { named = o.named; fresh = o.fresh; on_terms = o.on_terms })
-        | inr differs ↦ inr record { key = o.key; session = o.session;
-            there = updates.others o.key differs ∙ o.there; named = o.named; fresh =
-            o.fresh; on_terms = o.on_terms }
+        | inr differs ↦ inr record {
+          key = o.key;
+          session = o.session;
+          there = updates.others o.key differs ∙ o.there;
+          named = o.named;
+          fresh =
+              o.fresh;
+          on_terms = o.on_terms;
+        }
       ]
 
   -- a session that has ended remains ended
@@ -99,19 +111,31 @@ module _ {H E R O : Type 0} (port_of : H → ShownPort E R O) (terms_of : H → 
     among = goes.joined number e.among;
     served =
         let c = e.served in
-        record { lent = c.lent; back = c.back; named = c.named; fresh = c.fresh;
-            returned = c.returned; calls_are = goes.own number (inr e.among) ∙ c.calls_are };
+        record {
+          lent = c.lent;
+          back = c.back;
+          named = c.named;
+          fresh = c.fresh;
+          returned = c.returned;
+          calls_are = goes.own number (inr e.among) ∙ c.calls_are;
+        };
   }
 
   -- the port of a session was joined in
   ended_now : (legal : O → List (Entry E R) → Type 0) (p q lent r : ShownPort E R O)
       (number : List ℕ) → Joins legal p.known r.known q.known → lent.known.number ≡ number
       → calls_by number lent.known.seen ≡ [] → r.known.number ≡ number → Returns (did terms) lent r
-          → Ends q number
+      → Ends q number
   ended_now legal p q lent r number joins named fresh same returned = record {
     among = rw joins.joined (among_at same p.known.joined r.known.joined);
-    served = record { lent = lent; back = r; named = named; fresh = fresh; returned = returned;
-        calls_are = joins.other_calls number (inl (sym same)) };
+    served = record {
+      lent = lent;
+      back = r;
+      named = named;
+      fresh = fresh;
+      returned = returned;
+      calls_are = joins.other_calls number (inl (sym same));
+    };
   }
 
   -- the session at this place ended, and its port was joined in
@@ -119,8 +143,8 @@ module _ {H E R O : Type 0} (port_of : H → ShownPort E R O) (terms_of : H → 
       (held later : Slab H) (key : ℕ) (s : H) (r : ShownPort E R O) → get held key ≡ Some s
       → Updates held later key None → later.capacity ≡ held.capacity
       → Returns (did (terms_of s)) (port_of s) r → IsSame (port_of s) r → q.lock ≡ p.lock → q.bound
-          ≡ p.bound → Joins legal p.known r.known q.known
-          → Tends port_of terms_of did terms p held q later
+      ≡ p.bound → Joins legal p.known r.known q.known
+      → Tends port_of terms_of did terms p held q later
   tends_close legal p q held later key s r there updates capacity returned same lock bound joins =
       let goes = goes_joins legal p q r.known lock bound joins in
       let R : List ℕ → Type 0 = λ t. Returns (did t) (port_of s) r in
@@ -139,9 +163,9 @@ module _ {H E R O : Type 0} (port_of : H → ShownPort E R O) (terms_of : H → 
             let A : List ℕ → Type 0 = λ n. Ends q (child n i) ⊎ Opens later (child n i) in
             let account : A p.known.number = ⊎_elim (λ e. inl (ended_on p q number goes e))
             (λ o. ⊎_elim (λ now. inl (ended_now legal p q (port_of s) r number joins now.named
-                now.fresh (same.number ∙ now.named) (subst R now.on_terms returned)))
+            now.fresh (same.number ∙ now.named) (subst R now.on_terms returned)))
             (λ still. inr still) (open_later held later key s number there updates o))
-                (a i low before) in
+            (a i low before) in
             subst A (sym joins.sees.number) account;
       }
 
@@ -152,11 +176,11 @@ module _ {H E R O : Type 0} (port_of : H → ShownPort E R O) (terms_of : H → 
       ≡ child_after_split p.known
       → calls_by own.known.number own.known.seen ≡ [] → terms_of s ≡ terms
       → get held key ≡ None → key < 8 → Updates held later key (Some s) → later.capacity
-          ≡ held.capacity → Tends port_of terms_of did terms p held q later
+      ≡ held.capacity → Tends port_of terms_of did terms p held q later
   tends_open p q held later key s own lock bound divides is lent birth fresh on_terms vacant
       within updates capacity =
       let came_from : (other : ℕ) (t : H) → get later other ≡ Some t → ((other ≡ key) × (t ≡ s))
-          ⊎ (get held other ≡ Some t) = λ other t found.
+      ⊎ (get held other ≡ Some t) = λ other t found.
       elim (cases_eq other key) [
         | inl same ↦ let both : Some t ≡ Some s = sym found ∙ ap (get later) same
             ∙ updates.changed in inl (same, cc)
@@ -165,37 +189,57 @@ module _ {H E R O : Type 0} (port_of : H → ShownPort E R O) (terms_of : H → 
       in
       let goes = goes_split p q lock bound divides in
       let numbered : own.known.number ≡ child p.known.number p.known.splits =
-          ap (λ k. k.number) birth in
+      ap (λ k. k.number) birth in
       let K : List ℕ → Type 0 = λ n. calls_by n own.known.seen ≡ [] in
       let F : ShownPort E R O → Type 0 = λ x. (x.known.number ≡ child p.known.number p.known.splits)
-          × (calls_by (child p.known.number p.known.splits) x.known.seen ≡ []) in
+      × (calls_by (child p.known.number p.known.splits) x.known.seen ≡ []) in
       let new : F (port_of s) = subst F (sym is) (numbered, subst K numbered fresh) in
       record {
         goes = goes;
         holds = λ h. record {
           room = omega (arith, h.room, capacity);
-          places = λ other t found. elim (came_from other t found) [ inl new ↦ omega (arith, new.0,
-              within) | inr old ↦ h.places other t old ];
-          locks = λ other t found. elim (came_from other t found)
-              [ inl new ↦ ap (λ x. (port_of x).lock) new.1 ∙ ap (λ x. x.lock) is ∙ lent
-              ∙ sym lock | inr old ↦ h.locks other t old ∙ sym lock ];
+          places = λ other t found. elim (came_from other t found) [
+            | inl new ↦ omega (
+              arith,
+              new.0,
+              within,
+            )
+            | inr old ↦ h.places other t old
+          ];
+          locks = λ other t found. elim (came_from other t found) [
+            | inl new ↦ ap (λ x. (port_of x).lock) new.1 ∙ ap (λ x. x.lock) is ∙ lent
+                ∙ sym lock
+            | inr old ↦ h.locks other t old ∙ sym lock
+          ];
         };
         accounts = λ from a i low high.
             let one_more = ap (λ k. k.splits) divides in
             let A : List ℕ → Type 0 = λ n. Ends q (child n i) ⊎ Opens later (child n i) in
             let N : ℕ → Type 0 = λ k. Opens later (child p.known.number k) in
             let account : A p.known.number = elim (cases_eq i p.known.splits) [
-              | inl last ↦ inr (subst N (sym last) record { key = key; session = s;
-                  there = updates.changed; named = new.0; fresh = new.1; on_terms = on_terms })
+              | inl last ↦ inr (subst N (sym last) record {
+                key = key;
+                session = s;
+                there = updates.changed;
+                named = new.0;
+                fresh = new.1;
+                on_terms = on_terms;
+              })
               | inr earlier ↦
                   elim (a i low (omega (arith, one_more, high, earlier))) [
                     | inl ended ↦ inl (ended_on p q (child p.known.number i) goes ended)
                     | inr o ↦
                         let elsewhere : o.key ≢ key = λ same. let none : get held o.key ≡ None =
-                            ap (get held) same ∙ vacant in let some = o.there in cc in
-                        inr record { key = o.key; session = o.session;
-                            there = updates.others o.key elsewhere ∙ o.there; named =
-                            o.named; fresh = o.fresh; on_terms = o.on_terms }
+                        ap (get held) same ∙ vacant in let some = o.there in cc in
+                        inr record {
+                          key = o.key;
+                          session = o.session;
+                          there = updates.others o.key elsewhere ∙ o.there;
+                          named =
+                              o.named;
+                          fresh = o.fresh;
+                          on_terms = o.on_terms;
+                        }
                   ]
             ] in
             subst A (sym (ap (λ k. k.number) divides)) account;
@@ -206,20 +250,23 @@ module _ {H E R O : Type 0} (port_of : H → ShownPort E R O) (terms_of : H → 
       (held : Slab H) → q.lock ≡ p.lock → q.bound ≡ p.bound → q.known ≡ parent_after_split p.known
       → own.known ≡ child_after_split p.known
       → calls_by own.known.number own.known.seen ≡ [] → Returns (did terms) own back
-          → IsSame own back → r.lock ≡ q.lock → r.bound ≡ q.bound
-          → Joins legal q.known back.known r.known → Tends port_of terms_of did terms p held r held
+      → IsSame own back → r.lock ≡ q.lock → r.bound ≡ q.bound
+      → Joins legal q.known back.known r.known → Tends port_of terms_of did terms p held r held
   tends_back legal p q r own back held lock bound divides birth fresh returned same relock rebound
       joins =
       let splits = goes_split p q lock bound divides in
       let rejoins = goes_joins legal q r back.known relock rebound joins in
       let goes = goes_trans p q r splits rejoins in
       let numbered : own.known.number ≡ child p.known.number p.known.splits =
-          ap (λ k. k.number) birth in
+      ap (λ k. k.number) birth in
       let K : List ℕ → Type 0 = λ n. calls_by n own.known.seen ≡ [] in
       record {
         goes = goes;
-        holds = λ h. record { room = h.room; places = h.places;
-            locks = λ key s found. h.locks key s found ∙ sym (relock ∙ lock) };
+        holds = λ h. record {
+          room = h.room;
+          places = h.places;
+          locks = λ key s found. h.locks key s found ∙ sym (relock ∙ lock);
+        };
         accounts = λ from a i low high.
             let one_more = ap (λ k. k.splits) divides in
             let A : List ℕ → Type 0 = λ n. Ends r (child n i) ⊎ Opens held (child n i) in

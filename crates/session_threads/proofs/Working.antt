@@ -15,9 +15,15 @@ module _ {E R O : Type 0} where
       → ((r s : ShownPort E R O) (e : Result (Unit {0}) CallFault) → did r s e → IsSame r s)
       → Ended did p q end → IsSame p q
   ended_same did p q None same e =
-      record { lock = ap (λ r. r.lock) e; bound = ap (λ r. r.bound) e;
-          origin = ap (λ r. r.known.origin) e; number = ap (λ r. r.known.number) e; splits =
-          ap (λ r. r.known.splits) e; joined = ap (λ r. r.known.joined) e }
+      record {
+        lock = ap (λ r. r.lock) e;
+        bound = ap (λ r. r.bound) e;
+        origin = ap (λ r. r.known.origin) e;
+        number = ap (λ r. r.known.number) e;
+        splits =
+            ap (λ r. r.known.splits) e;
+        joined = ap (λ r. r.known.joined) e;
+      }
   ended_same did p q (Some end) same done = same p q end done
 
   -- the port u was joined in
@@ -46,5 +52,5 @@ module _ {E R O : Type 0} where
             let last : i ≡ p.known.splits = omega (arith, one_more, joins.sees.splits, low, high) in
             rw (joins.sees.number ∙ ap (λ k. k.number) divides)
             (rw joins.joined (among_at (same.number ∙ ap (λ k. k.number) birth
-                ∙ ap (child p.known.number) (sym last)) q.known.joined back.known.joined)),
+            ∙ ap (child p.known.number) (sym last)) q.known.joined back.known.joined)),
       )

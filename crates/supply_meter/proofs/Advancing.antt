@@ -31,8 +31,11 @@ advances_same old new r same = record {
 }
 
 pub advances_none : (d : Dialogue) (r : Recording) → Advances d r [] d r
-advances_none d r = advances_same d d r (record { asks = λ more. refl; sends = λ more replies. refl;
-    ends = λ more. refl })
+advances_none d r = advances_same d d r (record {
+  asks = λ more. refl;
+  sends = λ more replies. refl;
+  ends = λ more. refl;
+})
 
 -- some steps, followed by others
 pub advances_on : (old d new : Dialogue) (r r' r'' : Recording) (given : List (List ℕ))
@@ -41,7 +44,7 @@ advances_on old d new r r' r'' given first then_ = record {
   told = first.told ++ then_.told;
   histories = λ history origin stands.
       subst (λ (h : List Exchange). StandsForHistory r'' h origin)
-          (append_assoc history first.told then_.told)
+      (append_assoc history first.told then_.told)
       (then_.histories (history ++ first.told) origin (first.histories history origin stands));
   capacity = then_.capacity ∙ first.capacity;
   asks = λ more.
@@ -49,12 +52,12 @@ advances_on old d new r r' r'' given first then_ = record {
       ∙ ap (λ (es : List Event). events_of first.told ++ es) (then_.asks more)
       ∙ sym (append_assoc (events_of first.told) (events_of then_.told) (asks_ahead new more))
       ∙ ap (λ (es : List Event). es ++ asks_ahead new more)
-          (sym (map_both (λ (told : Exchange). told.0) first.told then_.told));
+      (sym (map_both (λ (told : Exchange). told.0) first.told then_.told));
   sends = λ more later.
       ap (λ (rs : List Reply). sends_ahead old more (rs ++ later))
-          (map_both (λ (told : Exchange). told.1) first.told then_.told)
+      (map_both (λ (told : Exchange). told.1) first.told then_.told)
       ∙ ap (λ (rs : List Reply). sends_ahead old more rs)
-          (append_assoc (replies_of first.told) (replies_of then_.told) later)
+      (append_assoc (replies_of first.told) (replies_of then_.told) later)
       ∙ first.sends more (replies_of then_.told ++ later)
       ∙ then_.sends more later;
   ends = λ more. first.ends more ∙ then_.ends more;
@@ -64,7 +67,7 @@ advances_on old d new r r' r'' given first then_ = record {
 pub advances_asked : (s : Session) (event : Event) (reply : Reply) (r r' : Recording)
     → Continues r r' event reply → r'.capacity ≡ r.capacity
     → Advances (record { session = s; under_way = Asked event }) r []
-        (record { session = s; under_way = Answered reply }) r'
+    (record { session = s; under_way = Answered reply }) r'
 advances_asked s event reply r r' continues capacity = record {
   told = (event, reply) ∷ [];
   histories = continues.histories;
@@ -79,7 +82,7 @@ pub advances_kept : (old new : Dialogue) (r r' : Recording) → new ≡ old → 
     → Advances old r [] new r'
 advances_kept old new r r' e e' =
     subst (λ (n : Dialogue). Advances old r [] n r') (sym e)
-        (subst (λ (q : Recording). Advances old r [] old q) (sym e') (advances_none old r))
+    (subst (λ (q : Recording). Advances old r [] old q) (sym e') (advances_none old r))
 
 -- the meter applied the pending event, and its reply is pending now
 pub applied : (old : Dialogue) (s : Session) (u u' : UnderWay) (event : Event) (reply : Reply)
@@ -87,21 +90,24 @@ pub applied : (old : Dialogue) (s : Session) (u u' : UnderWay) (event : Event) (
     → record { session = s; under_way = u } ≡ old → u ≡ Asked event → u' ≡ Answered reply
     → Continues r r' event reply → r'.capacity ≡ r.capacity
     → Advances old r [] (record { session = s; under_way = u' }) r'
-        × (weight (record { session = s; under_way = u' }) < weight old)
+    × (weight (record { session = s; under_way = u' }) < weight old)
 applied old s u u' event reply r r' is asked answered continues capacity =
     subst (λ (d : Dialogue). Advances d r [] (record { session = s; under_way = u' }) r'
-        × (weight (record { session = s; under_way = u' }) < weight d)) is
+    × (weight (record { session = s; under_way = u' }) < weight d)) is
     (subst (λ (v : UnderWay). Advances (record { session = s; under_way = v }) r []
-        (record { session = s; under_way = u' }) r'
-        × (weight (record { session = s; under_way = u' }) < weight
-        (record { session = s; under_way = v }))) (sym asked)
+    (record { session = s; under_way = u' }) r'
+    × (weight (record { session = s; under_way = u' }) < weight
+    (record { session = s; under_way = v }))) (sym asked)
     (subst (λ (v : UnderWay). Advances (record { session = s; under_way = Asked event }) r []
-        (record { session = s; under_way = v }) r'
-        × (weight (record { session = s; under_way = v }) < load s + load s + 1)) (sym answered)
+    (record { session = s; under_way = v }) r'
+    × (weight (record { session = s; under_way = v }) < load s + load s + 1)) (sym answered)
     (advances_asked s event reply r r' continues capacity, omega arith)))
 
 -- a frame is pending
 pub due_by : (old : Dialogue) (s : Session) (u : UnderWay) (frame : List ℕ)
     → record { session = s; under_way = u } ≡ old → u ≡ Due frame → IsDue old
-due_by old s u frame is due = record { frame = frame; is = ap (λ (d : Dialogue). d.under_way)
-    (sym is) ∙ due }
+due_by old s u frame is due = record {
+  frame = frame;
+  is = ap (λ (d : Dialogue). d.under_way)
+      (sym is) ∙ due;
+}

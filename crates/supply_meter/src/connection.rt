@@ -1,3 +1,5 @@
+//! A client's session at a meter without threads: it keeps its pending event, reply or frame if out
+//! of memory.
 ghost use Rattle.std.specs.Prelude.{◌≡◌, IfOk, OnOk, OnErr};
 ghost use Rattle.acse_ber.specs.Password.{IsPassword};
 ghost use Rattle.supply_meter.specs.declared.under_way.UnderWay.TheVariants.{Nothing};

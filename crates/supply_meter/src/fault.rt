@@ -1,3 +1,5 @@
+//! The errors of a meter's calls: no such session, a session already open, wrong samples, or out of
+//! memory.
 use thiserror::Error;
 
 /// Why a call failed.

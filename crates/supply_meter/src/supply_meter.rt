@@ -1,3 +1,5 @@
+//! `SupplyMeter`: one meter with its last events and up to eight sessions, for a caller without
+//! threads.
 ghost use Rattle.std.specs.Prelude.{◌≡◌, ℕ, ◌<◌, ◌≤◌, false, Some, None, length, IfOk, IsOk, IsTrue, OnErr};
 ghost use Rattle.acse_ber.specs.Password.{IsPassword};
 ghost use Rattle.disconnect_control.specs.declared.state.ControlState.TheVariants.{Connected};

@@ -1,3 +1,4 @@
+//! The pending item of a session: an event to apply, a reply to pass on, or a frame to send.
 use cosem_axdr::Octets;
 use relay_events::{Event, Reply};
 

@@ -61,7 +61,7 @@ verb_again OfMoment = refl
 
 attribute_again : (attr : AttrRef) (words : Row) → IsNamed attr.class.0 attr.name.0 attr.number
     → attribute_from (decimal attr.class.0) (encode_upper attr.name.0 ∷ decimal attr.number ∷ words)
-        ≡ Ok (attr, words)
+    ≡ Ok (attr, words)
 attribute_again attr words named =
     let class = number_word_again 65535 attr.class.0 named.class_fits (omega arith) in
     let name = name_again attr.name named.name_fits named.name_bytes in
@@ -80,7 +80,7 @@ method_again method words named =
 selection_again : (item : AttributeSelection) (words : Row)
     → IsNamed item.attr.class.0 item.attr.name.0 item.attr.number
     → selection_from (decimal item.attr.class.0) (encode_upper item.attr.name.0
-        ∷ decimal item.attr.number ∷ decimal (flag_number item.selected) ∷ words) ≡ Ok (item, words)
+    ∷ decimal item.attr.number ∷ decimal (flag_number item.selected) ∷ words) ≡ Ok (item, words)
 unfolding selection_from
 selection_again item words named =
     let attr = attribute_again item.attr (decimal (flag_number item.selected) ∷ words) named in
@@ -147,8 +147,8 @@ seconds (import ∷ imports) (export ∷ exports) even =
 no_hyphen : (value : Data) → IsHeld value → pointwise nat_eq (data_word value) (codes "-") ≡ false
 no_hyphen value held =
     unequal nat_eq (data_word value) (codes "-") (λ e. let long : length (data_word value)
-        ≡ 2 * length (text (tree_of value)) =
-        length-encode_with upper_digits (text (tree_of value)) in absurd (omega (arith, e, long)))
+    ≡ 2 * length (text (tree_of value)) =
+    length-encode_with upper_digits (text (tree_of value)) in absurd (omega (arith, e, long)))
 
 parameter_again : (parameter : Option Data) → IfSome parameter IsHeld
     → parameter_in (parameter_word parameter) ≡ Ok parameter
@@ -161,7 +161,7 @@ parameter_again (Some value) held =
 block_again : (imports : List ℕ) (exports : Option (List ℕ)) → length imports ≤ 256
     → AreSamples imports → AreExports imports exports
     → event_from Two (samples_kind exports) (samples_words imports exports)
-        ≡ Ok (Samples (record { import = imports; export = exports }))
+    ≡ Ok (Samples (record { import = imports; export = exports }))
 unfolding event_from samples_from pairs_from
 block_again imports None few are others =
     let read = values_again imports 256 few are in
@@ -186,7 +186,7 @@ words_again (GetList level items) traced =
 words_again (Set level attr selected value) traced =
     let port = level_again level in
     let item = selection_again (record { attr = attr; selected = selected }) (data_word value
-        ∷ []) traced.0 in
+    ∷ []) traced.0 in
     let read = data_word_again value traced.1 in
     rw (port, item, read) refl
 words_again (Execute level method parameter) traced =
@@ -217,8 +217,19 @@ events_again count le =
     labelled_again (codes "events") (number_in 65536) (decimal count) count read
 
 pub event_count_again : (count number : ℕ) (rows : List Row) (unended : List ℕ) → count ≤ 65536
-    → line_as events_from (record { number = number; rows = number_row (codes "events") count
-        ∷ rows; unended = unended }) ≡ Ok (count, record { number = suc number; rows =
-        rows; unended = unended })
+    → line_as events_from (record {
+      number = number;
+      rows = number_row (codes "events") count
+          ∷ rows;
+      unended = unended;
+    }) ≡ Ok (
+      count,
+      record {
+        number = suc number;
+        rows =
+            rows;
+        unended = unended;
+      },
+    )
 event_count_again count number rows unended le = line_again events_from
     (number_row (codes "events") count) count number rows unended (events_again count le)

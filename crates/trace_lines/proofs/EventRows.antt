@@ -51,12 +51,12 @@ named_are_words : (class : ℕ) (name : List ℕ) (number : ℕ) (words : Row) �
     → AreWords words → AreWords (decimal class ∷ encode_upper name ∷ decimal number ∷ words)
 named_are_words class name number words named are =
     let n : is_word (encode_upper name) ≡ true =
-        hex_is_word name (omega (arith, named.name_fits)) named.name_bytes in
+    hex_is_word name (omega (arith, named.name_fits)) named.name_bytes in
     let c : class ≤ 4294967295 = omega (arith, named.class_fits) in
     let m : number ≤ 4294967295 = omega (arith, named.number_fits) in
     more (decimal class) (encode_upper name ∷ decimal number ∷ words) (value_is_word class c)
     (more (encode_upper name) (decimal number ∷ words) n
-        (more (decimal number) words (value_is_word number m) are))
+    (more (decimal number) words (value_is_word number m) are))
 
 selections_are_words : (items : List AttributeSelection) → AreNamed items
     → AreWords (all_words selection_words items)
@@ -64,9 +64,9 @@ unfolding all_words
 selections_are_words [] named = refl
 selections_are_words (item ∷ items) named =
     named_are_words item.attr.class.0 item.attr.name.0 item.attr.number
-        (decimal (flag_number item.selected) ∷ all_words selection_words items) named.0
+    (decimal (flag_number item.selected) ∷ all_words selection_words items) named.0
     (more (decimal (flag_number item.selected)) (all_words selection_words items)
-        (flag_is_word item.selected) (selections_are_words items named.1))
+    (flag_is_word item.selected) (selections_are_words items named.1))
 
 values_are_words : (values : List ℕ) → AreSamples values → AreWords (all_words value_words values)
 unfolding all_words
@@ -81,9 +81,9 @@ pairs_are_words [] exports are others = refl
 pairs_are_words (import ∷ imports) [] are others = refl
 pairs_are_words (import ∷ imports) (export ∷ exports) are others =
     more (decimal import) (decimal export ∷ pairs_words imports exports)
-        (value_is_word import are.0)
+    (value_is_word import are.0)
     (more (decimal export) (pairs_words imports exports) (value_is_word export others.0)
-        (pairs_are_words imports exports are.1 others.1))
+    (pairs_are_words imports exports are.1 others.1))
 
 block_is_words : (imports : List ℕ) (exports : Option (List ℕ)) → AreSamples imports
     → AreExports imports exports → AreWords (samples_words imports exports)
@@ -94,28 +94,28 @@ event_is_words : (event : Event) → IsTraced event → AreWords (event_words ev
 unfolding event_words
 event_is_words (Get level attr selected) traced =
     more (decimal (level_number level)) (decimal attr.class.0 ∷ encode_upper attr.name.0
-        ∷ decimal attr.number ∷ decimal (flag_number selected) ∷ []) (level_is_word level)
+    ∷ decimal attr.number ∷ decimal (flag_number selected) ∷ []) (level_is_word level)
     (named_are_words attr.class.0 attr.name.0 attr.number (decimal (flag_number selected)
-        ∷ []) traced (more (decimal (flag_number selected)) [] (flag_is_word selected) refl))
+    ∷ []) traced (more (decimal (flag_number selected)) [] (flag_is_word selected) refl))
 event_is_words (GetList level items) traced =
     let few : length items ≤ 4294967295 = omega (arith, traced.0) in
     more (decimal (level_number level)) (decimal (length items) ∷ all_words selection_words items)
-        (level_is_word level) (more (decimal (length items)) (all_words selection_words items)
-        (value_is_word (length items) few) (selections_are_words items traced.1))
+    (level_is_word level) (more (decimal (length items)) (all_words selection_words items)
+    (value_is_word (length items) few) (selections_are_words items traced.1))
 event_is_words (Set level attr selected value) traced =
     more (decimal (level_number level)) (decimal attr.class.0 ∷ encode_upper attr.name.0
-        ∷ decimal attr.number ∷ decimal (flag_number selected) ∷ data_word value
-        ∷ []) (level_is_word level)
+    ∷ decimal attr.number ∷ decimal (flag_number selected) ∷ data_word value
+    ∷ []) (level_is_word level)
     (named_are_words attr.class.0 attr.name.0 attr.number (decimal (flag_number selected)
-        ∷ data_word value ∷ []) traced.0
+    ∷ data_word value ∷ []) traced.0
     (more (decimal (flag_number selected)) (data_word value ∷ []) (flag_is_word selected)
-        (more (data_word value) [] (data_is_word value traced.1) refl)))
+    (more (data_word value) [] (data_is_word value traced.1) refl)))
 event_is_words (Execute level method parameter) traced =
     more (decimal (level_number level)) (decimal method.class.0 ∷ encode_upper method.name.0
-        ∷ decimal method.number ∷ parameter_word parameter ∷ []) (level_is_word level)
+    ∷ decimal method.number ∷ parameter_word parameter ∷ []) (level_is_word level)
     (named_are_words method.class.0 method.name.0 method.number (parameter_word parameter
-        ∷ []) traced.0 (more (parameter_word parameter) []
-        (parameter_is_word parameter traced.1) refl))
+    ∷ []) traced.0 (more (parameter_word parameter) []
+    (parameter_is_word parameter traced.1) refl))
 event_is_words Button traced = refl
 event_is_words (Samples block) traced = block_is_words block.import block.export traced.1 traced.2
 event_is_words (Moment now) traced = more (decimal now) [] (value_is_word now traced) refl

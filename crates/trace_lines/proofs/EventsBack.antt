@@ -40,7 +40,7 @@ level_is : (n : ℕ) (level : Level) → cond (n == 1) (done RowFault Management
     (cond (n == 16) (Ok Public) (Err Wrong)) ≡ Ok level → n ≡ level_number level
 level_is n level e =
     elim (chosen (n == 1) (done RowFault Management) (cond (n == 16) (Ok Public) (Err Wrong))
-        (Ok level) e) [
+    (Ok level) e) [
       | inl one ↦ eqb-true n 1 one.0 ∙ ap level_number (ok_is Management level one.1)
       | inr other ↦
           elim (chosen (n == 16) (done RowFault Public) (Err Wrong) (Ok level) other.1) [
@@ -60,7 +60,7 @@ name_back word name e =
     let read = bind_ok (bytes_in word) _ name e in
     let six = guard_ok (length read.0 == 6) Wrong _ name read.2 in
     bytes_back word read.0 read.1 ∙ ap (λ (n : Obis). encode_upper n.0)
-        (ok_is (record { 0 = read.0 }) name six.1)
+    (ok_is (record { 0 = read.0 }) name six.1)
 
 -- ---- the first word
 
@@ -95,12 +95,14 @@ attribute_back word words attr rest e =
     let number = bind_ok (next_as (number_in 255) name.0.1) _ (attr, rest) name.2 in
     ap (λ (w : Word). w ∷ words) (number_back 65535 (omega arith) word class.0 class.1)
     ∙ ap (λ (ws : Row). decimal class.0 ∷ ws)
-        (next_back Obis name_in (λ n. encode_upper n.0) name_back words name.0.1 name.0.0 name.1)
+    (next_back Obis name_in (λ n. encode_upper n.0) name_back words name.0.1 name.0.0 name.1)
     ∙ ap (λ (ws : Row). decimal class.0 ∷ encode_upper name.0.0.0
-        ∷ ws) (next_number_back 255 (omega arith) name.0.1 number.0.1 number.0.0 number.1)
+    ∷ ws) (next_number_back 255 (omega arith) name.0.1 number.0.1 number.0.0 number.1)
     ∙ ap (λ (p : AttrRef × Row). attribute_words p.0 p.1)
-        (ok_is (record { class = record { 0 = class.0 }; name = name.0.0; number = number.0.0 },
-        number.0.1) (attr, rest) number.2)
+    (ok_is (
+      record { class = record { 0 = class.0 }; name = name.0.0; number = number.0.0 },
+      number.0.1,
+    ) (attr, rest) number.2)
 
 method_back : (words : Row) (method : MethodRef) (rest : Row) → method_at words ≡ Ok (method, rest)
     → words ≡ method_words method rest
@@ -110,13 +112,15 @@ method_back words method rest e =
     let number = bind_ok (next_as (number_in 255) name.0.1) _ (method, rest) name.2 in
     next_number_back 65535 (omega arith) words class.0.1 class.0.0 class.1
     ∙ ap (λ (ws : Row). decimal class.0.0 ∷ ws)
-        (next_back Obis name_in (λ n. encode_upper n.0) name_back class.0.1 name.0.1
-        name.0.0 name.1)
+    (next_back Obis name_in (λ n. encode_upper n.0) name_back class.0.1 name.0.1
+    name.0.0 name.1)
     ∙ ap (λ (ws : Row). decimal class.0.0 ∷ encode_upper name.0.0.0
-        ∷ ws) (next_number_back 255 (omega arith) name.0.1 number.0.1 number.0.0 number.1)
+    ∷ ws) (next_number_back 255 (omega arith) name.0.1 number.0.1 number.0.0 number.1)
     ∙ ap (λ (p : MethodRef × Row). method_words p.0 p.1)
-        (ok_is (record { class = record { 0 = class.0.0 }; name = name.0.0; number = number.0.0 },
-        number.0.1) (method, rest) number.2)
+    (ok_is (
+      record { class = record { 0 = class.0.0 }; name = name.0.0; number = number.0.0 },
+      number.0.1,
+    ) (method, rest) number.2)
 
 selection_back : AreWrittenBack AttributeSelection selection_from selection_words
 unfolding selection_from
@@ -125,10 +129,10 @@ selection_back word words item rest e =
     let selected = bind_ok (next_as flag_in attr.0.1) _ (item, rest) attr.2 in
     attribute_back word words attr.0.0 attr.0.1 attr.1
     ∙ ap (attribute_words attr.0.0) (next_back Bool flag_in (λ flag. decimal (flag_number flag))
-        flag_back attr.0.1 selected.0.1 selected.0.0 selected.1)
+    flag_back attr.0.1 selected.0.1 selected.0.0 selected.1)
     ∙ ap (λ (p : AttributeSelection × Row). selection_words p.0 p.1)
-        (ok_is (record { attr = attr.0.0; selected = selected.0.0 }, selected.0.1)
-        (item, rest) selected.2)
+    (ok_is (record { attr = attr.0.0; selected = selected.0.0 }, selected.0.1)
+    (item, rest) selected.2)
 
 selection_here_back : (words : Row) (item : AttributeSelection) (rest : Row) → selection_at words
     ≡ Ok (item, rest) → words ≡ selection_words item rest
@@ -140,7 +144,7 @@ selection_here_back (word ∷ words) item rest e = selection_back word words ite
 parameter_back : IsWrittenBack (Option Data) parameter_in parameter_word
 parameter_back word parameter e =
     elim (chosen (pointwise nat_eq word (codes "-")) (done RowFault None) (data_in word
-        >>= λ value. Ok (Some value)) (Ok parameter) e) [
+    >>= λ value. Ok (Some value)) (Ok parameter) e) [
       | inl none ↦ same_is word (codes "-") none.0 ∙ ap parameter_word (ok_is None parameter none.1)
       | inr some ↦
           let read = bind_ok (data_in word) _ parameter some.1 in
@@ -163,9 +167,9 @@ pair_back word words pair rest e =
     let export = bind_ok (next_as value_in words) _ (pair, rest) import.2 in
     ap (λ (w : Word). w ∷ words) (number_back 4294967295 (omega arith) word import.0 import.1)
     ∙ ap (λ (ws : Row). decimal import.0 ∷ ws)
-        (next_number_back 4294967295 (omega arith) words export.0.1 export.0.0 export.1)
+    (next_number_back 4294967295 (omega arith) words export.0.1 export.0.0 export.1)
     ∙ ap (λ (p : (ℕ × ℕ) × Row). pair_words p.0 p.1)
-        (ok_is ((import.0, export.0.0), export.0.1) (pair, rest) export.2)
+    (ok_is ((import.0, export.0.0), export.0.1) (pair, rest) export.2)
 
 -- the words of pairs are those of their import and export values
 all_pairs : (pairs : List (ℕ × ℕ)) → all_words pair_words pairs
@@ -189,10 +193,10 @@ get_back words event e =
     let end = ended_back Event item.0.1 _ event item.2 in
     ap (λ (ws : Row). verb_word OfGet ∷ ws) (
     next_back Level level_in (λ l. decimal (level_number l)) level_back words level.0.1
-        level.0.0 level.1
+    level.0.0 level.1
     ∙ ap (λ (ws : Row). decimal (level_number level.0.0)
-        ∷ ws) (selection_here_back level.0.1 item.0.0 item.0.1 item.1
-        ∙ ap (selection_words item.0.0) end.0))
+    ∷ ws) (selection_here_back level.0.1 item.0.0 item.0.1 item.1
+    ∙ ap (selection_words item.0.0) end.0))
     ∙ ap event_row end.1
 
 get_list_back : IsLineBack OfGetList get_list_from
@@ -204,14 +208,14 @@ get_list_back words event e =
     let same = guard_ok (length items.0 == count.0.0) Wrong _ event items.2 in
     ap (λ (ws : Row). verb_word OfGetList ∷ ws) (
     next_back Level level_in (λ l. decimal (level_number l)) level_back words level.0.1
-        level.0.0 level.1
+    level.0.0 level.1
     ∙ ap (λ (ws : Row). decimal (level_number level.0.0) ∷ ws) (
     next_number_back 102 (omega arith) level.0.1 count.0.1 count.0.0 count.1
     ∙ ap (λ (ws : Row). decimal count.0.0 ∷ ws)
-        (all_back AttributeSelection selection_from selection_words selection_back 102 count.0.1
-        items.0 items.1)
+    (all_back AttributeSelection selection_from selection_words selection_back 102 count.0.1
+    items.0 items.1)
     ∙ ap (λ (n : ℕ). decimal n ∷ all_words selection_words items.0)
-        (sym (eqb-true (length items.0) count.0.0 same.0))))
+    (sym (eqb-true (length items.0) count.0.0 same.0))))
     ∙ ap event_row (ok_is (GetList level.0.0 items.0) event same.1)
 
 set_back : IsLineBack OfSet set_from
@@ -222,11 +226,11 @@ set_back words event e =
     let value = bind_ok (last_as data_in item.0.1) _ event item.2 in
     ap (λ (ws : Row). verb_word OfSet ∷ ws) (
     next_back Level level_in (λ l. decimal (level_number l)) level_back words level.0.1
-        level.0.0 level.1
+    level.0.0 level.1
     ∙ ap (λ (ws : Row). decimal (level_number level.0.0) ∷ ws) (
     selection_here_back level.0.1 item.0.0 item.0.1 item.1
     ∙ ap (selection_words item.0.0) (last_back Data data_in data_word data_back item.0.1
-        value.0 value.1)))
+    value.0 value.1)))
     ∙ ap event_row (ok_is (Set level.0.0 item.0.0.attr item.0.0.selected value.0) event value.2)
 
 execute_back : IsLineBack OfExecute execute_from
@@ -237,11 +241,11 @@ execute_back words event e =
     let parameter = bind_ok (last_as parameter_in method.0.1) _ event method.2 in
     ap (λ (ws : Row). verb_word OfExecute ∷ ws) (
     next_back Level level_in (λ l. decimal (level_number l)) level_back words level.0.1
-        level.0.0 level.1
+    level.0.0 level.1
     ∙ ap (λ (ws : Row). decimal (level_number level.0.0) ∷ ws) (
     method_back level.0.1 method.0.0 method.0.1 method.1
     ∙ ap (method_words method.0.0) (last_back (Option Data) parameter_in parameter_word
-        parameter_back method.0.1 parameter.0 parameter.1)))
+    parameter_back method.0.1 parameter.0 parameter.1)))
     ∙ ap event_row (ok_is (Execute level.0.0 method.0.0 parameter.0) event parameter.2)
 
 button_back : IsLineBack OfButton (λ words. if_last words Button)
@@ -255,7 +259,7 @@ unfolding samples_from event_words
 samples_back words event e =
     let values = bind_ok (all_at value_from 256 words) _ event e in
     ap (λ (ws : Row). verb_word OfSamples ∷ ws)
-        (all_back ℕ value_from value_words value_back 256 words values.0 values.1)
+    (all_back ℕ value_from value_words value_back 256 words values.0 values.1)
     ∙ ap event_row (ok_is (Samples (values_alone values.0)) event values.2)
 
 pairs_back : IsLineBack OfPairs pairs_from
@@ -263,17 +267,17 @@ unfolding pairs_from event_words
 pairs_back words event e =
     let pairs = bind_ok (all_at pair_from 256 words) _ event e in
     ap (λ (ws : Row). verb_word OfPairs ∷ ws)
-        (all_back (ℕ × ℕ) pair_from pair_words pair_back 256 words pairs.0 pairs.1
-        ∙ all_pairs pairs.0)
+    (all_back (ℕ × ℕ) pair_from pair_words pair_back 256 words pairs.0 pairs.1
+    ∙ all_pairs pairs.0)
     ∙ ap event_row (ok_is (Samples (pairs_of (map (λ (pair : ℕ × ℕ). pair.0) pairs.0)
-        (map (λ (pair : ℕ × ℕ). pair.1) pairs.0))) event pairs.2)
+    (map (λ (pair : ℕ × ℕ). pair.1) pairs.0))) event pairs.2)
 
 moment_back : IsLineBack OfMoment moment_from
 unfolding moment_from event_words
 moment_back words event e =
     let now = bind_ok (last_as (number_in 4294967295) words) _ event e in
     ap (λ (ws : Row). verb_word OfMoment ∷ ws)
-        (last_number_back 4294967295 (omega arith) words now.0 now.1)
+    (last_number_back 4294967295 (omega arith) words now.0 now.1)
     ∙ ap event_row (ok_is (Moment now.0) event now.2)
 
 words_back : (version : Version) (verb : EventWord) → IsLineBack verb (event_from version verb)
@@ -296,7 +300,7 @@ event_back version [] event e = absurd cc
 event_back version (first ∷ words) event e =
     let verb = bind_ok (verb_in first) _ event e in
     sym (ap (λ (w : Word). w ∷ words) (verb_back first verb.0 verb.1)
-        ∙ words_back version verb.0 words event verb.2)
+    ∙ words_back version verb.0 words event verb.2)
 
 -- the bytes of the line that an event was read from are those that are written for it
 pub event_line_back : (version : Version) (line : List ℕ) (event : Event)

@@ -24,7 +24,7 @@ pub record LeftPairs (xs ys : List ℕ) (i : ℕ) (out total : List ℕ) : Type 
 pub pair_more : (xs ys : List ℕ) (i : ℕ) (out middle new total : List ℕ) → i < length xs → length xs
     ≡ length ys
     → middle ≡ out ++ 32 ∷ decimal (get_or xs i 0) → new ≡ middle ++ 32 ∷ decimal (get_or ys i 0)
-        → LeftPairs xs ys i out total → LeftPairs xs ys (i + 1) new total
+    → LeftPairs xs ys i out total → LeftPairs xs ys (i + 1) new total
 unfolding pairs_words
 pair_more xs ys i out middle new total lt even first second left =
     let ly : i < length ys = omega arith in
@@ -33,9 +33,9 @@ pair_more xs ys i out middle new total lt even first second left =
     let b : List ℕ = 32 ∷ decimal (get_or ys i 0) in
     let one : out ++ words_after_blanks (pairs_words (drop i xs) (drop i ys)) ≡ new ++ rest =
     ap (λ (zs : List ℕ). out ++ words_after_blanks (pairs_words zs (drop i ys)))
-        (drop-cons xs i 0 lt)
+    (drop-cons xs i 0 lt)
     ∙ ap (λ (zs : List ℕ). out ++ words_after_blanks
-        (pairs_words (get_or xs i 0 ∷ drop (suc i) xs) zs)) (drop-cons ys i 0 ly)
+    (pairs_words (get_or xs i 0 ∷ drop (suc i) xs) zs)) (drop-cons ys i 0 ly)
     ∙ sym (append_assoc out a (b ++ rest))
     ∙ sym (append_assoc (out ++ a) b rest)
     ∙ ap (λ (bs : List ℕ). (bs ++ b) ++ rest) (sym first)
@@ -49,5 +49,5 @@ all_pairs_written xs ys i out total lx ly left =
     sym (append-nil out)
     ∙ ap (λ (zs : List ℕ). out ++ words_after_blanks (pairs_words zs [])) (sym (behind_all xs i lx))
     ∙ ap (λ (zs : List ℕ). out ++ words_after_blanks (pairs_words (drop i xs) zs))
-        (sym (behind_all ys i ly))
+    (sym (behind_all ys i ly))
     ∙ left.all

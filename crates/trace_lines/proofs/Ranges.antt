@@ -5,5 +5,7 @@ use Rattle.trace_lines.specs.Traced.{AreSamples}
 pub samples_in_range : (values : List ℕ) → ((i : ℕ) → slice_index values i < 4294967296)
     → AreSamples values
 samples_in_range [] small = tt
-samples_in_range (value ∷ values) small = (omega (arith, small 0),
-    samples_in_range values (λ i. small (suc i)))
+samples_in_range (value ∷ values) small = (
+  omega (arith, small 0),
+  samples_in_range values (λ i. small (suc i)),
+)

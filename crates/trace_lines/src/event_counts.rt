@@ -1,3 +1,4 @@
+//! Reads and writes the line that announces the number of events of a trace.
 ghost use Rattle.std.specs.Prelude.{◌≡◌, ◌≤◌, ◌++◌, ◌∷◌, [], codes, IfOk, OnOk};
 ghost use Rattle.byte_reading.specs.Outcome.{Gives};
 ghost use Rattle.trace_text.specs.Lines.{rows_text};

@@ -1,3 +1,4 @@
+//! Writes an event as a line of a trace.
 ghost use Rattle.std.specs.Prelude.{◌≡◌, ◌++◌, ◌∷◌, [], OnOk, OnErr, decimal};
 ghost use Rattle.trace_text.specs.Words.{line_of};
 ghost use Rattle.trace_words.specs.Writing.{words_after_blanks, flag_number};

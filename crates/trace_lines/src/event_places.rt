@@ -1,3 +1,4 @@
+//! Reads the next line of a trace as an event, and reports a fault with the line's number.
 ghost use Rattle.trace_lines.specs.Events.{event_of};
 ghost use Rattle.trace_words.specs.Places.{ReadsLines, line_as};
 

@@ -1,3 +1,4 @@
+//! Reads an event from the words of a line, by the kind that its first word names.
 ghost use Rattle.std.specs.Prelude.{◌≡◌, IfOk, map};
 ghost use Rattle.byte_reading.specs.Outcome.{Gives};
 ghost use Rattle.trace_text.specs.Words.{words_of};

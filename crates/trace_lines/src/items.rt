@@ -1,3 +1,4 @@
+//! Reads attributes and methods from the words of a line, for GET, SET and ACTION events.
 ghost use Rattle.byte_reading.specs.Outcome.{Gives};
 ghost use Rattle.trace_words.specs.Rows.{Reads, all_at};
 ghost use Rattle.trace_lines.specs.Reading.{attribute_from, method_at, selection_from, selection_at};

@@ -1,3 +1,5 @@
+//! Writes the line that the player prints for each event: number, reply, control state and supply
+//! output.
 ghost use Rattle.std.specs.Prelude.{◌≡◌, ◌++◌, ◌∷◌, [], codes, decimal, IfOk, OnOk, OnErr};
 ghost use Rattle.cosem_names.specs.ResultCode.{code_of};
 ghost use Rattle.disconnect_control.specs.Transitions.{state_number};

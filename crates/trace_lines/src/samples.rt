@@ -1,3 +1,4 @@
+//! Reads power samples and pairs of samples from the words of a line, at most 256.
 ghost use Rattle.std.specs.Prelude.{◌≡◌};
 ghost use Rattle.byte_reading.specs.Outcome.{Gives};
 ghost use Rattle.lane_sampler.specs.declared.samples.TheConstants.{MAX_VALUES};

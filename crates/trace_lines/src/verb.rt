@@ -1,3 +1,5 @@
+//! The first words of event lines, such as `get` and `samples`, and the kind of event that each
+//! names.
 ghost use Rattle.std.specs.Prelude.{◌≡◌};
 ghost use Rattle.trace_lines.specs.Verbs.{is_word_of, verb_in, verb_word};
 

@@ -1,3 +1,4 @@
+//! Reads single words of an event's line: a client's port, a logical name, a number of one byte.
 ghost use Rattle.std.specs.Prelude.{◌≡◌};
 ghost use Rattle.byte_reading.specs.Outcome.{Gives};
 ghost use Rattle.trace_words.specs.Reading.{number_in, next_as};

@@ -1,3 +1,4 @@
+//! Appends the words of an event's line: ports, attributes, methods, parameters and samples.
 ghost use Rattle.std.specs.Prelude.{◌≡◌, ◌++◌, ◌∷◌, [], OnOk, decimal, length};
 ghost use Rattle.trace_words.specs.Writing.{words_after_blanks, all_words, value_words};
 ghost use Rattle.trace_lines.specs.Writing.{attribute_words, method_words, selection_words, pairs_words, level_number, parameter_word};

@@ -37,22 +37,22 @@ settings_back which place settings behind e =
       actions = actions.0.0;
     } in
     carried Settings (λ one end. Took (settings_rows which one) place end) made settings actions.0.1
-        behind actions.2
+    behind actions.2
     (then _ _ place normal.0.1 actions.0.1 (value_back which (codes "normal") place normal.0.0
-        normal.0.1 normal.1)
+    normal.0.1 normal.1)
     (then _ _ normal.0.1 emergency.0.1 actions.0.1
-        (value_back which (codes "emergency") normal.0.1 emergency.0.0 emergency.0.1 emergency.1)
+    (value_back which (codes "emergency") normal.0.1 emergency.0.0 emergency.0.1 emergency.1)
     (then _ _ emergency.0.1 over.0.1 actions.0.1
-        (value_back which (codes "minover") emergency.0.1 over.0.0 over.0.1 over.1)
+    (value_back which (codes "minover") emergency.0.1 over.0.0 over.0.1 over.1)
     (then _ _ over.0.1 under.0.1 actions.0.1 (value_back which (codes "minunder") over.0.1 under.0.0
-        under.0.1 under.1)
+    under.0.1 under.1)
     (then _ _ under.0.1 profile.0.1 actions.0.1
-        (line_back _ (profile_from which) (profile_row which) (profile_back which) under.0.1
-        profile.0.0 profile.0.1 profile.1)
+    (line_back _ (profile_from which) (profile_row which) (profile_back which) under.0.1
+    profile.0.0 profile.0.1 profile.1)
     (then _ _ profile.0.1 groups.0.1 actions.0.1 (line_back _ (groups_from which) (groups_row which)
-        (groups_back which) profile.0.1 groups.0.0 groups.0.1 groups.1)
+    (groups_back which) profile.0.1 groups.0.0 groups.0.1 groups.1)
     (line_back _ (actions_from which) (actions_row which) (actions_back which) groups.0.1
-        actions.0.0 actions.0.1 actions.1)))))))
+    actions.0.0 actions.0.1 actions.1)))))))
 
 -- the lines after that of the last sample
 pub limiter_back : (which : Which) (last : ℕ) (place : Place) (o : LimiterOpening) (behind : Place)
@@ -63,17 +63,21 @@ limiter_back which last place o behind e =
     let settings = bind_ok (settings_from which place) _ (o, behind) e in
     let over = bind_ok (line_as (over_from which last) settings.0.1) _ (o, behind) settings.2 in
     let under = bind_ok (line_as (under_from which last over.0.0) over.0.1) _ (o, behind) over.2 in
-    let made : LimiterOpening = record { settings = settings.0.0; value = last; over = over.0.0;
-        under = under.0.0 } in
+    let made : LimiterOpening = record {
+      settings = settings.0.0;
+      value = last;
+      over = over.0.0;
+      under = under.0.0;
+    } in
     carried LimiterOpening (λ one end. (Took (limiter_rows which one) place end)
-        × (last ≡ one.value)) made o under.0.1 behind under.2 (
+    × (last ≡ one.value)) made o under.0.1 behind under.2 (
       then (settings_rows which settings.0.0) _ place settings.0.1 under.0.1
           (settings_back which place settings.0.0 settings.0.1 settings.1)
           (then _ _ settings.0.1 over.0.1 under.0.1
-              (line_back _ (over_from which last) (count_row (label which (codes "over")))
-              (over_back which last) settings.0.1 over.0.0 over.0.1 over.1)
+          (line_back _ (over_from which last) (count_row (label which (codes "over")))
+          (over_back which last) settings.0.1 over.0.0 over.0.1 over.1)
           (line_back _ (under_from which last over.0.0) (count_row (label which (codes "under")))
-              (under_back which last over.0.0) over.0.1 under.0.0 under.0.1 under.1)),
+          (under_back which last over.0.0) over.0.1 under.0.0 under.0.1 under.1)),
       refl,
     )
 
@@ -85,5 +89,5 @@ export_back place o behind e =
     let limiter = limiter_back Export last.0.0 last.0.1 o behind last.2 in
     then (value_row Export o ∷ []) (limiter_rows Export o) place last.0.1 behind
     (subst (λ (n : ℕ). Took (number_row (label Export (codes "value")) n ∷ []) place last.0.1)
-        limiter.1 (value_back Export (codes "value") place last.0.0 last.0.1 last.1))
+    limiter.1 (value_back Export (codes "value") place last.0.0 last.0.1 last.1))
     limiter.0

@@ -43,7 +43,7 @@ table_back : (place : Place) (scripts : List Script) (behind : Place)
     → TableRead scripts place behind
 table_back place scripts behind e =
     let line = line_read (List Script) (labelled_value (codes "scripts") table_in) place
-        scripts behind e in
+    scripts behind e in
     let word = labelled_read (List Script) (codes "scripts") table_in line.row scripts line.read in
     let form = table_read word.0 scripts word.2 in
     record {
@@ -65,8 +65,12 @@ schedule_back : (number : ℕ) (place : Place) (schedule : Schedule) (behind : P
 schedule_back number place schedule behind e =
     let line = line_read Schedule (schedule_from number) place schedule behind e in
     let form = schedule_read number line.row schedule line.read in
-    record { form = form.0; says = form.1; took = subst
-        (λ (row : Row). Took (row ∷ []) place behind) form.2 line.took }
+    record {
+      form = form.0;
+      says = form.1;
+      took = subst
+          (λ (row : Row). Took (row ∷ []) place behind) form.2 line.took;
+    }
 
 -- the lines of all schedules
 record SchedulesRead (schedules : Schedules) (place behind : Place) : Type 0 where
@@ -94,10 +98,14 @@ schedules_back place schedules behind e =
     let two = schedule_back 1 first.0.1 second.0.0 second.0.1 second.1 in
     let three = schedule_back 2 second.0.1 third.0.0 third.0.1 third.1 in
     let four = schedule_back 3 third.0.1 fourth.0.0 fourth.0.1 fourth.1 in
-    let made : Schedules = record { first = first.0.0; second = second.0.0; third = third.0.0;
-        fourth = fourth.0.0 } in
+    let made : Schedules = record {
+      first = first.0.0;
+      second = second.0.0;
+      third = third.0.0;
+      fourth = fourth.0.0;
+    } in
     carried Schedules (λ read at. SchedulesRead read place at) made schedules fourth.0.1 behind
-        fourth.2 (record {
+    fourth.2 (record {
       first = one.form;
       second = two.form;
       third = three.form;
@@ -129,12 +137,12 @@ same_rows device other state other_state mode other_mode is_device is_state is_m
 abbrev rest_rows : Opening → Forms → List Row
 rest_rows o forms =
     (value_row Import o.import ∷ (codes "now" ∷ moment_word o.moment ∷ [])
-        ∷ (limiter_rows Import o.import ++ (value_row Export o.export
-        ∷ limiter_rows Export o.export)))
+    ∷ (limiter_rows Import o.import ++ (value_row Export o.export
+    ∷ limiter_rows Export o.export)))
     ++ (codes "scripts" ∷ data_word forms.table ∷ []) ∷ entries_row 0 o.schedules.first forms.first
-        ∷ entries_row 1 o.schedules.second forms.second
+    ∷ entries_row 1 o.schedules.second forms.second
     ∷ entries_row 2 o.schedules.third forms.third
-        ∷ entries_row 3 o.schedules.fourth forms.fourth ∷ []
+    ∷ entries_row 3 o.schedules.fourth forms.fourth ∷ []
 
 -- an opening that was read from the lines after that of the mode, and the Datas in these lines
 record RestRead (device : List ℕ) (state : ControlState) (mode : ControlMode) (o : Opening)
@@ -153,37 +161,55 @@ unfolding opening_with
 rest_back device state mode place o behind e =
     let last = bind_ok (value_line Import place) _ (o, behind) e in
     let moment = bind_ok (line_as (labelled_value (codes "now") moment_in) last.0.1) _
-        (o, behind) last.2 in
+    (o, behind) last.2 in
     let import = bind_ok (limiter_from Import last.0.0 moment.0.1) _ (o, behind) moment.2 in
     let export = bind_ok (export_from Two import.0.1) _ (o, behind) import.2 in
     let scripts = bind_ok (line_as (labelled_value (codes "scripts") table_in) export.0.1) _
-        (o, behind) export.2 in
+    (o, behind) export.2 in
     let schedules = bind_ok (schedules_from scripts.0.1) _ (o, behind) scripts.2 in
     let limiter = limiter_back Import last.0.0 moment.0.1 import.0.0 import.0.1 import.1 in
     let table = table_back export.0.1 scripts.0.0 scripts.0.1 scripts.1 in
     let entries = schedules_back scripts.0.1 schedules.0.0 schedules.0.1 schedules.1 in
-    let made : Opening = record { device = device; state = state; mode = mode; moment = moment.0.0;
-        import = import.0.0; export = export.0.0; scripts = scripts.0.0; schedules =
-        schedules.0.0 } in
+    let made : Opening = record {
+      device = device;
+      state = state;
+      mode = mode;
+      moment = moment.0.0;
+      import = import.0.0;
+      export = export.0.0;
+      scripts = scripts.0.0;
+      schedules =
+          schedules.0.0;
+    } in
     carried Opening (λ read at. RestRead device state mode read place at) made o schedules.0.1
-        behind schedules.2 (record {
+    behind schedules.2 (record {
       device_is = refl;
       state_is = refl;
       mode_is = refl;
-      forms = record { table = table.form; first = entries.first; second = entries.second;
-          third = entries.third; fourth = entries.fourth };
-      say = record { table = table.says; first = entries.first_says; second = entries.second_says;
-          third = entries.third_says; fourth = entries.fourth_says };
+      forms = record {
+        table = table.form;
+        first = entries.first;
+        second = entries.second;
+        third = entries.third;
+        fourth = entries.fourth;
+      };
+      say = record {
+        table = table.says;
+        first = entries.first_says;
+        second = entries.second_says;
+        third = entries.third_says;
+        fourth = entries.fourth_says;
+      };
       took =
           then _ _ place last.0.1 schedules.0.1
           (subst (λ (n : ℕ). Took (number_row (label Import (codes "value")) n ∷ []) place last.0.1)
-              limiter.1 (value_back Import (codes "value") place last.0.0 last.0.1 last.1)) (
+          limiter.1 (value_back Import (codes "value") place last.0.0 last.0.1 last.1)) (
           then _ _ last.0.1 moment.0.1 schedules.0.1
-              (line_back _ (labelled_value (codes "now") moment_in) (λ m. codes "now"
-              ∷ moment_word m ∷ []) moment_line_back last.0.1 moment.0.0 moment.0.1 moment.1) (
+          (line_back _ (labelled_value (codes "now") moment_in) (λ m. codes "now"
+          ∷ moment_word m ∷ []) moment_line_back last.0.1 moment.0.0 moment.0.1 moment.1) (
           then _ _ moment.0.1 import.0.1 schedules.0.1 limiter.0 (
           then _ _ import.0.1 export.0.1 schedules.0.1
-              (export_back import.0.1 export.0.0 export.0.1 export.1) (
+          (export_back import.0.1 export.0.0 export.0.1 export.1) (
           then _ _ export.0.1 scripts.0.1 schedules.0.1 table.took entries.took))));
     })
 
@@ -202,24 +228,24 @@ inner_back : (place : Place) (o : Opening) (behind : Place) → opening_in Two p
 unfolding opening_in
 inner_back place o behind e =
     let device = bind_ok (line_as (labelled_value (codes "device") device_in) place) _
-        (o, behind) e in
+    (o, behind) e in
     let state = bind_ok (line_as (labelled_value (codes "state") state_in) device.0.1) _
-        (o, behind) device.2 in
+    (o, behind) device.2 in
     let mode = bind_ok (line_as (labelled_value (codes "mode") (mode_in state.0.0)) state.0.1) _
-        (o, behind) state.2 in
+    (o, behind) state.2 in
     let rest = rest_back device.0.0 state.0.0 mode.0.0 mode.0.1 o behind mode.2 in
     let switch =
     then _ _ place device.0.1 mode.0.1 (line_back _ (labelled_value (codes "device") device_in)
-        (λ d. codes "device" ∷ encode_upper d ∷ []) device_line_back place device.0.0
-        device.0.1 device.1) (
+    (λ d. codes "device" ∷ encode_upper d ∷ []) device_line_back place device.0.0
+    device.0.1 device.1) (
     then _ _ device.0.1 state.0.1 mode.0.1 (line_back _ (labelled_value (codes "state") state_in)
-        (λ s. number_row (codes "state") (state_number s)) state_line_back device.0.1 state.0.0
-        state.0.1 state.1)
+    (λ s. number_row (codes "state") (state_number s)) state_line_back device.0.1 state.0.0
+    state.0.1 state.1)
     (line_back _ (labelled_value (codes "mode") (mode_in state.0.0))
-        (λ m. number_row (codes "mode") (mode_number m)) (mode_line_back state.0.0) state.0.1
-        mode.0.0 mode.0.1 mode.1)) in
+    (λ m. number_row (codes "mode") (mode_number m)) (mode_line_back state.0.0) state.0.1
+    mode.0.0 mode.0.1 mode.1)) in
     let same = same_rows device.0.0 o.device state.0.0 o.state mode.0.0 o.mode rest.device_is
-        rest.state_is rest.mode_is in
+    rest.state_is rest.mode_is in
     record {
       forms = rest.forms;
       say = rest.say;
@@ -241,17 +267,17 @@ all_back place o behind e =
     let is = ok_is ((version.0.0, opening.0.0), opening.0.1) ((Two, o), behind) opening.2 in
     let two : version.0.0 ≡ Two = ap (λ (p : (Version × Opening) × Place). p.0.0) is in
     let rest : opening.0 ≡ (o, behind) = ap (λ (p : (Version × Opening) × Place). (p.0.1, p.1)) is
-        in
+    in
     let inner = inner_back version.0.1 o behind (
     ap (λ (v : Version). opening_in v version.0.1) (sym two) ∙ opening.1
-        ∙ ap (λ (p : Opening × Place). Ok p) rest) in (
+    ∙ ap (λ (p : Opening × Place). Ok p) rest) in (
       inner.forms,
       inner.say,
       then _ _ place version.0.1 behind
           (subst (λ (v : Version). Took (number_row (codes "RELAYTRACE") (version_number v)
-              ∷ []) place version.0.1) two
+          ∷ []) place version.0.1) two
           (line_back Version version_from (λ v. number_row (codes "RELAYTRACE") (version_number v))
-              version_back place version.0.0 version.0.1 version.1))
+          version_back place version.0.0 version.0.1 version.1))
           inner.took,
     )
 
@@ -266,9 +292,12 @@ pub opening_back : (place : Place) (o : Opening) (behind : Place) → opening_fr
     ≡ Ok ((Two, o), behind)
     → (forms : Forms) × AreFormsOf o forms × (place.rows ≡ rows_with o forms ++ behind.rows)
 opening_back place o behind e =
-    let read = all_back place o behind e in
-    (read.0, read.1, read.2.lines ∙ ap (λ (rows : List Row). rows ++ behind.rows)
-        (rows_are o read.0))
+    let read = all_back place o behind e in (
+      read.0,
+      read.1,
+      read.2.lines ∙ ap (λ (rows : List Row). rows ++ behind.rows)
+          (rows_are o read.0),
+    )
 
 -- an opening has thirty lines
 pub opening_lines : (place : Place) (o : Opening) (behind : Place) → opening_from place

@@ -31,32 +31,32 @@ deviation_is_bytes (Some d) = number_is_bytes 2 (cast_unsigned w16 d)
 pub date_is_bytes : (p : DateFields) → IsDateFields p → IsBytes (date_bytes p)
 date_is_bytes p fits =
     bytes_joined (year_bytes p.year) (field_byte p.month ∷ day_byte p.day ∷ field_byte p.weekday
-        ∷ []) (year_is_bytes p.year)
+    ∷ []) (year_is_bytes p.year)
     (one_more_byte (field_byte p.month) (day_byte p.day ∷ field_byte p.weekday
-        ∷ []) (field_is_byte 1 12 p.month (omega arith) fits.month)
+    ∷ []) (field_is_byte 1 12 p.month (omega arith) fits.month)
     (one_more_byte (day_byte p.day) (field_byte p.weekday ∷ []) (day_is_byte p.day fits.day)
     (one_more_byte (field_byte p.weekday) [] (field_is_byte 1 7 p.weekday
-        (omega arith) fits.weekday) no_bytes)))
+    (omega arith) fits.weekday) no_bytes)))
 
 pub time_is_bytes : (p : TimeFields) → IsTimeFields p → IsBytes (time_bytes p)
 time_is_bytes p fits =
     one_more_byte (field_byte p.hour) (field_byte p.minute ∷ field_byte p.second
-        ∷ field_byte p.hundredths ∷ []) (field_is_byte 0 23 p.hour (omega arith) fits.hour)
+    ∷ field_byte p.hundredths ∷ []) (field_is_byte 0 23 p.hour (omega arith) fits.hour)
     (one_more_byte (field_byte p.minute) (field_byte p.second ∷ field_byte p.hundredths
-        ∷ []) (field_is_byte 0 59 p.minute (omega arith) fits.minute)
+    ∷ []) (field_is_byte 0 59 p.minute (omega arith) fits.minute)
     (one_more_byte (field_byte p.second) (field_byte p.hundredths
-        ∷ []) (field_is_byte 0 59 p.second (omega arith) fits.second)
+    ∷ []) (field_is_byte 0 59 p.second (omega arith) fits.second)
     (one_more_byte (field_byte p.hundredths) []
-        (field_is_byte 0 0 p.hundredths (omega arith) fits.hundredths) no_bytes)))
+    (field_is_byte 0 0 p.hundredths (omega arith) fits.hundredths) no_bytes)))
 
 pub date_time_is_bytes : (p : DateTimeFields) → IsDateTimeFields p → IsBytes (date_time_bytes p)
 date_time_is_bytes p fits =
     let deviation = deviation_is_bytes p.deviation in
     bytes_joined (date_bytes p.date ++ time_bytes p.time ++ deviation_bytes p.deviation) (p.status
-        ∷ [])
+    ∷ [])
     (bytes_joined (date_bytes p.date ++ time_bytes p.time) (deviation_bytes p.deviation)
-        (bytes_joined (date_bytes p.date) (time_bytes p.time) (date_is_bytes p.date fits.date)
-        (time_is_bytes p.time fits.time)) deviation)
+    (bytes_joined (date_bytes p.date) (time_bytes p.time) (date_is_bytes p.date fits.date)
+    (time_is_bytes p.time fits.time)) deviation)
     (one_more_byte p.status [] fits.status no_bytes)
 
 pub date_time_has_bytes : (p : DateTimeFields) → 0 < length (date_time_bytes p)

@@ -148,7 +148,7 @@ start_again : (p : DateTimeFields) → IsDateTimeFields p
 unfolding start_in
 start_again p fits =
     let read = bytes_word_again (date_time_bytes p) (date_time_has_bytes p)
-        (date_time_is_bytes p fits) in
+    (date_time_is_bytes p fits) in
     let found = date_time_again p fits in
     rw (read, found) refl
 
@@ -173,7 +173,7 @@ state_line_again state = labelled_again (codes "state") state_in (decimal (state
 pub mode_line_again : (mode : ControlMode) (state : ControlState)
     → (mode ≡ Mode0 → state ≡ Connected)
     → labelled_value (codes "mode") (mode_in state) (number_row (codes "mode") (mode_number mode))
-        ≡ Ok mode
+    ≡ Ok mode
 mode_line_again mode state fit = labelled_again (codes "mode") (mode_in state)
     (decimal (mode_number mode)) mode (mode_again mode state fit)
 
@@ -189,7 +189,7 @@ value_line_again name value le = labelled_again name value_in (decimal value) va
 
 pub table_line_again : (scripts : List Script) → IsTable scripts → All IsTracedScript scripts
     → labelled_value (codes "scripts") table_in (codes "scripts" ∷ data_word (data_of scripts) ∷ [])
-        ≡ Ok scripts
+    ≡ Ok scripts
 table_line_again scripts fits traced = labelled_again (codes "scripts")
     table_in (data_word (data_of scripts)) scripts (table_word_again scripts fits traced)
 
@@ -199,7 +199,7 @@ pub profile_again : (which : Which) (profile : Profile) → profile.id ≤ 65535
 unfolding profile_from
 profile_again which profile id_fits start_fits duration_fits =
     let first = behind_again (label which (codes "profile")) (decimal profile.id
-        ∷ encode_upper (date_time_bytes profile.start) ∷ decimal profile.duration ∷ []) in
+    ∷ encode_upper (date_time_bytes profile.start) ∷ decimal profile.duration ∷ []) in
     let id = number_word_again 65535 profile.id id_fits (omega arith) in
     let start = start_again profile.start start_fits in
     let duration = number_word_again 4294967295 profile.duration duration_fits (omega arith) in
@@ -227,11 +227,11 @@ groups_again which groups few are =
 pub actions_again : (which : Which) (actions : Actions) → actions.over ≤ 65535
     → actions.under ≤ 65535
     → actions_from which (label which (codes "actions") ∷ decimal actions.over
-        ∷ decimal actions.under ∷ []) ≡ Ok actions
+    ∷ decimal actions.under ∷ []) ≡ Ok actions
 unfolding actions_from
 actions_again which actions over_fits under_fits =
     let first = behind_again (label which (codes "actions")) (decimal actions.over
-        ∷ decimal actions.under ∷ []) in
+    ∷ decimal actions.under ∷ []) in
     let over = number_word_again 65535 actions.over over_fits (omega arith) in
     let under = number_word_again 65535 actions.under under_fits (omega arith) in
     rw (first, over, under) refl
@@ -267,7 +267,7 @@ unfolding over_from
 over_again mean which last over under fits =
     let read = count_again (label which (codes "over")) over fits.over_fits.within in
     let fit : are_fit last over no_run ≡ true =
-        (mean last over no_run).1 (over_fits last over under fits) in
+    (mean last over no_run).1 (over_fits last over under fits) in
     rw (read, fit) refl
 
 pub under_again : FitRunsMean → (which : Which) (last : ℕ) (over under : Count)
@@ -284,11 +284,11 @@ pub schedule_again : (number : ℕ) (schedule : Schedule) → number ≤ 3 → I
 unfolding schedule_from
 schedule_again number schedule le traced =
     let first = behind_again (codes "schedule") (decimal number ∷ decimal schedule.selector
-        ∷ decimal (number_of schedule.kind) ∷ data_word (entries_data schedule.entries) ∷ []) in
+    ∷ decimal (number_of schedule.kind) ∷ data_word (entries_data schedule.entries) ∷ []) in
     let found = number_word_again 3 number le (omega arith) in
     let same : (number == number) ≡ true = eq-eqb number number refl in
     let selector = number_word_again 65535 schedule.selector traced.selector (omega arith) in
     let kind = type_again schedule.kind in
     let entries = entries_word_again schedule.entries traced.entries
-        (entries_are_held schedule.entries traced.entries) in
+    (entries_are_held schedule.entries traced.entries) in
     rw (first, found, same, selector, kind, entries) refl

@@ -78,11 +78,14 @@ profile_back which row profile e =
     next_number_back 65535 (omega arith) words.0.1 id.0.1 id.0.0 id.1
     ∙ ap (λ (ws : Row). decimal id.0.0 ∷ ws) (
     next_back DateTimeFields start_in (λ s. encode_upper (date_time_bytes s)) start_back id.0.1
-        start.0.1 start.0.0 start.1
+    start.0.1 start.0.0 start.1
     ∙ ap (λ (ws : Row). encode_upper (date_time_bytes start.0.0)
-        ∷ ws) (last_number_back 4294967295 (omega arith) start.0.1 duration.0 duration.1)))
-    ∙ ap (profile_row which) (ok_is (record { id = id.0.0; start = start.0.0;
-        duration = duration.0 }) profile duration.2)
+    ∷ ws) (last_number_back 4294967295 (omega arith) start.0.1 duration.0 duration.1)))
+    ∙ ap (profile_row which) (ok_is (record {
+      id = id.0.0;
+      start = start.0.0;
+      duration = duration.0;
+    }) profile duration.2)
 
 pub groups_back : (which : Which) → IsRowBack (List ℕ) (groups_from which) (groups_row which)
 unfolding groups_from
@@ -90,8 +93,8 @@ groups_back which row groups e =
     let name = label which (codes "groups") in
     let words = bind_ok (behind name row) _ groups e in
     behind_back name row words.0.0 words.0.1 words.1
-        ∙ ap (λ (ws : Row). name ∷ ws) (all_back ℕ id_from value_words id_back 32 words.0.1 groups
-        words.2)
+    ∙ ap (λ (ws : Row). name ∷ ws) (all_back ℕ id_from value_words id_back 32 words.0.1 groups
+    words.2)
 
 -- the line of a limiter's actions
 abbrev pub actions_row : Which → Actions → Row
@@ -109,7 +112,7 @@ actions_back which row actions e =
     ∙ ap (λ (ws : Row). name ∷ ws) (
     next_number_back 65535 (omega arith) words.0.1 over.0.1 over.0.0 over.1
     ∙ ap (λ (ws : Row). decimal over.0.0 ∷ ws)
-        (last_number_back 65535 (omega arith) over.0.1 under.0 under.1))
+    (last_number_back 65535 (omega arith) over.0.1 under.0 under.1))
     ∙ ap (actions_row which) (ok_is (record { over = over.0.0; under = under.0 }) actions under.2)
 
 count_back : (name : Word) → IsRowBack Count (count_from name) (count_row name)
@@ -122,8 +125,8 @@ count_back name row count e =
     ∙ ap (λ (ws : Row). name ∷ ws) (
     next_number_back cap (omega arith) words.0.1 run.0.1 run.0.0 run.1
     ∙ ap (λ (ws : Row). decimal run.0.0 ∷ ws)
-        (last_back Bool flag_in (λ flag. decimal (flag_number flag)) flag_back run.0.1
-        fired.0 fired.1))
+    (last_back Bool flag_in (λ flag. decimal (flag_number flag)) flag_back run.0.1
+    fired.0 fired.1))
     ∙ ap (count_row name) (ok_is (record { run = run.0.0; fired = fired.0 }) count fired.2)
 
 pub over_back : (which : Which) (last : ℕ) → IsRowBack Count (over_from which last)
@@ -133,7 +136,7 @@ over_back which last row count e =
     let read = bind_ok (count_from (label which (codes "over")) row) _ count e in
     let fit = guard_ok (are_fit last read.0 no_run) Wrong _ count read.2 in
     count_back (label which (codes "over")) row read.0 read.1
-        ∙ ap (count_row (label which (codes "over"))) (ok_is read.0 count fit.1)
+    ∙ ap (count_row (label which (codes "over"))) (ok_is read.0 count fit.1)
 
 pub under_back : (which : Which) (last : ℕ) (over : Count)
     → IsRowBack Count (under_from which last over) (count_row (label which (codes "under")))
@@ -142,13 +145,13 @@ under_back which last over row count e =
     let read = bind_ok (count_from (label which (codes "under")) row) _ count e in
     let fit = guard_ok (are_fit last over read.0) Wrong _ count read.2 in
     count_back (label which (codes "under")) row read.0 read.1
-        ∙ ap (count_row (label which (codes "under"))) (ok_is read.0 count fit.1)
+    ∙ ap (count_row (label which (codes "under"))) (ok_is read.0 count fit.1)
 
 -- the words of a schedule's line, one after the other
 schedule_line : (row a b c d : Row) (found number : ℕ) (word : Word) (selector : ℕ)
     (kind : ScheduleType) (entries : List EntryPattern) (form : Data)
     → row ≡ codes "schedule" ∷ a → a ≡ decimal found ∷ b → found ≡ number → b ≡ decimal selector ∷ c
-        → c ≡ decimal (number_of kind) ∷ d → d ≡ word ∷ [] → word ≡ data_word form
+    → c ≡ decimal (number_of kind) ∷ d → d ≡ word ∷ [] → word ≡ data_word form
     → row ≡ entries_row number (record { selector = selector; kind = kind; entries = entries }) form
 schedule_line row a b c d found number word selector kind entries form is_row is_a is_number is_b
     is_c is_d is_word =
@@ -162,7 +165,7 @@ schedule_line row a b c d found number word selector kind entries form is_row is
 pub schedule_read : (number : ℕ) (row : Row) (schedule : Schedule) → schedule_from number row
     ≡ Ok schedule
     → (form : Data) × (entries_of form ≡ Ok schedule.entries)
-        × (row ≡ entries_row number schedule form)
+    × (row ≡ entries_row number schedule form)
 unfolding schedule_from
 schedule_read number row schedule e =
     let name = codes "schedule" in
@@ -173,21 +176,23 @@ schedule_read number row schedule e =
     let kind = bind_ok (next_as type_in selector.0.1) _ schedule selector.2 in
     let entries = bind_ok (last_as entries_in kind.0.1) _ schedule kind.2 in
     let is = ok_is (record { selector = selector.0.0; kind = kind.0.0; entries = entries.0 })
-        schedule entries.2 in
+    schedule entries.2 in
     let word = last_read (List EntryPattern) entries_in kind.0.1 entries.0 entries.1 in
     let form = entries_read word.0 entries.0 word.2 in
     let line =
     schedule_line row words.0.1 found.0.1 selector.0.1 kind.0.1 found.0.0 number word.0 selector.0.0
-        kind.0.0 entries.0 form.0
+    kind.0.0 entries.0 form.0
     (behind_back name row words.0.0 words.0.1 words.1)
     (next_number_back 3 (omega arith) words.0.1 found.0.1 found.0.0 found.1)
     (eqb-true found.0.0 number same.0)
     (next_number_back 65535 (omega arith) found.0.1 selector.0.1 selector.0.0 selector.1)
     (next_back ScheduleType type_in (λ k. decimal (number_of k)) type_back selector.0.1 kind.0.1
-        kind.0.0 kind.1)
-    word.1 form.2 in
-    (form.0, subst (λ (s : Schedule). entries_of form.0 ≡ Ok s.entries) is form.1,
-        subst (λ (s : Schedule). row ≡ entries_row number s form.0) is line)
+    kind.0.0 kind.1)
+    word.1 form.2 in (
+      form.0,
+      subst (λ (s : Schedule). entries_of form.0 ≡ Ok s.entries) is form.1,
+      subst (λ (s : Schedule). row ≡ entries_row number s form.0) is line,
+    )
 
 -- ---- at a place
 

@@ -65,19 +65,19 @@ profile_is_row : (which : Which) (o : LimiterOpening) → IsTracedLimiter o
 profile_is_row which o traced =
     let id : o.settings.profile.id ≤ 42949672950 = omega (arith, traced.profile_id) in
     let duration : o.settings.profile.duration ≤ 42949672950 =
-        omega (arith, traced.profile_duration) in
+    omega (arith, traced.profile_duration) in
     let start = hex_is_word (date_time_bytes o.settings.profile.start)
-        (date_time_has_bytes o.settings.profile.start)
-        (date_time_is_bytes o.settings.profile.start traced.profile_start) in
+    (date_time_has_bytes o.settings.profile.start)
+    (date_time_is_bytes o.settings.profile.start traced.profile_start) in
     more (label which (codes "profile")) (decimal o.settings.profile.id
-        ∷ encode_upper (date_time_bytes o.settings.profile.start)
-        ∷ decimal o.settings.profile.duration ∷ []) (label_is_word which (codes "profile") refl)
+    ∷ encode_upper (date_time_bytes o.settings.profile.start)
+    ∷ decimal o.settings.profile.duration ∷ []) (label_is_word which (codes "profile") refl)
     (more (decimal o.settings.profile.id) (encode_upper (date_time_bytes o.settings.profile.start)
-        ∷ decimal o.settings.profile.duration ∷ []) (number_is_word o.settings.profile.id id)
+    ∷ decimal o.settings.profile.duration ∷ []) (number_is_word o.settings.profile.id id)
     (more (encode_upper (date_time_bytes o.settings.profile.start))
-        (decimal o.settings.profile.duration ∷ []) start
-        (more (decimal o.settings.profile.duration) []
-        (number_is_word o.settings.profile.duration duration) refl)))
+    (decimal o.settings.profile.duration ∷ []) start
+    (more (decimal o.settings.profile.duration) []
+    (number_is_word o.settings.profile.duration duration) refl)))
 
 ids_are_words : (ids : List ℕ) → AreIds ids → AreWords (all_words value_words ids)
 unfolding all_words
@@ -94,40 +94,40 @@ two_numbers_are_row : (name : Word) (one other : ℕ) → is_word name ≡ true 
     → other ≤ 42949672950 → is_row (name ∷ decimal one ∷ decimal other ∷ []) ≡ true
 two_numbers_are_row name one other is le less =
     more name (decimal one ∷ decimal other ∷ []) is
-        (more (decimal one) (decimal other ∷ []) (number_is_word one le)
-        (more (decimal other) [] (number_is_word other less) refl))
+    (more (decimal one) (decimal other ∷ []) (number_is_word one le)
+    (more (decimal other) [] (number_is_word other less) refl))
 
 count_is_row : (name : Word) (count : Count) → is_word name ≡ true → count.run ≤ cap
     → is_row (count_row name count) ≡ true
 count_is_row name count is within =
     more name (decimal count.run ∷ decimal (flag_number count.fired) ∷ []) is
     (more (decimal count.run) (decimal (flag_number count.fired)
-        ∷ []) (number_is_word count.run within)
-        (more (decimal (flag_number count.fired)) [] (flag_is_word count.fired) refl))
+    ∷ []) (number_is_word count.run within)
+    (more (decimal (flag_number count.fired)) [] (flag_is_word count.fired) refl))
 
 limiter_are_rows : (which : Which) (o : LimiterOpening) (rows : List Row) → IsFitLimiterOpening o
     → IsTracedLimiter o → AreRows rows → AreRows (limiter_rows which o ++ rows)
 limiter_are_rows which o rows fit traced are =
     let normal = number_is_row (label which (codes "normal")) o.settings.threshold_normal
-        (label_is_word which (codes "normal") refl) (omega (arith, traced.threshold_normal)) in
+    (label_is_word which (codes "normal") refl) (omega (arith, traced.threshold_normal)) in
     let emergency = number_is_row (label which (codes "emergency")) o.settings.threshold_emergency
-        (label_is_word which (codes "emergency") refl) (omega (arith, traced.threshold_emergency))
-        in
+    (label_is_word which (codes "emergency") refl) (omega (arith, traced.threshold_emergency))
+    in
     let minover = number_is_row (label which (codes "minover"))
-        o.settings.min_over_threshold_duration (label_is_word which (codes "minover") refl)
-        (omega (arith, traced.min_over_threshold_duration)) in
+    o.settings.min_over_threshold_duration (label_is_word which (codes "minover") refl)
+    (omega (arith, traced.min_over_threshold_duration)) in
     let minunder = number_is_row (label which (codes "minunder"))
-        o.settings.min_under_threshold_duration (label_is_word which (codes "minunder") refl)
-        (omega (arith, traced.min_under_threshold_duration)) in
+    o.settings.min_under_threshold_duration (label_is_word which (codes "minunder") refl)
+    (omega (arith, traced.min_under_threshold_duration)) in
     let profile = profile_is_row which o traced in
     let groups = groups_is_row which o.settings.groups traced.groups in
     let actions = two_numbers_are_row (label which (codes "actions")) o.settings.actions.over
-        o.settings.actions.under (label_is_word which (codes "actions") refl)
+    o.settings.actions.under (label_is_word which (codes "actions") refl)
     (omega (arith, traced.over_selector)) (omega (arith, traced.under_selector)) in
     let over = count_is_row (label which (codes "over")) o.over
-        (label_is_word which (codes "over") refl) fit.runs.over_fits.within in
+    (label_is_word which (codes "over") refl) fit.runs.over_fits.within in
     let under = count_is_row (label which (codes "under")) o.under
-        (label_is_word which (codes "under") refl) fit.runs.under_fits.within in
+    (label_is_word which (codes "under") refl) fit.runs.under_fits.within in
     rw (normal, emergency, minover, minunder, profile, groups, actions, over, under) are
 
 value_is_row : (which : Which) (o : LimiterOpening) → IsTracedLimiter o → is_row (value_row which o)
@@ -144,15 +144,15 @@ schedule_is_row number schedule le traced =
     let selector : schedule.selector ≤ 42949672950 = omega (arith, traced.selector) in
     let kind : number_of schedule.kind ≤ 42949672950 = omega (arith, type_small schedule.kind) in
     more (codes "schedule") (decimal number ∷ decimal schedule.selector
-        ∷ decimal (number_of schedule.kind) ∷ value ∷ []) refl
+    ∷ decimal (number_of schedule.kind) ∷ value ∷ []) refl
     (more (decimal number) (decimal schedule.selector ∷ decimal (number_of schedule.kind) ∷ value
-        ∷ []) (number_is_word number (omega arith))
+    ∷ []) (number_is_word number (omega arith))
     (more (decimal schedule.selector) (decimal (number_of schedule.kind) ∷ value
-        ∷ []) (number_is_word schedule.selector selector)
+    ∷ []) (number_is_word schedule.selector selector)
     (more (decimal (number_of schedule.kind)) (value
-        ∷ []) (number_is_word (number_of schedule.kind) kind)
-        (more value [] (data_is_word (entries_data schedule.entries)
-        (entries_are_held schedule.entries traced.entries)) refl))))
+    ∷ []) (number_is_word (number_of schedule.kind) kind)
+    (more value [] (data_is_word (entries_data schedule.entries)
+    (entries_are_held schedule.entries traced.entries)) refl))))
 
 schedules_are_rows : (schedules : Schedules) → IsTracedSchedule schedules.first
     → IsTracedSchedule schedules.second → IsTracedSchedule schedules.third
@@ -170,39 +170,39 @@ head_are_rows : (o : Opening) (rows : List Row) → IsWritable o → AreRows row
 head_are_rows o rows writable are =
     let version = number_is_row (codes "RELAYTRACE") 2 refl (omega arith) in
     let device = more (codes "device") (encode_upper o.device ∷ []) refl
-        (more (encode_upper o.device) [] (hex_is_word o.device
-        (omega (arith, writable.fit.device_some)) writable.device) refl) in
+    (more (encode_upper o.device) [] (hex_is_word o.device
+    (omega (arith, writable.fit.device_some)) writable.device) refl) in
     let state = number_is_row (codes "state") (state_number o.state) refl
-        (omega (arith, state_small o.state)) in
+    (omega (arith, state_small o.state)) in
     let mode = number_is_row (codes "mode") (mode_number o.mode) refl
-        (omega (arith, mode_small o.mode)) in
+    (omega (arith, mode_small o.mode)) in
     rw (version, device, state, mode) are
 
 pub opening_are_rows : (o : Opening) → IsWritable o → list_all is_row (opening_rows o) ≡ true
 unfolding opening_rows
 opening_are_rows o writable =
     let table : is_row (codes "scripts" ∷ data_word (data_of o.scripts) ∷ [])
-        ≡ true = more (codes "scripts") (data_word (data_of o.scripts) ∷ []) refl
-        (more (data_word (data_of o.scripts)) []
-        (data_is_word (data_of o.scripts) (scripts_are_held o.scripts writable.scripts
-        writable.script_numbers)) refl) in
+    ≡ true = more (codes "scripts") (data_word (data_of o.scripts) ∷ []) refl
+    (more (data_word (data_of o.scripts)) []
+    (data_is_word (data_of o.scripts) (scripts_are_held o.scripts writable.scripts
+    writable.script_numbers)) refl) in
     let table_rows : List Row = (codes "scripts" ∷ data_word (data_of o.scripts) ∷ [])
-        ∷ schedule_rows o.schedules in
+    ∷ schedule_rows o.schedules in
     let last = more_rows (codes "scripts" ∷ data_word (data_of o.scripts)
-        ∷ []) (schedule_rows o.schedules) table
-        (schedules_are_rows o.schedules writable.first writable.second writable.third
-        writable.fourth) in
+    ∷ []) (schedule_rows o.schedules) table
+    (schedules_are_rows o.schedules writable.first writable.second writable.third
+    writable.fourth) in
     let exports = limiter_are_rows Export o.export table_rows writable.fit.export
-        writable.export last in
+    writable.export last in
     let export_rows : List Row = value_row Export o.export
-        ∷ (limiter_rows Export o.export ++ table_rows) in
+    ∷ (limiter_rows Export o.export ++ table_rows) in
     let imports = limiter_are_rows Import o.import export_rows writable.fit.import writable.import
-        (more_rows (value_row Export o.export) (limiter_rows Export o.export ++ table_rows)
-        (value_is_row Export o.export writable.export) exports) in
+    (more_rows (value_row Export o.export) (limiter_rows Export o.export ++ table_rows)
+    (value_is_row Export o.export writable.export) exports) in
     let import_rows : List Row = limiter_rows Import o.import ++ export_rows in
     let moment_row : Row = codes "now" ∷ moment_word o.moment ∷ [] in
     let behind = more_rows moment_row import_rows (moment_is_row o.moment writable.moment) imports
-        in
+    in
     head_are_rows o (value_row Import o.import ∷ moment_row ∷ import_rows) writable
-        (more_rows (value_row Import o.import) (moment_row ∷ import_rows)
-        (value_is_row Import o.import writable.import) behind)
+    (more_rows (value_row Import o.import) (moment_row ∷ import_rows)
+    (value_is_row Import o.import writable.import) behind)

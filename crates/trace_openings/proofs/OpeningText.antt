@@ -18,12 +18,12 @@ row_text word words = rows_text-one (word ∷ words)
 pub ended_line : (word : Word) (words : Row) (before first middle after : List ℕ) {T E : Type 0}
     (result : Result T E) → first ≡ before ++ word → middle ≡ first ++ words_after_blanks words
     → OnOk result (after ≡ middle ++ 10 ∷ [])
-        → OnOk result (after ≡ before ++ rows_text ((word ∷ words) ∷ []))
+    → OnOk result (after ≡ before ++ rows_text ((word ∷ words) ∷ []))
 ended_line word words before first middle after (Ok x) labelled written ended =
     ended
     ∙ ap (λ (bs : List ℕ). bs ++ 10 ∷ []) (written
-        ∙ ap (λ (bs : List ℕ). bs ++ words_after_blanks words) labelled
-        ∙ append_assoc before word (words_after_blanks words))
+    ∙ ap (λ (bs : List ℕ). bs ++ words_after_blanks words) labelled
+    ∙ append_assoc before word (words_after_blanks words))
     ∙ append_assoc before (word ++ words_after_blanks words) (10 ∷ [])
     ∙ ap (λ (bs : List ℕ). before ++ bs) (sym (row_text word words))
 ended_line word words before first middle after (Err error) labelled written ended = ended
@@ -34,14 +34,14 @@ pub joined : (rows others : List Row) (before middle after : List ℕ) → middl
     ++ rows_text (rows ++ others)
 joined rows others before middle after first second =
     second ∙ ap (λ (bs : List ℕ). bs ++ rows_text others) first
-        ∙ append_assoc before (rows_text rows) (rows_text others)
-        ∙ ap (λ (bs : List ℕ). before ++ bs) (sym (rows_text-append rows others))
+    ∙ append_assoc before (rows_text rows) (rows_text others)
+    ∙ ap (λ (bs : List ℕ). before ++ bs) (sym (rows_text-append rows others))
 
 -- lines are written, followed by others, unless out of memory
 pub joined_last : (rows others : List Row) (before middle after : List ℕ) {T E : Type 0}
     (result : Result T E) → middle ≡ before ++ rows_text rows
     → OnOk result (after ≡ middle ++ rows_text others)
-        → OnOk result (after ≡ before ++ rows_text (rows ++ others))
+    → OnOk result (after ≡ before ++ rows_text (rows ++ others))
 joined_last rows others before middle after (Ok x) first second =
     joined rows others before middle after first second
 joined_last rows others before middle after (Err error) first second = second

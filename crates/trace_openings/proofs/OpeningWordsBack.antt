@@ -115,8 +115,8 @@ state_back word state e =
     let read = bind_ok (number_in 2 word) _ state e in
     number_back 2 (omega arith) word read.0 read.1
     ∙ ap decimal (state_is read.0 state (number_limited 2 (omega arith) word read.0 read.1)
-        (ok_is (cond (read.0 == 0) Disconnected (cond (read.0 == 1) Connected ReadyForReconnection))
-        state read.2))
+    (ok_is (cond (read.0 == 0) Disconnected (cond (read.0 == 1) Connected ReadyForReconnection))
+    state read.2))
 
 pub mode_back : (state : ControlState) → IsWrittenBack ControlMode (mode_in state)
     (λ mode. decimal (mode_number mode))
@@ -132,12 +132,12 @@ mode_back state word mode e =
 pub moment_back : IsWrittenBack (Option ℕ) moment_in moment_word
 moment_back word moment e =
     elim (chosen (pointwise nat_eq word (codes "-")) (done RowFault None) (value_in word
-        >>= λ m. Ok (Some m)) (Ok moment) e) [
+    >>= λ m. Ok (Some m)) (Ok moment) e) [
       | inl none ↦ same_is word (codes "-") none.0 ∙ ap moment_word (ok_is None moment none.1)
       | inr some ↦
           let read = bind_ok (value_in word) _ moment some.1 in
           number_back 4294967295 (omega arith) word read.0 read.1
-              ∙ ap moment_word (ok_is (Some read.0) moment read.2)
+          ∙ ap moment_word (ok_is (Some read.0) moment read.2)
     ]
 
 value_of_ok : (X F : Type 0) (r : Result X F) (x : X) → result_ok r ≡ Some x → r ≡ Ok x
@@ -150,15 +150,15 @@ unfolding start_in
 start_back word start e =
     let read = bind_ok (bytes_in word) _ start e in
     let found = value_of_ok _ _ (date_time_of read.0) start
-        (wanted_is (result_ok (date_time_of read.0)) start read.2) in
+    (wanted_is (result_ok (date_time_of read.0)) start read.2) in
     bytes_back word read.0 read.1 ∙ ap encode_upper
-        (date_time_takes read.0 start (bytes_are word read.0 read.1) found).1
+    (date_time_takes read.0 start (bytes_are word read.0 read.1) found).1
 
 pub type_back : IsWrittenBack ScheduleType type_in (λ kind. decimal (number_of kind))
 type_back word kind e =
     let read = bind_ok (number_in 5 word) _ kind e in
     number_back 5 (omega arith) word read.0 read.1
-        ∙ ap decimal (type_is read.0 kind (wanted_is (type_of_number read.0) kind read.2))
+    ∙ ap decimal (type_is read.0 kind (wanted_is (type_of_number read.0) kind read.2))
 
 pub id_back : AreWrittenBack ℕ id_from value_words
 id_back word words id rest e =
@@ -171,14 +171,20 @@ pub table_read : (word : Word) (scripts : List Script) → table_in word ≡ Ok 
     × (table_of table ≡ Ok scripts) × (word ≡ data_word table)
 unfolding table_in
 table_read word scripts e =
-    let read = bind_ok (data_in word) _ scripts e in
-    (read.0, value_of_ok _ _ (table_of read.0) scripts
-        (wanted_is (result_ok (table_of read.0)) scripts read.2), data_back word read.0 read.1)
+    let read = bind_ok (data_in word) _ scripts e in (
+      read.0,
+      value_of_ok _ _ (table_of read.0) scripts
+          (wanted_is (result_ok (table_of read.0)) scripts read.2),
+      data_back word read.0 read.1,
+    )
 
 pub entries_read : (word : Word) (entries : List EntryPattern) → entries_in word ≡ Ok entries
     → (form : Data) × (entries_of form ≡ Ok entries) × (word ≡ data_word form)
 unfolding entries_in
 entries_read word entries e =
-    let read = bind_ok (data_in word) _ entries e in
-    (read.0, value_of_ok _ _ (entries_of read.0) entries
-        (wanted_is (result_ok (entries_of read.0)) entries read.2), data_back word read.0 read.1)
+    let read = bind_ok (data_in word) _ entries e in (
+      read.0,
+      value_of_ok _ _ (entries_of read.0) entries
+          (wanted_is (result_ok (entries_of read.0)) entries read.2),
+      data_back word read.0 read.1,
+    )

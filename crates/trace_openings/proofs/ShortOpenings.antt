@@ -35,19 +35,19 @@ word_row_short : (name word : Word) (long : ℕ) → length name ≤ 20 → leng
     → long ≤ 16384 → IsShort (name ∷ word ∷ [])
 word_row_short name word long short le most =
     words_in (1 + 20 + (1 + long + 0)) 20000 (name ∷ word
-        ∷ []) (word_on 20 (1 + long + 0) name (word ∷ []) short
-        (word_on long 0 word [] le no_words)) (omega (arith, most))
+    ∷ []) (word_on 20 (1 + long + 0) name (word ∷ []) short
+    (word_on long 0 word [] le no_words)) (omega (arith, most))
 
 count_row_short : (name : Word) (count : Count) → length name ≤ 20 → IsFitCount count
     → IsShort (count_row name count)
 count_row_short name count long fit =
     words_in (1 + 20 + (1 + 11 + (1 + 10 + 0))) 20000 (count_row name count)
-        (word_on 20 (1 + 11 + (1 + 10 + 0)) name (decimal count.run
-        ∷ decimal (flag_number count.fired) ∷ []) long
+    (word_on 20 (1 + 11 + (1 + 10 + 0)) name (decimal count.run
+    ∷ decimal (flag_number count.fired) ∷ []) long
     (word_on 11 (1 + 10 + 0) (decimal count.run) (decimal (flag_number count.fired)
-        ∷ []) (run_short count.run (omega (arith, fit.within)))
+    ∷ []) (run_short count.run (omega (arith, fit.within)))
     (word_on 10 0 (decimal (flag_number count.fired)) [] (flag_short count.fired) no_words)))
-        (omega arith)
+    (omega arith)
 
 -- group ids
 ids_short : (ids : List ℕ) → AreIds ids → HasWords (length ids * 11) (all_words value_words ids)
@@ -55,10 +55,10 @@ unfolding all_words
 ids_short [] are = no_words
 ids_short (id ∷ ids) (one, others) =
     let words = word_on 10 (length ids * 11) (decimal id) (all_words value_words ids)
-        (number_short id (omega (arith, one))) (ids_short ids others) in
+    (number_short id (omega (arith, one))) (ids_short ids others) in
     let more : suc (length ids) * 11 ≡ 11 + length ids * 11 = omega arith in
     words_in (1 + 10 + length ids * 11) (suc (length ids) * 11) (decimal id
-        ∷ all_words value_words ids) words (omega (arith, more))
+    ∷ all_words value_words ids) words (omega (arith, more))
 
 -- ---- a limiter
 
@@ -92,32 +92,32 @@ limiter_short which o fit traced =
               words_in (1 + 20 + (1 + 10 + (1 + 24 + (1 + 10 + 0)))) 20000
                   (profile_row which profile)
                   (word_on 20 (1 + 10 + (1 + 24 + (1 + 10 + 0))) (label which (codes "profile")) _
-                      (named which (codes "profile") (omega arith))
+                  (named which (codes "profile") (omega arith))
                   (word_on 10 (1 + 24 + (1 + 10 + 0)) (decimal profile.id) _
-                      (number_short profile.id (omega (arith, traced.profile_id)))
+                  (number_short profile.id (omega (arith, traced.profile_id)))
                   (word_on 24 (1 + 10 + 0) (encode_upper start) _
-                      (bytes_short start 12 (omega (arith, twelve_bytes profile.start)))
+                  (bytes_short start 12 (omega (arith, twelve_bytes profile.start)))
                   (word_on 10 0 (decimal profile.duration) []
-                      (number_short profile.duration traced.profile_duration) no_words))))
-                      (omega arith),
+                  (number_short profile.duration traced.profile_duration) no_words))))
+                  (omega arith),
               (
                 words_in (1 + 20 + length settings.groups * 11) 20000
                     (groups_row which settings.groups)
                     (word_on 20 (length settings.groups * 11) (label which (codes "groups"))
-                        (all_words value_words settings.groups)
-                        (named which (codes "groups") (omega arith))
-                        (ids_short settings.groups traced.groups))
+                    (all_words value_words settings.groups)
+                    (named which (codes "groups") (omega arith))
+                    (ids_short settings.groups traced.groups))
                     (omega (arith, fit.groups)),
                 (
                   words_in (1 + 20 + (1 + 10 + (1 + 10 + 0))) 20000 (label which (codes "actions")
                       ∷ decimal settings.actions.over ∷ decimal settings.actions.under ∷ [])
                       (word_on 20 (1 + 10 + (1 + 10 + 0)) (label which (codes "actions")) _
-                          (named which (codes "actions") (omega arith))
+                      (named which (codes "actions") (omega arith))
                       (word_on 10 (1 + 10 + 0) (decimal settings.actions.over) _
-                          (number_short settings.actions.over (omega (arith, traced.over_selector)))
+                      (number_short settings.actions.over (omega (arith, traced.over_selector)))
                       (word_on 10 0 (decimal settings.actions.under) []
-                          (number_short settings.actions.under
-                          (omega (arith, traced.under_selector))) no_words))) (omega arith),
+                      (number_short settings.actions.under
+                      (omega (arith, traced.under_selector))) no_words))) (omega arith),
                   (
                     count_row_short (label which (codes "over")) o.over
                         (named which (codes "over") (omega arith)) fit.runs.over_fits,
@@ -159,15 +159,15 @@ schedule_short : (number : ℕ) (schedule : Schedule) → number ≤ 3 → IsTra
 schedule_short number schedule few traced =
     let entries = data_word (entries_data schedule.entries) in
     words_in (1 + 20 + (1 + 10 + (1 + 10 + (1 + 10 + (1 + 16384 + 0))))) 20000
-        (schedule_row number schedule)
+    (schedule_row number schedule)
     (word_on 20 (1 + 10 + (1 + 10 + (1 + 10 + (1 + 16384 + 0)))) (codes "schedule") _ (omega arith)
     (word_on 10 (1 + 10 + (1 + 10 + (1 + 16384 + 0))) (decimal number) _
-        (number_short number (omega (arith, few)))
+    (number_short number (omega (arith, few)))
     (word_on 10 (1 + 10 + (1 + 16384 + 0)) (decimal schedule.selector) _
-        (number_short schedule.selector (omega (arith, traced.selector)))
+    (number_short schedule.selector (omega (arith, traced.selector)))
     (word_on 10 (1 + 16384 + 0) (decimal (number_of schedule.kind)) _ (kind_short schedule.kind)
     (word_on 16384 0 entries [] (data_short (entries_data schedule.entries)
-        (entries_are_held schedule.entries traced.entries)) no_words))))) (omega arith)
+    (entries_are_held schedule.entries traced.entries)) no_words))))) (omega arith)
 
 -- the line of the script table and those of the schedules
 abbrev table_rows : Opening → List Row
@@ -182,8 +182,10 @@ tables_short o is = (
     schedule_short 0 o.schedules.first (omega arith) is.first,
     (
       schedule_short 1 o.schedules.second (omega arith) is.second,
-      (schedule_short 2 o.schedules.third (omega arith) is.third,
-          (schedule_short 3 o.schedules.fourth (omega arith) is.fourth, tt)),
+      (
+        schedule_short 2 o.schedules.third (omega arith) is.third,
+        (schedule_short 3 o.schedules.fourth (omega arith) is.fourth, tt),
+      ),
     ),
   ),
 )
@@ -218,8 +220,11 @@ firsts_short o is = (
         (
           number_row_short (label Import (codes "value")) o.import.value
               (omega arith) is.import.value,
-          (word_row_short (codes "now") (moment_word o.moment) 10 (omega arith)
-              (moment_short o.moment is.moment) (omega arith), tt),
+          (
+            word_row_short (codes "now") (moment_word o.moment) 10 (omega arith)
+                (moment_short o.moment is.moment) (omega arith),
+            tt,
+          ),
         ),
       ),
     ),
@@ -231,4 +236,4 @@ unfolding opening_rows
 opening_short o is =
     both_short (first_rows o) (limiter_rows Import o.import ++ export_rows o) (firsts_short o is)
     (both_short (limiter_rows Import o.import) (export_rows o)
-        (limiter_short Import o.import is.fit.import is.import) (exports_short o is))
+    (limiter_short Import o.import is.fit.import is.import) (exports_short o is))

@@ -1,3 +1,5 @@
+//! Reads the values of a limiter from the words of each line: thresholds, durations, profile,
+//! groups, actions and runs.
 ghost use Rattle.std.specs.Prelude.{◌≡◌, ◌≤◌, IfOk, nat_eq, length};
 ghost use Rattle.std.specs.Cmp.Lexicographic.{pointwise};
 ghost use Rattle.byte_reading.specs.Outcome.{Gives};

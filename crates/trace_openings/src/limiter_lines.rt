@@ -1,3 +1,4 @@
+//! Reads the lines of a limiter in a trace's opening, in their order.
 ghost use Rattle.std.specs.Prelude.{◌≡◌, ◌≤◌, length, IfOk};
 ghost use Rattle.relay_core.specs.Opening.{IsFitLimiterOpening};
 ghost use Rattle.trace_openings.specs.OpeningReading.{value_line, settings_from, limiter_from, new_limiter, export_from};

@@ -1,3 +1,5 @@
+//! Reads the values of an opening from the words of each line: version, device, switch, clock,
+//! scripts and schedules.
 ghost use Rattle.std.specs.Prelude.{◌≡◌, ◌≤◌, IfOk, codes, length};
 ghost use Rattle.byte_reading.specs.Outcome.{Gives};
 ghost use Rattle.disconnect_control.specs.declared.state.ControlMode.TheVariants.{Mode0};

@@ -1,3 +1,4 @@
+//! Reads the opening of a trace, line by line, from the version to the last schedule.
 ghost use Rattle.std.specs.Prelude.{◌≤◌, IfOk};
 ghost use Rattle.relay_core.specs.Opening.{IsFitLimiterOpening, IsFitOpening};
 ghost use Rattle.trace_openings.specs.OpeningFields.{schedule_from};

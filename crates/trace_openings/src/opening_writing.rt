@@ -1,3 +1,4 @@
+//! Writes the opening of a trace, in version 2 of the format.
 #![tactic(auto, unfolding(trace_text::specs::TextLines::rows_text, trace_text::specs::TextLines::text_of, trace_text::specs::Words::line_of))]
 
 ghost use Rattle.std.specs.Prelude.{◌≡◌, ◌++◌, ◌∷◌, [], OnOk, codes};

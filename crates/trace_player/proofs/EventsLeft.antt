@@ -25,15 +25,15 @@ no_event_written events out = record { all = refl }
 pub event_more : (events : List Event) (i : ℕ) (event : Event) (out new total : List ℕ)
     → i < length events → event ≡ get_or events i event
     → new ≡ out ++ line_of (event_row event) ++ 10 ∷ [] → EventsLeft events i out total
-        → EventsLeft events (i + 1) new total
+    → EventsLeft events (i + 1) new total
 event_more events i event out new total lt is written left =
     let rest = rows_text (map event_row (drop (suc i) events)) in
     let next : drop i events ≡ event ∷ drop (suc i) events =
-        drop-cons events i event lt ∙ ap (λ (e : Event). e ∷ drop (suc i) events) (sym is) in
+    drop-cons events i event lt ∙ ap (λ (e : Event). e ∷ drop (suc i) events) (sym is) in
     let one : out ++ rows_text (map event_row (drop i events)) ≡ new ++ rest =
     ap (λ (es : List Event). out ++ rows_text (map event_row es)) next
     ∙ ap (λ (bs : List ℕ). out ++ bs) (rows_text-cons (event_row event)
-        (map event_row (drop (suc i) events)))
+    (map event_row (drop (suc i) events)))
     ∙ sym (append_assoc out (line_of (event_row event)) (10 ∷ rest))
     ∙ sym (append_assoc (out ++ line_of (event_row event)) (10 ∷ []) rest)
     ∙ ap (λ (bs : List ℕ). bs ++ rest) (sym written) in
@@ -52,15 +52,15 @@ events_written events i out total le left =
 pub text_joined : (trace : Trace) (a b c : List ℕ) → a ≡ []
     ++ rows_text (opening_rows trace.opening)
     → b ≡ a ++ rows_text (number_row (codes "events") (length trace.events) ∷ []) → c ≡ b
-        ++ rows_text (map event_row trace.events) → c ≡ trace_text trace
+    ++ rows_text (map event_row trace.events) → c ≡ trace_text trace
 text_joined trace a b c first second third =
     let rows : List Row = opening_rows trace.opening in
     let count : List Row = number_row (codes "events") (length trace.events) ∷ [] in
     let events : List Row = map event_row trace.events in
     let whole : rows_text (rows ++ (count ++ events)) ≡ rows_text rows ++ rows_text count
-        ++ rows_text events =
+    ++ rows_text events =
     rows_text-append rows (count ++ events)
     ∙ ap (λ (bs : List ℕ). rows_text rows ++ bs) (rows_text-append count events)
     ∙ sym (append_assoc (rows_text rows) (rows_text count) (rows_text events)) in
     third ∙ ap (λ (bs : List ℕ). bs ++ rows_text events) (second
-        ∙ ap (λ (bs : List ℕ). bs ++ rows_text count) first) ∙ sym whole
+    ∙ ap (λ (bs : List ℕ). bs ++ rows_text count) first) ∙ sym whole

@@ -54,15 +54,21 @@ pub none_played : (version : Version) (count : ℕ) (start : Place) (core : Rela
     → Underway version count 0 start start core core []
 unfolding lines_text
 none_played version count start core =
-    record { events = []; read = none_read version count start; counted = refl;
-        within = omega arith; world = λ w stands. stands; wrote = λ w stands. refl }
+    record {
+      events = [];
+      read = none_read version count start;
+      counted = refl;
+      within = omega arith;
+      world = λ w stands. stands;
+      wrote = λ w stands. refl;
+    }
 
 -- one more event was
 pub event_played : (version : Version) (count i number : ℕ) (start place after : Place)
     (old now next : RelayCore) (out out' : List ℕ) → i < count → number ≡ i + 1
     → PlaysEvent version number place after now next out out'
-        → Underway version count i start place old now out
-        → Underway version count (i + 1) start after old next out'
+    → Underway version count i start place old now out
+    → Underway version count (i + 1) start after old next out'
 event_played version count i number start place after old now next out out' lt numbered one so_far =
     let front = so_far.events in
     let event = one.event in
@@ -79,10 +85,10 @@ event_played version count i number start place after old now next out out' lt n
           let before = world_after front w in
           let line = line_at event before in
           let at : length (lines_of front w) + 1 ≡ number =
-              omega (arith, lines_length front w, so_far.counted, numbered) in
+          omega (arith, lines_length front w, so_far.counted, numbered) in
           one.wrote before (so_far.world w stands)
           ∙ ap (λ (bytes : List ℕ). bytes ++ line_text number line ++ 10
-              ∷ []) (so_far.wrote w stands)
+          ∷ []) (so_far.wrote w stands)
           ∙ ap (λ (n : ℕ). lines_text 1 (lines_of front w) ++ line_text n line ++ 10 ∷ []) (sym at)
           ∙ sym (lines_text-push 1 (lines_of front w) line)
           ∙ ap (lines_text 1) (sym (lines_of-append front (event ∷ []) w));

@@ -22,7 +22,7 @@ pub record EventsRead (version : Version) (count i : ℕ) (front : List Event) (
 -- one event moves from those still to be read to those read
 regroup : (front : List Event) (event : Event) (read : ReadLines (List Event))
     → with_front front (read >>= λ others. done TraceFault (event ∷ others.0, others.1))
-        ≡ with_front (front ++ event ∷ []) read
+    ≡ with_front (front ++ event ∷ []) read
 regroup front event (Ok (others, place)) = ap
     (λ (events : List Event). done TraceFault (events, place))
     (sym (append_assoc front (event ∷ []) others))
@@ -43,24 +43,24 @@ none_read version count place =
 pub event_read : (version : Version) (count i : ℕ) (front new : List Event) (old after : Place)
     (event : Event) (total : ReadLines (List Event))
     → i < count → line_as (event_of version) old ≡ Ok (event, after) → new ≡ front ++ event ∷ []
-        → EventsRead version count i front old total
+    → EventsRead version count i front old total
     → EventsRead version count (i + 1) new after total
 unfolding events_at
 event_read version count i front new old after event total lt h pushed so_far =
     let k : count - i ≡ suc (count - (i + 1)) = omega arith in
     let one : with_front front (events_at version (count - i) old)
-        ≡ with_front (front ++ event ∷ []) (events_at version (count - (i + 1)) after) =
+    ≡ with_front (front ++ event ∷ []) (events_at version (count - (i + 1)) after) =
     rw (k, h) (regroup front event (events_at version (count - (i + 1)) after)) in
     let all : EventsRead version count (i + 1) (front ++ event ∷ []) after total =
-        record { all = sym one ∙ so_far.all } in
+    record { all = sym one ∙ so_far.all } in
     subst (λ (events : List Event). EventsRead version count (i + 1) events after total)
-        (sym pushed) all
+    (sym pushed) all
 
 -- an event that is refused ends the reading
 pub event_refused : (version : Version) (count i : ℕ) (front : List Event) (old : Place)
     (fault : TraceFault) (total : ReadLines (List Event))
     → i < count → Fails Memory fault (line_as (event_of version) old)
-        → EventsRead version count i front old total → Fails Memory fault total
+    → EventsRead version count i front old total → Fails Memory fault total
 unfolding events_at
 event_refused version count i front old fault total lt (inl memory) so_far = inl memory
 event_refused version count i front old fault total lt (inr h) so_far =
@@ -76,5 +76,5 @@ unfolding events_at
 events_read version count i front place total le so_far =
     let k : count - i ≡ zero = omega arith in
     let one : with_front front (events_at version (count - i) place) ≡ Ok (front, place) =
-        rw k (ap (λ (events : List Event). done TraceFault (events, place)) (append-nil front)) in
+    rw k (ap (λ (events : List Event). done TraceFault (events, place)) (append-nil front)) in
     sym so_far.all ∙ one

@@ -15,4 +15,4 @@ pub prints_the_end : (r : Recording) (trace : Trace) → trace.events ≡ r.even
 prints_the_end r trace same replays = λ history origin stands.
     let runs = replays history origin stands in
     ap (λ (events : List Event). lines_text 1 (lines_of events (world_of_opening trace.opening)))
-        same ∙ ap (lines_text 1) runs.lines
+    same ∙ ap (lines_text 1) runs.lines

@@ -69,17 +69,17 @@ settings_other : (which : Which) (place : Place) → IsOther (settings_from whic
 unfolding settings_from
 settings_other which place =
     then_other _ _ (line_other _ place) (λ normal. then_other _ _ (line_other _ normal.1)
-        (λ emergency. then_other _ _ (line_other _ emergency.1) (λ min_over.
+    (λ emergency. then_other _ _ (line_other _ emergency.1) (λ min_over.
     then_other _ _ (line_other _ min_over.1) (λ min_under. then_other _ _ (line_other _ min_under.1)
-        (λ profile. then_other _ _ (line_other _ profile.1) (λ groups.
+    (λ profile. then_other _ _ (line_other _ profile.1) (λ groups.
     then_other _ _ (line_other _ groups.1) (λ actions. value_other _)))))))
 
 limiter_other : (which : Which) (last : ℕ) (place : Place) → IsOther (limiter_from which last place)
 unfolding limiter_from
 limiter_other which last place =
     then_other _ _ (settings_other which place)
-        (λ settings. then_other _ _ (line_other _ settings.1)
-        (λ over. then_other _ _ (line_other _ over.1) (λ under. value_other _)))
+    (λ settings. then_other _ _ (line_other _ settings.1)
+    (λ over. then_other _ _ (line_other _ over.1) (λ under. value_other _)))
 
 export_other : (version : Version) (place : Place) → IsOther (export_from version place)
 unfolding export_from
@@ -91,18 +91,18 @@ schedules_other : (place : Place) → IsOther (schedules_from place)
 unfolding schedules_from
 schedules_other place =
     then_other _ _ (line_other _ place) (λ first. then_other _ _ (line_other _ first.1)
-        (λ second. then_other _ _ (line_other _ second.1) (λ third.
+    (λ second. then_other _ _ (line_other _ second.1) (λ third.
     then_other _ _ (line_other _ third.1) (λ fourth. value_other _))))
 
 behind_version_other : (version : Version) (place : Place) → IsOther (opening_in version place)
 unfolding opening_in opening_with
 behind_version_other version place =
     then_other _ _ (line_other _ place) (λ device. then_other _ _ (line_other _ device.1)
-        (λ state. then_other _ _ (line_other _ state.1) (λ mode.
+    (λ state. then_other _ _ (line_other _ state.1) (λ mode.
     then_other _ _ (line_other _ mode.1) (λ last. then_other _ _ (line_other _ last.1) (λ moment.
     then_other _ _ (limiter_other Import last.0 moment.1)
-        (λ import. then_other _ _ (export_other version import.1)
-        (λ export. then_other _ _ (line_other _ export.1) (λ scripts.
+    (λ import. then_other _ _ (export_other version import.1)
+    (λ export. then_other _ _ (line_other _ export.1) (λ scripts.
     then_other _ _ (schedules_other scripts.1) (λ schedules. value_other _)))))))))
 
 opening_other : (place : Place) → IsOther (opening_from place)
@@ -118,15 +118,15 @@ unfolding events_at
 events_other version zero place = value_other _
 events_other version (suc count) place =
     then_other _ _ (line_other _ place) (λ event. then_other _ _
-        (events_other version count event.1) (λ others. value_other _))
+    (events_other version count event.1) (λ others. value_other _))
 
 -- the result of the lines of a trace
 trace_other : (place : Place) → IsOther (trace_from place)
 unfolding trace_from
 trace_other place =
     then_other _ _ (opening_other place) (λ opening. then_other _ _ (line_other _ opening.1)
-        (λ count. then_other _ _ (events_other opening.0.0 count.0 count.1)
-        (λ events. ended_other events.1 _)))
+    (λ count. then_other _ _ (events_other opening.0.0 count.0 count.1)
+    (λ events. ended_other events.1 _)))
 
 -- the fault `TooLong` means that the text is too long
 told_long : (text : List ℕ) (long : Bool) → nat_lt most_bytes (length text) ≡ long

@@ -37,7 +37,7 @@ pub held_behind : (text bytes rest : List ℕ) (version : Version) (opening : Op
     (count number : ℕ) (start middle behind : Place) → length text ≤ most_bytes → start
     ≡ place_of bytes → bytes ≡ text
     → opening_from start ≡ Ok ((version, opening), middle) → line_as events_from middle
-        ≡ Ok (count, behind) → number ≡ behind.number → place_at behind.number rest ≡ behind
+    ≡ Ok (count, behind) → number ≡ behind.number → place_at behind.number rest ≡ behind
     → IsHeld text rest version count opening number
 held_behind text bytes rest version opening count number start middle behind short is_start is_text
     opened counted numbered at =
@@ -47,11 +47,11 @@ held_behind text bytes rest version opening count number start middle behind sho
     let line = line_read ℕ events_from middle count behind counted in
     let rows : List Row = front.0 ++ line.row ∷ [] in
     let took : Took rows (place_of text) behind =
-        then front.0 (line.row ∷ []) (place_of text) middle behind front.1 line.took in
+    then front.0 (line.row ∷ []) (place_of text) middle behind front.1 line.took in
     let is = text_behind 1 behind.number text rest rows behind took at in
     let end = behind_front text (rows_text rows) rest is in
     let long : length text ≡ length (rows_text rows) + length rest =
-        ap (λ (them : List ℕ). length them) is ∙ length-append (rows_text rows) rest in
+    ap (λ (them : List ℕ). length them) is ∙ length-append (rows_text rows) rest in
     let few = rows_are_few rows in
     let lines = took.number in
     record {
@@ -67,8 +67,8 @@ held_behind text bytes rest version opening count number start middle behind sho
 pub count_fails : (text bytes : List ℕ) (version : Version) (opening : Opening)
     (start middle : Place) (fault : TraceFault) → start ≡ place_of bytes → bytes ≡ text
     → opening_from start ≡ Ok ((version, opening), middle)
-        → Fails Memory fault (line_as events_from middle)
-        → Fails Memory fault (trace_from (place_of text))
+    → Fails Memory fault (line_as events_from middle)
+    → Fails Memory fault (trace_from (place_of text))
 unfolding trace_from
 count_fails text bytes version opening start middle fault is_start is_text opened
     (inl memory) = inl memory

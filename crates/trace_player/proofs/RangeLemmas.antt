@@ -15,10 +15,11 @@ ReadsAgain event = FitsLine event → IsTraced event
 
 are_traced : (events : List Event) → All ReadsAgain events → All FitsLine events → AreTraced events
 are_traced [] again fit = tt
-are_traced (event ∷ events) again fit =
-    (All-head ReadsAgain event events again (All-head FitsLine event events fit),
-        are_traced events (All-tail ReadsAgain event events again)
-        (All-tail FitsLine event events fit))
+are_traced (event ∷ events) again fit = (
+  All-head ReadsAgain event events again (All-head FitsLine event events fit),
+  are_traced events (All-tail ReadsAgain event events again)
+      (All-tail FitsLine event events fit),
+)
 
 pub is_writable : (trace : Trace) → (IsFitOpening trace.opening → IsWritable trace.opening)
     → All (λ event. FitsLine event → IsTraced event) trace.events

@@ -29,9 +29,15 @@ few_are_short trace opening events few =
     let count : Row = number_row (codes "events") (length trace.events) in
     let others : List Row = map event_row trace.events in
     let are : AreShort (trace_rows trace) = both_short (opening_rows trace.opening) (count ∷ others)
-        (opening_short trace.opening opening)
-    (number_row_short (codes "events") (length trace.events) (omega arith) (omega (arith, few)),
-        events_short trace.events events) in
-    omega (arith, text_short (trace_rows trace) are, thirty_rows trace.opening,
-        length-append (opening_rows trace.opening) (count ∷ others),
-        length-map trace.events event_row, few)
+    (opening_short trace.opening opening) (
+      number_row_short (codes "events") (length trace.events) (omega arith) (omega (arith, few)),
+      events_short trace.events events,
+    ) in
+    omega (
+      arith,
+      text_short (trace_rows trace) are,
+      thirty_rows trace.opening,
+      length-append (opening_rows trace.opening) (count ∷ others),
+      length-map trace.events event_row,
+      few,
+    )

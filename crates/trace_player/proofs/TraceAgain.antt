@@ -27,7 +27,7 @@ use Rattle.trace_text.specs.Lines.{is_row}
 abbrev pub OpensAgain : Type 0
 OpensAgain = (opening : Opening) (rows : List Row) (unended : List ℕ) → IsWritable opening
     → opening_from (record { number = 1; rows = opening_rows opening ++ rows; unended = unended })
-        ≡ Ok ((Two, opening), record { number = 31; rows = rows; unended = unended })
+    ≡ Ok ((Two, opening), record { number = 31; rows = rows; unended = unended })
 
 abbrev pub HasRows : Type 0
 HasRows = (opening : Opening) → IsWritable opening → list_all is_row (opening_rows opening) ≡ true
@@ -51,9 +51,9 @@ rows_are has trace is =
     let others : List Row = map event_row trace.events in
     list_all-append is_row (opening_rows trace.opening) (count ∷ others)
     ∙ both_true (list_all is_row (opening_rows trace.opening)) (list_all is_row (count ∷ others))
-        (has trace.opening is.opening)
+    (has trace.opening is.opening)
     (both_true (is_row count) (list_all is_row others)
-        (event_count_is_row (length trace.events) is.few) (are_rows trace.events is.events))
+    (event_count_is_row (length trace.events) is.few) (are_rows trace.events is.events))
 
 -- ---- reading
 
@@ -80,7 +80,7 @@ from_again : OpensAgain → (trace : Trace) → IsWritableTrace trace
 unfolding trace_from ended_at
 from_again opens trace is =
     let h = opens trace.opening (number_row (codes "events") (length trace.events)
-        ∷ map event_row trace.events) [] is.opening in
+    ∷ map event_row trace.events) [] is.opening in
     let count = event_count_again (length trace.events) 31 (map event_row trace.events) [] is.few in
     let events = events_again trace.events 32 is.events in
     rw (h, count, events) refl
@@ -90,10 +90,13 @@ from_again opens trace is =
 place_is : HasRows → (trace : Trace) → IsWritableTrace trace → place_of (trace_text trace)
     ≡ record { number = 1; rows = trace_rows trace; unended = [] }
 place_is has trace is =
-    let made : List Row → List ℕ → Place = λ rows unended. record { number = 1; rows = rows;
-        unended = unended } in
+    let made : List Row → List ℕ → Place = λ rows unended. record {
+      number = 1;
+      rows = rows;
+      unended = unended;
+    } in
     ap₂ made (rows_whole (trace_rows trace) (rows_are has trace is))
-        (rows_ended (trace_rows trace) (rows_are has trace is))
+    (rows_ended (trace_rows trace) (rows_are has trace is))
 
 short_enough : (n : ℕ) → n ≤ most_bytes → nat_lt most_bytes n ≡ false
 short_enough n le = grind (arith, nat_tests)
@@ -104,6 +107,6 @@ unfolding trace_of
 trace_again opens has trace is =
     let short = short_enough (length (trace_text trace)) is.short in
     let choice : Bool → Result Trace TraceFault =
-        λ long. if long then Err TooLong else trace_from (place_of (trace_text trace)) in
+    λ long. if long then Err TooLong else trace_from (place_of (trace_text trace)) in
     ap choice short ∙ ap (λ (place : Place). trace_from place) (place_is has trace is)
-        ∙ from_again opens trace is
+    ∙ from_again opens trace is

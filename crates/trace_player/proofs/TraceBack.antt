@@ -38,19 +38,21 @@ all_events_back : (version : Version) (count : ℕ) (place : Place) (events : Li
 unfolding events_at
 all_events_back version zero place events behind e =
     subst (λ (p : List Event × Place). (length p.0 ≡ 0) × Took (map event_row p.0) place p.1)
-        (ok_is ([], place) (events, behind) e) (refl, nothing place)
+    (ok_is ([], place) (events, behind) e) (refl, nothing place)
 all_events_back version (suc count) place events behind e =
     let first = bind_ok (line_as (event_of version) place) _ (events, behind) e in
     let others = bind_ok (events_at version count first.0.1) _ (events, behind) first.2 in
     let inner = all_events_back version count first.0.1 others.0.0 others.0.1 others.1 in
     let line = line_back Event (event_of version) event_row
-        (λ row event h. sym (event_back version row event h)) place first.0.0 first.0.1 first.1 in
+    (λ row event h. sym (event_back version row event h)) place first.0.0 first.0.1 first.1 in
     let many = inner.0 in
     subst (λ (p : List Event × Place). (length p.0 ≡ suc count)
-        × Took (map event_row p.0) place p.1)
-        (ok_is (first.0.0 ∷ others.0.0, others.0.1) (events, behind) others.2)
-    (omega (arith, many), then (event_row first.0.0 ∷ []) (map event_row others.0.0) place first.0.1
-        others.0.1 line inner.1)
+    × Took (map event_row p.0) place p.1)
+    (ok_is (first.0.0 ∷ others.0.0, others.0.1) (events, behind) others.2) (
+      omega (arith, many),
+      then (event_row first.0.0 ∷ []) (map event_row others.0.0) place first.0.1
+          others.0.1 line inner.1,
+    )
 
 -- ---- the end
 
@@ -79,9 +81,9 @@ version_two place rows version o behind is e =
     let opening = bind_ok (opening_in first.0.0 first.0.1) _ ((version, o), behind) first.2 in
     let line = line_read Version version_from place first.0.0 first.0.1 first.1 in
     let row = first_is line.row (number_row (codes "RELAYTRACE") 2) first.0.1.rows rows
-        (sym line.took.lines ∙ is) in
+    (sym line.took.lines ∙ is) in
     sym (ap (λ (p : (Version × Opening) × Place). p.0.0)
-        (ok_is ((first.0.0, opening.0.0), opening.0.1) ((version, o), behind) opening.2))
+    (ok_is ((first.0.0, opening.0.0), opening.0.1) ((version, o), behind) opening.2))
     ∙ ok_is first.0.0 Two (sym line.read ∙ ap version_from row ∙ version_again)
 
 -- ---- all of it
@@ -90,15 +92,15 @@ version_two place rows version o behind is e =
 text_is : (text : List ℕ) (front middle others last events : List Row) (count : Row)
     (a b c : List ℕ)
     → rows_of text ≡ front ++ middle → middle ≡ (count ∷ []) ++ others → others ≡ events
-        ++ last → last ≡ []
+    ++ last → last ≡ []
     → a ≡ unended_of text → b ≡ a → c ≡ b → c ≡ [] → text ≡ rows_text (front ++ count ∷ events)
 text_is text front middle others last events count a b c is_front is_count is_events is_last is_a
     is_b is_c none =
     let rest : others ≡ events = is_events ∙ ap (λ (rows : List Row). events ++ rows) is_last
-        ∙ append-nil events in
+    ∙ append-nil events in
     let rows : rows_of text ≡ front ++ count ∷ events =
     is_front ∙ ap (λ (rows : List Row). front ++ rows) is_count
-        ∙ ap (λ (rows : List Row). front ++ count ∷ rows) rest in
+    ∙ ap (λ (rows : List Row). front ++ count ∷ rows) rest in
     let unended : unended_of text ≡ [] = sym is_a ∙ sym is_b ∙ sym is_c ∙ none in
     sym (rows_text-rows_of text)
     ∙ ap₂ (λ (rows : List Row) (unended : List ℕ). rows_text rows ++ unended) rows unended
@@ -109,7 +111,7 @@ pub trace_back : (text : List ℕ) (trace : Trace) → IsOfVersionTwo text → t
 unfolding trace_of trace_from
 trace_back text trace two e =
     let short = refused_ok (nat_lt most_bytes (length text)) TooLong
-        (trace_from (place_of text)) trace e in
+    (trace_from (place_of text)) trace e in
     let opening = bind_ok (opening_from (place_of text)) _ trace short.1 in
     let count = bind_ok (line_as events_from opening.0.1) _ trace opening.2 in
     let events = bind_ok (events_at opening.0.0.0 count.0.0 count.0.1) _ trace count.2 in
@@ -117,19 +119,19 @@ trace_back text trace two e =
     let end = ended_back events.0.1 (record { opening = o; events = events.0.0 }) trace events.2 in
     let version = version_two (place_of text) two.0 opening.0.0.0 o opening.0.1 two.1 opening.1 in
     let read = subst (λ (v : Version). opening_from (place_of text)
-        ≡ Ok ((v, o), opening.0.1)) version opening.1 in
+    ≡ Ok ((v, o), opening.0.1)) version opening.1 in
     let front = opening_back (place_of text) o opening.0.1 read in
     let kept = opening_lines (place_of text) o opening.0.1 read in
     let line = line_back ℕ events_from (number_row (codes "events")) events_back opening.0.1
-        count.0.0 count.0.1 count.1 in
+    count.0.0 count.0.1 count.1 in
     let them = all_events_back opening.0.0.0 count.0.0 count.0.1 events.0.0 events.0.1 events.1 in
     let whole =
     text_is text (rows_with o front.0) opening.0.1.rows count.0.1.rows events.0.1.rows
-        (map event_row events.0.0) (number_row (codes "events") count.0.0)
+    (map event_row events.0.0) (number_row (codes "events") count.0.0)
     opening.0.1.unended count.0.1.unended events.0.1.unended
     front.2 line.lines them.1.lines end.0 kept.1 line.unended them.1.unended end.1 in
     subst (λ (t : Trace). (forms : Forms) × AreFormsOf t.opening forms
-        × (text ≡ text_with t forms)) end.2 (
+    × (text ≡ text_with t forms)) end.2 (
       front.0,
       front.1,
       subst (λ (n : ℕ). text ≡ rows_text (rows_with o front.0 ++ number_row (codes "events") n

@@ -1,3 +1,5 @@
+//! The errors of playing a trace: a wrong line, too long a text, a failed read or write, or out of
+//! memory.
 ghost use Rattle.std.specs.Prelude.{◌≡◌};
 ghost use Rattle.trace_player.specs.Numbers.{fault_number};
 ghost use Rattle.trace_player.specs.Faults.{fault_of};

@@ -1,3 +1,4 @@
+//! Plays the text of a trace and collects the output before any of it is written.
 ghost use Rattle.std.specs.Prelude.{◌+◌, ◌-◌, ◌<◌, ◌≤◌, ◌^◌, drop, length, IfErr, IfOk, IsErrOf};
 ghost use Rattle.trace_words.specs.Places.{place_at, place_of};
 ghost use Rattle.byte_reading.specs.Outcome.{Fails};

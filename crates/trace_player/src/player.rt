@@ -1,3 +1,4 @@
+//! `play`: reads a trace, runs its events on a meter, and writes a line for each.
 ghost use Rattle.trace_player.specs.Plays.{Plays, TakesTrace};
 
 use crate::fault::PlayFault;

@@ -1,3 +1,5 @@
+//! Applies the events of a trace to a core, each as soon as its line is read, and collects the
+//! lines of the replies.
 ghost use Rattle.std.specs.Prelude.{◌≡◌, ◌++◌, ◌∷◌, [], IfErr, IfOk, OnOk};
 ghost use Rattle.byte_reading.specs.Outcome.{Fails};
 ghost use Rattle.relay_core.specs.Machine.{at_event};

@@ -1,3 +1,4 @@
+//! Reads a whole trace from its text: the opening, the number of events, and the events.
 ghost use Rattle.std.specs.Prelude.{◌≡◌, ◌<◌, ◌↔◌, length, IfOk, IsErrOf};
 ghost use Rattle.byte_reading.specs.Outcome.{Gives};
 ghost use Rattle.relay_core.specs.Opening.{IsFitOpening};

@@ -1,3 +1,4 @@
+//! Writes a whole trace as text, which `read_trace` reads back.
 ghost use Rattle.std.specs.Prelude.{◌≡◌, ◌≤◌, ◌++◌, ◌∷◌, [], length, map, Ok, IfOk, OnOk};
 ghost use Rattle.trace_lines.specs.Writing.{event_row};
 ghost use Rattle.trace_player.specs.Traces.{most_bytes, trace_of, trace_text};

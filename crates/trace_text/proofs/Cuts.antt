@@ -32,7 +32,7 @@ parts_whole byte bytes none =
 -- otherwise they are cut at the first one that it finds
 pub parts_cut : (byte : ℕ) (bytes : List ℕ) (at : ℕ) → IsFirstByte (is_byte byte) bytes (Some at)
     → parts_at byte bytes ≡ take at bytes ∷ parts_at byte
-        (take (length bytes - (at + 1)) (drop (at + 1) bytes))
+    (take (length bytes - (at + 1)) (drop (at + 1) bytes))
 parts_cut byte bytes at found =
     let here : position_or_len (is_byte byte) bytes ≡ at =
     position_or_len_is (is_byte byte) bytes at 0 (omega (arith, found.0.high))
@@ -40,7 +40,7 @@ parts_cut byte bytes at found =
     (λ lt. found.1) in
     let cut = rw here at (slice_split_first (is_byte byte) bytes 0 (omega (arith, found.0.high))) in
     cut ∙ ap (λ (rest : List ℕ). take at bytes ∷ parts_at byte rest)
-        (sym (to_the_end bytes (at + 1)))
+    (sym (to_the_end bytes (at + 1)))
 
 -- there is at least one part
 pub parts_some : (byte : ℕ) (bytes : List ℕ) → 0 < length (parts_at byte bytes)

@@ -56,8 +56,12 @@ digit_of : (c : ℕ) (o : Option ℕ) → hex_digit_value c ≡ o → writes_bac
 digit_of c None e test = absurd (cc test)
 digit_of c (Some v) e test =
     let both = and_parts (nat_lt v 16) (slice_index upper_digits v == c) test in
-    record { value = v; small = grind (arith, nat_tests); read = e;
-        written = eqb-true (slice_index upper_digits v) c both.1 }
+    record {
+      value = v;
+      small = grind (arith, nat_tests);
+      read = e;
+      written = eqb-true (slice_index upper_digits v) c both.1;
+    }
 
 implied : (a b : Bool) → (not a || b) ≡ true → a ≡ true → b ≡ true
 implied true b e h = e
@@ -70,7 +74,7 @@ capital_digit : (c : ℕ) → is_capital_digit c ≡ true → Digit c
 capital_digit c e =
     let test = all_below-at is_written_back 71 c refl (capital_below c e) in
     digit_of c (hex_digit_value c) refl (implied (is_capital_digit c)
-        (writes_back c (hex_digit_value c)) test e)
+    (writes_back c (hex_digit_value c)) test e)
 
 -- ---- written and read back
 
@@ -83,8 +87,11 @@ encode_capitals (b ∷ bytes) h =
     let fits : b < 256 = h 0 in
     let high : b / 16 < 16 = omega arith in
     let low : b % 16 < 16 = omega arith in
-    rw (written_capital (b / 16) high, written_capital (b % 16) low,
-        encode_capitals bytes (λ k. h (suc k))) refl
+    rw (
+      written_capital (b / 16) high,
+      written_capital (b % 16) low,
+      encode_capitals bytes (λ k. h (suc k)),
+    ) refl
 
 some_test : (word : List ℕ) → 0 < length word → nat_lt 0 (length word) ≡ true
 some_test word h = grind (arith, nat_tests)
@@ -97,8 +104,11 @@ pub bytes_again : (bytes : List ℕ) → 0 < length bytes → IsBytes bytes
     → bytes_of (encode_upper bytes) ≡ Some bytes
 unfolding bytes_of
 bytes_again bytes some h =
-    rw (some_test (encode_upper bytes) (encode_some bytes some), encode_capitals bytes h,
-        decode_of-encode_upper bytes h) refl
+    rw (
+      some_test (encode_upper bytes) (encode_some bytes some),
+      encode_capitals bytes h,
+      decode_of-encode_upper bytes h,
+    ) refl
 
 -- the digits of bytes are a word
 capital_is_word_byte : (c : ℕ) → is_capital_digit c ≡ true → is_word_byte c ≡ true
@@ -109,7 +119,7 @@ pub hex_is_word : (bytes : List ℕ) → 0 < length bytes → IsBytes bytes → 
 hex_is_word bytes some h =
     word_is (encode_upper bytes) (encode_some bytes some)
     (list_all_less is_capital_digit is_word_byte capital_is_word_byte (encode_upper bytes)
-        (encode_capitals bytes h))
+    (encode_capitals bytes h))
 
 -- the value of a step that was put in front
 uncons : (v : ℕ) (r : Result (List ℕ) FromHexError) (bytes : List ℕ) → cons_byte v r ≡ Ok bytes
@@ -135,11 +145,11 @@ pair_only i high low rest bytes h l others e =
     let read_high : value_at high i ≡ Ok h.value = ap (digit_or_error high i) h.read in
     let read_low : value_at low (i + 1) ≡ Ok l.value = ap (digit_or_error low (i + 1)) l.read in
     let pair : pair_value high low i ≡ Ok (h.value * 16 + l.value) =
-        rw (read_high, read_low) refl in
+    rw (read_high, read_low) refl in
     let tail = uncons (h.value * 16 + l.value) (decode_pairs (i + 2) rest) bytes
-        (sym (decode_pairs-ok_pair i high low (h.value * 16 + l.value) rest pair) ∙ e) in
+    (sym (decode_pairs-ok_pair i high low (h.value * 16 + l.value) rest pair) ∙ e) in
     let front = encode_pair high low h.value l.value rest tail.0 h.small l.small h.written l.written
-        (others tail.0 tail.1) in
+    (others tail.0 tail.1) in
     sym front ∙ ap encode_upper tail.2
 
 -- capital digits that decode are those that write the bytes
@@ -151,10 +161,10 @@ pairs_only i [] (b ∷ bytes) capitals e = absurd (cc e)
 pairs_only i (digit ∷ []) bytes capitals e = absurd (cc e)
 pairs_only i (high ∷ low ∷ rest) bytes capitals e =
     let first = and_parts (is_capital_digit high) (is_capital_digit low
-        && list_all is_capital_digit rest) capitals in
+    && list_all is_capital_digit rest) capitals in
     let second = and_parts (is_capital_digit low) (list_all is_capital_digit rest) first.1 in
     pair_only i high low rest bytes (capital_digit high first.0) (capital_digit low second.0)
-        (λ tail. pairs_only (i + 2) rest tail second.1) e
+    (λ tail. pairs_only (i + 2) rest tail second.1) e
 
 -- a choice that gave bytes
 chosen_bytes : (b : Bool) (x : Option (List ℕ)) (y : List ℕ) → cond b x None ≡ Some y → (b ≡ true)

@@ -13,14 +13,14 @@ all_but_last-append : (parts others : List (List ℕ)) → 0 < length others
 all_but_last-append [] others some = refl
 all_but_last-append (part ∷ parts) others some =
     all_but_last-cons part (parts ++ others) (omega (arith, length-append parts others))
-        ∙ ap (λ (ps : List (List ℕ)). part ∷ ps) (all_but_last-append parts others some)
+    ∙ ap (λ (ps : List (List ℕ)). part ∷ ps) (all_but_last-append parts others some)
 
 last_of-append : (parts others : List (List ℕ)) → 0 < length others → last_of (parts ++ others)
     ≡ last_of others
 last_of-append [] others some = refl
 last_of-append (part ∷ parts) others some =
     last_of-cons part (parts ++ others) (omega (arith, length-append parts others))
-        ∙ last_of-append parts others some
+    ∙ last_of-append parts others some
 
 -- one more byte at the front of the first part: if nothing follows the last cut, the first part is
 -- not the last
@@ -43,7 +43,7 @@ parts_with cut x parts = cond cut ([] ∷ parts) (onto_first x parts)
 cut_step : (cut : Bool) (x : ℕ) (parts whole others : List (List ℕ)) → 0 < length parts
     → last_of (parts_with cut x parts) ≡ []
     → (last_of parts ≡ [] → whole ≡ all_but_last parts ++ others) → parts_with cut x whole
-        ≡ all_but_last (parts_with cut x parts) ++ others
+    ≡ all_but_last (parts_with cut x parts) ++ others
 cut_step true x parts whole others some none later =
     ap (λ (ps : List (List ℕ)). [] ∷ ps) (later (sym (last_of-cons [] parts some) ∙ none))
     ∙ ap (λ (ps : List (List ℕ)). ps ++ others) (sym (all_but_last-cons [] parts some))
@@ -56,7 +56,7 @@ parts_joined : (text rest : List ℕ) → last_of (parts_at 10 text) ≡ [] → 
 parts_joined [] rest none = refl
 parts_joined (x ∷ text) rest none =
     cut_step (is_byte 10 x) x (parts_at 10 text) (parts_at 10 (text ++ rest)) (parts_at 10 rest)
-        (parts_some 10 text) none (parts_joined text rest)
+    (parts_some 10 text) none (parts_joined text rest)
 
 -- the lines of both, and the text after the last of them
 pub lines_joined : (text rest : List ℕ) → unended_of text ≡ [] → lines_of (text ++ rest)
@@ -64,12 +64,12 @@ pub lines_joined : (text rest : List ℕ) → unended_of text ≡ [] → lines_o
 unfolding lines_of unended_of
 lines_joined text rest ended =
     ap all_but_last (parts_joined text rest ended)
-        ∙ all_but_last-append (all_but_last (parts_at 10 text)) (parts_at 10 rest)
-        (parts_some 10 rest)
+    ∙ all_but_last-append (all_but_last (parts_at 10 text)) (parts_at 10 rest)
+    (parts_some 10 rest)
 
 pub unended_joined : (text rest : List ℕ) → unended_of text ≡ [] → unended_of (text ++ rest)
     ≡ unended_of rest
 unfolding unended_of
 unended_joined text rest ended =
     ap last_of (parts_joined text rest ended)
-        ∙ last_of-append (all_but_last (parts_at 10 text)) (parts_at 10 rest) (parts_some 10 rest)
+    ∙ last_of-append (all_but_last (parts_at 10 text)) (parts_at 10 rest) (parts_some 10 rest)

@@ -44,5 +44,14 @@ pub ruleset words = (words_again, line_of-words_of, line_of-push)
 
 pub ruleset hexes = (hex_is_word, bytes_again, hex_is, hex_holds_bytes, length-hex, hex_some)
 
-pub ruleset rows = (rows_again, unended_again, rows_text-rows_of, rows_text-append, rows_text-one,
-    rows_of-taken, rows_of-none, rows_whole, rows_ended)
+pub ruleset rows = (
+  rows_again,
+  unended_again,
+  rows_text-rows_of,
+  rows_text-append,
+  rows_text-one,
+  rows_of-taken,
+  rows_of-none,
+  rows_whole,
+  rows_ended,
+)

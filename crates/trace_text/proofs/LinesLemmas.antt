@@ -45,15 +45,15 @@ unended_cut text line rest e = ap last_of e ∙ last_of-cons line (parts_at 10 r
 
 pub split_lines : (text : List ℕ) (r : Option (Bor (List ℕ) × Bor (List ℕ)))
     → MatchOption r (parts_at 10 text ≡ text ∷ []) (λ parts. parts_at 10 text ≡ parts.0.now
-        ∷ parts_at 10 parts.1.now)
+    ∷ parts_at 10 parts.1.now)
     → MatchOption r (lines_of text ≡ []) (λ parts. lines_of text ≡ parts.0.now
-        ∷ lines_of parts.1.now)
+    ∷ lines_of parts.1.now)
 split_lines text None e = lines_whole text e
 split_lines text (Some parts) e = lines_cut text parts.0.now parts.1.now e
 
 pub split_unended : (text : List ℕ) (r : Option (Bor (List ℕ) × Bor (List ℕ)))
     → MatchOption r (parts_at 10 text ≡ text ∷ []) (λ parts. parts_at 10 text ≡ parts.0.now
-        ∷ parts_at 10 parts.1.now)
+    ∷ parts_at 10 parts.1.now)
     → MatchOption r (unended_of text ≡ text) (λ parts. unended_of text ≡ unended_of parts.1.now)
 split_unended text None e = unended_whole text e
 split_unended text (Some parts) e = unended_cut text parts.0.now parts.1.now e
@@ -152,7 +152,7 @@ rows_again (row ∷ rows) rest all =
     ∙ ap rows_of (append_assoc (line_of row) (10 ∷ rows_text rows) rest)
     ∙ rows_of-line (line_of row) (rows_text rows ++ rest) (row_has_no_end row both.0)
     ∙ ap (λ (words : List (List ℕ)). words ∷ rows_of (rows_text rows ++ rest))
-        (words_again row both.0)
+    (words_again row both.0)
     ∙ ap (λ (others : List (List (List ℕ))). row ∷ others) (rows_again rows rest both.1)
 
 pub unended_again : (rows : List (List (List ℕ))) (rest : List ℕ) → list_all is_row rows ≡ true

@@ -26,10 +26,13 @@ record IsDecimal (word : List ℕ) : Type 0 where
 decimal_parts : (word : List ℕ) → is_decimal word ≡ true → IsDecimal word
 decimal_parts word e =
     let front = and_parts (nat_lt 0 (length word) && list_all is_ascii_digit word) (length word == 1
-        || not (slice_index word 0 == 48)) e in
+    || not (slice_index word 0 == 48)) e in
     let both = and_parts (nat_lt 0 (length word)) (list_all is_ascii_digit word) front.0 in
-    record { some = grind (arith, nat_tests); digits = both.1;
-        lead = λ zero. grind (arith, nat_tests) }
+    record {
+      some = grind (arith, nat_tests);
+      digits = both.1;
+      lead = λ zero. grind (arith, nat_tests);
+    }
 
 -- a choice that gave a value
 pub chosen_some : (b : Bool) (x y : ℕ) → cond b (Some x) None ≡ Some y → (b ≡ true) × (x ≡ y)
@@ -73,8 +76,8 @@ more_value word i number digit lt is test value =
 pub digit_taken : (limit : ℕ) (word : List ℕ) (i number digit longer : ℕ) → i < length word → digit
     ≡ get_or word i 0
     → (IsTrue (is_ascii_digit digit) × (number * 10 + (digit - 48) ≤ limit))
-        × (longer ≡ number * 10 + (digit - 48)) → Taken limit word i number
-        → Taken limit word (i + 1) longer
+    × (longer ≡ number * 10 + (digit - 48)) → Taken limit word i number
+    → Taken limit word (i + 1) longer
 digit_taken limit word i number digit longer lt is more so_far =
     record {
       digits = list_all_more is_ascii_digit word i 0 lt
@@ -97,22 +100,29 @@ digit_at word i lt all = by (is_ascii_digit (get_or word i 0)) refl
     by true e = refl
     by false e =
         let none : list_all is_ascii_digit word ≡ false =
-            list_all_at is_ascii_digit word i 0 lt e in
+        list_all_at is_ascii_digit word i 0 lt e in
         absurd (cc (sym all ∙ none))
 
 pub digit_refused : (limit : ℕ) (word : List ℕ) (i number digit : ℕ) → i < length word → digit
     ≡ get_or word i 0
     → ¬ (IsTrue (is_ascii_digit digit) × (number * 10 + (digit - 48) ≤ limit))
-        → Taken limit word i number → value_of limit word ≡ None
+    → Taken limit word i number → value_of limit word ≡ None
 unfolding value_of
 digit_refused limit word i number digit lt is unfit so_far =
     chosen_none (list_all is_ascii_digit word && nat_le (digits_value 10 word) limit)
-        (Some (digits_value 10 word)) (λ met.
+    (Some (digits_value 10 word)) (λ met.
     let both = and_parts (list_all is_ascii_digit word) (nat_le (digits_value 10 word) limit) met in
     let test : is_ascii_digit digit ≡ true = ap is_ascii_digit is ∙ digit_at word i lt both.0 in
     let fits : digits_value 10 word ≤ limit = grind (arith, nat_tests) in
-    unfit (test, omega (arith, more_value word i number digit lt is test so_far.value,
-        digits_value-take-le 10 word (i + 1) (omega arith), fits)))
+    unfit (
+      test,
+      omega (
+        arith,
+        more_value word i number digit lt is test so_far.value,
+        digits_value-take-le 10 word (i + 1) (omega arith),
+        fits,
+      ),
+    ))
 
 pub all_taken : (limit : ℕ) (word : List ℕ) (i number : ℕ) → length word ≤ i
     → Taken limit word i number → value_of limit word ≡ Some number
@@ -120,7 +130,7 @@ unfolding value_of
 all_taken limit word i number le so_far =
     let whole = take_all i word le in
     let digits : list_all is_ascii_digit word ≡ true = ap (list_all is_ascii_digit) (sym whole)
-        ∙ so_far.digits in
+    ∙ so_far.digits in
     let value : digits_value 10 word ≡ number = ap (digits_value 10) (sym whole) ∙ so_far.value in
     let within = so_far.within in
     let fits : nat_le number limit ≡ true = grind (arith, nat_tests) in
@@ -141,8 +151,8 @@ pub begins_not : (limit : ℕ) (word : List ℕ) → begins_number word ≡ fals
 unfolding number_of value_of
 begins_not limit word other =
     sym (form_parts (nat_lt 0 (length word)) (list_all is_ascii_digit word) (length word == 1
-        || not (slice_index word 0 == 48)) (nat_le (digits_value 10 word) limit)
-        (Some (digits_value 10 word)))
+    || not (slice_index word 0 == 48)) (nat_le (digits_value 10 word) limit)
+    (Some (digits_value 10 word)))
     ∙ ap (λ (b : Bool). cond b (value_of limit word) None) other
 
 pub begins_so : (limit : ℕ) (word : List ℕ) → begins_number word ≡ true → number_of limit word
@@ -150,8 +160,8 @@ pub begins_so : (limit : ℕ) (word : List ℕ) → begins_number word ≡ true 
 unfolding number_of value_of
 begins_so limit word so =
     sym (form_parts (nat_lt 0 (length word)) (list_all is_ascii_digit word) (length word == 1
-        || not (slice_index word 0 == 48)) (nat_le (digits_value 10 word) limit)
-        (Some (digits_value 10 word)))
+    || not (slice_index word 0 == 48)) (nat_le (digits_value 10 word) limit)
+    (Some (digits_value 10 word)))
     ∙ ap (λ (b : Bool). cond b (value_of limit word) None) so
 
 pub value_within : (limit number : ℕ) (word : List ℕ) → value_of limit word ≡ Some number
@@ -159,9 +169,9 @@ pub value_within : (limit number : ℕ) (word : List ℕ) → value_of limit wor
 unfolding value_of
 value_within limit number word e =
     let found = chosen_some (list_all is_ascii_digit word && nat_le (digits_value 10 word) limit)
-        (digits_value 10 word) number e in
+    (digits_value 10 word) number e in
     let both = and_parts (list_all is_ascii_digit word)
-        (nat_le (digits_value 10 word) limit) found.0 in
+    (nat_le (digits_value 10 word) limit) found.0 in
     let fits : digits_value 10 word ≤ limit = grind (arith, nat_tests) in
     omega (arith, fits, found.1)
 
@@ -184,7 +194,7 @@ is_decimal-decimal n small =
     elim (cases_lt 0 n) [
       | inl above ↦
           and_both _ _ (and_both _ _ (below_test 0 (length (decimal n)) (decimal_nonempty n small))
-              (digits_decimal digits_model n small))
+          (digits_decimal digits_model n small))
           (lead_test (decimal n) (first_decimal n above small))
       | inr none ↦
           let zero : n ≡ 0 = omega arith in
@@ -206,11 +216,11 @@ pub number_only : (limit n : ℕ) (word : List ℕ) → limit < 2 ^ 64 → numbe
 unfolding number_of
 number_only limit n word small e =
     let found = chosen_some (is_decimal word && nat_le (digits_value 10 word) limit)
-        (digits_value 10 word) n e in
+    (digits_value 10 word) n e in
     let both = and_parts (is_decimal word) (nat_le (digits_value 10 word) limit) found.0 in
     let parts = decimal_parts word both.0 in
     let value = found.1 in
     let within : digits_value 10 word ≤ limit = grind (arith, nat_tests) in
     let written = decimal-digits_value digits_model word parts.digits parts.some parts.lead
-        (omega arith) in
+    (omega arith) in
     (sym written ∙ ap decimal value, omega arith)

@@ -34,7 +34,7 @@ has_no p byte fails [] e = All-nil (λ b. is_byte byte b ≡ false)
 has_no p byte fails (b ∷ bytes) e =
     let both = and_parts (p b) (list_all p bytes) e in
     All-cons (λ b. is_byte byte b ≡ false) b bytes (fails b both.0)
-        (has_no p byte fails bytes both.1)
+    (has_no p byte fails bytes both.1)
 
 -- ---- words
 
@@ -67,11 +67,11 @@ digit_is_word_byte b e = grind (arith, nat_tests)
 pub decimal_is_word : (n : ℕ) → n < 2 ^ 64 → is_word (decimal n) ≡ true
 decimal_is_word n small =
     let front = (and_parts (nat_lt 0 (length (decimal n)) && list_all is_ascii_digit (decimal n)) _
-        (is_decimal-decimal n small)).0 in
+    (is_decimal-decimal n small)).0 in
     let both = and_parts (nat_lt 0 (length (decimal n))) (list_all is_ascii_digit (decimal n)) front
-        in
+    in
     word_is (decimal n) (decimal_nonempty n small)
-        (list_all_less is_ascii_digit is_word_byte digit_is_word_byte (decimal n) both.1)
+    (list_all_less is_ascii_digit is_word_byte digit_is_word_byte (decimal n) both.1)
 
 -- ---- lines
 
@@ -83,7 +83,7 @@ all_words_again word [] e all = slice_split_none (is_byte 32) word (word_has_no_
 all_words_again word (next ∷ words) e all =
     let both = and_parts (is_word next) (list_all is_word words) all in
     slice_split_at (is_byte 32) word 32 (join_with_byte 32 (next ∷ words))
-        (word_has_no_blank word e) refl
+    (word_has_no_blank word e) refl
     ∙ ap (λ (rest : List (List ℕ)). word ∷ rest) (all_words_again next words both.0 both.1)
 
 pub words_again : (words : List (List ℕ)) → is_row words ≡ true → words_of (line_of words) ≡ words
@@ -105,9 +105,9 @@ all_no_end word [] e all = word_has_no_end word e
 all_no_end word (next ∷ words) e all =
     let both = and_parts (is_word next) (list_all is_word words) all in
     All-append (λ b. is_byte 10 b ≡ false) word (32 ∷ join_with_byte 32 (next ∷ words))
-        (word_has_no_end word e)
+    (word_has_no_end word e)
     (All-cons (λ b. is_byte 10 b ≡ false) 32 (join_with_byte 32 (next ∷ words)) refl
-        (all_no_end next words both.0 both.1))
+    (all_no_end next words both.0 both.1))
 
 pub row_has_no_end : (words : List (List ℕ)) → is_row words ≡ true → HasNo 10 (line_of words)
 row_has_no_end [] e = absurd (cc e)
@@ -124,4 +124,4 @@ line_of-push (first ∷ []) word some = refl
 line_of-push (first ∷ next ∷ words) word some =
     let rest = line_of-push (next ∷ words) word (omega arith) in
     ap (λ (line : List ℕ). first ++ 32 ∷ line) rest
-        ∙ sym (append_assoc first (32 ∷ join_with_byte 32 (next ∷ words)) (32 ∷ word))
+    ∙ sym (append_assoc first (32 ∷ join_with_byte 32 (next ∷ words)) (32 ∷ word))

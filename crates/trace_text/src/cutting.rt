@@ -1,3 +1,4 @@
+//! Splits bytes at the first occurrence of a byte.
 ghost use Rattle.std.specs.Prelude.{◌≡◌, [], ◌∷◌, MatchOption};
 ghost use Rattle.trace_text.specs.Parts.{parts_at};
 

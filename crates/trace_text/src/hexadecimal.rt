@@ -1,3 +1,4 @@
+//! Reads and writes bytes as pairs of hexadecimal digits in capitals.
 ghost use Rattle.std.specs.Prelude.{◌≡◌, ◌++◌, IfOk, OnOk, OnErr};
 ghost use Rattle.hex.specs.Hex.{encode_upper};
 ghost use Rattle.trace_text.specs.Hexadecimal.{bytes_of, is_capital_digit, is_hexadecimal};

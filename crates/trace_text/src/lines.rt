@@ -1,3 +1,4 @@
+//! Iterates over the lines of a text, each ended by the byte 0A.
 ghost use Rattle.std.specs.Prelude.{◌≡◌, ◌∷◌, [], MatchOption};
 ghost use Rattle.std.specs.Iterator.{item_count};
 ghost use Rattle.trace_text.specs.Lines.{lines_of, unended_of};

@@ -1,3 +1,4 @@
+//! Reads and writes decimal numbers without signs and leading zeros.
 ghost use Rattle.std.specs.Prelude.{◌≡◌, ◌≤◌, ◌+◌, ◌-◌, ◌*◌, ◌++◌, decimal, IfSome, IsTrue, SomeIff, OnOk, OnErr};
 ghost use Rattle.std.specs.Char.{is_ascii_digit};
 ghost use Rattle.trace_text.specs.Numbers.{begins_number, value_of, number_of};

@@ -1,3 +1,4 @@
+//! Iterates over the words of a line, which are separated by blanks.
 ghost use Rattle.std.specs.Prelude.{◌≡◌};
 ghost use Rattle.std.specs.Iterator.{YieldsFirstRef, item_count};
 ghost use Rattle.trace_text.specs.Words.{words_of};

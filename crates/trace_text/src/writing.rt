@@ -1,3 +1,4 @@
+//! Appends a word, a decimal number, hexadecimal digits or a line end to a text.
 ghost use Rattle.std.specs.Prelude.{◌≡◌, ◌++◌, ◌∷◌, [], decimal, OnOk, OnErr};
 ghost use Rattle.hex.specs.Hex.{encode_upper};
 

@@ -37,19 +37,19 @@ pub record Left (X : Type 0) (item : X → Row → Row) (xs : List X) (i : ℕ)
 pub one_more : {X : Type 0} (item : X → Row → Row) → Stands X item
     → (xs : List X) (i : ℕ) (x d : X) (out new total : List ℕ) → i < length xs → x ≡ get_or xs i d
     → new ≡ out ++ words_after_blanks (item x []) → Left X item xs i out total
-        → Left X item xs (i + 1) new total
+    → Left X item xs (i + 1) new total
 unfolding all_words
 one_more {X} item stands xs i x d out new total lt is written left =
     let next : drop i xs ≡ x ∷ drop (suc i) xs =
-        drop-cons xs i d lt ∙ ap (λ (y : X). y ∷ drop (suc i) xs) (sym is) in
+    drop-cons xs i d lt ∙ ap (λ (y : X). y ∷ drop (suc i) xs) (sym is) in
     let one : out ++ words_after_blanks (all_words item (drop i xs)) ≡ new
-        ++ words_after_blanks (all_words item (drop (suc i) xs)) =
+    ++ words_after_blanks (all_words item (drop (suc i) xs)) =
     ap (λ (ys : List X). out ++ words_after_blanks (all_words item ys)) next
     ∙ ap (λ (bs : List ℕ). out ++ bs) (stands x (all_words item (drop (suc i) xs)))
     ∙ sym (append_assoc out (words_after_blanks (item x []))
-        (words_after_blanks (all_words item (drop (suc i) xs))))
+    (words_after_blanks (all_words item (drop (suc i) xs))))
     ∙ ap (λ (bs : List ℕ). bs ++ words_after_blanks (all_words item (drop (suc i) xs)))
-        (sym written) in
+    (sym written) in
     record { all = rw add-one (sym one ∙ left.all) }
 
 -- nothing is written yet

@@ -16,7 +16,7 @@ behind_back name [] u words e = absurd cc
 behind_back name (word ∷ others) u words e =
     let same = guard_ok (pointwise nat_eq word name) Wrong _ (u, words) e in
     ap (λ (w : Word). w ∷ others) (same_is word name same.0)
-        ∙ ap (λ (p : Unit {0} × Row). name ∷ p.1) (ok_is (tt, others) (u, words) same.1)
+    ∙ ap (λ (p : Unit {0} × Row). name ∷ p.1) (ok_is (tt, others) (u, words) same.1)
 
 -- a line of a first word and one value
 pub labelled_read : (X : Type 0) (name : Word) (value_in : Word → Result X RowFault) (row : Row)
@@ -24,9 +24,11 @@ pub labelled_read : (X : Type 0) (name : Word) (value_in : Word → Result X Row
     → (word : Word) × (row ≡ name ∷ word ∷ []) × (value_in word ≡ Ok x)
 labelled_read X name value_in row x e =
     let words = bind_ok (behind name row) _ x e in
-    let read = last_read X value_in words.0.1 x words.2 in
-    (read.0, behind_back name row words.0.0 words.0.1 words.1 ∙ ap (λ (ws : Row). name ∷ ws) read.1,
-        read.2)
+    let read = last_read X value_in words.0.1 x words.2 in (
+      read.0,
+      behind_back name row words.0.0 words.0.1 words.1 ∙ ap (λ (ws : Row). name ∷ ws) read.1,
+      read.2,
+    )
 
 -- each line from which a value is read is the line that is written for it
 abbrev pub IsRowBack : (X : Type 0) → (Row → Result X RowFault) → (X → Row) → Type 0

@@ -20,7 +20,7 @@ Takes {X} n place read = (x : X) (behind : Place) → read ≡ Ok (x, behind) �
 pub takes_then : {X Y : Type 0} (m n : ℕ) (place : Place) (read : ReadLines X) (next : X × Place
     → ReadLines Y)
     → Takes m place read → ((x : X × Place) → Takes n x.1 (next x))
-        → Takes (m + n) place (read >>= next)
+    → Takes (m + n) place (read >>= next)
 takes_then m n place read next first others y behind e =
     let b = bind_ok read next (y, behind) e in
     let one = first b.0.0 b.0.1 b.1 in
@@ -33,8 +33,15 @@ takes_then m n place read next first others y behind e =
 pub takes_none : {X : Type 0} (place : Place) (x : X) → Takes {X = X} 0 place (Ok (x, place))
 takes_none {X = X} place x y behind e =
     carried X (λ _ q. Passes 0 place q) x y place behind e
-        (record { rows = []; long = refl; took = record { lines = refl; number = omega arith;
-        unended = refl } })
+    (record {
+      rows = [];
+      long = refl;
+      took = record {
+        lines = refl;
+        number = omega arith;
+        unended = refl;
+      };
+    })
 
 pub takes_line : {X : Type 0} (value_in : Row → Result X RowFault) (place : Place)
     → Takes 1 place (line_as value_in place)

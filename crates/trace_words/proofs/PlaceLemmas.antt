@@ -20,7 +20,7 @@ rows_are_few [] = omega arith
 rows_are_few (row ∷ rows) =
     let h : rows_text (row ∷ rows) ≡ line_of row ++ 10 ∷ rows_text rows = rows_text-cons row rows in
     let l : length (line_of row ++ 10 ∷ rows_text rows) ≡ length (line_of row)
-        + length (10 ∷ rows_text rows) = length-append (line_of row) (10 ∷ rows_text rows) in
+    + length (10 ∷ rows_text rows) = length-append (line_of row) (10 ∷ rows_text rows) in
     let others = rows_are_few rows in
     rw h (omega (arith, l, others))
 
@@ -28,9 +28,9 @@ rows_are_few (row ∷ rows) =
 pub few_rows : (text : List ℕ) → length (rows_of text) ≤ length text
 few_rows text =
     let h : length (rows_text (rows_of text) ++ unended_of text) ≡ length text =
-        ap (λ (bytes : List ℕ). length bytes) (rows_text-rows_of text) in
+    ap (λ (bytes : List ℕ). length bytes) (rows_text-rows_of text) in
     let l : length (rows_text (rows_of text) ++ unended_of text) ≡ length (rows_text (rows_of text))
-        + length (unended_of text) = length-append (rows_text (rows_of text)) (unended_of text) in
+    + length (unended_of text) = length-append (rows_text (rows_of text)) (unended_of text) in
     let few = rows_are_few (rows_of text) in
     omega (arith, h, l, few)
 
@@ -46,7 +46,7 @@ pub number_goes_on : (number : ℕ) (text line rest : List ℕ) → lines_of tex
     → number + length (rows_of text) < 2 ^ 64 → number + 1 < 2 ^ 64
 number_goes_on number text line rest e room =
     let l : length (rows_of text) ≡ suc (length (rows_of rest)) =
-        ap (λ (rows : List Row). length rows) (rows_of-taken text line rest e) in
+    ap (λ (rows : List Row). length rows) (rows_of-taken text line rest e) in
     omega (arith, l, room)
 
 -- nothing is left of an empty text
@@ -56,9 +56,9 @@ unfolding ended_at
 nothing_is_left place number text is e =
     ap (λ (p : Place). ended_at {X = Unit {0}} p tt) is
     ∙ ap (λ (bytes : List ℕ). value_at_end {X = Unit {0}} number (rows_of bytes)
-        (unended_of bytes) tt) e
+    (unended_of bytes) tt) e
     ∙ ap (λ (rows : List Row). value_at_end {X = Unit {0}} number rows (unended_of []) tt)
-        (rows_of-none [] lines_of-nil)
+    (rows_of-none [] lines_of-nil)
     ∙ ap (λ (bytes : List ℕ). value_at_end {X = Unit {0}} number [] bytes tt) unended_of-nil
 
 -- something is left of a text that is not empty
@@ -85,29 +85,33 @@ no_bytes bytes (byte ∷ others) is e =
 words_read_at : {X : Type 0} (given : Row → Result X RowFault) (number : ℕ) (rows : List Row)
     (unended : List ℕ) (words : Row) (behind : Place) (read : Result X RowFault)
     → first_as (λ row. Ok row) number rows unended ≡ Ok (words, behind)
-        → Gives row_fault.Memory (λ x. x) read (given words)
+    → Gives row_fault.Memory (λ x. x) read (given words)
     → ReadsLines (λ x. x) (at_line number read) behind (first_as given number rows unended)
 words_read_at given number [] unended words behind read e reads = absurd cc
 words_read_at {X} given number (row ∷ rows) unended words behind (Ok x) e reads =
-    let is = ok_is (row, record { number = suc number; rows = rows; unended = unended }) (words,
-        behind) e in
+    let is = ok_is (row, record { number = suc number; rows = rows; unended = unended }) (
+      words,
+      behind,
+    ) e in
     ap (λ (p : Row × Place). line_result (given p.0) number rows unended) is
-        ∙ ap (λ (r : Result X RowFault). line_result r number rows unended) reads
-        ∙ ap (λ (p : Row × Place). Ok (x, p.1)) is
+    ∙ ap (λ (r : Result X RowFault). line_result r number rows unended) reads
+    ∙ ap (λ (p : Row × Place). Ok (x, p.1)) is
 words_read_at {X} given number (row ∷ rows) unended words behind (Err Wrong) e
     (inl memory) = absurd cc
 words_read_at {X} given number (row ∷ rows) unended words behind (Err Wrong) e (inr wrong) =
-    let is = ok_is (row, record { number = suc number; rows = rows; unended = unended }) (words,
-        behind) e in
+    let is = ok_is (row, record { number = suc number; rows = rows; unended = unended }) (
+      words,
+      behind,
+    ) e in
     inr (ap (λ (p : Row × Place). line_result (given p.0) number rows unended) is
-        ∙ ap (λ (r : Result X RowFault). line_result r number rows unended) wrong)
+    ∙ ap (λ (r : Result X RowFault). line_result r number rows unended) wrong)
 words_read_at {X} given number (row ∷ rows) unended words behind (Err row_fault.Memory) e
     reads = inl refl
 
 pub words_read : {X : Type 0} (given : Row → Result X RowFault) (place : Place) (words : Row)
     (behind : Place) (read : Result X RowFault)
     → line_as (λ row. Ok row) place ≡ Ok (words, behind)
-        → Gives row_fault.Memory (λ x. x) read (given words)
+    → Gives row_fault.Memory (λ x. x) read (given words)
     → ReadsLines (λ x. x) (at_line place.number read) behind (line_as given place)
 unfolding line_as
 words_read given place words behind read e reads =
@@ -124,7 +128,7 @@ answer_at_line P number (Err row_fault.Memory) p = tt
 missing_at : {X : Type 0} (value_from : Row → Result X RowFault) (number : ℕ) (rows : List Row)
     (unended : List ℕ) (fault : TraceFault)
     → Fails Memory fault (first_as (λ row. Ok row) number rows unended)
-        → Fails Memory fault (first_as value_from number rows unended)
+    → Fails Memory fault (first_as value_from number rows unended)
 missing_at value_from number rows unended fault (inl memory) = inl memory
 missing_at value_from number [] unended fault (inr e) = inr cc
 missing_at value_from number (row ∷ rows) unended fault (inr e) = absurd cc
@@ -132,7 +136,7 @@ missing_at value_from number (row ∷ rows) unended fault (inr e) = absurd cc
 pub words_missing : {X : Type 0} (value_from : Row → Result X RowFault) (place : Place)
     (fault : TraceFault)
     → Fails Memory fault (line_as (λ row. Ok row) place)
-        → Fails Memory fault (line_as value_from place)
+    → Fails Memory fault (line_as value_from place)
 unfolding line_as
 words_missing value_from place fault fails = missing_at value_from place.number place.rows
     place.unended fault fails
@@ -149,6 +153,6 @@ place number rows unended = record { number = number; rows = rows; unended = une
 pub line_again : {X : Type 0} (value_in : Row → Result X RowFault) (row : Row) (x : X) (number : ℕ)
     (rows : List Row) (unended : List ℕ)
     → value_in row ≡ Ok x → line_as value_in (place number (row ∷ rows) unended)
-        ≡ Ok (x, place (suc number) rows unended)
+    ≡ Ok (x, place (suc number) rows unended)
 unfolding line_as
 line_again value_in row x number rows unended e = ap (λ r. line_result r number rows unended) e

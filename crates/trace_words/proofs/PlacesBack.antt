@@ -37,25 +37,28 @@ pub record LineRead (X : Type 0) (value_in : Row → Result X RowFault) (x : X)
 passed_is : (X : Type 0) (r : Result X RowFault) (number : ℕ) (rows : List Row) (unended : List ℕ)
     (x : X) (behind : Place)
     → line_result r number rows unended ≡ Ok (x, behind) → (r ≡ Ok x)
-        × (record { number = suc number; rows = rows; unended = unended } ≡ behind)
+    × (record { number = suc number; rows = rows; unended = unended } ≡ behind)
 passed_is X (Ok y) number rows unended x behind e =
     let is = ok_is (y, record { number = suc number; rows = rows; unended = unended })
-        (x, behind) e in
+    (x, behind) e in
     (ap (λ (p : X × Place). Ok p.0) is, ap (λ (p : X × Place). p.1) is)
 passed_is X (Err fault) number rows unended x behind e = absurd cc
 
 first_read : (X : Type 0) (value_in : Row → Result X RowFault) (number : ℕ) (rows : List Row)
     (unended : List ℕ) (x : X) (behind : Place)
     → first_as value_in number rows unended ≡ Ok (x, behind)
-        → LineRead X value_in x (record { number = number; rows = rows; unended = unended }) behind
+    → LineRead X value_in x (record { number = number; rows = rows; unended = unended }) behind
 first_read X value_in number [] unended x behind e = absurd cc
 first_read X value_in number (row ∷ rows) unended x behind e =
     let read = passed_is X (value_in row) number rows unended x behind e in
     let next = ap (λ (p : Place). p.number) read.1 in
     record {
       row = row;
-      took = record { lines = ap (λ (p : Place). row ∷ p.rows) read.1; number = omega (arith, next);
-          unended = sym (ap (λ (p : Place). p.unended) read.1) };
+      took = record {
+        lines = ap (λ (p : Place). row ∷ p.rows) read.1;
+        number = omega (arith, next);
+        unended = sym (ap (λ (p : Place). p.unended) read.1);
+      };
       read = read.0;
     }
 
@@ -69,7 +72,7 @@ line_read X value_in place x behind e = first_read X value_in place.number place
 pub line_back : (X : Type 0) (value_in : Row → Result X RowFault) (row_of : X → Row)
     → IsRowBack X value_in row_of
     → (place : Place) (x : X) (behind : Place) → line_as value_in place ≡ Ok (x, behind)
-        → Took (row_of x ∷ []) place behind
+    → Took (row_of x ∷ []) place behind
 line_back X value_in row_of back place x behind e =
     let line = line_read X value_in place x behind e in
     subst (λ (row : Row). Took (row ∷ []) place behind) (back line.row x line.read) line.took

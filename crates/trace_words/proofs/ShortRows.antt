@@ -24,8 +24,14 @@ no_words = record { short = omega arith }
 
 pub word_on : (long most : ℕ) (word : Word) (words : Row) → length word ≤ long → HasWords most words
     → HasWords (1 + long + most) (word ∷ words)
-word_on long most word words one others = record { short = omega (arith, one, others.short,
-    length-append (32 ∷ word) (words_after_blanks words)) }
+word_on long most word words one others = record {
+  short = omega (
+    arith,
+    one,
+    others.short,
+    length-append (32 ∷ word) (words_after_blanks words),
+  );
+}
 
 pub words_in : (less most : ℕ) (row : Row) → HasWords less row → less ≤ most → HasWords most row
 words_in less most row words le = record { short = omega (arith, words.short, le) }
@@ -71,17 +77,22 @@ pub number_row_short : (name : Word) (n : ℕ) → length name ≤ 20 → n ≤ 
     → IsShort (number_row name n)
 number_row_short name n long le =
     words_in (1 + 20 + (1 + 10 + 0)) 20000 (number_row name n)
-        (word_on 20 (1 + 10 + 0) name (decimal n ∷ []) long
-        (word_on 10 0 (decimal n) [] (number_short n le) no_words)) (omega arith)
+    (word_on 20 (1 + 10 + 0) name (decimal n ∷ []) long
+    (word_on 10 0 (decimal n) [] (number_short n le) no_words)) (omega arith)
 
 line_short : (row : Row) → IsShort row → length (line_of row) ≤ 20000
 unfolding line_of
 line_short [] short = omega arith
 line_short (word ∷ words) short =
     let line : length (line_of (word ∷ words)) ≡ length (word ++ words_after_blanks words) =
-        ap (λ (bytes : List ℕ). length bytes) (line_of_first word words) in
-    omega (arith, line, short.short, length-append word (words_after_blanks words),
-        length-append (32 ∷ word) (words_after_blanks words))
+    ap (λ (bytes : List ℕ). length bytes) (line_of_first word words) in
+    omega (
+      arith,
+      line,
+      short.short,
+      length-append word (words_after_blanks words),
+      length-append (32 ∷ word) (words_after_blanks words),
+    )
 
 pub text_short : (rows : List Row) → AreShort rows → length (rows_text rows) ≤ 20001 * length rows
 unfolding rows_text text_of

@@ -37,8 +37,8 @@ none_yet item_from max words =
 pub goes_on : {X : Type 0} (item_from : Word → Row → Read X) (max : ℕ) (front : List X) (old : Row)
     (word : Word) (words : Row) (d : X) (after : Row) (total : Result (List X) RowFault)
     → old ≡ word ∷ words → (length front ≡ max → ⊥) → item_from word words ≡ Ok (d, after)
-        → SoFar X item_from max front old total
-        → SoFar X item_from max (front ++ d ∷ []) after total
+    → SoFar X item_from max front old total
+    → SoFar X item_from max (front ++ d ∷ []) after total
 unfolding all_at
 goes_on {X} item_from max front old word words d after total is more h so_far =
     let few : length front ≤ max = so_far.few in
@@ -46,34 +46,34 @@ goes_on {X} item_from max front old word words d after total is more h so_far =
     let len : length (front ++ d ∷ []) ≡ length front + 1 = length-append front (d ∷ []) in
     let k : max - length front ≡ suc (max - length (front ++ d ∷ [])) = omega arith in
     let one : with_front front (all_at item_from (max - length front) old)
-        ≡ with_front (front ++ d ∷ []) (all_at item_from (max - length (front ++ d ∷ [])) after) =
-        rw (k, is, h) (regroup front d (all_at item_from (max - length (front ++ d ∷ [])) after)) in
+    ≡ with_front (front ++ d ∷ []) (all_at item_from (max - length (front ++ d ∷ [])) after) =
+    rw (k, is, h) (regroup front d (all_at item_from (max - length (front ++ d ∷ [])) after)) in
     record { few = omega arith; all = sym one ∙ so_far.all }
 
 -- a value that is refused ends the reading
 pub refused : {X : Type 0} (item_from : Word → Row → Read X) (max : ℕ) (fault : RowFault)
     (front : List X) (old : Row) (word : Word) (words : Row) (total : Result (List X) RowFault)
     → old ≡ word ∷ words → (length front ≡ max → ⊥) → Fails Memory fault (item_from word words)
-        → SoFar X item_from max front old total → Fails Memory fault total
+    → SoFar X item_from max front old total → Fails Memory fault total
 unfolding all_at
 refused item_from max fault front old word words total is more (inl memory) so_far = inl memory
 refused item_from max fault front old word words total is more (inr h) so_far =
     let few : length front ≤ max = so_far.few in
     let k : max - length front ≡ suc (max - length front - 1) = omega arith in
     let one : with_front front (all_at item_from (max - length front) old) ≡ Err fault =
-        rw (k, is, h) refl in
+    rw (k, is, h) refl in
     inr (sym so_far.all ∙ one)
 
 -- one word more than the maximum number of values
 pub too_many : {X : Type 0} (item_from : Word → Row → Read X) (max : ℕ) (front : List X) (old : Row)
     (word : Word) (words : Row) (total : Result (List X) RowFault)
     → old ≡ word ∷ words → length front ≡ max → SoFar X item_from max front old total
-        → total ≡ Err Wrong
+    → total ≡ Err Wrong
 unfolding all_at
 too_many item_from max front old word words total is full so_far =
     let k : max - length front ≡ 0 = omega arith in
     let one : with_front front (all_at item_from (max - length front) old) ≡ Err Wrong =
-        rw (k, is) refl in
+    rw (k, is) refl in
     sym so_far.all ∙ one
 
 -- no word is left
@@ -83,7 +83,7 @@ pub is_done : {X : Type 0} (item_from : Word → Row → Read X) (max : ℕ) (fr
 unfolding all_at
 is_done {X} item_from max front old total is so_far =
     let one : with_front front (all_at item_from (max - length front) old) ≡ Ok front =
-        rw is (at_end (max - length front)) in
+    rw is (at_end (max - length front)) in
     sym so_far.all ∙ one
   where
     at_end : (room : ℕ) → with_front front (all_at item_from room []) ≡ Ok front

@@ -41,14 +41,14 @@ in_either P false one other if_so if_not = if_not refl
 length_is_bytes : (n : ℕ) → IsBytes (length_text n)
 length_is_bytes n =
     in_either IsBytes (nat_lt n 0x80) (n ∷ []) _
-        (λ short. one_more_byte n [] (grind (arith, nat_tests)) no_bytes) (λ _.
+    (λ short. one_more_byte n [] (grind (arith, nat_tests)) no_bytes) (λ _.
     in_either IsBytes (nat_lt n (2 ^ 8)) (0x81 ∷ bytes_high_first 1 n) _
-        (λ _. one_more_byte 0x81 (bytes_high_first 1 n) (omega arith) (number_is_bytes 1 n)) (λ _.
+    (λ _. one_more_byte 0x81 (bytes_high_first 1 n) (omega arith) (number_is_bytes 1 n)) (λ _.
     in_either IsBytes (nat_lt n (2 ^ 16)) (0x82 ∷ bytes_high_first 2 n) _
-        (λ _. one_more_byte 0x82 (bytes_high_first 2 n) (omega arith) (number_is_bytes 2 n)) (λ _.
+    (λ _. one_more_byte 0x82 (bytes_high_first 2 n) (omega arith) (number_is_bytes 2 n)) (λ _.
     in_either IsBytes (nat_lt n (2 ^ 24)) (0x83 ∷ bytes_high_first 3 n) (0x84
-        ∷ bytes_high_first 4 n) (λ _. one_more_byte 0x83 (bytes_high_first 3 n) (omega arith)
-        (number_is_bytes 3 n))
+    ∷ bytes_high_first 4 n) (λ _. one_more_byte 0x83 (bytes_high_first 3 n) (omega arith)
+    (number_is_bytes 3 n))
     (λ _. one_more_byte 0x84 (bytes_high_first 4 n) (omega arith) (number_is_bytes 4 n)))))
 
 tag_is_byte : (t : Tree) → tag_of t < 256

@@ -44,7 +44,7 @@ data_word_again value held =
     let bytes = text (tree_of value) in
     let h = bytes_word_again bytes (omega arith) (text_is_bytes (tree_of value) held.fits) in
     let whole : first_data bytes ≡ Ok (value, length bytes) = ap first_data (sym (append-nil bytes))
-        ∙ text_again value [] held.fits in
+    ∙ text_again value [] held.fits in
     let same = same_bytes bytes in
     rw (h, whole, same) refl
 

@@ -52,8 +52,8 @@ pub flag_back : IsWrittenBack Bool flag_in (λ flag. decimal (flag_number flag))
 flag_back word flag e =
     let read = bind_ok (number_in 1 word) _ flag e in
     number_back 1 (omega arith) word read.0 read.1
-        ∙ ap decimal (flag_is read.0 flag (number_limited 1 (omega arith) word read.0
-        read.1) read.2)
+    ∙ ap decimal (flag_is read.0 flag (number_limited 1 (omega arith) word read.0
+    read.1) read.2)
 
 pub bytes_back : IsWrittenBack (List ℕ) bytes_in encode_upper
 bytes_back word bytes e = (bytes_only word bytes (wanted_is (bytes_of word) bytes e)).0
@@ -71,7 +71,7 @@ data_back word value e =
     let bytes = bind_ok (bytes_in word) _ value e in
     let read = bind_ok (or_wrong (result_ok (first_data bytes.0))) _ value bytes.2 in
     let spelled = guard_ok (pointwise nat_eq (text (tree_of read.0.0)) bytes.0) Wrong _ value read.2
-        in
+    in
     bytes_back word bytes.0 bytes.1
     ∙ ap encode_upper (sym (same_is (text (tree_of read.0.0)) bytes.0 spelled.0))
     ∙ ap data_word (ok_is read.0.0 value spelled.1)
@@ -85,7 +85,7 @@ next_back X value_in word_of back [] rest x e = absurd cc
 next_back X value_in word_of back (word ∷ words) rest x e =
     let read = bind_ok (value_in word) _ (x, rest) e in
     ap (λ (w : Word). w ∷ words) (back word read.0 read.1)
-        ∙ ap (λ (p : X × Row). word_of p.0 ∷ p.1) (ok_is (read.0, words) (x, rest) read.2)
+    ∙ ap (λ (p : X × Row). word_of p.0 ∷ p.1) (ok_is (read.0, words) (x, rest) read.2)
 
 pub next_number_back : (limit : ℕ) → limit < 2 ^ 64 → (words rest : Row) (n : ℕ)
     → next_as (number_in limit) words ≡ Ok (n, rest) → words ≡ decimal n ∷ rest
@@ -121,7 +121,7 @@ last_number_back limit small words n e = last_back ℕ (number_in limit) decimal
 pub all_back : (X : Type 0) (item_from : Word → Row → Read X) (words_of : X → Row → Row)
     → AreWrittenBack X item_from words_of
     → (room : ℕ) (words : Row) (xs : List X) → all_at item_from room words ≡ Ok xs → words
-        ≡ all_words words_of xs
+    ≡ all_words words_of xs
 unfolding all_at all_words
 all_back X item_from words_of back zero [] xs e = ap (all_words words_of) (ok_is [] xs e)
 all_back X item_from words_of back (suc room) [] xs e = ap (all_words words_of) (ok_is [] xs e)

@@ -1,3 +1,4 @@
+//! The errors of reading a line and of reading a trace, which adds the number of the line.
 ghost use Rattle.std.specs.Prelude.{◌≡◌};
 ghost use Rattle.trace_words.specs.Numbers.{fault_number};
 ghost use Rattle.trace_words.specs.declared.fault.RowFault.TheVariants.{Memory};

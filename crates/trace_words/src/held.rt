@@ -1,3 +1,4 @@
+//! `HeldLines`: the lines of a trace with their text, whose memory is freed as the lines are read.
 ghost use Rattle.std.specs.Prelude.{◌≡◌, ◌+◌, ◌<◌, ◌≤◌, ◌^◌, Result, drop, length};
 ghost use Rattle.trace_words.specs.Places.{IsLineReader, ReadsLines, line_as, ended_at, place_at};
 ghost use Rattle.trace_words.specs.Rows.{Row};

@@ -1,3 +1,4 @@
+//! Reads a line that begins with an expected label, such as `device`.
 ghost use Rattle.std.specs.Prelude.{Result, Ok, IfOk};
 ghost use Rattle.std.specs.Fn.{FnOnceReturnsAt};
 ghost use Rattle.byte_reading.specs.Outcome.{Gives};

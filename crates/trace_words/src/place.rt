@@ -1,3 +1,4 @@
+//! `TraceLines`: reads a trace line by line, and reports each fault with the line's number.
 ghost use Rattle.std.specs.Prelude.{◌≡◌, Result, Ok, IfOk};
 ghost use Rattle.std.specs.Fn.{FnOnceReturnsAtMut};
 ghost use Rattle.trace_words.specs.Places.{ReadsLines, IsRowReader, line_as, at_line, ended_at, place_at, place_of};

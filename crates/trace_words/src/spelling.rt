@@ -1,3 +1,4 @@
+//! Reads a Data from a word of hexadecimal digits, which must be its encoding in the shortest form.
 ghost use Rattle.std.specs.Prelude.{◌≡◌};
 ghost use Rattle.byte_reading.specs.Outcome.{Gives};
 ghost use Rattle.std.specs.Cmp.Lexicographic.{pointwise};

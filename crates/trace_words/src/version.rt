@@ -1,3 +1,5 @@
+//! The two versions of the text format of traces.
+
 /// A version of the text format of traces.
 #[derive(Clone, Copy, Debug, PartialEq, Eq)]
 pub enum Version {

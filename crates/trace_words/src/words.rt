@@ -1,3 +1,4 @@
+//! Reads words of a line as numbers, flags and bytes, and checks that no word is left.
 ghost use Rattle.std.specs.Prelude.{◌≡◌, ◌≤◌, IfOk};
 ghost use Rattle.byte_reading.specs.Outcome.{Gives};
 ghost use Rattle.trace_words.specs.Rows.{Reads, if_last, word_at, last_word};

@@ -1,3 +1,4 @@
+//! Appends a flag or a Data as a word, or a line of a label and a number.
 ghost use Rattle.std.specs.Prelude.{◌≡◌, ◌++◌, ◌∷◌, [], OnOk, decimal};
 ghost use Rattle.trace_text.specs.Lines.{rows_text};
 ghost use Rattle.trace_words.specs.Labels.{number_row};

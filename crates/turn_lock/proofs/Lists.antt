@@ -65,15 +65,15 @@ module _ {E R : Type 0} where
       → calls_by p (xs ++ entry p e r ∷ []) ≡ calls_by p xs ++ entry p e r ∷ []
   calls_by-own p xs e r = let x : Entry E R = entry p e r in
       calls_by-append p xs (x ∷ []) ∙ ap (λ (b : Bool). calls_by p xs ++ (if b then x ∷ [] else []))
-          (is_same_number-refl p)
+      (is_same_number-refl p)
 
   -- appending a call of another port leaves the port's calls unchanged
   pub calls_by-other : (q p : List ℕ) (xs : List (Entry E R)) (e : E) (r : R) → q ≢ p
       → calls_by q (xs ++ entry p e r ∷ []) ≡ calls_by q xs
   calls_by-other q p xs e r n = let x : Entry E R = entry p e r in
       calls_by-append q xs (x ∷ []) ∙ (ap (λ (b : Bool). calls_by q xs
-          ++ (if b then x ∷ [] else [])) (not_true (is_same_number p q)
-          (λ t. n (sym (is_same_number-true p q t)))) ∙ append-nil (calls_by q xs))
+      ++ (if b then x ∷ [] else [])) (not_true (is_same_number p q)
+      (λ t. n (sym (is_same_number-true p q t)))) ∙ append-nil (calls_by q xs))
 
   -- if a history begins with another, its calls of p begin with the other's calls of p
   pub calls_by-starts : (p : List ℕ) (xs ys : List (Entry E R)) → StartsWith xs ys
@@ -120,15 +120,20 @@ future_sooner p k q f =
 -- a number that begins with p and the next split count is a future number
 pub front_is_future : (p : List ℕ) (k : ℕ) (q : List ℕ) → StartsWith q (p ++ k ∷ [])
     → IsFuture p k q
-front_is_future p k q a = record { count = k; rest = a.0; number_is = a.1
-    ∙ append_assoc p (k ∷ []) a.0; later = le_refl k }
+front_is_future p k q a = record {
+  count = k;
+  rest = a.0;
+  number_is = a.1
+      ∙ append_assoc p (k ∷ []) a.0;
+  later = le_refl k;
+}
 
 -- no number of a split after the next one begins with p and the next split count
 pub future-not-front : (p : List ℕ) (k : ℕ) (q : List ℕ) → IsFuture p (k + 1) q
     → has_front (p ++ k ∷ []) q ≡ false
 future-not-front p k q f = not_true _ (λ t. let a = has_front-true (p ++ k ∷ []) q t in
     let e : f.count ∷ f.rest ≡ k ∷ a.0 = append_cancel_left p (f.count ∷ f.rest) (k
-        ∷ a.0) (sym f.number_is ∙ (a.1 ∙ append_assoc p (k ∷ []) a.0)) in
+    ∷ a.0) (sym f.number_is ∙ (a.1 ∙ append_assoc p (k ∷ []) a.0)) in
     let late : k + 1 ≤ f.count = f.later in
     let same : f.count ≡ k = cc in
     absurd (omega arith))

@@ -134,8 +134,11 @@ module _ {T E R O : Type 0} (origin : T → O) (stands : T → List (Entry E R) 
   by_moment : (P : St → Type 0) → ((m : Mo) (vs : List V) → F m vs → P (canon m vs)) → (s : St)
       → Rule s → P s
   by_moment P h s r =
-      let same : canon r.now s.views ≡ s = λ k. record { words = sym r.words_are k;
-          homes = sym r.homes_are k; views = s.views } in
+      let same : canon r.now s.views ≡ s = λ k. record {
+        words = sym r.words_are k;
+        homes = sym r.homes_are k;
+        views = s.views;
+      } in
       subst P same (h r.now s.views r.facts)
 
   -- what holds for each seat once seat i has the view w
@@ -151,7 +154,7 @@ module _ {T E R O : Type 0} (origin : T → O) (stands : T → List (Entry E R) 
       → m'.ticket ≤ most_turns + m'.closed → m'.closed ≤ 1 → legal m'.start m'.history
       → length m'.history ≤ m'.serving
       → IsHome origin stands m' ⊎ (m'.serving < m'.ticket) → Fit m' i w
-          → ((j : ℕ) (d : V) → j ≢ i → Fit m j d → Fit m' j d) → F m' (set vs i w)
+      → ((j : ℕ) (d : V) → j ≢ i → Fit m j d → Fit m' j d) → F m' (set vs i w)
   moves m m' vs i w f range few once lawful counted held mine others = record {
     range = range;
     within_most = few;
@@ -186,29 +189,49 @@ module _ {T E R O : Type 0} (origin : T → O) (stands : T → List (Entry E R) 
   -- a turn does not depend on who holds the port numbers
   waits_still : (m : Mo) (holder : List ℕ → ℕ) (lone : Bool) (i n : ℕ) (k : Known E R O)
       → Stand m i k (Waiting n) → Stand (with_holder m holder lone) i k (Waiting n)
-  waits_still m holder lone i n k h = (record { not_ended = h.0.not_ended; drawn = h.0.drawn;
-      owner_is = h.0.owner_is }, λ e. home_stays m (with_holder m holder lone) refl refl refl refl
-      (h.1 e))
+  waits_still m holder lone i n k h = (
+    record {
+      not_ended = h.0.not_ended;
+      drawn = h.0.drawn;
+      owner_is = h.0.owner_is;
+    },
+    λ e. home_stays m (with_holder m holder lone) refl refl refl refl
+        (h.1 e),
+  )
 
   holds_still : (m : Mo) (holder : List ℕ → ℕ) (lone : Bool) (i n : ℕ) (k : Known E R O)
       → HoldsSlot m i n k → HoldsSlot (with_holder m holder lone) i n k
   holds_still m holder lone i n k h =
       let t = h.holds in
-      record { holds = record { not_ended = t.not_ended; drawn = t.drawn; owner_is = t.owner_is };
-          served = h.served; seen = h.seen; not_closed = h.not_closed }
+      record {
+        holds = record { not_ended = t.not_ended; drawn = t.drawn; owner_is = t.owner_is };
+        served = h.served;
+        seen = h.seen;
+        not_closed = h.not_closed;
+      }
 
   fit_at_stage : (m : Mo) (i : ℕ) (v : V) (stage : Stage E R O) → Fit m i v
       → Stand m i v.known stage → Fit m i (with_stage v stage)
-  fit_at_stage m i v stage f st = record { origin_is = f.origin_is; seen = f.seen; drawn = f.drawn;
-      served = f.served; first_if_lone = f.first_if_lone; stage = st; port = f.port }
+  fit_at_stage m i v stage f st = record {
+    origin_is = f.origin_is;
+    seen = f.seen;
+    drawn = f.drawn;
+    served = f.served;
+    first_if_lone = f.first_if_lone;
+    stage = st;
+    port = f.port;
+  }
 
   -- a port's knowledge after it has seen the longest history
   abbrev informed : Mo → Known E R O → Known E R O
   informed m k = record k { seen = m.history; drawn = m.ticket }
 
   abbrev informed_view : Mo → V → Stage E R O → V
-  informed_view m v stage = record { known = informed m v.known; is_port = v.is_port;
-      stage = stage }
+  informed_view m v stage = record {
+    known = informed m v.known;
+    is_port = v.is_port;
+    stage = stage;
+  }
 
   informs : (m : Mo) (i : ℕ) (v : V) (stage : Stage E R O) → Fit m i v
       → Stand m i (informed m v.known) stage → Fit m i (informed_view m v stage)
@@ -219,8 +242,12 @@ module _ {T E R O : Type 0} (origin : T → O) (stands : T → List (Entry E R) 
     served = f.served;
     first_if_lone = f.first_if_lone;
     stage = st;
-    port = λ e. let p = f.port e in record { origin_is = p.origin_is;
-        own = λ q o. ((p.own q o).0, refl); future = p.future; apart = p.apart };
+    port = λ e. let p = f.port e in record {
+      origin_is = p.origin_is;
+      own = λ q o. ((p.own q o).0, refl);
+      future = p.future;
+      apart = p.apart;
+    };
   }
 
   watches : (m : Mo) (i : ℕ) (v : V) → Fit m i v → v.is_port ≡ true → legal m.start m.history
@@ -233,8 +260,11 @@ module _ {T E R O : Type 0} (origin : T → O) (stands : T → List (Entry E R) 
       drawn = f.drawn;
       served = le_refl v.known.served;
       seen = f.seen;
-      lawful = record { origin = m.start; origin_is = (f.port port).origin_is;
-          legal_history = lawful };
+      lawful = record {
+        origin = m.start;
+        origin_is = (f.port port).origin_is;
+        legal_history = lawful;
+      };
       own_calls = λ q o. ((f.port port).own q o).1;
     };
     joined = refl;
@@ -247,15 +277,18 @@ module _ {T E R O : Type 0} (origin : T → O) (stands : T → List (Entry E R) 
   moves_to : (m : Mo) (i : ℕ) (me : M) (stage : Stage E R O) (cs : Carried T E R) → Fit m i me.0
       → me.0.is_port ≡ true → legal m.start m.history
       → MovesTo legal stage (seat_state me) (seat_with (informed_view m me.0 stage) cs)
-  moves_to m i me stage cs f port lawful = record { port = port; stage_is = refl;
-      watches = watches m i me.0 f port lawful }
+  moves_to m i me stage cs f port lawful = record {
+    port = port;
+    stage_is = refl;
+    watches = watches m i me.0 f port lawful;
+  }
 
   -- such a port has taken the slot, which was at home
   takes_value : (m : Mo) (i : ℕ) (me : M) (stage : Stage E R O) (x : T) (l : LastCall E R)
       → Fit m i me.0 → me.0.is_port ≡ true → legal m.start m.history → stands x m.history → origin x
       ≡ m.start
       → TakesValue origin stands legal stage (seat_state me)
-          (seat_with (informed_view m me.0 stage) ((0, full_slot x l) ∷ me.1))
+      (seat_with (informed_view m me.0 stage) ((0, full_slot x l) ∷ me.1))
   takes_value m i me stage x l f port lawful stood same = record {
     moves = moves_to m i me stage ((0, full_slot x l) ∷ me.1) f port lawful;
     value = x;
@@ -268,33 +301,50 @@ module _ {T E R O : Type 0} (origin : T → O) (stands : T → List (Entry E R) 
   -- a load that takes no slot
   loads : (slots id : ℕ) (me : M) (i : ℕ) (told : ℕ → M → Type 0)
       → ((m : Mo) (vs : List V) → F m vs → Fit m id me.0 → (w : V) × Fit m id w
-          × told (get_or (m.ticket ∷ m.serving ∷ []) i 0) (w, me.1))
-          → Allows Rule slots id me i (λ n. n) told
+      × told (get_or (m.ticket ∷ m.serving ∷ []) i 0) (w, me.1))
+      → Allows Rule slots id me i (λ n. n) told
   loads slots id me i told h = by_moment
       (λ s. length s.homes ≡ slots → get_elem? s.views id ≡ some me.0
-          → get_or s.words i 0 < 18446744073709551616
+      → get_or s.words i 0 < 18446744073709551616
       → (w : V) × (a : Act Sl) × Valid s.homes me.1 a
-          × Rule (stepped s i (get_or s.words i 0) id me.1 w a)
-          × told (get_or s.words i 0) (w, carried_after me.1 a))
+      × Rule (stepped s i (get_or s.words i 0) id me.1 w a)
+      × told (get_or s.words i 0) (w, carried_after me.1 a))
       (λ m vs f _ at _. let t = h m vs f (f.fits id me.0 at) in let same = set-get_or (m.ticket
-          ∷ m.serving ∷ []) i 0 in
-      (t.0, keeps, tt, subst (λ (ws : List ℕ). Rule record { words = ws; homes = m.home
-          ∷ []; views = set vs id t.0 }) (sym same)
-          (kept m (set vs id t.0) (stays m vs id t.0 f t.1)), t.2))
+      ∷ m.serving ∷ []) i 0 in (
+        t.0,
+        keeps,
+        tt,
+        subst (λ (ws : List ℕ). Rule record {
+          words = ws;
+          homes = m.home
+              ∷ [];
+          views = set vs id t.0;
+        }) (sym same)
+            (kept m (set vs id t.0) (stays m vs id t.0 f t.1)),
+        t.2,
+      ))
 
   pub settles : (slots id : ℕ) (me : M) → Allows Rule slots id me 1 (λ n. n)
       (play Settles (step slots 1 0 0 none) me)
-  settles slots id me = loads slots id me 1 (play Settles (step slots 1 0 0 none) me) (λ m vs f fit.
-      (with_stage me.0 Idle, fit_at_stage m id me.0 Idle fit tt,
-          record { after_is = refl; no_calls = λ e. subst (Stand m id me.0.known) e fit.stage }))
+  settles slots id me = loads slots id me 1 (play Settles (step slots 1 0 0 none) me)
+      (λ m vs f fit. (
+        with_stage me.0 Idle,
+        fit_at_stage m id me.0 Idle fit tt,
+        record { after_is = refl; no_calls = λ e. subst (Stand m id me.0.known) e fit.stage },
+      ))
 
   pub looks : (slots id : ℕ) (me : M) → me.0.is_port ≡ true
       → Allows Rule slots id me 0 (λ n. n) (play (Looks legal) (step slots 0 0 0 none) me)
   looks slots id me port = loads slots id me 0 (play (Looks legal) (step slots 0 0 0 none) me)
-      (λ m vs f fit.
-      (informed_view m me.0 Idle, informs m id me.0 Idle fit tt,
-          record { moves = moves_to m id me Idle me.1 fit port f.lawful; carried = refl;
-          drawn = refl }))
+      (λ m vs f fit. (
+        informed_view m me.0 Idle,
+        informs m id me.0 Idle fit tt,
+        record {
+          moves = moves_to m id me Idle me.1 fit port f.lawful;
+          carried = refl;
+          drawn = refl;
+        },
+      ))
 
   -- the view of a seat that has read the count of ended turns
   counts : (m : Mo) (i : ℕ) (v : V) → Fit m i v → Fit m i (view_with_served v m.serving)
@@ -305,8 +355,12 @@ module _ {T E R O : Type 0} (origin : T → O) (stands : T → List (Entry E R) 
     served = le_refl m.serving;
     first_if_lone = f.first_if_lone;
     stage = le_refl m.serving;
-    port = λ e. let p = f.port e in record { origin_is = p.origin_is; own = p.own;
-        future = p.future; apart = p.apart };
+    port = λ e. let p = f.port e in record {
+      origin_is = p.origin_is;
+      own = p.own;
+      future = p.future;
+      apart = p.apart;
+    };
   }
 
   pub sees : (slots id : ℕ) (me : M) → Allows Rule slots id me 1 (λ n. n)
@@ -318,10 +372,17 @@ module _ {T E R O : Type 0} (origin : T → O) (stands : T → List (Entry E R) 
       let c : m.closed ≤ 1 = f.closed_once in
       let d : length m.history ≤ m.serving = f.counted in
       let e : length me.0.known.seen ≤ length m.history =
-          starts_length m.history me.0.known.seen fit.seen in
-      (view_with_served me.0 m.serving, counts m id me.0 fit,
-          record { view = refl; carried = refl; no_less = fit.served; counted = omega arith;
-          within = omega arith }))
+      starts_length m.history me.0.known.seen fit.seen in (
+        view_with_served me.0 m.serving,
+        counts m id me.0 fit,
+        record {
+          view = refl;
+          carried = refl;
+          no_less = fit.served;
+          counted = omega arith;
+          within = omega arith;
+        },
+      ))
 
   -- the moment after seat i has drawn a turn
   abbrev after_draw : Mo → ℕ → ℕ → Mo
@@ -332,8 +393,11 @@ module _ {T E R O : Type 0} (origin : T → O) (stands : T → List (Entry E R) 
       → HoldsTurn (after_draw m i new) j n
   draw_turn m i new j n up h =
       let low : n < m.ticket = h.drawn in
-      record { not_ended = h.not_ended; drawn = omega arith;
-          owner_is = put_else m.owner m.ticket i n (λ e. omega arith) ∙ h.owner_is }
+      record {
+        not_ended = h.not_ended;
+        drawn = omega arith;
+        owner_is = put_else m.owner m.ticket i n (λ e. omega arith) ∙ h.owner_is;
+      }
 
   -- a seat that was taken in, after more turns were drawn
   met_later : (m m' : Mo) (j : ℕ) (k : Known E R O) (b : Bool) (u : Known E R O) → m'.start
@@ -342,23 +406,34 @@ module _ {T E R O : Type 0} (origin : T → O) (stands : T → List (Entry E R) 
   met_later m m' j k b u start history holder more h =
       let low : u.drawn ≤ m.ticket = h.drawn in
       record {
-    seen = subst (λ l. StartsWith l u.seen) (sym history) h.seen;
-    origin_is = λ o e. h.origin_is o e ∙ sym start;
-    drawn = omega arith;
-    numbers = λ yes q one. let a = h.numbers yes q one in record { holder_is = ap (λ f. f q) holder
-        ∙ a.holder_is; calls = ap (calls_by q) history ∙ a.calls; not_own = a.not_own; not_future =
-        a.not_future };
-  }
+        seen = subst (λ l. StartsWith l u.seen) (sym history) h.seen;
+        origin_is = λ o e. h.origin_is o e ∙ sym start;
+        drawn = omega arith;
+        numbers = λ yes q one. let a = h.numbers yes q one in record {
+          holder_is = ap (λ f. f q) holder
+              ∙ a.holder_is;
+          calls = ap (calls_by q) history ∙ a.calls;
+          not_own = a.not_own;
+          not_future =
+              a.not_future;
+        };
+      }
 
   draw_staged : (m : Mo) (i new j : ℕ) (k : Known E R O) → new ≡ m.ticket + 1 → (st : Stage E R O)
       → Stand m j k st → Stand (after_draw m i new) j k st
   draw_staged m i new j k up New h = h
   draw_staged m i new j k up Young h = h
   draw_staged m i new j k up Idle h = tt
-  draw_staged m i new j k up (Waiting n) h = (draw_turn m i new j n up h.0,
-      λ e. home_stays m (after_draw m i new) refl refl refl refl (h.1 e))
-  draw_staged m i new j k up (Turn n) h = record { holds = draw_turn m i new j n up h.holds;
-      served = h.served; seen = h.seen; not_closed = h.not_closed }
+  draw_staged m i new j k up (Waiting n) h = (
+    draw_turn m i new j n up h.0,
+    λ e. home_stays m (after_draw m i new) refl refl refl refl (h.1 e),
+  )
+  draw_staged m i new j k up (Turn n) h = record {
+    holds = draw_turn m i new j n up h.holds;
+    served = h.served;
+    seen = h.seen;
+    not_closed = h.not_closed;
+  }
   draw_staged m i new j k up (SawServing n) h = h
   draw_staged m i new j k up (Met b u) h = met_later m (after_draw m i new) j k b u refl refl refl
       (omega arith) h
@@ -366,9 +441,15 @@ module _ {T E R O : Type 0} (origin : T → O) (stands : T → List (Entry E R) 
   draw_fit : (m : Mo) (i new j : ℕ) (d : V) → new ≡ m.ticket + 1 → Fit m j d
       → Fit (after_draw m i new) j d
   draw_fit m i new j d up f = let low : d.known.drawn ≤ m.ticket = f.drawn in
-      record { origin_is = f.origin_is; seen = f.seen; drawn = omega arith; served = f.served;
-          first_if_lone = f.first_if_lone; stage = draw_staged m i new j d.known up d.stage f.stage;
-          port = f.port }
+      record {
+        origin_is = f.origin_is;
+        seen = f.seen;
+        drawn = omega arith;
+        served = f.served;
+        first_if_lone = f.first_if_lone;
+        stage = draw_staged m i new j d.known up d.stage f.stage;
+        port = f.port;
+      }
 
   at_home : (m : Mo) → IsHome origin stands m ⊎ (m.serving < m.ticket) → m.ticket ≡ m.serving
       → IsHome origin stands m
@@ -381,13 +462,14 @@ module _ {T E R O : Type 0} (origin : T → O) (stands : T → List (Entry E R) 
       let low : m.serving ≤ m.ticket = f.range in
       let more : new ≡ m.ticket + 1 = omega arith in
       moves m (after_draw m id new) vs id (with_stage me.0 (Waiting m.ticket)) f (omega arith)
-          (omega arith) f.closed_once f.lawful f.counted
-          (⊎_elim (λ h. inl (home_stays m (after_draw m id new) refl refl refl refl h))
-          (λ (l : m.serving < m.ticket). inr (omega arith)) f.home_or_held)
+      (omega arith) f.closed_once f.lawful f.counted
+      (⊎_elim (λ h. inl (home_stays m (after_draw m id new) refl refl refl refl h))
+      (λ (l : m.serving < m.ticket). inr (omega arith)) f.home_or_held)
       (fit_at_stage (after_draw m id new) id me.0 (Waiting m.ticket)
-          (draw_fit m id new id me.0 more fit)
-      (record { not_ended = low; drawn = omega arith; owner_is = put_here m.owner m.ticket id },
-          λ e. home_stays m (after_draw m id new) refl refl refl refl (at_home m f.home_or_held e)))
+      (draw_fit m id new id me.0 more fit) (
+        record { not_ended = low; drawn = omega arith; owner_is = put_here m.owner m.ticket id },
+        λ e. home_stays m (after_draw m id new) refl refl refl refl (at_home m f.home_or_held e),
+      ))
       (λ j d _ x. draw_fit m id new j d more x)
 
   pub draws : (slots id : ℕ) (me : M) (old new : ℕ) → new ≡ old + 1 → old < most_turns
@@ -395,22 +477,34 @@ module _ {T E R O : Type 0} (origin : T → O) (stands : T → List (Entry E R) 
       (play Draws (step slots 0 old new none) me)
   draws slots id me old new up few = by_moment
       (λ s. length s.homes ≡ slots → get_elem? s.views id ≡ some me.0
-          → get_or s.words 0 0 < 18446744073709551616
+      → get_or s.words 0 0 < 18446744073709551616
       → (w : V) × (a : Act Sl) × Valid s.homes me.1 a
-          × Rule (stepped s 0 (either (eqb (get_or s.words 0 0) old) new (get_or s.words 0 0)) id
-          me.1 w a) × play Draws (step slots 0 old new none) me (get_or s.words 0 0)
-          (w, carried_after me.1 a))
+      × Rule (stepped s 0 (either (eqb (get_or s.words 0 0) old) new (get_or s.words 0 0)) id
+      me.1 w a) × play Draws (step slots 0 old new none) me (get_or s.words 0 0)
+      (w, carried_after me.1 a))
       (λ m vs f _ at _. exchanged m.ticket old new
       (λ x. (w : V) × (a : Act Sl) × Valid (m.home ∷ []) me.1 a
-          × Rule record { words = x ∷ m.serving ∷ []; homes = homes_after (m.home ∷ []) me.1 a;
-          views = set vs id w } × play Draws (step slots 0 old new none) me m.ticket
-          (w, carried_after me.1 a))
-      (λ hit. let w : V = with_stage me.0 (Waiting m.ticket) in
-      (w, keeps, tt, kept (after_draw m id new) (set vs id w)
-          (draws_at id me old new m vs f (f.fits id me.0 at) up few hit),
-          record { if_expected = λ _. refl; if_other = λ miss. absurd (miss hit) }))
-      (λ miss. (me.0, keeps, tt, kept m (set vs id me.0) (stays m vs id me.0 f (f.fits id me.0 at)),
-          record { if_expected = λ hit. absurd (miss hit); if_other = λ _. refl })))
+      × Rule record {
+        words = x ∷ m.serving ∷ [];
+        homes = homes_after (m.home ∷ []) me.1 a;
+        views = set vs id w;
+      } × play Draws (step slots 0 old new none) me m.ticket
+      (w, carried_after me.1 a))
+      (λ hit. let w : V = with_stage me.0 (Waiting m.ticket) in (
+        w,
+        keeps,
+        tt,
+        kept (after_draw m id new) (set vs id w)
+            (draws_at id me old new m vs f (f.fits id me.0 at) up few hit),
+        record { if_expected = λ _. refl; if_other = λ miss. absurd (miss hit) },
+      ))
+      (λ miss. (
+        me.0,
+        keeps,
+        tt,
+        kept m (set vs id me.0) (stays m vs id me.0 f (f.fits id me.0 at)),
+        record { if_expected = λ hit. absurd (miss hit); if_other = λ _. refl },
+      )))
 
   -- the moment after the seat whose turn has come has taken the slot
   abbrev after_take : Mo → Mo
@@ -430,10 +524,16 @@ module _ {T E R O : Type 0} (origin : T → O) (stands : T → List (Entry E R) 
   take_staged m i n j k other mine here pair New h = absurd (pair h.0)
   take_staged m i n j k other mine here pair Young h = h
   take_staged m i n j k other mine here pair Idle h = tt
-  take_staged m i n j k other mine here pair (Waiting q) h = (take_turn m j q h.0,
-      λ e. absurd (other (sym h.0.owner_is ∙ (ap m.owner (e ∙ sym here) ∙ mine))))
-  take_staged m i n j k other mine here pair (Turn q) h = record { holds = take_turn m j q h.holds;
-      served = h.served; seen = h.seen; not_closed = h.not_closed }
+  take_staged m i n j k other mine here pair (Waiting q) h = (
+    take_turn m j q h.0,
+    λ e. absurd (other (sym h.0.owner_is ∙ (ap m.owner (e ∙ sym here) ∙ mine))),
+  )
+  take_staged m i n j k other mine here pair (Turn q) h = record {
+    holds = take_turn m j q h.holds;
+    served = h.served;
+    seen = h.seen;
+    not_closed = h.not_closed;
+  }
   take_staged m i n j k other mine here pair (SawServing q) h = h
   take_staged m i n j k other mine here pair (Met b u) h =
       met_later m (after_take m) j k b u refl refl refl (le_refl m.ticket) h
@@ -445,15 +545,16 @@ module _ {T E R O : Type 0} (origin : T → O) (stands : T → List (Entry E R) 
       let low : v.known.drawn ≤ m.ticket = f.drawn in
       let few : v.known.served ≤ m.serving = f.served in
       record {
-    origin_is = λ o e. f.origin_is o e ∙ sym start;
-    seen = subst (λ h. StartsWith h v.known.seen) (sym whole) f.seen;
-    drawn = omega arith;
-    served = omega arith;
-    first_if_lone = λ e. f.first_if_lone (lone e);
-    stage = st;
-    port = λ e. subst (λ (z : O × (List ℕ → ℕ) × List (Entry E R)). IsPort z.0 z.1 i z.2 v.known)
-        (λ c. (sym start c, sym holder c, sym whole c)) (f.port e);
-  }
+        origin_is = λ o e. f.origin_is o e ∙ sym start;
+        seen = subst (λ h. StartsWith h v.known.seen) (sym whole) f.seen;
+        drawn = omega arith;
+        served = omega arith;
+        first_if_lone = λ e. f.first_if_lone (lone e);
+        stage = st;
+        port = λ e. subst (λ (z : O × (List ℕ → ℕ) × List (Entry E R)). IsPort z.0 z.1 i
+            z.2 v.known)
+            (λ c. (sym start c, sym holder c, sym whole c)) (f.port e);
+      }
 
   takes_at : (id n : ℕ) (v : V) (m : Mo) (vs : List V) → F m vs → Fit m id v → v.stage ≡ Waiting n
       → m.serving ≡ n → F (after_take m) (set vs id (informed_view m v (Turn n)))
@@ -462,36 +563,45 @@ module _ {T E R O : Type 0} (origin : T → O) (stands : T → List (Entry E R) 
       let st = subst (Stand m id v.known) is fit.stage in
       let home = st.1 (sym hit) in
       let low : n < m.ticket = st.0.drawn in
-      let has : HoldsSlot m id n w.known = record { holds = st.0; served = sym hit; seen = refl;
-          not_closed = home.not_closed } in
+      let has : HoldsSlot m id n w.known = record {
+        holds = st.0;
+        served = sym hit;
+        seen = refl;
+        not_closed = home.not_closed;
+      } in
       moves m (after_take m) vs id w f f.range f.within_most f.closed_once f.lawful f.counted
-          (inr (omega arith))
+      (inr (omega arith))
       (restaged m (after_take m) id w refl refl (le_refl m.ticket) (le_refl m.serving) (λ e. e) refl
-          (informs m id v (Turn n) fit has)
-      (record { holds = take_turn m id n st.0; served = sym hit; seen = refl;
-          not_closed = home.not_closed }))
+      (informs m id v (Turn n) fit has)
+      (record {
+        holds = take_turn m id n st.0;
+        served = sym hit;
+        seen = refl;
+        not_closed = home.not_closed;
+      }))
       (λ j d other g. restaged m (after_take m) j d refl refl (le_refl m.ticket) (le_refl m.serving)
-          (λ e. e) refl g (take_staged m id n j d.known other st.0.owner_is (sym hit)
-          (not_lone m id j v d other fit g) d.stage g.stage))
+      (λ e. e) refl g (take_staged m id n j d.known other st.0.owner_is (sym hit)
+      (not_lone m id j v d other fit g) d.stage g.stage))
 
   pub reaches : (slots id n : ℕ) (me : M) → me.0.is_port ≡ true → me.0.stage ≡ Waiting n
       → Allows Rule slots id me 1 (λ x. x) (play (Reaches origin stands legal)
       (step slots 1 0 0 none) me)
   reaches slots id n me port is = by_moment
       (λ s. length s.homes ≡ slots → get_elem? s.views id ≡ some me.0
-          → get_or s.words 1 0 < 18446744073709551616
+      → get_or s.words 1 0 < 18446744073709551616
       → (w : V) × (a : Act Sl) × Valid s.homes me.1 a
-          × Rule (stepped s 1 (get_or s.words 1 0) id me.1 w a)
-          × play (Reaches origin stands legal) (step slots 1 0 0 none) me (get_or s.words 1 0)
-          (w, carried_after me.1 a))
+      × Rule (stepped s 1 (get_or s.words 1 0) id me.1 w a)
+      × play (Reaches origin stands legal) (step slots 1 0 0 none) me (get_or s.words 1 0)
+      (w, carried_after me.1 a))
       (λ m vs f _ at _. let fit = f.fits id me.0 at in dite (ℕ_discrete m.serving n)
       (λ hit. let st = subst (Stand m id me.0.known) is fit.stage in let home = st.1
-          (sym hit) in let w : V = informed_view m me.0 (Turn n) in
+      (sym hit) in let w : V = informed_view m me.0 (Turn n) in
       let met : TakesTurn origin stands legal n (seat_state me)
-          (seat_with w ((0, full_slot home.value home.last) ∷ me.1)) = record
-          { takes = takes_value m id me (Turn n) home.value home.last fit port f.lawful home.results
-          home.origin_is; drawn = st.0.drawn } in
-      (
+      (seat_with w ((0, full_slot home.value home.last) ∷ me.1)) = record {
+        takes = takes_value m id me (Turn n) home.value home.last fit port f.lawful home.results
+            home.origin_is;
+        drawn = st.0.drawn;
+      } in (
         w,
         takes 0 (full_slot home.value home.last),
         ap (λ h. some h) home.home_is,
@@ -508,19 +618,25 @@ module _ {T E R O : Type 0} (origin : T → O) (stands : T → List (Entry E R) 
         tt,
         kept m (set vs id me.0) (stays m vs id me.0 f fit),
         λ k is'. let same : n ≡ k = ap (turn_of n) (sym is
-            ∙ is') in record { if_served = λ hit. absurd (miss (hit ∙ sym same)); if_not =
-            λ _. refl },
+            ∙ is') in record {
+              if_served = λ hit. absurd (miss (hit ∙ sym same));
+              if_not =
+                  λ _. refl;
+            },
       )))
 
   -- the moment after port p's turn has ended and the slot has x again
   abbrev after_end : Mo → List ℕ → T → LastCall E R → Mo
-  after_end m p x l = record m { serving = m.serving + 1; history = m.history ++ new_entries p l;
-      home = some (full_slot x l) }
+  after_end m p x l = record m {
+    serving = m.serving + 1;
+    history = m.history ++ new_entries p l;
+    home = some (full_slot x l);
+  }
 
   end_staged : (m : Mo) (i n j : ℕ) (p : List ℕ) (x : T) (l : LastCall E R) (k : Known E R O)
       → j ≢ i → m.owner n ≡ i → n ≡ m.serving → m.holder p ≡ i → (m.lone ≡ true → ⊥)
       → IsHome origin stands (after_end m p x l) → (st : Stage E R O) → Stand m j k st
-          → Stand (after_end m p x l) j k st
+      → Stand (after_end m p x l) j k st
   end_staged m i n j p x l k other mine here holds pair home New h = absurd (pair h.0)
   end_staged m i n j p x l k other mine here holds pair home Young h = h
   end_staged m i n j p x l k other mine here holds pair home Idle h = tt
@@ -528,7 +644,7 @@ module _ {T E R O : Type 0} (origin : T → O) (stands : T → List (Entry E R) 
       let t = h.0 in
       let low : m.serving ≤ q = t.not_ended in
       let apart : q ≢ m.serving = λ e. other (sym t.owner_is ∙ (ap m.owner (e ∙ sym here) ∙ mine))
-          in
+      in
       (record { not_ended = omega arith; drawn = t.drawn; owner_is = t.owner_is }, λ _. home)
   end_staged m i n j p x l k other mine here holds pair home (Turn q) h =
       absurd (other (sym h.holds.owner_is ∙ (ap m.owner (h.served ∙ sym here) ∙ mine)))
@@ -554,54 +670,60 @@ module _ {T E R O : Type 0} (origin : T → O) (stands : T → List (Entry E R) 
   end_others m i n j p x l d other mine here holds pair home f =
       let few : d.known.served ≤ m.serving = f.served in
       record {
-    origin_is = f.origin_is;
-    seen = starts_more m.history d.known.seen (new_entries p l) f.seen;
-    drawn = f.drawn;
-    served = omega arith;
-    first_if_lone = f.first_if_lone;
-    stage = end_staged m i n j p x l d.known other mine here holds pair home d.stage f.stage;
-    port = λ e. let t = f.port e in record {
-      origin_is = t.origin_is;
-      own = λ q o. let a = t.own q o in (a.0,
-          entries-other q p m.history l (λ same. other (sym a.0
-          ∙ (ap m.holder same ∙ holds))) ∙ a.1);
-      future = λ q o. let a = t.future q o in (a.0,
-          entries-other q p m.history l (λ same. other (sym a.0
-          ∙ (ap m.holder same ∙ holds))) ∙ a.1);
-      apart = t.apart;
-    };
-  }
+        origin_is = f.origin_is;
+        seen = starts_more m.history d.known.seen (new_entries p l) f.seen;
+        drawn = f.drawn;
+        served = omega arith;
+        first_if_lone = f.first_if_lone;
+        stage = end_staged m i n j p x l d.known other mine here holds pair home d.stage f.stage;
+        port = λ e. let t = f.port e in record {
+          origin_is = t.origin_is;
+          own = λ q o. let a = t.own q o in (
+            a.0,
+            entries-other q p m.history l (λ same. other (sym a.0
+                ∙ (ap m.holder same ∙ holds))) ∙ a.1,
+          );
+          future = λ q o. let a = t.future q o in (
+            a.0,
+            entries-other q p m.history l (λ same. other (sym a.0
+                ∙ (ap m.holder same ∙ holds))) ∙ a.1,
+          );
+          apart = t.apart;
+        };
+      }
 
   end_mine : (m : Mo) (i : ℕ) (x : T) (l : LastCall E R) (v : V) → v.known.seen ≡ m.history
       → Fit m i v → Fit (after_end m v.known.number x l) i (view_after_turn v l)
   end_mine m i x l v all f =
       let p : List ℕ = v.known.number in
       let same : m.history ++ new_entries p l ≡ v.known.seen ++ new_entries p l =
-          ap (λ h. h ++ new_entries p l) (sym all) in
+      ap (λ h. h ++ new_entries p l) (sym all) in
       let few : v.known.served ≤ m.serving = f.served in
       record {
-    origin_is = f.origin_is;
-    seen = subst (λ h. StartsWith h (v.known.seen ++ new_entries p l)) (sym same)
-        (starts_refl (v.known.seen ++ new_entries p l));
-    drawn = f.drawn;
-    served = omega arith;
-    first_if_lone = f.first_if_lone;
-    stage = tt;
-    port = λ e. let t = f.port e in record {
-      origin_is = t.origin_is;
-      own = λ q o. ((t.own q o).0, ap (calls_by q) same);
-      future = λ q o. let a = t.future q o in (a.0,
-          entries-other q p m.history l (future-not-self p v.known.splits q o) ∙ a.1);
-      apart = t.apart;
-    };
-  }
+        origin_is = f.origin_is;
+        seen = subst (λ h. StartsWith h (v.known.seen ++ new_entries p l)) (sym same)
+            (starts_refl (v.known.seen ++ new_entries p l));
+        drawn = f.drawn;
+        served = omega arith;
+        first_if_lone = f.first_if_lone;
+        stage = tt;
+        port = λ e. let t = f.port e in record {
+          origin_is = t.origin_is;
+          own = λ q o. ((t.own q o).0, ap (calls_by q) same);
+          future = λ q o. let a = t.future q o in (
+            a.0,
+            entries-other q p m.history l (future-not-self p v.known.splits q o) ∙ a.1,
+          );
+          apart = t.apart;
+        };
+      }
 
   module _ (law : (x : T) (h : List (Entry E R)) → stands x h → legal (origin x) h) where
     ends_at : (id n : ℕ) (v : V) (x : T) (l : LastCall E R) (m : Mo) (vs : List V) → F m vs
         → Fit m id v → v.is_port ≡ true → v.stage ≡ Turn n → v.known.origin ≡ Some (origin x)
         → stands x (v.known.seen ++ new_entries v.known.number l)
-            → F (after_end m v.known.number x l) (set vs id (view_after_turn v l))
-            × AddsCall legal l v (view_after_turn v l)
+        → F (after_end m v.known.number x l) (set vs id (view_after_turn v l))
+        × AddsCall legal l v (view_after_turn v l)
     ends_at id n v x l m vs f fit port is begun stood =
         let p : List ℕ = v.known.number in
         let st = subst (Stand m id v.known) is fit.stage in
@@ -609,27 +731,35 @@ module _ {T E R O : Type 0} (origin : T → O) (stands : T → List (Entry E R) 
         let mine = fit.port port in
         let start : origin x ≡ m.start = fit.origin_is (origin x) begun in
         let whole : v.known.seen ++ new_entries p l ≡ m.history ++ new_entries p l =
-            ap (λ h. h ++ new_entries p l) all in
+        ap (λ h. h ++ new_entries p l) all in
         let stood' : stands x (m.history ++ new_entries p l) = subst (stands x) whole stood in
-        let home : IsHome origin stands (after_end m p x l) = record { value = x; last = l;
-            home_is = refl; results = stood'; origin_is = start; not_closed = st.not_closed } in
+        let home : IsHome origin stands (after_end m p x l) = record {
+          value = x;
+          last = l;
+          home_is = refl;
+          results = stood';
+          origin_is = start;
+          not_closed = st.not_closed;
+        } in
         let lawful : legal m.start (m.history ++ new_entries p l) = subst
-            (λ o. legal o (m.history ++ new_entries p l)) start
-            (law x (m.history ++ new_entries p l) stood') in
+        (λ o. legal o (m.history ++ new_entries p l)) start
+        (law x (m.history ++ new_entries p l) stood') in
         let low : n < m.ticket = st.holds.drawn in
         let here : n ≡ m.serving = st.served in
         let were : length m.history ≤ m.serving = f.counted in
-        let more = entries_few p m.history l in
-        (
+        let more = entries_few p m.history l in (
           moves m (after_end m p x l) vs id (view_after_turn v l) f (omega arith) f.within_most
               f.closed_once lawful (omega (arith, were, more)) (inl home)
               (end_mine m id x l v all fit)
               (λ j d other g. end_others m id n j p x l d other st.holds.owner_is here
-                  (mine.own p (inl refl)).0 (not_lone m id j v d other fit g) home g),
+              (mine.own p (inl refl)).0 (not_lone m id j v d other fit g) home g),
           record {
             view = refl;
-            lawful = record { origin = m.start; origin_is = mine.origin_is;
-                legal_history = subst (legal m.start) (sym whole) lawful };
+            lawful = record {
+              origin = m.start;
+              origin_is = mine.origin_is;
+              legal_history = subst (legal m.start) (sym whole) lawful;
+            };
             own_calls = entries-own p v.known.seen l;
             joined_calls = λ q a. entries-other q p v.known.seen l (mine.apart q a).0;
             within = λ turn at. let same : n ≡ turn = ap (held_of n) (sym is
@@ -643,32 +773,40 @@ module _ {T E R O : Type 0} (origin : T → O) (stands : T → List (Entry E R) 
         ≡ Turn n → v.known.origin ≡ Some (origin x)
         → stands x (v.known.seen ++ new_entries v.known.number l)
         → Allows Rule slots id (v, (0, full_slot x l) ∷ []) 1 (λ q. (q + 1) % 2 ^ 64)
-            (play (Ends legal) (step slots 1 1 0 none) (v, (0, full_slot x l) ∷ []))
+        (play (Ends legal) (step slots 1 1 0 none) (v, (0, full_slot x l) ∷ []))
     ends_with slots id n v x l port is begun stood =
         let me : M = (v, (0, full_slot x l) ∷ []) in
         by_moment
         (λ s. length s.homes ≡ slots → get_elem? s.views id ≡ some v
-            → get_or s.words 1 0 < 18446744073709551616
+        → get_or s.words 1 0 < 18446744073709551616
         → (w : V) × (a : Act Sl) × Valid s.homes me.1 a
-            × Rule (stepped s 1 ((get_or s.words 1 0 + 1) % 2 ^ 64) id me.1 w a)
-            × play (Ends legal) (step slots 1 1 0 none) me (get_or s.words 1 0)
-            (w, carried_after me.1 a))
+        × Rule (stepped s 1 ((get_or s.words 1 0 + 1) % 2 ^ 64) id me.1 w a)
+        × play (Ends legal) (step slots 1 1 0 none) me (get_or s.words 1 0)
+        (w, carried_after me.1 a))
         (λ m vs f _ at _. let t = ends_at id n v x l m vs f (f.fits id v at) port is begun stood
-            in let w : V = view_after_turn v l in
+        in let w : V = view_after_turn v l in
         let a : m.serving ≤ m.ticket = f.range in
         let b : m.ticket ≤ most_turns + m.closed = f.within_most in
         let c : m.closed ≤ 1 = f.closed_once in
-        let small : m.serving + 1 < 2 ^ 64 = omega arith in
-        (w, gives, tt, subst (λ (z : ℕ). Rule record { words = m.ticket ∷ z
-            ∷ []; homes = some (full_slot x l) ∷ []; views = set vs id w })
-            (sym (mod-eq_of_lt small)) (kept (after_end m v.known.number x l) (set vs id w) t.0),
-            record { carried = refl; adds = t.1 }))
+        let small : m.serving + 1 < 2 ^ 64 = omega arith in (
+          w,
+          gives,
+          tt,
+          subst (λ (z : ℕ). Rule record {
+            words = m.ticket ∷ z
+                ∷ [];
+            homes = some (full_slot x l) ∷ [];
+            views = set vs id w;
+          })
+              (sym (mod-eq_of_lt small)) (kept (after_end m v.known.number x l) (set vs id w) t.0),
+          record { carried = refl; adds = t.1 },
+        ))
 
     pub ends : (slots id n : ℕ) (me : M) (x : T) (l : LastCall E R) → me.0.is_port ≡ true
         → me.0.stage ≡ Turn n → me.1 ≡ (0, full_slot x l) ∷ [] → me.0.known.origin ≡ Some (origin x)
         → stands x (me.0.known.seen ++ new_entries me.0.known.number l)
-            → Allows Rule slots id me 1 (λ q. (q + 1) % 2 ^ 64)
-            (play (Ends legal) (step slots 1 1 0 none) me)
+        → Allows Rule slots id me 1 (λ q. (q + 1) % 2 ^ 64)
+        (play (Ends legal) (step slots 1 1 0 none) me)
     ends slots id n me x l port is carried begun stood = subst
         (λ (cs : List (ℕ × Sl)). Allows Rule slots id (me.0, cs) 1 (λ q. (q + 1) % 2 ^ 64)
         (play (Ends legal) (step slots 1 1 0 none) (me.0, cs))) (sym carried)
@@ -676,8 +814,17 @@ module _ {T E R O : Type 0} (origin : T → O) (stands : T → List (Entry E R) 
 
     -- the moment at which the table is made
     abbrev first_moment : T → Mo
-    first_moment x = record { ticket = 0; serving = 0; start = origin x; history = [];
-        home = some (full_slot x None); holder = λ _. 0; owner = λ _. 0; lone = true; closed = 0 }
+    first_moment x = record {
+      ticket = 0;
+      serving = 0;
+      start = origin x;
+      history = [];
+      home = some (full_slot x None);
+      holder = λ _. 0;
+      owner = λ _. 0;
+      lone = true;
+      closed = 0;
+    }
 
     first_fit : (x : T) → x ≡ first → Fit (first_moment x) 0 (first_view (origin x))
     first_fit x same = record {
@@ -687,8 +834,12 @@ module _ {T E R O : Type 0} (origin : T → O) (stands : T → List (Entry E R) 
       served = le_refl 0;
       first_if_lone = λ _. refl;
       stage = (refl, ap (λ (y : T). some (full_slot y None)) same);
-      port = λ _. record { origin_is = refl; own = λ q _. (refl, refl);
-          future = λ q _. (refl, refl); apart = λ q a. absurd a };
+      port = λ _. record {
+        origin_is = refl;
+        own = λ q _. (refl, refl);
+        future = λ q _. (refl, refl);
+        apart = λ q a. absurd a;
+      };
     }
       where
         the_value : {a b : O} → Some a ≡ Some b → a ≡ b
@@ -700,8 +851,14 @@ module _ {T E R O : Type 0} (origin : T → O) (stands : T → List (Entry E R) 
         let m : Mo = first_moment x in
         let w : V = first_view (origin x) in
         let mine = first_fit x same in
-        let home : IsHome origin stands m = record { value = x; last = None; home_is = refl;
-            results = empty; origin_is = refl; not_closed = refl } in
+        let home : IsHome origin stands m = record {
+          value = x;
+          last = None;
+          home_is = refl;
+          results = empty;
+          origin_is = refl;
+          not_closed = refl;
+        } in
         kept m (w ∷ []) (moves m m (w ∷ []) 0 w (record {
           range = le_refl 0;
           within_most = omega arith;
@@ -713,7 +870,7 @@ module _ {T E R O : Type 0} (origin : T → O) (stands : T → List (Entry E R) 
               (λ (t : (i ≡ 0) × (w ≡ v)). subst (λ (z : ℕ × V). Fit m z.0 z.1)
               (λ c. (sym t.0 c, t.1 c)) mine) (at_end [] w v i at);
         }) (le_refl 0) (omega arith) (omega arith) (law x [] empty) (le_refl 0) (inl home) mine
-            (λ _ _ _ g. g))
+        (λ _ _ _ g. g))
 
   -- the moment after the lock was closed and its value taken
   abbrev after_close : Mo → Mo
@@ -743,60 +900,80 @@ module _ {T E R O : Type 0} (origin : T → O) (stands : T → List (Entry E R) 
       let more : m.ticket ≤ m.ticket + 1 = omega arith in
       let w : V = informed_view m v Idle in
       moves m (after_close m) vs id w f (omega arith) (omega arith) (omega arith) f.lawful f.counted
-          (inr (omega arith))
+      (inr (omega arith))
       (restaged m (after_close m) id w refl refl more (le_refl m.serving) (λ e. e) refl
-          (informs m id v Idle fit tt) tt)
+      (informs m id v Idle fit tt) tt)
       (λ j d other g. restaged m (after_close m) j d refl refl more (le_refl m.serving)
-          (λ e. e) refl g (close_staged m j d.known ended (not_lone m id j v d other fit g) d.stage
-          g.stage))
+      (λ e. e) refl g (close_staged m j d.known ended (not_lone m id j v d other fit g) d.stage
+      g.stage))
 
   pub closes : (slots id old new : ℕ) (me : M) → new ≡ old + 1 → me.0.is_port ≡ true → me.0.stage
       ≡ SawServing old
       → Allows Rule slots id me 0 (λ n. either (eqb n old) new n)
-          (play (Closes origin stands legal) (step slots 0 old new none) me)
+      (play (Closes origin stands legal) (step slots 0 old new none) me)
   closes slots id old new me up port is = by_moment
       (λ s. length s.homes ≡ slots → get_elem? s.views id ≡ some me.0
-          → get_or s.words 0 0 < 18446744073709551616
+      → get_or s.words 0 0 < 18446744073709551616
       → (w : V) × (a : Act Sl) × Valid s.homes me.1 a
-          × Rule (stepped s 0 (either (eqb (get_or s.words 0 0) old) new (get_or s.words 0 0))
-          id me.1 w a)
+      × Rule (stepped s 0 (either (eqb (get_or s.words 0 0) old) new (get_or s.words 0 0))
+      id me.1 w a)
       × play (Closes origin stands legal) (step slots 0 old new none) me (get_or s.words 0 0)
-          (w, carried_after me.1 a))
+      (w, carried_after me.1 a))
       (λ m vs f _ at _. let fit = f.fits id me.0 at in let st : old ≤ m.serving = subst
-          (Stand m id me.0.known) is fit.stage in let range : m.serving ≤ m.ticket =
-          f.range in let w : V = informed_view m me.0 Idle in
+      (Stand m id me.0.known) is fit.stage in let range : m.serving ≤ m.ticket =
+      f.range in let w : V = informed_view m me.0 Idle in
       exchanged m.ticket old new
       (λ x. (w : V) × (a : Act Sl) × Valid (m.home ∷ []) me.1 a
-          × Rule record { words = x ∷ m.serving ∷ []; homes = homes_after (m.home ∷ []) me.1 a;
-          views = set vs id w }
+      × Rule record {
+        words = x ∷ m.serving ∷ [];
+        homes = homes_after (m.home ∷ []) me.1 a;
+        views = set vs id w;
+      }
       × play (Closes origin stands legal) (step slots 0 old new none) me m.ticket
-          (w, carried_after me.1 a))
+      (w, carried_after me.1 a))
       (λ hit. let done : m.ticket ≡ m.serving = omega arith in let home = at_home m f.home_or_held
-          done in let more : m.ticket + 1 ≡ new = omega arith in (
+      done in let more : m.ticket + 1 ≡ new = omega arith in (
         w,
         takes 0 (full_slot home.value home.last),
         ap (λ h. some h) home.home_is,
-        subst (λ (z : ℕ). Rule record { words = z ∷ m.serving ∷ []; homes = none
-            ∷ []; views = set vs id w }) more
+        subst (λ (z : ℕ). Rule record {
+          words = z ∷ m.serving ∷ [];
+          homes = none
+              ∷ [];
+          views = set vs id w;
+        }) more
             (kept (after_close m) (set vs id w)
             (closes_at id me.0 m vs f fit done home.not_closed)),
-        record { if_expected = λ _. takes_value m id me Idle home.value home.last fit port f.lawful
-            home.results home.origin_is; if_other = λ miss. absurd (miss hit) },
+        record {
+          if_expected = λ _. takes_value m id me Idle home.value home.last fit port f.lawful
+              home.results home.origin_is;
+          if_other = λ miss. absurd (miss hit);
+        },
       ))
       (λ miss. (
         w,
         keeps,
         tt,
         kept m (set vs id w) (stays m vs id w f (informs m id me.0 Idle fit tt)),
-        record { if_expected = λ hit. absurd (miss hit);
-            if_other = λ _. record { moves = moves_to m id me Idle me.1 fit port f.lawful;
-            carried = refl; more = omega arith; drawn = refl; served = refl } },
+        record {
+          if_expected = λ hit. absurd (miss hit);
+          if_other = λ _. record {
+            moves = moves_to m id me Idle me.1 fit port f.lawful;
+            carried = refl;
+            more = omega arith;
+            drawn = refl;
+            served = refl;
+          };
+        },
       )))
 
   -- a port's knowledge after it has merged what the other seat knew
   abbrev merged_known : Mo → Known E R O → V → Known E R O
-  merged_known m k other = record k { joined = joined_with k other; seen = m.history;
-      drawn = m.ticket }
+  merged_known m k other = record k {
+    joined = joined_with k other;
+    seen = m.history;
+    drawn = m.ticket;
+  }
 
   -- the seat that a stage `Met` has taken in
   abbrev other_view : Bool → Known E R O → V
@@ -805,16 +982,25 @@ module _ {T E R O : Type 0} (origin : T → O) (stands : T → List (Entry E R) 
   merge_port : (m : Mo) (i : ℕ) (k : Known E R O) (b : Bool) (u : Known E R O)
       → Stand m i k (Met b u) → IsPort m.start m.holder i m.history k
       → IsPort m.start m.holder i m.history (merged_known m k (other_view b u))
-  merge_port m i k false u st t = record { origin_is = t.origin_is;
-      own = λ q o. ((t.own q o).0, refl); future = t.future; apart = t.apart }
+  merge_port m i k false u st t = record {
+    origin_is = t.origin_is;
+    own = λ q o. ((t.own q o).0, refl);
+    future = t.future;
+    apart = t.apart;
+  }
   merge_port m i k true u st t = record {
     origin_is = t.origin_is;
-    own = λ q o. (⊎_elim (λ e. (t.own q (inl e)).0)
-        (λ a. ⊎_elim (λ x. (t.own q (inr x)).0) (λ x. (st.numbers refl q x).holder_is)
-        (among-append q u.number k.joined u.joined a)) o, refl);
+    own = λ q o. (
+      ⊎_elim (λ e. (t.own q (inl e)).0)
+          (λ a. ⊎_elim (λ x. (t.own q (inr x)).0) (λ x. (st.numbers refl q x).holder_is)
+          (among-append q u.number k.joined u.joined a)) o,
+      refl,
+    );
     future = t.future;
-    apart = λ q a. ⊎_elim (t.apart q) (λ x. let y = st.numbers refl q x in (y.not_own,
-        y.not_future)) (among-append q u.number k.joined u.joined a);
+    apart = λ q a. ⊎_elim (t.apart q) (λ x. let y = st.numbers refl q x in (
+      y.not_own,
+      y.not_future,
+    )) (among-append q u.number k.joined u.joined a);
   }
 
   -- a stage names the seat that it has taken in
@@ -828,24 +1014,37 @@ module _ {T E R O : Type 0} (origin : T → O) (stands : T → List (Entry E R) 
   knows_both : (m : Mo) (i : ℕ) (v : V) (b : Bool) (u : Known E R O) (stage : Stage E R O)
       → Fit m i v → v.is_port ≡ true → legal m.start m.history → Stand m i v.known (Met b u)
       → KnowsBoth legal v.known (record { known = u; is_port = b; stage = stage })
-          (record { known = merged_known m v.known (other_view b u); is_port = v.is_port;
-          stage = Idle })
+      (record {
+        known = merged_known m v.known (other_view b u);
+        is_port = v.is_port;
+        stage = Idle;
+      })
   knows_both m i v b u stage fit port lawful st =
       let see = (watches m i v fit port lawful).sees in
       record {
-    port = port;
-    stage_is = refl;
-    sees = record { origin = refl; number = refl; splits = refl; drawn = see.drawn;
-        served = see.served; seen = see.seen;
-        lawful = record { origin = m.start; origin_is = (fit.port port).origin_is;
-        legal_history = lawful }; own_calls = see.own_calls };
-    joined = refl;
-    drawn = st.drawn;
-    other_seen = st.seen;
-    same_origin = λ o e. (fit.port port).origin_is
-        ∙ ap (λ (z : O). Some z) (sym (st.origin_is o e));
-    other_calls = λ yes q x. (st.numbers yes q x).calls;
-  }
+        port = port;
+        stage_is = refl;
+        sees = record {
+          origin = refl;
+          number = refl;
+          splits = refl;
+          drawn = see.drawn;
+          served = see.served;
+          seen = see.seen;
+          lawful = record {
+            origin = m.start;
+            origin_is = (fit.port port).origin_is;
+            legal_history = lawful;
+          };
+          own_calls = see.own_calls;
+        };
+        joined = refl;
+        drawn = st.drawn;
+        other_seen = st.seen;
+        same_origin = λ o e. (fit.port port).origin_is
+            ∙ ap (λ (z : O). Some z) (sym (st.origin_is o e));
+        other_calls = λ yes q x. (st.numbers yes q x).calls;
+      }
 
   pub merges : (slots id : ℕ) (me : M) (b : Bool) (u : Known E R O) → me.0.is_port ≡ true
       → me.0.stage ≡ Met b u
@@ -854,9 +1053,11 @@ module _ {T E R O : Type 0} (origin : T → O) (stands : T → List (Entry E R) 
       (play (Merges legal) (step slots 1 0 0 none) me)
       (λ m vs f fit. let st = subst (Stand m id me.0.known) is fit.stage in let k : Known E R O =
       me.0.known in
-      let w : V = record { known = merged_known m k (other_view b u); is_port = me.0.is_port;
-          stage = Idle } in
-      (
+      let w : V = record {
+        known = merged_known m k (other_view b u);
+        is_port = me.0.is_port;
+        stage = Idle;
+      } in (
         w,
         record {
           origin_is = fit.origin_is;
@@ -883,8 +1084,12 @@ module _ {T E R O : Type 0} (origin : T → O) (stands : T → List (Entry E R) 
     seen = h.seen;
     origin_is = h.origin_is;
     drawn = h.drawn;
-    numbers = λ yes q one. let a = h.numbers yes q one in record { holder_is = still q a.holder_is;
-        calls = a.calls; not_own = a.not_own; not_future = a.not_future };
+    numbers = λ yes q one. let a = h.numbers yes q one in record {
+      holder_is = still q a.holder_is;
+      calls = a.calls;
+      not_own = a.not_own;
+      not_future = a.not_future;
+    };
   }
 
   -- the moment after a seat was split
@@ -913,7 +1118,7 @@ module _ {T E R O : Type 0} (origin : T → O) (stands : T → List (Entry E R) 
       ≡ m.ticket → m'.closed ≡ m.closed → m'.start ≡ m.start → m'.history ≡ m.history
       → m'.home ≡ m.home
       → Fit m' i v → Fit m' (length (set vs i v)) w
-          → ((j : ℕ) (d : V) → j ≢ i → Fit m j d → Fit m' j d) → F m' (set vs i v ++ w ∷ [])
+      → ((j : ℕ) (d : V) → j ≢ i → Fit m j d → Fit m' j d) → F m' (set vs i v ++ w ∷ [])
   comes m m' vs i v w f serving ticket end start whole home mine theirs others =
       let few : m.ticket ≤ most_turns + m.closed = f.within_most in
       let range : m.serving ≤ m.ticket = f.range in
@@ -932,7 +1137,7 @@ module _ {T E R O : Type 0} (origin : T → O) (stands : T → List (Entry E R) 
         fits = λ j d at. ⊎_elim (λ e. seats (Fit m') vs i v mine
             (λ j d n e. others j d n (f.fits j d e)) j d e)
             (λ (t : (j ≡ length (set vs i v)) × (w ≡ d)). subst (λ (z : ℕ × V). Fit m' z.0 z.1)
-                (λ c. (sym t.0 c, t.1 c)) theirs) (at_end (set vs i v) w d j at);
+            (λ c. (sym t.0 c, t.1 c)) theirs) (at_end (set vs i v) w d j at);
       }
 
   -- the next number that the port may give
@@ -980,45 +1185,53 @@ module _ {T E R O : Type 0} (origin : T → O) (stands : T → List (Entry E R) 
     own_stays : (q : List ℕ) → IsOwn k q → Forked.holder q ≡ i
     own_stays q o =
         let n : has_front (next_number k) q ≡ false = apart-not-front k.number k.splits q
-            (λ t. ⊎_elim (λ e. future-not-self k.number k.splits q t e) (λ a. (mine.apart q a).1 t)
-            o) in
+        (λ t. ⊎_elim (λ e. future-not-self k.number k.splits q t e) (λ a. (mine.apart q a).1 t)
+        o) in
         forked_else m.holder (next_number k) new q n ∙ (mine.own q o).0
 
     split_mine : (v : V) → v.known ≡ k → v.stage ≡ Idle → Fit m i v
         → Fit Forked i (record v { known = record k { splits = k.splits + 1 } })
     split_mine v same idle f =
         let g : Fit m i (record v { known = k }) =
-            subst (λ (z : Known E R O). Fit m i (record v { known = z })) same f in
+        subst (λ (z : Known E R O). Fit m i (record v { known = z })) same f in
         record {
-      origin_is = g.origin_is;
-      seen = g.seen;
-      drawn = g.drawn;
-      served = g.served;
-      first_if_lone = λ e. never e;
-      stage = subst (Stand Forked i (record k { splits = k.splits + 1 })) (sym idle) tt;
-      port = λ _. record {
-        origin_is = mine.origin_is;
-        own = λ q o. (own_stays q o, (mine.own q o).1);
-        future = λ q o. let a = mine.future q (future_sooner k.number k.splits q o)
-            in (forked_else m.holder (next_number k) new q (future-not-front k.number k.splits q o)
-            ∙ a.0, a.1);
-        apart = λ q a. let t = mine.apart q a in (t.0,
-            λ o. t.1 (future_sooner k.number k.splits q o));
-      };
-    }
+          origin_is = g.origin_is;
+          seen = g.seen;
+          drawn = g.drawn;
+          served = g.served;
+          first_if_lone = λ e. never e;
+          stage = subst (Stand Forked i (record k { splits = k.splits + 1 })) (sym idle) tt;
+          port = λ _. record {
+            origin_is = mine.origin_is;
+            own = λ q o. (own_stays q o, (mine.own q o).1);
+            future = λ q o. let a = mine.future q (future_sooner k.number k.splits q o)
+                in (
+                  forked_else m.holder (next_number k) new q
+                      (future-not-front k.number k.splits q o)
+                      ∙ a.0,
+                  a.1,
+                );
+            apart = λ q a. let t = mine.apart q a in (
+              t.0,
+              λ o. t.1 (future_sooner k.number k.splits q o),
+            );
+          };
+        }
 
     -- numbers that begin with the new port's number belong to the new seat
     front_of_child : (q : List ℕ) → StartsWith q (next_number k) → (Forked.holder q ≡ new)
         × (calls_by q m.history ≡ [])
-    front_of_child q a = (forked_here m.holder (next_number k) new q
-        (ap (has_front (next_number k)) a.1 ∙ has_front-append (next_number k) a.0),
-        (mine.future q (front_is_future k.number k.splits q a)).1)
+    front_of_child q a = (
+      forked_here m.holder (next_number k) new q
+          (ap (has_front (next_number k)) a.1 ∙ has_front-append (next_number k) a.0),
+      (mine.future q (front_is_future k.number k.splits q a)).1,
+    )
 
     split_child : (v : V) → v.known ≡ k → Fit m i v
         → Fit Forked new (child_view (record v { known = k }))
     split_child v same f =
         let g : Fit m i (record v { known = k }) =
-            subst (λ (z : Known E R O). Fit m i (record v { known = z })) same f in
+        subst (λ (z : Known E R O). Fit m i (record v { known = z })) same f in
         let c : List ℕ = next_number k in
         let self = front_of_child c (starts_refl c) in
         let none_seen : calls_by c k.seen ≡ [] = calls_none c m.history k.seen g.seen self.1 in
@@ -1032,8 +1245,11 @@ module _ {T E R O : Type 0} (origin : T → O) (stands : T → List (Entry E R) 
           port = λ _. record {
             origin_is = mine.origin_is;
             own = λ q o. ⊎_elim (λ (e : q ≡ c). subst (λ (z : List ℕ). (Forked.holder z ≡ new)
-                × (calls_by z m.history ≡ calls_by z k.seen)) (sym e) (self.0, self.1
-                ∙ sym none_seen)) (λ a. absurd a) o;
+                × (calls_by z m.history ≡ calls_by z k.seen)) (sym e) (
+                  self.0,
+                  self.1
+                      ∙ sym none_seen,
+                )) (λ a. absurd a) o;
             future = λ q o. front_of_child q (o.count ∷ o.rest, o.number_is);
             apart = λ q a. absurd a;
           };
@@ -1042,33 +1258,55 @@ module _ {T E R O : Type 0} (origin : T → O) (stands : T → List (Entry E R) 
   pub splits : (id : ℕ) (v : V) → v.is_port ≡ true → v.stage ≡ Idle
       → Splits Rule id v (parent_view v) (child_view v)
   splits id v port idle = by_moment (λ s. get_elem? s.views id ≡ some v
-      → Rule record { words = s.words; homes = s.homes; views = set s.views id (parent_view v)
-      ++ child_view v ∷ [] })
+      → Rule record {
+        words = s.words;
+        homes = s.homes;
+        views = set s.views id (parent_view v)
+            ++ child_view v ∷ [];
+      })
       (λ m vs f at. let fit = f.fits id v at in let mine = fit.port port in let new : ℕ = length
-          (set vs id (parent_view v)) in let m' : Mo = after_split m (next_number v.known) new in
+      (set vs id (parent_view v)) in let m' : Mo = after_split m (next_number v.known) new in
       kept m' (set vs id (parent_view v) ++ child_view v
-          ∷ []) (comes m m' vs id (parent_view v) (child_view v) f refl refl refl refl refl refl
-          (split_mine m id new v.known mine v refl idle fit)
+      ∷ []) (comes m m' vs id (parent_view v) (child_view v) f refl refl refl refl refl refl
+      (split_mine m id new v.known mine v refl idle fit)
       (split_child m id new v.known mine v refl fit)
-          (λ j d other g. split_others m id new v.known mine v j d fit other g)))
+      (λ j d other g. split_others m id new v.known mine v j d fit other g)))
 
   told_fit : (m : Mo) (i : ℕ) (v : V) → Fit m i v → Stand (after_tell m) i v.known v.stage
       → Fit (after_tell m) i v
-  told_fit m i v f st = record { origin_is = f.origin_is; seen = f.seen; drawn = f.drawn;
-      served = f.served; first_if_lone = λ e. never e; stage = st; port = f.port }
+  told_fit m i v f st = record {
+    origin_is = f.origin_is;
+    seen = f.seen;
+    drawn = f.drawn;
+    served = f.served;
+    first_if_lone = λ e. never e;
+    stage = st;
+    port = f.port;
+  }
 
   pub tells : (id : ℕ) (v : V) → v.stage ≡ Idle → Splits Rule id v v (note_view v)
   tells id v idle = by_moment (λ s. get_elem? s.views id ≡ some v
-      → Rule record { words = s.words; homes = s.homes; views = set s.views id v
-      ++ note_view v ∷ [] })
+      → Rule record {
+        words = s.words;
+        homes = s.homes;
+        views = set s.views id v
+            ++ note_view v ∷ [];
+      })
       (λ m vs f at. let fit = f.fits id v at in let m' : Mo = after_tell m in
       kept m' (set vs id v ++ note_view v ∷ [])
-          (comes m m' vs id v (note_view v) f refl refl refl refl refl refl
-          (told_fit m id v fit (subst (Stand m' id v.known) (sym idle) tt))
-      record { origin_is = fit.origin_is; seen = fit.seen; drawn = omega arith;
-          served = omega arith; first_if_lone = λ e. never e; stage = tt; port = λ e. never e }
+      (comes m m' vs id v (note_view v) f refl refl refl refl refl refl
+      (told_fit m id v fit (subst (Stand m' id v.known) (sym idle) tt))
+      record {
+        origin_is = fit.origin_is;
+        seen = fit.seen;
+        drawn = omega arith;
+        served = omega arith;
+        first_if_lone = λ e. never e;
+        stage = tt;
+        port = λ e. never e;
+      }
       (λ j d other g. told_fit m j d g (tell_staged m j d.known (not_lone m id j v d other fit g)
-          d.stage g.stage))))
+      d.stage g.stage))))
 
   -- the moment at which the numbers of seat `other` belong to seat i
   abbrev after_join : Mo → ℕ → ℕ → Mo
@@ -1125,18 +1363,28 @@ module _ {T E R O : Type 0} (origin : T → O) (stands : T → List (Entry E R) 
       → Joins Rule id v other w (view_with v w) spent_view
   joins id v other w port = by_moment
       (λ s. get_elem? s.views id ≡ some v → ¬ (other ≡ id)
-          → get_elem? (set s.views id (view_with v w)) other ≡ some w
-          → Rule record { words = s.words; homes = s.homes;
-          views = set (set s.views id (view_with v w)) other spent_view })
+      → get_elem? (set s.views id (view_with v w)) other ≡ some w
+      → Rule record {
+        words = s.words;
+        homes = s.homes;
+        views = set (set s.views id (view_with v w)) other spent_view;
+      })
       (λ m vs f at apart there. let n : id ≢ other = λ e. apart (sym e) in let fit = f.fits id v at
-          in let m' : Mo = after_join m other id in let both : V = view_with v w in
+      in let m' : Mo = after_join m other id in let both : V = view_with v w in
       let theirs = f.fits other w (sym (set_else vs id other both apart) ∙ there) in
       let st = join_met m other id v w n port fit theirs in
       let mine : Fit m' id both = fit_at_stage m' id v (Met w.is_port w.known)
-          (join_fit m other id id v n fit) st in
-      let spent : Fit m' other spent_view = record { origin_is = λ o e. no_origin e;
-          seen = (m.history, refl); drawn = omega arith; served = omega arith; first_if_lone =
-          theirs.first_if_lone; stage = tt; port = λ e. never e } in
+      (join_fit m other id id v n fit) st in
+      let spent : Fit m' other spent_view = record {
+        origin_is = λ o e. no_origin e;
+        seen = (m.history, refl);
+        drawn = omega arith;
+        served = omega arith;
+        first_if_lone =
+            theirs.first_if_lone;
+        stage = tt;
+        port = λ e. never e;
+      } in
       kept m' (set (set vs id both) other spent_view) record {
         range = f.range;
         within_most = f.within_most;

@@ -14,9 +14,17 @@ module _ {E R O : Type 0} {legal : O → List (Entry E R) → Type 0} where
   -- taking no step is watching
   pub watches_refl : (k : Known E R O) → IsLegal legal k → Watches legal k k
   watches_refl k lawful = record {
-    sees = record { origin = refl; number = refl; splits = refl; drawn = le_refl k.drawn;
-        served = le_refl k.served; seen = starts_refl k.seen; lawful = lawful; own_calls =
-        λ q o. refl };
+    sees = record {
+      origin = refl;
+      number = refl;
+      splits = refl;
+      drawn = le_refl k.drawn;
+      served = le_refl k.served;
+      seen = starts_refl k.seen;
+      lawful = lawful;
+      own_calls =
+          λ q o. refl;
+    };
     joined = refl;
   }
 
@@ -69,9 +77,12 @@ module _ {E R O : Type 0} {legal : O → List (Entry E R) → Type 0} where
     joined = ap (λ x. x.known.joined) is ∙ a.joined;
     drawn = subst (λ n. k.drawn ≤ n) (sym (ap (λ x. x.known.drawn) is)) t.drawn;
     served = subst (λ n. k.served ≤ n) (sym (ap (λ x. x.known.served) is)) t.served;
-    seen = (t.seen.0, ap (λ x. x.known.seen) is
-        ∙ (ap (λ s. s ++ entry v.known.number e.value r.value ∷ []) t.seen.1
-        ∙ ap (λ p. (k.seen ++ t.seen.0) ++ entry p e.value r.value ∷ []) t.number));
+    seen = (
+      t.seen.0,
+      ap (λ x. x.known.seen) is
+          ∙ (ap (λ s. s ++ entry v.known.number e.value r.value ∷ []) t.seen.1
+          ∙ ap (λ p. (k.seen ++ t.seen.0) ++ entry p e.value r.value ∷ []) t.number),
+    );
     lawful = ended.lawful;
     own_calls = subst (λ p. calls_by p w.known.seen ≡ calls_by p v.known.seen
         ++ entry p e.value r.value ∷ []) t.number ended.own_calls

@@ -52,7 +52,7 @@ same_cut (suc f) zero bytes a b = cut_none (head_of bytes) bytes (cut_in f) (sho
 same_cut (suc f) (suc g) bytes a b =
     cut_by_same (head_of bytes) bytes (cut_in f) (cut_in g)
     (λ n h. let shorter = after_shorter bytes n h in same_cut f g (after_first n bytes)
-        (omega arith) (omega arith))
+    (omega arith) (omega arith))
 
 -- bytes split into all their frames
 abbrev pub cut_of : List ℕ → Cut
@@ -65,7 +65,7 @@ cut_step_in zero bytes short = sym (cut_none (head_of bytes) bytes cut_of (short
 cut_step_in (suc most) bytes short =
     cut_by_same (head_of bytes) bytes (cut_in most) cut_of
     (λ n h. let shorter = after_shorter bytes n h in same_cut most (length (after_first n bytes))
-        (after_first n bytes) (omega arith) (omega arith))
+    (after_first n bytes) (omega arith) (omega arith))
 
 -- one step of the split
 pub cut_step : (bytes : List ℕ) → cut_of bytes ≡ cut_by (head_of bytes) bytes cut_of
@@ -86,25 +86,25 @@ frame_more : (bytes more : List ℕ) (n : ℕ) → header_size + n ≤ length by
 frame_more bytes more n h =
     let headed : header_size ≤ length bytes = omega arith in
     let there : n ≤ length (drop header_size bytes) =
-        omega (arith, length-drop header_size bytes) in
+    omega (arith, length-drop header_size bytes) in
     let src = field_more 2 bytes more (omega arith) in
     let dst = field_more 4 bytes more (omega arith) in
     let payload : take n (drop header_size (bytes ++ more)) ≡ take n (drop header_size bytes) =
     ap (take n) (drop-append-le header_size bytes more headed)
-        ∙ take-append-le n (drop header_size bytes) more there in
+    ∙ take-append-le n (drop header_size bytes) more there in
     cc
 
 -- a first frame and the bytes after it, whatever bytes follow
 cut_first_more : (bytes more : List ℕ) (n : ℕ) → head_of bytes ≡ Whole n
     → cut_of (bytes ++ more) ≡ cut_after (first_frame n bytes)
-        (cut_of (after_first n bytes ++ more))
+    (cut_of (after_first n bytes ++ more))
 cut_first_more bytes more n h =
     let w = whole_parts bytes n h in
     let after : after_first n (bytes ++ more) ≡ after_first n bytes ++ more =
-        drop-append-le (header_size + n) bytes more w.there in
+    drop-append-le (header_size + n) bytes more w.there in
     cut_first (bytes ++ more) n (whole_more bytes more n h)
     ∙ ap (λ (frame : Frame). cut_after frame (cut_of (after_first n (bytes ++ more))))
-        (frame_more bytes more n w.there)
+    (frame_more bytes more n w.there)
     ∙ ap (λ (rest : List ℕ). cut_after (first_frame n bytes) (cut_of rest)) after
 
 -- a payload has the length that its header states
@@ -128,7 +128,7 @@ pub first_on : (old : List ℕ) (frame : Frame) (new : List ℕ) → IsFirst old
 first_on old frame new is =
     subst (λ (rest : List ℕ). GoesOn old (Some frame) rest) (sym is.after)
     (subst (λ (first : Frame). GoesOn old (Some first) (after_first (length frame.payload) old))
-        (sym is.frame_is)
+    (sym is.frame_is)
     (goes_on old (length frame.payload) is.front))
 
 -- if the front is part of a frame, nothing changes
@@ -140,8 +140,12 @@ pub is_part : (bytes : List ℕ) → head_of bytes ≡ Part → IsPart bytes
 unfolding frames_of rest_of
 is_part bytes h =
     let none = cut_stays bytes (λ n e. cc) in
-    record { front = h; few = part_few bytes h; frames = ap (λ (cut : Cut). cut.frames) none;
-        rest = ap (λ (cut : Cut). cut.rest) none }
+    record {
+      front = h;
+      few = part_few bytes h;
+      frames = ap (λ (cut : Cut). cut.frames) none;
+      rest = ap (λ (cut : Cut). cut.rest) none;
+    }
 
 -- a front that is not a frame, and remains so whatever bytes follow, stops the reading
 stops_at : (front : Head) (bytes : List ℕ) → ((n : ℕ) → front ≢ Whole n)
@@ -149,9 +153,12 @@ stops_at : (front : Head) (bytes : List ℕ) → ((n : ℕ) → front ≢ Whole 
 unfolding frames_of rest_of
 stops_at front bytes unlike same =
     let none = λ (more : List ℕ). cut_stays (bytes ++ more) (λ n e. unlike n (sym (same more) ∙ e))
-        in
-    record { frames = λ more. ap (λ (cut : Cut). cut.frames) (none more);
-        rest = λ more. ap (λ (cut : Cut). cut.rest) (none more); heads = same }
+    in
+    record {
+      frames = λ more. ap (λ (cut : Cut). cut.frames) (none more);
+      rest = λ more. ap (λ (cut : Cut). cut.rest) (none more);
+      heads = same;
+    }
 
 pub stops_version : (bytes : List ℕ) → head_of bytes ≡ BadVersion → Stops BadVersion bytes
 stops_version bytes h = stops_at BadVersion bytes (λ n e. cc) (λ more. version_more bytes more h)

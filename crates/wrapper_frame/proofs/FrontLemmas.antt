@@ -66,7 +66,7 @@ field_more at bytes more h =
     let there : at ≤ length bytes = omega arith in
     let two : 2 ≤ length (drop at bytes) = omega (arith, length-drop at bytes) in
     ap (big_number 2) (drop-append-le at bytes more there)
-        ∙ big_from-append 2 (drop at bytes) more two
+    ∙ big_from-append 2 (drop at bytes) more two
 
 -- the parts of a whole frame
 pub record WholeParts (bytes : List ℕ) (n : ℕ) : Type 0 where
@@ -82,21 +82,29 @@ whole_parts bytes n h =
     let told : length_of bytes ≡ n = tests.4 in
     let there : header_size + length_of bytes ≤ length bytes = ltb-false _ _ tests.3 in
     let small : length_of bytes ≤ max_payload = ltb-false _ _ tests.2 in
-    record { there = rw told at there; small = rw told at small; version = eqb-true _ _ tests.1;
-        told = told }
+    record {
+      there = rw told at there;
+      small = rw told at small;
+      version = eqb-true _ _ tests.1;
+      told = told;
+    }
 
 -- a front determined by three numbers, of which two are right
 told_with : (size version n : ℕ) → version ≡ wrapper_version → n ≤ max_payload → header_size
     + n ≤ size → told_by size version n ≡ Whole n
 told_with size version n v small there =
-    rw (le-ltb size header_size (omega arith), v, le-ltb max_payload n small,
-        le-ltb size (header_size + n) there) refl
+    rw (
+      le-ltb size header_size (omega arith),
+      v,
+      le-ltb max_payload n small,
+      le-ltb size (header_size + n) there,
+    ) refl
 
 -- bytes with these parts begin with a whole frame
 pub parts_whole : (bytes : List ℕ) (n : ℕ) → WholeParts bytes n → head_of bytes ≡ Whole n
 parts_whole bytes n w =
     head_is bytes ∙ ap (told_by (length bytes) (version_of bytes)) w.told
-        ∙ told_with (length bytes) (version_of bytes) n w.version w.small w.there
+    ∙ told_with (length bytes) (version_of bytes) n w.version w.small w.there
 
 -- a whole frame remains at the front
 pub whole_more : (bytes more : List ℕ) (n : ℕ) → head_of bytes ≡ Whole n → head_of (bytes ++ more)
@@ -113,8 +121,10 @@ whole_more bytes more n h =
 -- a wrong version at the front
 told_version : (size version n : ℕ) → header_size ≤ size → version ≢ wrapper_version
     → told_by size version n ≡ BadVersion
-told_version size version n headed v = rw (le-ltb size header_size headed,
-    ne_eqb version wrapper_version v) refl
+told_version size version n headed v = rw (
+  le-ltb size header_size headed,
+  ne_eqb version wrapper_version v,
+) refl
 
 -- a wrong version remains at the front
 pub version_more : (bytes more : List ℕ) → head_of bytes ≡ BadVersion → head_of (bytes ++ more)
@@ -124,15 +134,18 @@ version_more bytes more h =
     let headed : header_size ≤ length bytes = ltb-false _ _ tests.0 in
     let other : version_of bytes ≢ wrapper_version = eqb-false _ _ tests.1 in
     let same : version_of (bytes ++ more) ≡ version_of bytes =
-        big_from-append 2 bytes more (omega arith) in
+    big_from-append 2 bytes more (omega arith) in
     head_is (bytes ++ more) ∙ told_version _ _ _ (omega (arith, length-append bytes more))
-        (λ e. other (sym same ∙ e))
+    (λ e. other (sym same ∙ e))
 
 -- too long a payload at the front
 told_long : (size version n : ℕ) → header_size ≤ size → version ≡ wrapper_version → max_payload < n
     → told_by size version n ≡ TooLong
-told_long size version n headed v long = rw (le-ltb size header_size headed, v,
-    lt-ltb max_payload n long) refl
+told_long size version n headed v long = rw (
+  le-ltb size header_size headed,
+  v,
+  lt-ltb max_payload n long,
+) refl
 
 -- too long a payload remains at the front
 pub long_more : (bytes more : List ℕ) → head_of bytes ≡ TooLong → head_of (bytes ++ more) ≡ TooLong
@@ -142,11 +155,11 @@ long_more bytes more h =
     let version : version_of bytes ≡ wrapper_version = eqb-true _ _ tests.1 in
     let long : max_payload < length_of bytes = ltb-true _ _ tests.2 in
     let same_version : version_of (bytes ++ more) ≡ version_of bytes =
-        big_from-append 2 bytes more (omega arith) in
+    big_from-append 2 bytes more (omega arith) in
     let same_length : length_of (bytes ++ more) ≡ length_of bytes =
-        field_more 6 bytes more (omega arith) in
+    field_more 6 bytes more (omega arith) in
     head_is (bytes ++ more) ∙ told_long _ _ _ (omega (arith, length-append bytes more))
-        (same_version ∙ version) (omega arith)
+    (same_version ∙ version) (omega arith)
 
 -- part of a frame is shorter than the longest frame
 few_by : (b c d e : Bool) (size n : ℕ) → b ≡ nat_lt size header_size → d ≡ nat_lt max_payload n → e

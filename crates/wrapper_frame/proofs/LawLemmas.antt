@@ -49,9 +49,9 @@ text_whole : (frame : Frame) (more : List ℕ) → IsFrame frame → head_of (fr
 text_whole frame more is =
     let fields = text_fields frame more is in
     let after : length (frame_text frame ++ more) - header_size ≡ length frame.payload
-        + length more =
+    + length more =
     sym (length-drop header_size (frame_text frame ++ more)) ∙ ap length fields.after_is
-        ∙ length-append frame.payload more in
+    ∙ length-append frame.payload more in
     parts_whole (frame_text frame ++ more) (length frame.payload) (record {
       there = omega (arith, fields.headed);
       small = is.payload;
@@ -63,7 +63,7 @@ text_whole frame more is =
 same_frame : (src dst src' dst' : ℕ) (payload payload' : List ℕ) → src ≡ src' → dst ≡ dst' → payload
     ≡ payload'
     → ◌≡◌ {A = Frame} (record { src = src; dst = dst; payload = payload })
-        (record { src = src'; dst = dst'; payload = payload' })
+    (record { src = src'; dst = dst'; payload = payload' })
 same_frame src dst src' dst' payload payload' s d p = cc
 
 -- the first frame of a frame's text is that frame
@@ -72,7 +72,7 @@ text_first : (frame : Frame) (more : List ℕ) → IsFrame frame
 text_first frame more is =
     let fields = text_fields frame more is in
     let payload : take (length frame.payload) (drop header_size (frame_text frame ++ more))
-        ≡ frame.payload =
+    ≡ frame.payload =
     ap (take (length frame.payload)) fields.after_is ∙ take-append_seam frame.payload more in
     same_frame _ _ frame.src frame.dst _ frame.payload fields.src_is fields.dst_is payload
 
@@ -90,16 +90,18 @@ cut_text : (frame : Frame) (more : List ℕ) → IsFrame frame → cut_of (frame
 cut_text frame more is =
     cut_first (frame_text frame ++ more) (length frame.payload) (text_whole frame more is)
     ∙ ap (λ (first : Frame). cut_after first (cut_of
-        (after_first (length frame.payload) (frame_text frame ++ more)))) (text_first frame more is)
+    (after_first (length frame.payload) (frame_text frame ++ more)))) (text_first frame more is)
     ∙ ap (λ (rest : List ℕ). cut_after frame (cut_of rest)) (text_after frame more is)
 
 -- the text of a frame is read back
 pub is_read_back : (frame : Frame) (more : List ℕ) → IsFrame frame
     → (frames_of (frame_text frame ++ more) ≡ frame ∷ frames_of more)
-        × (rest_of (frame_text frame ++ more) ≡ rest_of more)
+    × (rest_of (frame_text frame ++ more) ≡ rest_of more)
 unfolding frames_of rest_of
-is_read_back frame more is = (ap (λ (cut : Cut). cut.frames) (cut_text frame more is),
-    ap (λ (cut : Cut). cut.rest) (cut_text frame more is))
+is_read_back frame more is = (
+  ap (λ (cut : Cut). cut.frames) (cut_text frame more is),
+  ap (λ (cut : Cut). cut.rest) (cut_text frame more is),
+)
 
 -- the bytes after others are bytes
 bytes_after : (xs ys : List ℕ) → AreBytes (xs ++ ys) → AreBytes ys
@@ -126,12 +128,12 @@ two_spelled (a ∷ []) h all = absurd (omega arith)
 two_spelled (a ∷ b ∷ xs) h all =
     let number : a * 256 + (b * 1 + 0) ≡ a * 256 + b = omega arith in
     ap (λ (n : ℕ). big_bytes 2 n ++ xs) number
-        ∙ ap (λ (bs : List ℕ). bs ++ xs) (two_bytes a b (all 0) (all 1))
+    ∙ ap (λ (bs : List ℕ). bs ++ xs) (two_bytes a b (all 0) (all 1))
 
 -- the four numbers of a header spell its bytes
 header_spelled : (bytes : List ℕ) → header_size ≤ length bytes → AreBytes bytes
     → (big_bytes 2 (version_of bytes) ++ big_bytes 2 (src_of bytes) ++ big_bytes 2 (dst_of bytes)
-        ++ big_bytes 2 (length_of bytes)) ++ drop header_size bytes ≡ bytes
+    ++ big_bytes 2 (length_of bytes)) ++ drop header_size bytes ≡ bytes
 header_spelled bytes h all =
     let fourth : big_bytes 2 (length_of bytes) ++ drop header_size bytes ≡ drop 6 bytes =
     ap (λ (xs : List ℕ). big_bytes 2 (length_of bytes) ++ xs) (sym (drop-drop 2 6 bytes))
@@ -143,9 +145,9 @@ header_spelled bytes h all =
     ap (λ (xs : List ℕ). big_bytes 2 (src_of bytes) ++ xs) (sym (drop-drop 2 2 bytes))
     ∙ two_spelled (drop 2 bytes) (omega (arith, length-drop 2 bytes)) (bytes_drop 2 bytes all) in
     let first : big_bytes 2 (version_of bytes) ++ drop 2 bytes ≡ bytes =
-        two_spelled bytes (omega arith) all in
+    two_spelled bytes (omega arith) all in
     ap (λ (xs : List ℕ). big_bytes 2 (version_of bytes) ++ big_bytes 2 (src_of bytes)
-        ++ big_bytes 2 (dst_of bytes) ++ xs) fourth
+    ++ big_bytes 2 (dst_of bytes) ++ xs) fourth
     ∙ ap (λ (xs : List ℕ). big_bytes 2 (version_of bytes) ++ big_bytes 2 (src_of bytes) ++ xs) third
     ∙ ap (λ (xs : List ℕ). big_bytes 2 (version_of bytes) ++ xs) second
     ∙ first
@@ -157,23 +159,23 @@ unfolding frame_text
 front_spelled bytes n h all =
     let w = whole_parts bytes n h in
     let size : length (first_frame n bytes).payload ≡ length_of bytes =
-        payload_length bytes n w.there ∙ sym w.told in
+    payload_length bytes n w.there ∙ sym w.told in
     let body : take n (drop header_size bytes) ++ after_first n bytes ≡ drop header_size bytes =
     ap (λ (xs : List ℕ). take n (drop header_size bytes)
-        ++ xs) (sym (drop-drop n header_size bytes))
-        ∙ take-append-drop n (drop header_size bytes) in
+    ++ xs) (sym (drop-drop n header_size bytes))
+    ∙ take-append-drop n (drop header_size bytes) in
     let header : (xs : List ℕ) → header_text (src_of bytes) (dst_of bytes)
-        (length (first_frame n bytes).payload) ++ xs
+    (length (first_frame n bytes).payload) ++ xs
     ≡ (big_bytes 2 (version_of bytes) ++ big_bytes 2 (src_of bytes) ++ big_bytes 2 (dst_of bytes)
-        ++ big_bytes 2 (length_of bytes)) ++ xs =
+    ++ big_bytes 2 (length_of bytes)) ++ xs =
     λ xs. ap (λ (k : ℕ). header_text (src_of bytes) (dst_of bytes) k ++ xs) size
     ∙ ap (λ (k : ℕ). (big_bytes 2 k ++ big_bytes 2 (src_of bytes) ++ big_bytes 2 (dst_of bytes)
-        ++ big_bytes 2 (length_of bytes)) ++ xs) (sym w.version) in
+    ++ big_bytes 2 (length_of bytes)) ++ xs) (sym w.version) in
     append_assoc (header_text (src_of bytes) (dst_of bytes) (length (first_frame n bytes).payload))
-        (first_frame n bytes).payload (after_first n bytes)
+    (first_frame n bytes).payload (after_first n bytes)
     ∙ header ((first_frame n bytes).payload ++ after_first n bytes)
     ∙ ap (λ (xs : List ℕ). (big_bytes 2 (version_of bytes) ++ big_bytes 2 (src_of bytes)
-        ++ big_bytes 2 (dst_of bytes) ++ big_bytes 2 (length_of bytes)) ++ xs) body
+    ++ big_bytes 2 (dst_of bytes) ++ big_bytes 2 (length_of bytes)) ++ xs) body
     ∙ header_spelled bytes (omega (arith, w.there)) all
 
 -- the frame at the front can be written
@@ -227,13 +229,13 @@ messages_first bytes n cut h all m =
 found_by : (bytes : List ℕ) → AreBytes bytes → ((n : ℕ) × (head_of bytes ≡ Whole n))
     ⊎ ((n : ℕ) → head_of bytes ≢ Whole n)
     → ((n : ℕ) → head_of bytes ≡ Whole n → IsCut (after_first n bytes)
-        (cut_of (after_first n bytes))) → IsCut bytes (cut_of bytes)
+    (cut_of (after_first n bytes))) → IsCut bytes (cut_of bytes)
 found_by bytes all (inl (n, h)) later =
     subst (IsCut bytes) (sym (cut_first bytes n h))
-        (messages_first bytes n (cut_of (after_first n bytes)) h all (later n h))
+    (messages_first bytes n (cut_of (after_first n bytes)) h all (later n h))
 found_by bytes all (inr unlike) later =
     subst (IsCut bytes) (sym (cut_stays bytes unlike))
-        (record { spelled = refl; fit = tt; ended = begins_with_none bytes unlike })
+    (record { spelled = refl; fit = tt; ended = begins_with_none bytes unlike })
 
 found_in : (most : ℕ) (bytes : List ℕ) → length bytes ≤ most → AreBytes bytes
     → IsCut bytes (cut_of bytes)
@@ -242,7 +244,7 @@ found_in zero bytes short all = found_by bytes all (inr (short_whole bytes short
 found_in (suc most) bytes short all =
     found_by bytes all (front_cases (head_of bytes))
     (λ n h. let shorter = after_shorter bytes n h in found_in most (after_first n bytes)
-        (omega arith) (bytes_drop (header_size + n) bytes all))
+    (omega arith) (bytes_drop (header_size + n) bytes all))
 
 -- bytes are the texts of their frames, followed by their rest
 pub is_found : (bytes : List ℕ) → AreBytes bytes → Messages bytes (frames_of bytes) (rest_of bytes)
@@ -257,13 +259,13 @@ only_in [] rest all fit none = cut_stays rest (none_whole rest all none)
 only_in (frame ∷ frames) rest all fit none =
     let later : List ℕ = flat_map frame_text frames ++ rest in
     let same : (frame_text frame ++ flat_map frame_text frames) ++ rest ≡ frame_text frame
-        ++ (flat_map frame_text frames ++ rest) =
+    ++ (flat_map frame_text frames ++ rest) =
     append_assoc (frame_text frame) (flat_map frame_text frames) rest in
     ap cut_of same
     ∙ cut_text frame (flat_map frame_text frames ++ rest) fit.0
     ∙ ap (cut_after frame) (only_in frames rest
-        (bytes_after (frame_text frame) (flat_map frame_text frames ++ rest)
-        (subst AreBytes same all)) fit.1 none)
+    (bytes_after (frame_text frame) (flat_map frame_text frames ++ rest)
+    (subst AreBytes same all)) fit.1 none)
 
 -- bytes are the texts of no other frames
 pub is_only : (bytes : List ℕ) (frames : List Frame) (rest : List ℕ) → AreBytes bytes
@@ -271,7 +273,7 @@ pub is_only : (bytes : List ℕ) (frames : List Frame) (rest : List ℕ) → Are
 unfolding frames_of rest_of
 is_only bytes frames rest all m =
     let cut = ap cut_of m.spelled ∙ only_in frames rest (subst AreBytes m.spelled all) m.fit m.ended
-        in
+    in
     (sym (ap (λ (cut : Cut). cut.frames) cut), sym (ap (λ (cut : Cut). cut.rest) cut))
 
 -- a front that is not a whole frame is one of the three ends
@@ -285,7 +287,7 @@ end_cases TooLong unlike = tt
 end_by : (bytes : List ℕ) → ((n : ℕ) × (head_of bytes ≡ Whole n))
     ⊎ ((n : ℕ) → head_of bytes ≢ Whole n)
     → ((n : ℕ) → head_of bytes ≡ Whole n → IsEnd (head_of (cut_of (after_first n bytes)).rest))
-        → IsEnd (head_of (cut_of bytes).rest)
+    → IsEnd (head_of (cut_of bytes).rest)
 end_by bytes (inl (n, h)) later = subst (λ (cut : Cut). IsEnd (head_of cut.rest))
     (sym (cut_first bytes n h)) (later n h)
 end_by bytes (inr unlike) later = subst (λ (cut : Cut). IsEnd (head_of cut.rest))
@@ -296,8 +298,8 @@ end_in zero bytes short = end_by bytes (inr (short_whole bytes short))
     (λ n h. absurd (short_whole bytes short n h))
 end_in (suc most) bytes short =
     end_by bytes (front_cases (head_of bytes))
-        (λ n h. let shorter = after_shorter bytes n h in end_in most (after_first n bytes)
-        (omega arith))
+    (λ n h. let shorter = after_shorter bytes n h in end_in most (after_first n bytes)
+    (omega arith))
 
 -- the rest begins with one of the three ends
 pub has_end : (bytes : List ℕ) → IsEnd (head_of (rest_of bytes))

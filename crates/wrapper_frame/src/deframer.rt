@@ -1,3 +1,5 @@
+//! `Deframer`: buffers the bytes of a stream and returns its frames, wherever the stream is split
+//! (IEC 62056-4-7).
 ghost use Rattle.std.specs.Prelude.{◌≡◌, ◌≤◌, ◌+◌, ◌↔◌, [], ◌++◌, length, take, drop, Some, IsTrue, IfOk, IfErr, OnOk, OnErr, IsErrOf};
 ghost use Rattle.wrapper_frame.specs.Header.{header_size, src_of, dst_of, head_of};
 ghost use Rattle.wrapper_frame.specs.Messages.{first_frame, after_first};

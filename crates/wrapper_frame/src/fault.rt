@@ -1,3 +1,4 @@
+//! The errors of framing: a wrong version, a payload of more than 1,024 bytes, or out of memory.
 ghost use Rattle.std.specs.Prelude.{◌≡◌};
 ghost use Rattle.wrapper_frame.specs.Numbers.{fault_number};
 ghost use Rattle.wrapper_frame.specs.declared.fault.WrapperFault.TheVariants.{Memory};

@@ -1,3 +1,5 @@
+//! The layout of the wrapper's header (IEC 62056-4-7), and the check of the bytes at the front of a
+//! stream.
 ghost use Rattle.std.specs.Prelude.{◌≡◌};
 ghost use Rattle.wrapper_frame.specs.Header.{head_of, IsThere};
 

@@ -1,3 +1,4 @@
+//! Proves that a stream of bytes divides into frames in exactly one way.
 ghost use Rattle.wrapper_frame.specs.Law.{IsFound, IsOnly, HasEnd, IsReadBack};
 
 /// Proves that any bytes are the texts of certain frames, followed by a rest that does not begin

@@ -1,3 +1,4 @@
+//! `Frame`: the source port, the destination port and the payload (IEC 62056-4-7).
 use octets::Octets;
 
 /// A frame of the wrapper: its ports and its payload.

@@ -1,3 +1,5 @@
+//! Writes a frame, in a new buffer or by overwriting eight reserved bytes in front of its payload
+//! (IEC 62056-4-7).
 ghost use Rattle.std.specs.Prelude.{◌≡◌, ◌<◌, ◌≤◌, ◌↔◌, ◌≢◌, ◌++◌, length, drop, IfOk, IsErrOf, Err};
 ghost use Rattle.wrapper_frame.specs.Header.{header_size, max_payload};
 ghost use Rattle.wrapper_frame.specs.Text.{header_text, frame_text};

@@ -1,3 +1,5 @@
+//! A block of a long value, as requests and responses carry it: DataBlock-SA and DataBlock-G (IEC
+//! 62056-5-3).
 use cosem_axdr::Octets;
 
 /// One block of a value sent by block transfer: DataBlock-SA, or DataBlock-G with raw data (IEC

@@ -1,3 +1,4 @@
+//! The errors of reading an APDU: unknown tag, unknown form, unreadable contents, or out of memory.
 ghost use Rattle.std.specs.Prelude.{◌≡◌};
 ghost use Rattle.xdlms_apdu.specs.Numbers.{fault_number};
 ghost use Rattle.xdlms_apdu.specs.declared.fault.ApduFault.TheVariants.{Memory, Unreadable};

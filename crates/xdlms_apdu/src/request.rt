@@ -1,3 +1,4 @@
+//! The requests GET, SET and ACTION as values, one variant for each form (IEC 62056-5-3).
 use crate::block::DataBlock;
 use crate::invoke_id::InvokeId;
 use cosem_axdr::Data;

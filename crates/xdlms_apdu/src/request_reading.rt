@@ -1,3 +1,4 @@
+//! Reads a GET, SET or ACTION request from its bytes (IEC 62056-5-3).
 ghost use Rattle.std.specs.Prelude.{◌≡◌, IfOk, MatchResult};
 ghost use Rattle.byte_reading.specs.Outcome.{Gives};
 ghost use Rattle.byte_reading.specs.ByteFormats.{read_one_of};

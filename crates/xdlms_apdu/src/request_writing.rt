@@ -1,3 +1,4 @@
+//! Writes a GET, SET or ACTION request as its bytes (IEC 62056-5-3).
 ghost use Rattle.std.specs.Prelude.{◌≡◌, ◌++◌, IfOk, OnOk};
 ghost use Rattle.xdlms_apdu.specs.Requests.{request_text};
 

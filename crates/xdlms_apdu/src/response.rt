@@ -1,3 +1,4 @@
+//! The responses to GET, SET and ACTION as values, and ExceptionResponse (IEC 62056-5-3).
 use crate::block::DataBlock;
 use crate::invoke_id::InvokeId;
 use cosem_names::{GetResult, ResultCode};

@@ -1,3 +1,5 @@
+//! Reads a response to a GET, SET or ACTION, or an ExceptionResponse, from its bytes (IEC
+//! 62056-5-3).
 ghost use Rattle.std.specs.Prelude.{◌≡◌, IfOk, MatchResult};
 ghost use Rattle.byte_reading.specs.Outcome.{Gives};
 ghost use Rattle.byte_reading.specs.ByteFormats.{read_one_of};

@@ -1,3 +1,5 @@
+//! Writes a response to a GET, SET or ACTION, or an ExceptionResponse, as its bytes (IEC
+//! 62056-5-3).
 ghost use Rattle.std.specs.Prelude.{◌≡◌, ◌++◌, IfOk, OnOk, OnErr};
 ghost use Rattle.std.proofs.Common.{inl, inr};
 ghost use Rattle.cosem_axdr.specs.Appending.{Extends};

@@ -20,15 +20,19 @@ pub record AreRest (size number : ℕ) (pieces : List Piece) (rest : List ℕ) :
 rest_by : (last : Bool) (size number : ℕ) (text : List ℕ) (later : List Piece) → 0 < size
     → number * size < length text
     → nat_le (length text) ((number + 1) * size) ≡ last
-        → (last ≡ false → AreRest size (number + 1) later (drop ((number + 1) * size) text))
-    → AreRest size number (record { last = last; number = number
-        + 1; raw = block_after number size text } ∷ cond last [] later) (drop (number * size) text)
+    → (last ≡ false → AreRest size (number + 1) later (drop ((number + 1) * size) text))
+    → AreRest size number (record {
+      last = last;
+      number = number
+          + 1;
+      raw = block_after number size text;
+    } ∷ cond last [] later) (drop (number * size) text)
 rest_by true size number text later some more is_last rest =
     let within : length text ≤ (number + 1) * size = leb-true _ _ is_last in
     let left : length (drop (number * size) text) ≤ size =
-        omega (arith, length-drop (number * size) text) in
+    omega (arith, length-drop (number * size) text) in
     let all : block_after number size text ≡ drop (number * size) text =
-        take_whole size (drop (number * size) text) left in
+    take_whole size (drop (number * size) text) left in
     record {
       blocks = last_block number (block_after number size text)
           (omega (arith, ap length all, length-drop (number * size) text))
@@ -38,7 +42,7 @@ rest_by true size number text later some more is_last rest =
 rest_by false size number text later some more is_last rest =
     let beyond : (number + 1) * size < length text = leb-false _ _ is_last in
     let there : size ≤ length (drop (number * size) text) =
-        omega (arith, length-drop (number * size) text) in
+    omega (arith, length-drop (number * size) text) in
     let next : number * size + size ≡ (number + 1) * size = omega arith in
     let r = rest refl in
     record {
@@ -47,7 +51,7 @@ rest_by false size number text later some more is_last rest =
       whole =
           ap (λ (xs : List ℕ). block_after number size text ++ xs)
           (r.whole ∙ ap (λ (n : ℕ). drop n text) (sym next)
-              ∙ sym (drop-drop size (number * size) text))
+          ∙ sym (drop-drop size (number * size) text))
           ∙ take-append-drop size (drop (number * size) text);
     }
 
@@ -69,7 +73,7 @@ unfolding pieces_of
 rest_of_all text size some fits =
     let none : 0 * size ≡ 0 = omega arith in
     subst (λ (n : ℕ). AreRest size 0 (pieces_in (length text) (new_sending text size))
-        (drop n text)) none
+    (drop n text)) none
     (rest_in (length text) (new_sending text size) fits (omega arith) (omega arith))
 
 pub is_cut : (text : List ℕ) (size : ℕ) → 0 < length text → 0 < size
@@ -84,21 +88,21 @@ is_whole text size some fits = (rest_of_all text size some fits).whole
 joins_from : (size number : ℕ) (pieces : List Piece) → AreBlocks size number pieces
     → (bytes : List ℕ) → length bytes + length (joined_bytes pieces) ≤ max_joined
     → Joins (record { number = number; bytes = bytes; is_open = true }) pieces (bytes
-        ++ joined_bytes pieces)
+    ++ joined_bytes pieces)
 joins_from size _ _ (last_block number raw some fits) bytes short =
     let same : raw ++ [] ≡ raw = append-nil raw in
     at_last _ _ _ (record { going = refl; next = refl; short = omega (arith, ap length same) })
     (ap (λ (xs : List ℕ). Some (bytes ++ xs)) (sym same))
 joins_from size _ _ (full_block number raw pieces full later) bytes short =
     let total : length (raw ++ joined_bytes pieces) ≡ length raw + length (joined_bytes pieces) =
-        length-append raw (joined_bytes pieces) in
+    length-append raw (joined_bytes pieces) in
     let same : (bytes ++ raw) ++ joined_bytes pieces ≡ bytes ++ (raw ++ joined_bytes pieces) =
-        append_assoc bytes raw (joined_bytes pieces) in
+    append_assoc bytes raw (joined_bytes pieces) in
     goes_on _ _ _ _ (record { going = refl; next = refl; short = omega arith }) refl
     (subst (Joins (record { number = number + 1; bytes = bytes ++ raw; is_open = true })
-        pieces) same
+    pieces) same
     (joins_from size (number + 1) pieces later (bytes ++ raw)
-        (omega (arith, length-append bytes raw))))
+    (omega (arith, length-append bytes raw))))
 
 pub is_joined : (size : ℕ) (pieces : List Piece) → AreBlocks size 0 pieces
     → length (joined_bytes pieces) ≤ max_joined → Joins new_joining pieces (joined_bytes pieces)
@@ -132,35 +136,43 @@ some_joined size _ _ fits (full_block number raw pieces full later) =
 only_in : (size number : ℕ) (pieces : List Piece) → 0 < size → AreBlocks size number pieces
     → (most : ℕ) (text : List ℕ) (going : Bool)
     → drop (number * size) text ≡ joined_bytes pieces → length text ≤ number * size + most
-        → pieces_in most (record { text = text; number = number; size = size; is_open = going }) ≡
-        pieces
+    → pieces_in most (record { text = text; number = number; size = size; is_open = going }) ≡
+    pieces
 unfolding pieces_in piece_of
 only_in size _ _ fits (last_block number raw some within) zero text going rest enough =
     absurd (omega (arith, ap length rest, length-append raw [], length-drop (number * size) text))
 only_in size _ _ fits (last_block number raw some within) (suc most) text going rest enough =
     let last : length text ≤ (number + 1) * size =
-        omega (arith, ap length rest, length-append raw [], length-drop (number * size) text) in
+    omega (arith, ap length rest, length-append raw [], length-drop (number * size) text) in
     ends_here _ (number + 1) (block_after number size text) raw _ (le-leb _ _ last)
     (ap (take size) (rest ∙ append-nil raw) ∙ take_whole size raw within)
 only_in size _ _ fits (full_block number raw pieces full later) zero text going rest enough =
-    absurd (omega (arith, ap length rest, length-append raw (joined_bytes pieces),
-        length-drop (number * size) text))
+    absurd (omega (
+      arith,
+      ap length rest,
+      length-append raw (joined_bytes pieces),
+      length-drop (number * size) text,
+    ))
 only_in size _ _ fits (full_block number raw pieces full later) (suc most) text going rest enough =
     let some = some_joined size (number + 1) pieces fits later in
-    let further : (number + 1) * size < length text = omega (arith, ap length rest,
-        length-append raw (joined_bytes pieces), length-drop (number * size) text) in
+    let further : (number + 1) * size < length text = omega (
+      arith,
+      ap length rest,
+      length-append raw (joined_bytes pieces),
+      length-drop (number * size) text,
+    ) in
     let part : take size (raw ++ joined_bytes pieces) ≡ raw =
     ap (λ (n : ℕ). take n (raw ++ joined_bytes pieces)) (sym full)
-        ∙ take-append_seam raw (joined_bytes pieces) in
+    ∙ take-append_seam raw (joined_bytes pieces) in
     let after : drop size (raw ++ joined_bytes pieces) ≡ joined_bytes pieces =
     ap (λ (n : ℕ). drop n (raw ++ joined_bytes pieces)) (sym full)
-        ∙ drop-append_seam raw (joined_bytes pieces) in
+    ∙ drop-append_seam raw (joined_bytes pieces) in
     let next : (number + 1) * size ≡ number * size + size = omega arith in
     let left : drop ((number + 1) * size) text ≡ joined_bytes pieces =
     ap (λ (n : ℕ). drop n text) next ∙ sym (drop-drop size (number * size) text)
-        ∙ ap (drop size) rest ∙ after in
+    ∙ ap (drop size) rest ∙ after in
     goes_further _ (number + 1) (block_after number size text) raw _ pieces (lt-leb _ _ further)
-        (ap (take size) rest ∙ part)
+    (ap (take size) rest ∙ part)
     (only_in size (number + 1) pieces fits later most text _ left (omega arith))
 
 -- no other pieces are the blocks of a text
@@ -170,6 +182,6 @@ unfolding pieces_of
 is_only size pieces fits blocks =
     let none : 0 * size ≡ 0 = omega arith in
     let all : drop (0 * size) (joined_bytes pieces) ≡ joined_bytes pieces =
-        ap (λ (n : ℕ). drop n (joined_bytes pieces)) none in
+    ap (λ (n : ℕ). drop n (joined_bytes pieces)) none in
     sym (only_in size 0 pieces fits blocks (length (joined_bytes pieces)) (joined_bytes pieces) true
-        all (omega arith))
+    all (omega arith))

@@ -7,4 +7,4 @@ use Rattle.std.proofs.lemmas.List.{take-append-drop, append-nil}
 pub take_whole : (n : ℕ) (xs : List ℕ) → length xs ≤ n → take n xs ≡ xs
 take_whole n xs h =
     sym (append-nil (take n xs)) ∙ ap (λ (ys : List ℕ). take n xs
-        ++ ys) (sym (drop_of_length-le xs h)) ∙ take-append-drop n xs
+    ++ ys) (sym (drop_of_length-le xs h)) ∙ take-append-drop n xs

@@ -57,4 +57,4 @@ pub data Joins : Joining → List Piece → List ℕ → Type 0 where
   goes_on : (j : Joining) (piece : Piece) (pieces : List Piece) (text : List ℕ) → IsDue j piece
       → added_text piece.last piece.raw j ≡ None
       → Joins (joining_after_block piece.last piece.raw j) pieces text
-          → Joins j (piece ∷ pieces) text
+      → Joins j (piece ∷ pieces) text

@@ -1,3 +1,4 @@
+//! One block of a long text (IEC 62056-5-3, DataBlock), and the limits of a transfer.
 use octets::Octets;
 
 // The maximum number of blocks of a text.

@@ -1,3 +1,5 @@
+//! The errors of a block transfer: no transfer, a wrong block number, too long a text, or out of
+//! memory.
 ghost use Rattle.std.specs.Prelude.{◌≡◌};
 ghost use Rattle.xdlms_blocks.specs.Numbers.{fault_number};
 ghost use Rattle.xdlms_blocks.specs.declared.fault.BlockFault.TheVariants.{Memory};

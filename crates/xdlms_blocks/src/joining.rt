@@ -1,3 +1,4 @@
+//! `JoinBlocks`: joins the numbered blocks of a long SET or ACTION (IEC 62056-5-3).
 ghost use Rattle.std.specs.Prelude.{◌≡◌, ◌≢◌, ◌+◌, ◌<◌, ◌≤◌, ◌↔◌, [], length, true, false, IsErrOf, IfOk, IfErr, OnOk};
 ghost use Rattle.xdlms_blocks.specs.Joining.{added_text, joining_after_block, joining_by};
 ghost use Rattle.xdlms_blocks.specs.Limits.{max_joined};

@@ -1,3 +1,4 @@
+//! Proves that cutting a text into blocks and joining them returns the text.
 ghost use Rattle.xdlms_blocks.specs.Law.{IsCut, IsWhole, IsOnly, IsJoined};
 
 /// Proves that a text is cut in one way: the pieces that a transfer returns are its blocks, and no

@@ -1,3 +1,5 @@
+//! `GetBlocks`: returns the numbered blocks of a long GET response, one for each request (IEC
+//! 62056-5-3).
 ghost use Rattle.std.specs.Prelude.{◌≡◌, ◌≢◌, ◌*◌, ◌<◌, ◌≤◌, ◌↔◌, nat_le, length, true, false, IsErrOf, IfOk, IfErr, OnOk, Err};
 ghost use Rattle.xdlms_blocks.specs.Limits.{min_block_size, max_blocks};
 ghost use Rattle.xdlms_blocks.specs.Sending.{next_piece, after_next, sending_by};

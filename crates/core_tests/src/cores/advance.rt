@@ -1,3 +1,5 @@
+//! `advance`, which returns no reply, has the effect of `step`, and moves in scripts that were
+//! decoded before.
 use super::*;
 
 /// Script 3: writes mode 0 and disconnects the supply.

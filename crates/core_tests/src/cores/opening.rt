@@ -1,3 +1,4 @@
+//! A core's saved state gives back the same core, with its settings, its last samples and its runs.
 use super::*;
 use cosem_names::Which;
 use disconnect_control::{ControlMode, ControlState};

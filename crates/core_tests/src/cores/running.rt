@@ -1,3 +1,4 @@
+//! Runs of events: each line has the reply and the switch after it, and a list is read in one step.
 use super::*;
 use cosem_names::{AttributeSelection, GetResult, ResultCode};
 use listed::Listed;

@@ -9,9 +9,9 @@ use Rattle.acse_ber.proofs.aarq_reading.read_aarq.Goals as goal
 pub returns-clause-found : goal.returns-clause-found
 returns-clause-found c =
     gives_found (SpellsAarq c.args.bytes.now) Memory (λ (a : Aarq). a) c.read_whole.result
-        (aarq_of c.args.bytes.now) c.read_whole.ensures (aarq_found c.args.bytes.now)
+    (aarq_of c.args.bytes.now) c.read_whole.ensures (aarq_found c.args.bytes.now)
 
 pub returns-clause-only : goal.returns-clause-only
 returns-clause-only c = λ a s.
     gives_only Memory (λ (r : Aarq). r) c.read_whole.result (aarq_of c.args.bytes.now) a
-        c.read_whole.ensures (aarq_again c.args.bytes.now a s)
+    c.read_whole.ensures (aarq_again c.args.bytes.now a s)

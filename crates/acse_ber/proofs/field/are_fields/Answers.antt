@@ -7,8 +7,8 @@ use Rattle.acse_ber.proofs.field.are_fields.Goals as goal
 pub returns-in_default : goal.returns-in_default
 returns-in_default c =
     sym (readable_not c.fields.reader c.in_default.field-0 (is_ok (fields_of c.args.body.now))
-        c.fields.invariant (λ none. let e : false
-        ≡ true = c.fields-test.ensures.1 none in absurd cc) c.in_default.ensures)
+    c.fields.invariant (λ none. let e : false
+    ≡ true = c.fields-test.ensures.1 none in absurd cc) c.in_default.ensures)
 
 pub fields-smaller : goal.fields-smaller
 fields-smaller c = field_shorter c.fields.reader _ c.in-Ok.ensures

@@ -13,13 +13,13 @@ returns g c =
     let shown = c.in-Ok.available.now in
     let rested = c.fill_buf.follows.lender-at-none in
     let filled = subst (FillKeeps _ (g.B.Read.remaining rested) (g.B.BufRead.consumable_len rested))
-        c.in-Ok.is c.fill_buf.follows.holds-at-none in
+    c.in-Ok.is c.fill_buf.follows.holds-at-none in
     let same : c.if-end-eq0.input ≡ rested = search rules in
     let drops = subst (λ r. DropsConsumable (g.B.Read.remaining r)
-        (g.B.Read.remaining c.consume.new.self) (g.B.BufRead.consumable_len r) end.result) same
-        c.consume.ensures.bytes in
+    (g.B.Read.remaining c.consume.new.self) (g.B.BufRead.consumable_len r) end.result) same
+    c.consume.ensures.bytes in
     let moved = Consumes_shown _ _ _ _ shown end.result end.ensures.bound c.in-Ok.ensures.front
-        c.in-Ok.ensures.end filled.0 filled.1 drops in
+    c.in-Ok.ensures.end filled.0 filled.1 drops in
     let long = length-take-le end.result shown end.ensures.bound in
     record {
       piece = take end.result shown;
@@ -32,7 +32,7 @@ returns g c =
         | else-end-eq0 w ↦ subst (λ k. All (λ x. x ≢ 10) (take k shown))
             (omega (arith, w.if-end-eq0.false))
             (All-more (λ x. x ≢ 10) shown (end.result - 1) 0
-                (omega (arith, w.if-end-eq0.false, end.ensures.bound)) end.ensures.before
+            (omega (arith, w.if-end-eq0.false, end.ensures.bound)) end.ensures.before
             (λ e. one_answer c.if-end-eq0.is_done (w.is_done-is ∙ eq-eqb _ _ e) not_done))
       ];
       more = λ not_done. elim c.if-end-eq0.branch [
@@ -44,7 +44,7 @@ returns g c =
         | then-end-eq0 w ↦ absurd (omega (arith, w.if-end-eq0.true, long, some))
         | else-end-eq0 w ↦ ap (λ n. get_or (take end.result shown) (n - 1) 0) long
             ∙ get_or-take end.result shown (end.result - 1) 0 (omega arith)
-                ∙ eqb-true _ _ (sym w.is_done-is ∙ done)
+            ∙ eqb-true _ _ (sym w.is_done-is ∙ done)
       ];
       at_end = λ done none. moved.1 (zero_unless_positive _ _ end.ensures.non_zero
           (sym long ∙ none));

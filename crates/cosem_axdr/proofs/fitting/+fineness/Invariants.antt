@@ -7,6 +7,6 @@ use Rattle.cosem_axdr.proofs.fitting.+fineness.Given as goal
 abbrev pub invariant-are_fine-loop-item : goal.invariant-are_fine-loop-item
 invariant-are_fine-loop-item l =
     (AreFine (trees_of (all_trees (drop l.item-index l.items)))
-        ↔ AreFine (trees_of (all_trees l.items)))
+    ↔ AreFine (trees_of (all_trees l.items)))
     × (AreWithin (trees_of (all_trees (drop l.item-index l.items)))
-        → AreWithin (trees_of (all_trees l.items)))
+    → AreWithin (trees_of (all_trees l.items)))

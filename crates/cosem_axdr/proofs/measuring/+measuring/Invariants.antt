@@ -8,5 +8,5 @@ abbrev pub invariant-items_len-loop-item : goal.invariant-items_len-loop-item
 invariant-items_len-loop-item l =
     (l.len ≤ 18446744073709551615)
     × (min (l.len + length (texts (trees_of (all_trees (drop l.item-index l.items)))))
-        18446744073709551615 ≡ min (length (texts (trees_of (all_trees l.items))))
-        18446744073709551615)
+    18446744073709551615 ≡ min (length (texts (trees_of (all_trees l.items))))
+    18446744073709551615)

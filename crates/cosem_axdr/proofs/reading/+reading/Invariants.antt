@@ -15,5 +15,5 @@ decreases-read_items l = 3 * l.levels + 2
 abbrev pub invariant-read_items-items : goal.invariant-read_items-items
 invariant-read_items-items l =
     with_front l.items.items (items_at (value_at (nested_at l.levels))
-        (l.count - l.counter) l.reader)
+    (l.count - l.counter) l.reader)
     ≡ items_at (value_at (nested_at l.levels)) l.count l.initial.reader

@@ -7,7 +7,7 @@ use Rattle.cosem_axdr.proofs.reading.read.Goals as goal
 pub returns-clause-found : goal.returns-clause-found
 returns-clause-found c =
     gives_found (IsFound c.args.bytes.now) Memory (λ read. read) c.read_first.result
-        (first_data c.args.bytes.now) c.read_first.ensures (data_found c.args.bytes.now)
+    (first_data c.args.bytes.now) c.read_first.ensures (data_found c.args.bytes.now)
 
 pub returns-clause-only : goal.returns-clause-only
 returns-clause-only c = read_only c.args.bytes.now c.read_first.result c.read_first.ensures

@@ -6,6 +6,6 @@ use Rattle.cosem_datetime.proofs.calendar.weekday.Goals as goal
 pub returns : goal.returns
 returns c =
     let found = weekday_from_jiff _ _ c.args.day
-        c.from_plain-date.ensures c.from_days_since_min.ensures in
+    c.from_plain-date.ensures c.from_days_since_min.ensures in
     small_weekday _ (weekday_of c.from_plain-date.result) (c.to_monday_one_offset.ensures.value
-        ∙ ap (λ n. pos (n + 1)) c.weekday.ensures) (omega (arith, found)) ∙ found
+    ∙ ap (λ n. pos (n + 1)) c.weekday.ensures) (omega (arith, found)) ∙ found

@@ -7,7 +7,7 @@ use Rattle.cosem_datetime.proofs.date.read_date.Goals as goal
 pub returns-clause-found : goal.returns-clause-found
 returns-clause-found c =
     rw c.date_fields.ensures (if_ok (date_of c.args.bytes.now) _
-        (λ p e. date_takes c.args.bytes.now p (λ i. omega (arith, c.type_inv.bytes i)) e))
+    (λ p e. date_takes c.args.bytes.now p (λ i. omega (arith, c.type_inv.bytes i)) e))
 
 pub returns-clause-only : goal.returns-clause-only
 returns-clause-only c = λ p h e. c.date_fields.ensures ∙ ap date_of e ∙ date_again p h

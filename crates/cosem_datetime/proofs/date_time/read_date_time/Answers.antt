@@ -7,7 +7,7 @@ use Rattle.cosem_datetime.proofs.date_time.read_date_time.Goals as goal
 pub returns-clause-found : goal.returns-clause-found
 returns-clause-found c =
     rw c.date_time_fields.ensures (if_ok (date_time_of c.args.bytes.now) _
-        (λ p e. date_time_takes c.args.bytes.now p (λ i. omega (arith, c.type_inv.bytes i)) e))
+    (λ p e. date_time_takes c.args.bytes.now p (λ i. omega (arith, c.type_inv.bytes i)) e))
 
 pub returns-clause-only : goal.returns-clause-only
 returns-clause-only c = λ p h e. c.date_time_fields.ensures ∙ ap date_time_of e

@@ -9,9 +9,9 @@ returns-then-not-field_holds c =
 pub returns-in_err-second : goal.returns-in_err-second
 returns-in_err-second c =
     rw c.from_residual.ensures (left_fails 60 _ _ c.args.from
-        (omega arith) minutes c.in_err-second.ensures)
+    (omega arith) minutes c.in_err-second.ensures)
 
 pub returns : goal.returns
 returns c =
     left_found 60 _ _ c.args.from c.in_ok-second.second minutes
-        (sym c.field_holds.ensures ∙ c.if-not-field_holds.false) c.in_ok-second.ensures
+    (sym c.field_holds.ensures ∙ c.if-not-field_holds.false) c.in_ok-second.ensures

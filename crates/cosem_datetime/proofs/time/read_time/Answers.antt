@@ -7,7 +7,7 @@ use Rattle.cosem_datetime.proofs.time.read_time.Goals as goal
 pub returns-clause-found : goal.returns-clause-found
 returns-clause-found c =
     rw c.time_fields.ensures (if_ok (time_of c.args.bytes.now) _
-        (λ p e. time_takes c.args.bytes.now p e))
+    (λ p e. time_takes c.args.bytes.now p e))
 
 pub returns-clause-only : goal.returns-clause-only
 returns-clause-only c = λ p h e. c.time_fields.ensures ∙ ap time_of e ∙ time_again p h

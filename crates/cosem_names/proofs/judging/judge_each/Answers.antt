@@ -7,12 +7,15 @@ loop-item-init g c of_item is = record { typed = refl; faults = refl }
 
 pub loop-item-preserved : goal.loop-item-preserved
 loop-item-preserved g c of_item is =
-    let read_as = is _ c.read-given.result (record { shown = _; shows = refl;
-        says = record { met = c.read-given.ensures } }) in
+    let read_as = is _ c.read-given.result (record {
+      shown = _;
+      shows = refl;
+      says = record { met = c.read-given.ensures };
+    }) in
     rw c.is_unmatched-unmatched.ensures
     (rw c.is_err-faulty.ensures.value
     (HasJudged-more (c.loop-item.invariant of_item is) c.item-item.result c.read-given.result
-        (omega arith) c.item-item.is read_as))
+    (omega arith) c.item-item.is read_as))
 
 pub returns-then-unmatched-clause-fault : goal.returns-then-unmatched-clause-fault
 returns-then-unmatched-clause-fault g c of_item is =

@@ -12,4 +12,4 @@ unfolding object_list_of
 returns c =
     ap (λ (items : Trees). Array items)
     (c.from_vec.ensures.trees ∙ ap (λ (entries : List Data). trees_of (all_trees entries))
-        c.in_ok-entries.ensures)
+    c.in_ok-entries.ensures)

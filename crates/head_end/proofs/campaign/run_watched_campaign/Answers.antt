@@ -8,7 +8,7 @@ returns-clause-lines g c = λ tells all.
     let long : c.in_ok-lines.lines.len ≡ length c.fill.new.lines = omega
     (arith, c.fill.ensures.len, c.as_mut_slice.ensures.len) in
     let whole : c.from_vec.result ≡ c.fill.new.lines =
-        c.from_vec.ensures ∙ written c.in_ok-lines.lines.len c.fill.new.lines _ long in
+    c.from_vec.ensures ∙ written c.in_ok-lines.lines.len c.fill.new.lines _ long in
     rw whole (rw c.as_slice-2.ensures.jobs at (c.fill.ensures.lines tells all))
 
 pub returns-clause-tried : goal.returns-clause-tried

@@ -6,7 +6,7 @@ use Rattle.head_end.proofs.conversing.converse.Goals as goal
 pub returns-then-not-send_due-clause-forecast : goal.returns-then-not-send_due-clause-forecast
 returns-then-not-send_due-clause-forecast g c =
     converses_cut c.args.client.now c.send_due.new.client _ _ c.give_up.result
-        c.if-not-send_due.ensures.forecast c.give_up.ensures
+    c.if-not-send_due.ensures.forecast c.give_up.ensures
 
 pub returns-then-not-send_due-clause-log : goal.returns-then-not-send_due-clause-log
 returns-then-not-send_due-clause-log g c =
@@ -28,7 +28,7 @@ returns-in_err-outcome-clause-log g c =
 pub returns-in-Some-clause-forecast : goal.returns-in-Some-clause-forecast
 returns-in-Some-clause-forecast g c =
     converses_turn c.args.client.now c.turns.client c.take_turn.new.client _ _ _ c.turns.counter
-        c.in-Some.outcome (omega arith) c.turns.invariant.0
+    c.in-Some.outcome (omega arith) c.turns.invariant.0
     (rw c.in-Some.is at c.in_ok-outcome.ensures.forecast)
 
 pub returns-in-Some-clause-log : goal.returns-in-Some-clause-log
@@ -49,7 +49,7 @@ turns-preserved g c = (
 pub returns-clause-forecast : goal.returns-clause-forecast
 returns-clause-forecast g c =
     converses_last c.args.client.now c.turns.client _ _ c.turns.counter c.give_up-2.result
-        (omega arith) c.turns.invariant.0 (omega arith) c.give_up-2.ensures
+    (omega arith) c.turns.invariant.0 (omega arith) c.give_up-2.ensures
 
 pub returns-clause-log : goal.returns-clause-log
 returns-clause-log g c =

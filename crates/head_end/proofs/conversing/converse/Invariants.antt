@@ -6,6 +6,6 @@ use Rattle.head_end.proofs.conversing.converse.Given as goal
 abbrev pub invariant-turns : goal.invariant-turns
 invariant-turns g l =
     Goes l.fn.client (g.K.Connection.forecast l.fn.connection) l.counter l.client
-        (g.K.Connection.forecast l.connection)
+    (g.K.Connection.forecast l.connection)
     × Reaches l.fn.client (g.K.Connection.log l.fn.connection) l.counter l.client
     (g.K.Connection.log l.connection)

@@ -7,6 +7,6 @@ use Rattle.head_end.proofs.conversing.send_due.Given as goal
 abbrev pub invariant-texts : goal.invariant-texts
 invariant-texts g l =
     SendsAll l.fn.client (g.K.Connection.forecast l.fn.connection) true l.client
-        (g.K.Connection.forecast l.connection)
+    (g.K.Connection.forecast l.connection)
     × Keeps l.counter l.fn.client (g.K.Connection.log l.fn.connection) l.client
     (g.K.Connection.log l.connection)

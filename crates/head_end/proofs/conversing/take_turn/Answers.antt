@@ -7,28 +7,28 @@ pub returns-in-Ok-eq0-clause-forecast : goal.returns-in-Ok-eq0-clause-forecast
 returns-in-Ok-eq0-clause-forecast g c =
     let none : c.in-Ok-eq0.field-0 ≡ 0 = omega arith in
     turn_ended c.args.client.now c.give_up.new.client c.read.new.buffer _ _ _ c.give_up.result
-        (search rules)
+    (search rules)
     (rw none at c.in-Ok-eq0.ensures.forecast) c.give_up.ensures
 
 pub returns-in-Err-clause-forecast : goal.returns-in-Err-clause-forecast
 returns-in-Err-clause-forecast g c =
     turn_failed c.args.client.now c.give_up-in-Err.new.client c.read.new.buffer _ _ _
-        c.in-Err.field-0 c.give_up-in-Err.result (search rules)
+    c.in-Err.field-0 c.give_up-in-Err.result (search rules)
     c.in-Err.ensures.forecast c.give_up-in-Err.ensures
 
 pub returns-then-not-send_due-clause-forecast : goal.returns-then-not-send_due-clause-forecast
 returns-then-not-send_due-clause-forecast g c =
     turn_cut c.args.client.now c.feed.new.self c.send_due.new.client
-        c.give_up-then-not-send_due.new.client _ _ _ _ c.give_up-then-not-send_due.result
+    c.give_up-then-not-send_due.new.client _ _ _ _ c.give_up-then-not-send_due.result
     (feeding c.args.client.now c.feed.new.self c.in-Ok.count _ c.read.new.buffer _ _
-        (search rules) c.in-Ok.count-test.1 refl c.in-Ok.ensures.forecast c.in_ok-feed.ensures.ok)
+    (search rules) c.in-Ok.count-test.1 refl c.in-Ok.ensures.forecast c.in_ok-feed.ensures.ok)
     c.if-not-send_due.ensures.forecast c.give_up-then-not-send_due.ensures
 
 pub returns-clause-forecast : goal.returns-clause-forecast
 returns-clause-forecast g c =
     turn_on c.args.client.now c.feed.new.self c.send_due.new.client _ _ _ c.outcome.result
     (feeding c.args.client.now c.feed.new.self c.in-Ok.count _ c.read.new.buffer _ _
-        (search rules) c.in-Ok.count-test.1 refl c.in-Ok.ensures.forecast c.in_ok-feed.ensures.ok)
+    (search rules) c.in-Ok.count-test.1 refl c.in-Ok.ensures.forecast c.in_ok-feed.ensures.ok)
     c.if-not-send_due.ensures.forecast c.outcome.ensures
 
 pub returns-in-Ok-eq0-clause-log : goal.returns-in-Ok-eq0-clause-log

@@ -8,4 +8,4 @@ pub returns : goal.returns
 returns c =
     c.make_ascii_uppercase.ensures.after ∙ ap (map to_ascii_uppercase) c.in-Ok.ensures.written
     ∙ capitals c.args.bytes.now (All-from_get_or (λ b. b < 256) c.args.bytes.now 0
-        (λ i lt. omega (arith, c.type_inv.bytes i)))
+    (λ i lt. omega (arith, c.type_inv.bytes i)))

@@ -11,9 +11,9 @@ loop-at-preserved c =
       over = word_more (is_over c.args.threshold) c.args.values.now c.loop-at.at 1 _ _
           (omega arith) few
           c.loop-at.invariant.over (c.from.ensures ∙ word_of_one (is_over c.args.threshold)
-              c.args.values.now c.loop-at.at within);
+          c.args.values.now c.loop-at.at within);
       under = word_more (is_under c.args.threshold) c.args.values.now c.loop-at.at 1 _ _
           (omega arith) few
           c.loop-at.invariant.under (c.from-in-loop-at.ensures ∙ word_of_one
-              (is_under c.args.threshold) c.args.values.now c.loop-at.at within);
+          (is_under c.args.threshold) c.args.values.now c.loop-at.at within);
     }

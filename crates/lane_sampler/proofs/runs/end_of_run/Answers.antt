@@ -11,6 +11,8 @@ returns-then-ones-left_in_word c = record {
 }
 
 pub loop-end-preserved : goal.loop-end-preserved
-loop-end-preserved c =
-    (omega arith, ones_more _ _ _ _ c.loop-end.invariant.0 c.loop-end.invariant.1
-        c.ones_in_word-ones.ensures.ones)
+loop-end-preserved c = (
+  omega arith,
+  ones_more _ _ _ _ c.loop-end.invariant.0 c.loop-end.invariant.1
+      c.ones_in_word-ones.ensures.ones,
+)

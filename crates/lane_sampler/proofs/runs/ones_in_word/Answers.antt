@@ -11,7 +11,7 @@ run c =
     let found : c.trailing_ones.result ≡ trailing_ones w64 (word / 2 ^ (c.args.at % 64)) =
     c.trailing_ones.ensures
     ∙ ap (λ k. trailing_ones w64 (get_or c.args.words.now k 0 / 2 ^ (c.args.at % 64)))
-        c.from.ensures in
+    c.from.ensures in
     subst (RunInWord word (c.args.at % 64)) (sym found)
     (run_in_word word (c.args.at % 64) (c.fits-words (c.args.at / 64)) (omega arith))
 

@@ -6,12 +6,12 @@ use Rattle.meter_console.proofs.running.pass_line.Goals as goal
 pub returns-in-Ok-clause-passed : goal.returns-in-Ok-clause-passed
 returns-in-Ok-clause-passed g c = λ _ input before e f.
     line_passed _ _ _ _ before _ _ (rw c.as_slice.ensures.value
-        (c.in-Whole.ensures.whole refl input e)) c.in-Ok.ensures.ok f
+    (c.in-Whole.ensures.whole refl input e)) c.in-Ok.ensures.ok f
 
 pub returns-in-Err-clause-lost : goal.returns-in-Err-clause-lost
 returns-in-Err-clause-lost g c = λ _ input before e f.
     line_passed _ _ _ _ before _ _ (rw c.as_slice.ensures.value
-        (c.in-Whole.ensures.whole refl input e)) c.in-Err.ensures.err f
+    (c.in-Whole.ensures.whole refl input e)) c.in-Err.ensures.err f
 
 pub returns-in-TooLong-clause-passed : goal.returns-in-TooLong-clause-passed
 returns-in-TooLong-clause-passed g c = λ _ input before e f. line_skipped _ _ before _

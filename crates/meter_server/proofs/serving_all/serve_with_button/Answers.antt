@@ -36,32 +36,32 @@ returns-in_default-clause-sessions g c = no_sessions c.args.password.now
 pub returns-clause-sessions : goal.returns-clause-sessions
 returns-clause-sessions g c =
     let next : c.start_worker.new.port.known.splits ≡ c.args.port.now.known.splits + 1 =
-        omega (arith, c.in-Some.ensures.port.splits) in
+    omega (arith, c.in-Some.ensures.port.splits) in
     sessions_beside {lent = c.start_worker.new.port} {mid = c.serve_clients-served.new.port}
-        c.in-Some.ensures.port c.serve_clients-served.ensures.port_continues c.join_both.ensures _ _
-        _ next (omega arith) c.serve_clients-served.ensures.joined
-        c.serve_clients-served.ensures.sessions
+    c.in-Some.ensures.port c.serve_clients-served.ensures.port_continues c.join_both.ensures _ _
+    _ next (omega arith) c.serve_clients-served.ensures.joined
+    c.serve_clients-served.ensures.sessions
 
 pub returns-clause-served : goal.returns-clause-served
 returns-clause-served g c =
     let next : c.start_worker.new.port.known.splits ≡ c.args.port.now.known.splits + 1 =
-        omega (arith, c.in-Some.ensures.port.splits) in
+    omega (arith, c.in-Some.ensures.port.splits) in
     served_beside {lent = c.start_worker.new.port} {mid = c.serve_clients-served.new.port}
-        c.in-Some.ensures.port c.serve_clients-served.ensures.port_continues c.join_both.ensures _ _
-        next c.serve_clients-served.ensures.served
+    c.in-Some.ensures.port c.serve_clients-served.ensures.port_continues c.join_both.ensures _ _
+    next c.serve_clients-served.ensures.served
 
 pub returns-clause-presses : goal.returns-clause-presses
 returns-clause-presses g c =
     acted_itself (λ w. HandsPresses (g.U.ButtonSource.forecast w.source)) _ c.in-Some.ensures.port
-        c.serve_clients-served.ensures.port_continues c.join_both.ensures (λ w. AllPresses
-        (g.U.ButtonSource.forecast w.source)) _ c.in-Some.ensures.worker (whole_presses _)
+    c.serve_clients-served.ensures.port_continues c.join_both.ensures (λ w. AllPresses
+    (g.U.ButtonSource.forecast w.source)) _ c.in-Some.ensures.worker (whole_presses _)
 
 pub returns-clause-fault : goal.returns-clause-fault
 returns-clause-fault g c =
     stops_beside (λ w. HandsPresses (g.U.ButtonSource.forecast w.source))
-        c.in-Some.running.promise.worker.value c.in-Some.ensures.port
-        c.serve_clients-served.ensures.port_continues c.join_both.ensures _ _
-        c.serve_clients-served.ensures.fault (λ none. absurd none)
+    c.in-Some.running.promise.worker.value c.in-Some.ensures.port
+    c.serve_clients-served.ensures.port_continues c.join_both.ensures _ _
+    c.serve_clients-served.ensures.fault (λ none. absurd none)
 
 pub start_worker-requires-send-T : goal.start_worker-requires-send-T
 start_worker-requires-send-T g c κs within = search (sendable, crosses, kept_send) depth

@@ -36,40 +36,40 @@ returns-in_default-clause-sessions g c = no_sessions c.args.password.now
 pub returns-clause-sessions : goal.returns-clause-sessions
 returns-clause-sessions g c =
     let next : c.start_worker.new.port.known.splits + 1 ≡ c.args.port.now.known.splits + 2 =
-        omega (arith, c.in-Some.ensures.port.splits) in
+    omega (arith, c.in-Some.ensures.port.splits) in
     sessions_beside {lent = c.start_worker.new.port} {mid = c.serve_with_button-served.new.port}
-        c.in-Some.ensures.port c.serve_with_button-served.ensures.port_continues
-        c.join_both.ensures _ _ _ next (omega arith) c.serve_with_button-served.ensures.joined
-        c.serve_with_button-served.ensures.sessions
+    c.in-Some.ensures.port c.serve_with_button-served.ensures.port_continues
+    c.join_both.ensures _ _ _ next (omega arith) c.serve_with_button-served.ensures.joined
+    c.serve_with_button-served.ensures.sessions
 
 pub returns-clause-served : goal.returns-clause-served
 returns-clause-served g c =
     let next : c.start_worker.new.port.known.splits + 1 ≡ c.args.port.now.known.splits + 2 =
-        omega (arith, c.in-Some.ensures.port.splits) in
+    omega (arith, c.in-Some.ensures.port.splits) in
     served_beside {lent = c.start_worker.new.port} {mid = c.serve_with_button-served.new.port}
-        c.in-Some.ensures.port c.serve_with_button-served.ensures.port_continues
-        c.join_both.ensures _ _ next c.serve_with_button-served.ensures.served
+    c.in-Some.ensures.port c.serve_with_button-served.ensures.port_continues
+    c.join_both.ensures _ _ next c.serve_with_button-served.ensures.served
 
 pub returns-clause-moments : goal.returns-clause-moments
 returns-clause-moments g c =
     acted_itself (λ w. HandsMoments (g.M.MomentSource.forecast w.source)) _ c.in-Some.ensures.port
-        c.serve_with_button-served.ensures.port_continues c.join_both.ensures (λ w. AllMoments
-        (g.M.MomentSource.forecast w.source)) _ c.in-Some.ensures.worker (whole_moments _)
+    c.serve_with_button-served.ensures.port_continues c.join_both.ensures (λ w. AllMoments
+    (g.M.MomentSource.forecast w.source)) _ c.in-Some.ensures.worker (whole_moments _)
 
 pub returns-clause-presses : goal.returns-clause-presses
 returns-clause-presses g c =
     let next : c.start_worker.new.port.known.splits ≡ c.args.port.now.known.splits + 1 =
-        omega (arith, c.in-Some.ensures.port.splits) in
+    omega (arith, c.in-Some.ensures.port.splits) in
     acted_beside {lent = c.start_worker.new.port} {mid = c.serve_with_button-served.new.port}
-        c.in-Some.ensures.port c.serve_with_button-served.ensures.port_continues
-        c.join_both.ensures _ _ _ next c.serve_with_button-served.ensures.presses
+    c.in-Some.ensures.port c.serve_with_button-served.ensures.port_continues
+    c.join_both.ensures _ _ _ next c.serve_with_button-served.ensures.presses
 
 pub returns-clause-fault : goal.returns-clause-fault
 returns-clause-fault g c =
     stops_beside (λ w. HandsMoments (g.M.MomentSource.forecast w.source))
-        c.in-Some.running.promise.worker.value c.in-Some.ensures.port
-        c.serve_with_button-served.ensures.port_continues c.join_both.ensures _ _
-        c.serve_with_button-served.ensures.fault (λ spent. spent)
+    c.in-Some.running.promise.worker.value c.in-Some.ensures.port
+    c.serve_with_button-served.ensures.port_continues c.join_both.ensures _ _
+    c.serve_with_button-served.ensures.fault (λ spent. spent)
 
 pub start_worker-requires-send-T : goal.start_worker-requires-send-T
 start_worker-requires-send-T g c κs within = search (sendable, crosses, kept_send) depth

@@ -37,51 +37,51 @@ returns-in_default-clause-sessions g c = no_sessions c.args.password.now
 pub returns-clause-sessions : goal.returns-clause-sessions
 returns-clause-sessions g c =
     let next : c.start_worker.new.port.known.splits + 2 ≡ c.args.port.now.known.splits + 3 =
-        omega (arith, c.in-Some.ensures.port.splits) in
+    omega (arith, c.in-Some.ensures.port.splits) in
     sessions_beside {lent = c.start_worker.new.port} {mid = c.serve_with_clock-served.new.port}
-        c.in-Some.ensures.port c.serve_with_clock-served.ensures.port_continues
-        c.join_both.ensures _ _ _ next (omega arith) c.serve_with_clock-served.ensures.joined
-        c.serve_with_clock-served.ensures.sessions
+    c.in-Some.ensures.port c.serve_with_clock-served.ensures.port_continues
+    c.join_both.ensures _ _ _ next (omega arith) c.serve_with_clock-served.ensures.joined
+    c.serve_with_clock-served.ensures.sessions
 
 pub returns-clause-served : goal.returns-clause-served
 returns-clause-served g c =
     let next : c.start_worker.new.port.known.splits + 2 ≡ c.args.port.now.known.splits + 3 =
-        omega (arith, c.in-Some.ensures.port.splits) in
+    omega (arith, c.in-Some.ensures.port.splits) in
     served_beside {lent = c.start_worker.new.port} {mid = c.serve_with_clock-served.new.port}
-        c.in-Some.ensures.port c.serve_with_clock-served.ensures.port_continues
-        c.join_both.ensures _ _ next c.serve_with_clock-served.ensures.served
+    c.in-Some.ensures.port c.serve_with_clock-served.ensures.port_continues
+    c.join_both.ensures _ _ next c.serve_with_clock-served.ensures.served
 
 pub returns-clause-blocks : goal.returns-clause-blocks
 returns-clause-blocks g c =
     let told = g.B.BlockSource.forecast in
     acted_itself (λ w p q. HandsBlocks (told w.source) p q × ReadsBetween (told w.source) p q) _
-        c.in-Some.ensures.port c.serve_with_clock-served.ensures.port_continues
-        c.join_both.ensures (λ w. AllBlocks (g.B.BlockSource.forecast w.source)) _
-        c.in-Some.ensures.worker (whole_blocks _)
+    c.in-Some.ensures.port c.serve_with_clock-served.ensures.port_continues
+    c.join_both.ensures (λ w. AllBlocks (g.B.BlockSource.forecast w.source)) _
+    c.in-Some.ensures.worker (whole_blocks _)
 
 pub returns-clause-moments : goal.returns-clause-moments
 returns-clause-moments g c =
     let next : c.start_worker.new.port.known.splits ≡ c.args.port.now.known.splits + 1 =
-        omega (arith, c.in-Some.ensures.port.splits) in
+    omega (arith, c.in-Some.ensures.port.splits) in
     acted_beside {lent = c.start_worker.new.port} {mid = c.serve_with_clock-served.new.port}
-        c.in-Some.ensures.port c.serve_with_clock-served.ensures.port_continues
-        c.join_both.ensures _ _ _ next c.serve_with_clock-served.ensures.moments
+    c.in-Some.ensures.port c.serve_with_clock-served.ensures.port_continues
+    c.join_both.ensures _ _ _ next c.serve_with_clock-served.ensures.moments
 
 pub returns-clause-presses : goal.returns-clause-presses
 returns-clause-presses g c =
     let next : c.start_worker.new.port.known.splits + 1 ≡ c.args.port.now.known.splits + 2 =
-        omega (arith, c.in-Some.ensures.port.splits) in
+    omega (arith, c.in-Some.ensures.port.splits) in
     acted_beside {lent = c.start_worker.new.port} {mid = c.serve_with_clock-served.new.port}
-        c.in-Some.ensures.port c.serve_with_clock-served.ensures.port_continues
-        c.join_both.ensures _ _ _ next c.serve_with_clock-served.ensures.presses
+    c.in-Some.ensures.port c.serve_with_clock-served.ensures.port_continues
+    c.join_both.ensures _ _ _ next c.serve_with_clock-served.ensures.presses
 
 pub returns-clause-fault : goal.returns-clause-fault
 returns-clause-fault g c =
     let told = g.B.BlockSource.forecast in
     stops_beside (λ w p q. HandsBlocks (told w.source) p q × ReadsBetween (told w.source) p q)
-        c.in-Some.running.promise.worker.value c.in-Some.ensures.port
-        c.serve_with_clock-served.ensures.port_continues c.join_both.ensures _ _
-        c.serve_with_clock-served.ensures.fault (λ spent. spent)
+    c.in-Some.running.promise.worker.value c.in-Some.ensures.port
+    c.serve_with_clock-served.ensures.port_continues c.join_both.ensures _ _
+    c.serve_with_clock-served.ensures.fault (λ spent. spent)
 
 pub start_worker-requires-send-T : goal.start_worker-requires-send-T
 start_worker-requires-send-T g c κs within = search (sendable, crosses, kept_send) depth

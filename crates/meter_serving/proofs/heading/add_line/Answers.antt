@@ -7,20 +7,20 @@ use Rattle.meter_serving.proofs.heading.add_line.Goals as goal
 pub returns-in-Ok-eq0-clause-input : goal.returns-in-Ok-eq0-clause-input
 returns-in-Ok-eq0-clause-input g c = λ is whole rest row rows small ahead.
     line_left whole rest row rows c.args.text.now.items c.read_line_within.new.line.items
-        c.in-Ok-eq0.field-0
+    c.in-Ok-eq0.field-0
     (left_in g.I.Read.remaining c.args.input.now)
-        (left_in g.I.Read.remaining c.read_line_within.new.input) ahead c.in-Ok-eq0.ensures.read
-        (omega arith)
+    (left_in g.I.Read.remaining c.read_line_within.new.input) ahead c.in-Ok-eq0.ensures.read
+    (omega arith)
 
 pub returns-in-Ok-clause-ahead : goal.returns-in-Ok-clause-ahead
 returns-in-Ok-clause-ahead g c = λ whole rest row rows ahead.
     line_on whole rest row rows c.args.text.now.items c.read_line_within.new.line.items
-        c.in-Ok.field-0
+    c.in-Ok.field-0
     (left_in g.I.Read.remaining c.args.input.now)
-        (left_in g.I.Read.remaining c.read_line_within.new.input) ahead c.in-Ok.ensures.read
+    (left_in g.I.Read.remaining c.read_line_within.new.input) ahead c.in-Ok.ensures.read
 
 pub returns-in-Err-TooLong-clause-input : goal.returns-in-Err-TooLong-clause-input
 returns-in-Err-TooLong-clause-input g c = λ is whole rest row rows small ahead.
     line_fits whole rest row rows c.args.text.now.items
-        (left_in g.I.Read.remaining c.args.input.now) most_bytes ahead
+    (left_in g.I.Read.remaining c.args.input.now) most_bytes ahead
     (rw c.in-Err-TooLong.field-0-is at c.in-Err-TooLong.ensures.err) small

@@ -13,5 +13,5 @@ invariant-lines g l = record {
       → Ahead whole rest (front ++ rows) l.initial.text.items
       (left_in g.I.Read.remaining l.initial.input)
       → Ahead whole rest (drop l.counter front ++ rows) l.text.items
-          (left_in g.I.Read.remaining l.input);
+      (left_in g.I.Read.remaining l.input);
 }

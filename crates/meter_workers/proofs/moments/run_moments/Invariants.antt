@@ -7,6 +7,6 @@ use Rattle.meter_workers.proofs.moments.run_moments.Given as goal
 abbrev pub invariant-giving : goal.invariant-giving
 invariant-giving g l =
     (goal.iterator-giving g).can_next l.iterator' × (goal.iterator-giving g).is_finite l.iterator'
-        × IsSame l.initial.port l.port
+    × IsSame l.initial.port l.port
     × Leaves Moment (g.S.MomentSource.forecast l.initial.source) (own_events l.initial.port)
-        (g.S.MomentSource.forecast l.source) (own_events l.port)
+    (g.S.MomentSource.forecast l.source) (own_events l.port)

@@ -7,4 +7,4 @@ returns-clause-line c = λ w stands.
     let after = at_event c.args.event.now w in
     let goes = c.in_ok-reply.ensures.world w stands in
     same_line _ _ _ after (c.in_ok-reply.ensures.reply w stands) (c.state.ensures after.world goes)
-        (c.output.ensures after.world goes)
+    (c.output.ensures after.world goes)

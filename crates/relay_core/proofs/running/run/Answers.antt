@@ -7,32 +7,32 @@ use Rattle.relay_core.proofs.running.run.Goals as goal
 pub returns-in-Err-clause-stop : goal.returns-in-Err-clause-stop
 returns-in-Err-clause-stop c =
     let below : c.events.event-index < length c.args.events.now =
-        omega (arith, ap length c.as_slice-event-items.ensures) in
+    omega (arith, ap length c.as_slice-event-items.ensures) in
     let event = c.event-item.result in
     let is : event ≡ get_or c.args.events.now c.events.event-index event =
     c.event-item.is ∙ ap (λ es. get_or es c.events.event-index event)
-        c.as_slice-event-items.ensures in
+    c.as_slice-event-items.ensures in
     let ran : Runs c.args.core.now c.events.core (take c.events.event-index c.args.events.now)
-        c.from_vec.result =
+    c.from_vec.result =
     subst (λ (lines : List Line). Runs c.args.core.now c.events.core
-        (take c.events.event-index c.args.events.now) lines)
+    (take c.events.event-index c.args.events.now) lines)
     (sym c.from_vec.ensures) c.events.invariant.ran in
     stops_at c.args.core.now c.events.core c.line_after.new.core c.args.events.now
-        c.events.event-index event c.from_vec.result
+    c.events.event-index event c.from_vec.result
     below is ran c.in-Err.ensures.err c.in-Err.ensures.sure
 
 pub events-preserved : goal.events-preserved
 events-preserved c =
     let below : c.events.event-index < length c.args.events.now =
-        omega (arith, ap length c.as_slice-event-items.ensures) in
+    omega (arith, ap length c.as_slice-event-items.ensures) in
     let event = c.event-item.result in
     let is : event ≡ get_or c.args.events.now c.events.event-index event =
     c.event-item.is ∙ ap (λ es. get_or es c.events.event-index event)
-        c.as_slice-event-items.ensures in
+    c.as_slice-event-items.ensures in
     let pushed = rw c.unwrap.ensures at c.push.ensures.items in
     let counted = rw c.unwrap.ensures at c.push.ensures.len in
     let ran = ran_further c.args.core.now c.events.core c.line_after.new.core c.args.events.now
-        c.events.event-index event
+    c.events.event-index event
     c.events.lines.items c.in-Ok-line_after.line below is c.events.invariant.ran
     c.in-Ok-line_after.ensures.world c.in-Ok-line_after.ensures.line in
     record {

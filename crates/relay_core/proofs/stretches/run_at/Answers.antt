@@ -10,37 +10,37 @@ returns-then-over-gt0-clause-kind c = λ n within.
     let P : ℕ → Type 0 = λ v. IsTrue (is_over c.args.scan.now.threshold v) in
     let rest = drop c.args.at c.args.values.now in
     let all = c.run_from-over.ensures.all (is_over c.args.scan.now.threshold) c.args.values.now
-        c.requires.right.over in
+    c.requires.right.over in
     let fewer : n ≤ c.run_from-over.result = omega (arith, within, c.from.ensures) in
     over_are_of_kind c.args.scan.now.threshold (take n rest)
     (subst (All P) (take_fewer n c.run_from-over.result rest fewer)
-        (All-take P n (take c.run_from-over.result rest) all))
+    (All-take P n (take c.run_from-over.result rest) all))
 
 pub returns-then-under-gt0-clause-kind : goal.returns-then-under-gt0-clause-kind
 returns-then-under-gt0-clause-kind c = λ n within.
     let P : ℕ → Type 0 = λ v. IsTrue (is_under c.args.scan.now.threshold v) in
     let rest = drop c.args.at c.args.values.now in
     let all = c.run_from-under.ensures.all (is_under c.args.scan.now.threshold) c.args.values.now
-        c.requires.right.under in
+    c.requires.right.under in
     let fewer : n ≤ c.run_from-under.result =
-        omega (arith, within, c.from-then-under-gt0.ensures) in
+    omega (arith, within, c.from-then-under-gt0.ensures) in
     under_are_of_kind c.args.scan.now.threshold (take n rest)
     (subst (All P) (take_fewer n c.run_from-under.result rest fewer)
-        (All-take P n (take c.run_from-under.result rest) all))
+    (All-take P n (take c.run_from-under.result rest) all))
 
 pub returns-clause-kind : goal.returns-clause-kind
 returns-clause-kind c = λ n within.
     let run = c.equal_run.ensures in
     equal_are_of_kind c.args.scan.now.threshold c.args.values.now c.args.at n
-        (omega (arith, within, run.within))
+    (omega (arith, within, run.within))
     (λ k below. run.equal k (omega (arith, below, within)))
 
 pub returns-clause-non_zero : goal.returns-clause-non_zero
 returns-clause-non_zero c =
     let over = c.run_from-over.ensures.passing (is_over c.args.scan.now.threshold) c.args.values.now
-        c.requires.right.over (sym c.requires.right.len) in
+    c.requires.right.over (sym c.requires.right.len) in
     let under = c.run_from-under.ensures.passing (is_under c.args.scan.now.threshold)
-        c.args.values.now c.requires.right.under (sym c.requires.right.len) in
+    c.args.values.now c.requires.right.under (sym c.requires.right.len) in
     c.equal_run.ensures.some c.requires.within
     (neither_is_equal c.args.values.now c.args.at c.args.scan.now.threshold c.requires.within
     (omega (arith, over, c.if-over-gt0.false)) (omega (arith, under, c.if-under-gt0.false)))

@@ -9,12 +9,12 @@ pub returns-in-Some-clause-opening : goal.returns-in-Some-clause-opening
 returns-in-Some-clause-opening c = λ w stands.
     subst (λ (es : List Event). StandsFor c.advance.new.core (world_after es w))
     (sym (pushed_out c.args.ring.now.capacity c.args.ring.now.items c.args.newest
-        (Some c.in-Some.oldest) c.requires c.in-Some.ensures.value))
+    (Some c.in-Some.oldest) c.requires c.in-Some.ensures.value))
     (c.advance.ensures w stands)
 
 pub returns-in_default-clause-opening : goal.returns-in_default-clause-opening
 returns-in_default-clause-opening c = λ w stands.
     subst (λ (es : List Event). StandsFor c.args.opening.now (world_after es w))
     (sym (pushed_out c.args.ring.now.capacity c.args.ring.now.items c.args.newest None
-        c.requires c.in_default.ensures.value))
+    c.requires c.in_default.ensures.value))
     stands

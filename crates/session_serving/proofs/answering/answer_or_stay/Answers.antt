@@ -6,5 +6,5 @@ use Rattle.session_serving.proofs.answering.answer_or_stay.Goals as goal
 pub returns-clause-text : goal.returns-clause-text
 returns-clause-text c = λ w stands.
     prepared_answer c.args.event.now c.args.asked (at_event c.args.event.now w).reply
-        c.in_ok-given.given c.prepared.inside.form c.finish-text.result
+    c.in_ok-given.given c.prepared.inside.form c.finish-text.result
     (search rules) (search rules) (search rules) (search rules) (search rules)

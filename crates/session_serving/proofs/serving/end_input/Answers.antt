@@ -8,7 +8,7 @@ use Rattle.session_serving.proofs.serving.end_input.Goals as goal
 pub returns-clause-ok : goal.returns-clause-ok
 returns-clause-ok g c =
     ended_all g.M.Meter.steps g.F.Form.written_as c.args.session.now c.finish.new.self
-        c.settle.new.session
+    c.settle.new.session
     (outlets_of g.W.Writer.contents g.W.Writer.failures c.args.writer.now c.args.meter.now)
     (outlets_of g.W.Writer.contents g.W.Writer.failures c.settle.new.writer c.settle.new.meter)
     c.in_ok-end.field-0 c.finish.ensures c.in_ok-end.ensures.ok
@@ -16,7 +16,7 @@ returns-clause-ok g c =
 pub returns-clause-end : goal.returns-clause-end
 returns-clause-end g c =
     ended_so g.M.Meter.steps g.F.Form.written_as c.args.session.now c.finish.new.self
-        c.settle.new.session
+    c.settle.new.session
     (outlets_of g.W.Writer.contents g.W.Writer.failures c.args.writer.now c.args.meter.now)
     (outlets_of g.W.Writer.contents g.W.Writer.failures c.settle.new.writer c.settle.new.meter)
     c.in-Some.end c.finish.ensures (rw c.in-Some.is at c.in_ok-end.ensures.ok)

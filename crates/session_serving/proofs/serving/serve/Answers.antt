@@ -10,7 +10,7 @@ pub reads-init : goal.reads-init
 reads-init g c = record {
   stands = stands_new g.M.Meter.steps as_bytes c.args.session.now
       (sides g.R.Reader.remaining g.R.Reader.reads g.R.Reader.failures g.W.Writer.contents
-          g.W.Writer.failures c.args.reader.now c.args.writer.now c.args.meter.now)
+      g.W.Writer.failures c.args.reader.now c.args.writer.now c.args.meter.now)
       c.requires.settled c.requires.ends c.requires.not_asking;
   readable = c.requires.readable;
   counted = sym (add-zero (g.R.Reader.reads c.args.reader.now));
@@ -27,9 +27,9 @@ returns-in-Err-clause-served g c = λ password owes.
     let left = g.R.Reader.remaining c.reads.reader in
     served_unread g.M.Meter.steps password c.reads.counter c.args.session.now c.reads.session
     (sides g.R.Reader.remaining g.R.Reader.reads g.R.Reader.failures g.W.Writer.contents
-        g.W.Writer.failures c.args.reader.now c.args.writer.now c.args.meter.now)
+    g.W.Writer.failures c.args.reader.now c.args.writer.now c.args.meter.now)
     (sides g.R.Reader.remaining g.R.Reader.reads g.R.Reader.failures g.W.Writer.contents
-        g.W.Writer.failures c.reads.reader c.reads.writer c.reads.meter)
+    g.W.Writer.failures c.reads.reader c.reads.writer c.reads.meter)
     (input_of g.R.Reader.remaining g.R.Reader.reads g.R.Reader.failures c.read.new.reader)
     owes c.reads.invariant.stands
     (Consumes-kept left left (g.R.Reader.remaining c.read.new.reader) [] (Consumes-nil left)
@@ -44,30 +44,30 @@ returns-then-count-eq0-clause-served g c = λ password owes.
     served_end g.M.Meter.steps password c.reads.counter
     c.args.session.now c.reads.session
     (sides g.R.Reader.remaining g.R.Reader.reads g.R.Reader.failures g.W.Writer.contents
-        g.W.Writer.failures c.args.reader.now c.args.writer.now c.args.meter.now)
+    g.W.Writer.failures c.args.reader.now c.args.writer.now c.args.meter.now)
     (sides g.R.Reader.remaining g.R.Reader.reads g.R.Reader.failures g.W.Writer.contents
-        g.W.Writer.failures c.reads.reader c.reads.writer c.reads.meter)
+    g.W.Writer.failures c.reads.reader c.reads.writer c.reads.meter)
     (sides g.R.Reader.remaining g.R.Reader.reads g.R.Reader.failures g.W.Writer.contents
-        g.W.Writer.failures c.read.new.reader c.end_input.new.writer c.end_input.new.meter)
+    g.W.Writer.failures c.read.new.reader c.end_input.new.writer c.end_input.new.meter)
     c.end_input.result owes c.reads.invariant.stands
     (rw c.if-count-eq0.true at c.in-Ok.ensures.bytes.0)
     (c.in-Ok.ensures.bytes.1 c.if-count-eq0.true
-        (omega (arith, c.read.auto.buffer, c.reads.invariant.room)))
+    (omega (arith, c.read.auto.buffer, c.reads.invariant.room)))
     (omega (arith, c.reads-test.true))
     (omega (arith, c.in-Ok.ensures.counted, c.reads.invariant.counted))
     c.reads.invariant.write_even c.end_input.ensures.ok c.end_input.ensures.end
-        c.end_input.ensures.err
+    c.end_input.ensures.err
 
 pub returns-in_err-end-clause-served : goal.returns-in_err-end-clause-served
 returns-in_err-end-clause-served g c = λ password owes.
     served_stop_by g.M.Meter.steps password
     (take c.in-Ok.count c.read.new.buffer) c.reads.counter c.args.session.now c.reads.session
     (sides g.R.Reader.remaining g.R.Reader.reads g.R.Reader.failures g.W.Writer.contents
-        g.W.Writer.failures c.args.reader.now c.args.writer.now c.args.meter.now)
+    g.W.Writer.failures c.args.reader.now c.args.writer.now c.args.meter.now)
     (sides g.R.Reader.remaining g.R.Reader.reads g.R.Reader.failures g.W.Writer.contents
-        g.W.Writer.failures c.reads.reader c.reads.writer c.reads.meter)
+    g.W.Writer.failures c.reads.reader c.reads.writer c.reads.meter)
     (sides g.R.Reader.remaining g.R.Reader.reads g.R.Reader.failures g.W.Writer.contents
-        g.W.Writer.failures c.read.new.reader c.take_in.new.writer c.take_in.new.meter)
+    g.W.Writer.failures c.read.new.reader c.take_in.new.writer c.take_in.new.meter)
     c.in_err-end.field-0.0 c.from_residual.result
     owes c.reads.invariant.stands c.in-Ok.ensures.bytes.0
     (piece_of c.read.new.buffer c.in-Ok.count c.in-Ok.ensures.bound.0
@@ -82,11 +82,11 @@ returns-in-Some-clause-served g c = λ password owes.
     (take c.in-Ok.count c.read.new.buffer) c.reads.counter c.args.session.now c.reads.session
     c.take_in.new.session
     (sides g.R.Reader.remaining g.R.Reader.reads g.R.Reader.failures g.W.Writer.contents
-        g.W.Writer.failures c.args.reader.now c.args.writer.now c.args.meter.now)
+    g.W.Writer.failures c.args.reader.now c.args.writer.now c.args.meter.now)
     (sides g.R.Reader.remaining g.R.Reader.reads g.R.Reader.failures g.W.Writer.contents
-        g.W.Writer.failures c.reads.reader c.reads.writer c.reads.meter)
+    g.W.Writer.failures c.reads.reader c.reads.writer c.reads.meter)
     (sides g.R.Reader.remaining g.R.Reader.reads g.R.Reader.failures g.W.Writer.contents
-        g.W.Writer.failures c.read.new.reader c.take_in.new.writer c.take_in.new.meter)
+    g.W.Writer.failures c.read.new.reader c.take_in.new.writer c.take_in.new.meter)
     c.in-Some.end
     owes c.reads.invariant.stands c.in-Ok.ensures.bytes.0
     (piece_of c.read.new.buffer c.in-Ok.count c.in-Ok.ensures.bound.0
@@ -101,11 +101,11 @@ reads-preserved g c = record {
   stands = stands_next g.M.Meter.steps as_bytes c.args.session.now c.reads.session
       c.take_in.new.session
       (sides g.R.Reader.remaining g.R.Reader.reads g.R.Reader.failures g.W.Writer.contents
-          g.W.Writer.failures c.args.reader.now c.args.writer.now c.args.meter.now)
+      g.W.Writer.failures c.args.reader.now c.args.writer.now c.args.meter.now)
       (sides g.R.Reader.remaining g.R.Reader.reads g.R.Reader.failures g.W.Writer.contents
-          g.W.Writer.failures c.reads.reader c.reads.writer c.reads.meter)
+      g.W.Writer.failures c.reads.reader c.reads.writer c.reads.meter)
       (sides g.R.Reader.remaining g.R.Reader.reads g.R.Reader.failures g.W.Writer.contents
-          g.W.Writer.failures c.read.new.reader c.take_in.new.writer c.take_in.new.meter)
+      g.W.Writer.failures c.read.new.reader c.take_in.new.writer c.take_in.new.meter)
       c.reads.counter (take c.in-Ok.count c.read.new.buffer) c.in_ok-end.end
       c.reads.invariant.stands c.in-Ok.ensures.bytes.0
       (piece_of c.read.new.buffer c.in-Ok.count c.in-Ok.ensures.bound.0
@@ -137,9 +137,9 @@ pub returns-clause-served : goal.returns-clause-served
 returns-clause-served g c = λ password owes.
     served_unread g.M.Meter.steps password c.reads.counter c.args.session.now c.reads.session
     (sides g.R.Reader.remaining g.R.Reader.reads g.R.Reader.failures g.W.Writer.contents
-        g.W.Writer.failures c.args.reader.now c.args.writer.now c.args.meter.now)
+    g.W.Writer.failures c.args.reader.now c.args.writer.now c.args.meter.now)
     (sides g.R.Reader.remaining g.R.Reader.reads g.R.Reader.failures g.W.Writer.contents
-        g.W.Writer.failures c.reads.reader c.reads.writer c.reads.meter)
+    g.W.Writer.failures c.reads.reader c.reads.writer c.reads.meter)
     (input_of g.R.Reader.remaining g.R.Reader.reads g.R.Reader.failures c.reads.reader)
     owes c.reads.invariant.stands (Consumes-nil (g.R.Reader.remaining c.reads.reader))
     (omega (arith, c.reads-test.false, c.reads.auto.counter-end)) c.reads.invariant.counted

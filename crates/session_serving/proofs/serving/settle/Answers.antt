@@ -26,20 +26,20 @@ pub returns-in_err-reply-in-Some-clause-err : goal.returns-in_err-reply-in-Some-
 returns-in_err-reply-in-Some-clause-err g c =
     let asked = c.in-Some.ensures.asks in
     refused_by {before = outlets_of g.W.Writer.contents g.W.Writer.failures c.args.writer.now
-        c.args.meter.now} [] [] c.due.session c.next_get.new.self
+    c.args.meter.now} [] [] c.due.session c.next_get.new.self
     (outlets_of g.W.Writer.contents g.W.Writer.failures c.due.writer c.due.meter) c.call.new.meter
-        (event.Get c.in-Some.level c.in-Some.attr false) c.in_err-reply-in-Some.field-0.0
+    (event.Get c.in-Some.level c.in-Some.attr false) c.in_err-reply-in-Some.field-0.0
     c.from_residual.result c.due.invariant.reached asked.steps asked.awaits
-        c.in_err-reply-in-Some.ensures.step c.from_residual.ensures.1
+    c.in_err-reply-in-Some.ensures.step c.from_residual.ensures.1
 
 pub returns-in-Err-clause-err : goal.returns-in-Err-clause-err
 returns-in-Err-clause-err g c =
     let asked = c.in-Some.ensures.asks in
     unanswered {before = outlets_of g.W.Writer.contents g.W.Writer.failures c.args.writer.now
-        c.args.meter.now} [] [] c.due.session c.next_get.new.self
+    c.args.meter.now} [] [] c.due.session c.next_get.new.self
     (outlets_of g.W.Writer.contents g.W.Writer.failures c.due.writer c.due.meter) c.call.new.meter
     (event.Get c.in-Some.level c.in-Some.attr false) c.in_ok-reply-in-Some.reply
-        c.due.invariant.reached asked.steps c.in_ok-reply-in-Some.ensures.step
+    c.due.invariant.reached asked.steps c.in_ok-reply-in-Some.ensures.step
 
 pub due-preserved-in-Ok : goal.due-preserved-in-Ok
 due-preserved-in-Ok g c =
@@ -48,12 +48,12 @@ due-preserved-in-Ok g c =
     record {
       reached = reached_answered [] c.due.session c.next_get.new.self c.answer_get-answered.new.self
           (outlets_of g.W.Writer.contents g.W.Writer.failures c.due.writer c.due.meter)
-              c.call.new.meter
+          c.call.new.meter
           (output_of g.W.Writer.contents g.W.Writer.failures c.write.new.writer)
-              (event.Get c.in-Some.level c.in-Some.attr false) c.in_ok-reply-in-Some.reply
-              c.in-Ok.frame
+          (event.Get c.in-Some.level c.in-Some.attr false) c.in_ok-reply-in-Some.reply
+          c.in-Ok.frame
           c.due.invariant.reached asked.steps c.in_ok-reply-in-Some.ensures.step answered
-              (rw c.as_slice.ensures at c.in_ok-write-in-Ok.ensures.bytes);
+          (rw c.as_slice.ensures at c.in_ok-write-in-Ok.ensures.bytes);
       silent = answered.silent;
       finished = answered.sends.finished ∙ answered.takes.finished ∙ asked.steps.finished
           ∙ c.due.invariant.finished;
@@ -77,17 +77,17 @@ returns-in_err-write-in-Ok-clause-err g c =
     let asked = c.in-Some.ensures.asks in
     let answered = c.in-Ok.ensures.ok in
     unsent_by {before = outlets_of g.W.Writer.contents g.W.Writer.failures c.args.writer.now
-        c.args.meter.now} [] [] answered.between
+    c.args.meter.now} [] [] answered.between
     (outlets_of g.W.Writer.contents g.W.Writer.failures c.due.writer c.call.new.meter)
     (output_of g.W.Writer.contents g.W.Writer.failures c.write.new.writer)
     c.in_err-write-in-Ok.field-0.0 c.from_residual-in_err-write-in-Ok.result
     (reached_asked {before = outlets_of g.W.Writer.contents g.W.Writer.failures c.args.writer.now
-        c.args.meter.now} [] c.due.session c.next_get.new.self answered.between
+    c.args.meter.now} [] c.due.session c.next_get.new.self answered.between
     (outlets_of g.W.Writer.contents g.W.Writer.failures c.due.writer c.due.meter) c.call.new.meter
     (event.Get c.in-Some.level c.in-Some.attr false) c.in_ok-reply-in-Some.reply
-        c.due.invariant.reached asked.steps c.in_ok-reply-in-Some.ensures.step answered.takes)
+    c.due.invariant.reached asked.steps c.in_ok-reply-in-Some.ensures.step answered.takes)
     c.due.invariant.even c.in_err-write-in-Ok.ensures.err
-        c.from_residual-in_err-write-in-Ok.ensures.1
+    c.from_residual-in_err-write-in-Ok.ensures.1
 
 -- ---- all other tasks
 
@@ -95,11 +95,11 @@ pub returns-in_err-event-in-None-clause-err : goal.returns-in_err-event-in-None-
 returns-in_err-event-in-None-clause-err g c =
     let same : c.next_get.new.self ≡ c.due.session = c.in-None.ensures.none in
     starved_by {before = outlets_of g.W.Writer.contents g.W.Writer.failures c.args.writer.now
-        c.args.meter.now} [] [] c.due.session c.next.new.self
+    c.args.meter.now} [] [] c.due.session c.next.new.self
     (outlets_of g.W.Writer.contents g.W.Writer.failures c.due.writer c.due.meter)
     c.from_residual-in_err-event-in-None.result c.due.invariant.reached
-        (rw same at c.in_err-event-in-None.ensures.steps)
-        c.from_residual-in_err-event-in-None.ensures.1
+    (rw same at c.in_err-event-in-None.ensures.steps)
+    c.from_residual-in_err-event-in-None.ensures.1
 
 pub returns-in_err-reply-in-Ask-clause-err : goal.returns-in_err-reply-in-Ask-clause-err
 returns-in_err-reply-in-Ask-clause-err g c =
@@ -107,11 +107,11 @@ returns-in_err-reply-in-Ask-clause-err g c =
     let stepped = rw (c.in-Ask.is, same) at c.in_ok-event-in-None.ensures.steps in
     let left = rw c.in-Ask.is at c.in_ok-event-in-None.ensures.leaves in
     refused_by {before = outlets_of g.W.Writer.contents g.W.Writer.failures c.args.writer.now
-        c.args.meter.now} [] [] c.due.session c.next.new.self
+    c.args.meter.now} [] [] c.due.session c.next.new.self
     (outlets_of g.W.Writer.contents g.W.Writer.failures c.due.writer c.due.meter)
-        c.call-in-Ask.new.meter c.in-Ask.event c.in_err-reply-in-Ask.field-0.0
+    c.call-in-Ask.new.meter c.in-Ask.event c.in_err-reply-in-Ask.field-0.0
     c.from_residual-in_err-reply-in-Ask.result c.due.invariant.reached stepped left.0
-        c.in_err-reply-in-Ask.ensures.step c.from_residual-in_err-reply-in-Ask.ensures.1
+    c.in_err-reply-in-Ask.ensures.step c.from_residual-in_err-reply-in-Ask.ensures.1
 
 pub due-preserved-in-Ok-answer : goal.due-preserved-in-Ok-answer
 due-preserved-in-Ok-answer g c =
@@ -122,9 +122,9 @@ due-preserved-in-Ok-answer g c =
     record {
       reached = reached_asked [] c.due.session c.next.new.self c.answer.new.self
           (outlets_of g.W.Writer.contents g.W.Writer.failures c.due.writer c.due.meter)
-              c.call-in-Ask.new.meter
+          c.call-in-Ask.new.meter
           c.in-Ask.event c.in_ok-reply-in-Ask.reply c.due.invariant.reached stepped
-              c.in_ok-reply-in-Ask.ensures.step taken;
+          c.in_ok-reply-in-Ask.ensures.step taken;
       silent = taken.silent;
       finished = taken.finished ∙ stepped.finished ∙ c.due.invariant.finished;
       writable = c.due.invariant.writable;
@@ -142,11 +142,11 @@ returns-in-Err-answer-clause-err g c =
     let same : c.next_get.new.self ≡ c.due.session = c.in-None.ensures.none in
     let stepped = rw (c.in-Ask.is, same) at c.in_ok-event-in-None.ensures.steps in
     unanswered {before = outlets_of g.W.Writer.contents g.W.Writer.failures c.args.writer.now
-        c.args.meter.now} [] [] c.due.session c.next.new.self
+    c.args.meter.now} [] [] c.due.session c.next.new.self
     (outlets_of g.W.Writer.contents g.W.Writer.failures c.due.writer c.due.meter)
-        c.call-in-Ask.new.meter
+    c.call-in-Ask.new.meter
     c.in-Ask.event c.in_ok-reply-in-Ask.reply c.due.invariant.reached stepped
-        c.in_ok-reply-in-Ask.ensures.step
+    c.in_ok-reply-in-Ask.ensures.step
 
 pub due-preserved : goal.due-preserved
 due-preserved g c =
@@ -158,7 +158,7 @@ due-preserved g c =
           (outlets_of g.W.Writer.contents g.W.Writer.failures c.due.writer c.due.meter)
           (output_of g.W.Writer.contents g.W.Writer.failures c.write-in-Send.new.writer)
           c.in-Send.frame c.due.invariant.reached stepped
-              (rw c.as_slice-in-Send.ensures at c.in_ok-write-in-Send.ensures.bytes);
+          (rw c.as_slice-in-Send.ensures at c.in_ok-write-in-Send.ensures.bytes);
       silent = left.0;
       finished = stepped.finished ∙ c.due.invariant.finished;
       writable = c.in_ok-write-in-Send.ensures.ready;
@@ -174,23 +174,23 @@ due-preserved g c =
 pub returns-in_err-write-in-Send-clause-err : goal.returns-in_err-write-in-Send-clause-err
 returns-in_err-write-in-Send-clause-err g c =
     unsent_by {before = outlets_of g.W.Writer.contents g.W.Writer.failures c.args.writer.now
-        c.args.meter.now} [] [] c.due.session
+    c.args.meter.now} [] [] c.due.session
     (outlets_of g.W.Writer.contents g.W.Writer.failures c.due.writer c.due.meter)
     (output_of g.W.Writer.contents g.W.Writer.failures c.write-in-Send.new.writer)
     c.in_err-write-in-Send.field-0.0 c.from_residual-in_err-write-in-Send.result
     c.due.invariant.reached c.due.invariant.even c.in_err-write-in-Send.ensures.err
-        c.from_residual-in_err-write-in-Send.ensures.1
+    c.from_residual-in_err-write-in-Send.ensures.1
 
 pub returns-in-End-clause-ok : goal.returns-in-End-clause-ok
 returns-in-End-clause-ok g c =
     let same : c.next_get.new.self ≡ c.due.session = c.in-None.ensures.none in
     settled_over g.M.Meter.steps g.F.Form.written_as c.args.session.now c.due.session
-        c.next.new.self
+    c.next.new.self
     (outlets_of g.W.Writer.contents g.W.Writer.failures c.args.writer.now c.args.meter.now)
     (outlets_of g.W.Writer.contents g.W.Writer.failures c.due.writer c.due.meter) c.in-End.end
-        c.due.invariant.reached c.due.invariant.finished
+    c.due.invariant.reached c.due.invariant.finished
     (rw (c.in-End.is, same) at c.in_ok-event-in-None.ensures.steps)
-        (rw c.in-End.is at c.in_ok-event-in-None.ensures.leaves)
+    (rw c.in-End.is at c.in_ok-event-in-None.ensures.leaves)
 
 -- ---- the order
 

@@ -10,7 +10,7 @@ pub returns-in_err-feed-clause-err : goal.returns-in_err-feed-clause-err
 returns-in_err-feed-clause-err g c =
     let s = c.args.session.now in
     let now = outlets_of g.W.Writer.contents g.W.Writer.failures c.args.writer.now c.args.meter.now
-        in
+    in
     starved_by [] c.args.bytes.now s s now c.from_residual.result
     (reached_none s now) (steps_none s) c.from_residual.ensures.1
 

@@ -9,8 +9,8 @@ pub returns-in_default-clause-tends : goal.returns-in_default-clause-tends
 returns-in_default-clause-tends g c =
     let conn = g.L.Connection.Connection in
     tends_trans port_of (terms_of conn.terms) conn.hands_back _ _ _ _ _ _ _
-        c.connections.invariant.tends (tends_by port_of (terms_of conn.terms) conn.hands_back _ _ _
-        _ _ _ c.connections.invariant.terms c.take_next.ensures.tends)
+    c.connections.invariant.tends (tends_by port_of (terms_of conn.terms) conn.hands_back _ _ _
+    _ _ _ c.connections.invariant.terms c.take_next.ensures.tends)
 
 pub connections-preserved : goal.connections-preserved
 connections-preserved g c =
@@ -19,8 +19,8 @@ connections-preserved g c =
       is_finite = tt;
       tends = let conn = g.L.Connection.Connection in
           tends_trans port_of (terms_of conn.terms) conn.hands_back _ _ _ _ _ _ _
-              c.connections.invariant.tends (tends_by port_of (terms_of conn.terms) conn.hands_back
-              _ _ _ _ _ _ c.connections.invariant.terms c.take_next.ensures.tends);
+          c.connections.invariant.tends (tends_by port_of (terms_of conn.terms) conn.hands_back
+          _ _ _ _ _ _ c.connections.invariant.terms c.take_next.ensures.tends);
       terms = c.take_next.ensures.terms ∙ c.connections.invariant.terms;
       served = c.count.ensures.served _ _ _ c.connections.invariant.served
           c.in-Some-take_next.ensures.splits;

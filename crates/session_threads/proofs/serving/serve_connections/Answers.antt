@@ -6,20 +6,20 @@ pub returns-clause-port_continues : goal.returns-clause-port_continues
 returns-clause-port_continues g c =
     let conn = g.L.Connection.Connection in
     (tends_trans port_of (terms_of conn.terms) conn.hands_back _ _ _ _ _ _ _
-        c.accept_all-accepted.ensures.tends (c.close_all.ensures.tends _)).goes
+    c.accept_all-accepted.ensures.tends (c.close_all.ensures.tends _)).goes
 
 pub returns-clause-joined : goal.returns-clause-joined
 returns-clause-joined g c =
     let conn = g.L.Connection.Connection in
     joined_all port_of (terms_of conn.terms) conn.hands_back _ _ _ _ _
-        c.in_ok-sessions.ensures (tends_trans port_of (terms_of conn.terms) conn.hands_back _ _ _ _
-        _ _ _ c.accept_all-accepted.ensures.tends (c.close_all.ensures.tends _))
-        c.close_all.ensures.closed
+    c.in_ok-sessions.ensures (tends_trans port_of (terms_of conn.terms) conn.hands_back _ _ _ _
+    _ _ _ c.accept_all-accepted.ensures.tends (c.close_all.ensures.tends _))
+    c.close_all.ensures.closed
 
 pub returns-clause-sessions : goal.returns-clause-sessions
 returns-clause-sessions g c =
     let conn = g.L.Connection.Connection in
     served_all port_of (terms_of conn.terms) conn.hands_back _ _ _ _ _
-        c.in_ok-sessions.ensures (tends_trans port_of (terms_of conn.terms) conn.hands_back _ _ _ _
-        _ _ _ c.accept_all-accepted.ensures.tends (c.close_all.ensures.tends _))
-        c.close_all.ensures.closed
+    c.in_ok-sessions.ensures (tends_trans port_of (terms_of conn.terms) conn.hands_back _ _ _ _
+    _ _ _ c.accept_all-accepted.ensures.tends (c.close_all.ensures.tends _))
+    c.close_all.ensures.closed

@@ -7,7 +7,7 @@ pub returns-in-Ok-clause-tends : goal.returns-in-Ok-clause-tends
 returns-in-Ok-clause-tends g c =
     let conn = g.L.Connection.Connection in
     tends_trans port_of (terms_of conn.terms) conn.hands_back _ _ _ _ _ _ _ (c.reap.ensures.tends _)
-        (c.take_in.ensures.tends _ c.in-Ok.ensures.served)
+    (c.take_in.ensures.tends _ c.in-Ok.ensures.served)
 
 pub returns-in-Err-clause-tends : goal.returns-in-Err-clause-tends
 returns-in-Err-clause-tends g c = c.reap.ensures.tends _

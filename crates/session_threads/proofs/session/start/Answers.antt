@@ -7,14 +7,24 @@ use Rattle.session_threads.proofs.session.start.Goals as goal
 pub spawn_with-session-requires-static-F : goal.spawn_with-session-requires-static-F
 spawn_with-session-requires-static-F g c κs within =
     let b = c.type_bounds in
-    rw (names_none _ b.static-T, names_none _ b.static-T-Event, names_none _ b.static-T-Reply,
-        names_none _ b.static-T-Origin, names_none _ b.static-C, names_none _ b.static-R) (λ a m. m)
+    rw (
+      names_none _ b.static-T,
+      names_none _ b.static-T-Event,
+      names_none _ b.static-T-Reply,
+      names_none _ b.static-T-Origin,
+      names_none _ b.static-C,
+      names_none _ b.static-R,
+    ) (λ a m. m)
 
 pub spawn_with-session-requires-static-T : goal.spawn_with-session-requires-static-T
 spawn_with-session-requires-static-T g c κs within =
     let b = c.type_bounds in
-    rw (names_none _ b.static-T, names_none _ b.static-T-Event, names_none _ b.static-T-Reply,
-        names_none _ b.static-T-Origin) (λ a m. m)
+    rw (
+      names_none _ b.static-T,
+      names_none _ b.static-T-Event,
+      names_none _ b.static-T-Reply,
+      names_none _ b.static-T-Origin,
+    ) (λ a m. m)
 
 pub spawn_with-session-requires-send-F : goal.spawn_with-session-requires-send-F
 spawn_with-session-requires-send-F g c κs within =

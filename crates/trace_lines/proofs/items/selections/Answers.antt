@@ -11,8 +11,8 @@ returns-then-len-eq-MAX_ITEMS c =
     let is : c.items.words ≡ c.in-Some.word.now ∷ c.next.new.self = search rules in
     let full : length c.items.items.items ≡ MAX_ITEMS = omega arith in
     inr (too_many selection_from MAX_ITEMS c.items.items.items c.items.words c.in-Some.word.now
-        c.next.new.self (all_at selection_from MAX_ITEMS c.args.words.now) is full
-        c.items.invariant.so_far)
+    c.next.new.self (all_at selection_from MAX_ITEMS c.args.words.now) is full
+    c.items.invariant.so_far)
 
 pub returns-in_err-selection_from : goal.returns-in_err-selection_from
 returns-in_err-selection_from c =
@@ -20,9 +20,9 @@ returns-in_err-selection_from c =
     let more : length c.items.items.items ≢ MAX_ITEMS = omega arith in
     let p = err_from_is_err_and c.from_residual.result c.from_residual.ensures.1 in
     rw (p.1, p.2) (refused selection_from MAX_ITEMS c.in_err-selection_from.field-0.0
-        c.items.items.items c.items.words c.in-Some.word.now c.next.new.self
-        (all_at selection_from MAX_ITEMS c.args.words.now) is more
-        c.in_err-selection_from.ensures c.items.invariant.so_far)
+    c.items.items.items c.items.words c.in-Some.word.now c.next.new.self
+    (all_at selection_from MAX_ITEMS c.args.words.now) is more
+    c.in_err-selection_from.ensures c.items.invariant.so_far)
 
 pub items-preserved : goal.items-preserved
 items-preserved c =

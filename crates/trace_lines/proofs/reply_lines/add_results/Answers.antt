@@ -8,8 +8,8 @@ use Rattle.trace_lines.proofs.reply_lines.add_results.Goals as goal
 pub loop-item-preserved : goal.loop-item-preserved
 loop-item-preserved c =
     one_more result_words result_stands c.args.items.now c.loop-item.item-index c.item-item.result
-        c.item-item.result c.loop-item.out.items c.add_result.new.out.items (c.args.out.now.items
-        ++ words_after_blanks (all_words result_words c.args.items.now))
+    c.item-item.result c.loop-item.out.items c.add_result.new.out.items (c.args.out.now.items
+    ++ words_after_blanks (all_words result_words c.args.items.now))
     c.loop-item-test.true c.item-item.is c.in_ok-add_result.ensures c.loop-item.invariant
 
 pub returns : goal.returns

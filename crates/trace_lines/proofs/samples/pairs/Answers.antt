@@ -11,8 +11,8 @@ returns-then-len-eq-MAX_VALUES c =
     let is : c.items.words ≡ c.in-Some.word.now ∷ c.next.new.self = search rules in
     let full : length c.items.pairs.items ≡ MAX_VALUES = omega arith in
     inr (too_many pair_from MAX_VALUES c.items.pairs.items c.items.words c.in-Some.word.now
-        c.next.new.self (all_at pair_from MAX_VALUES c.args.words.now) is full
-        c.items.invariant.so_far)
+    c.next.new.self (all_at pair_from MAX_VALUES c.args.words.now) is full
+    c.items.invariant.so_far)
 
 pub returns-in_err-pair_from : goal.returns-in_err-pair_from
 returns-in_err-pair_from c =
@@ -20,9 +20,9 @@ returns-in_err-pair_from c =
     let more : length c.items.pairs.items ≢ MAX_VALUES = omega arith in
     let p = err_from_is_err_and c.from_residual.result c.from_residual.ensures.1 in
     rw (p.1, p.2) (refused pair_from MAX_VALUES c.in_err-pair_from.field-0.0 c.items.pairs.items
-        c.items.words c.in-Some.word.now c.next.new.self
-        (all_at pair_from MAX_VALUES c.args.words.now) is more
-        c.in_err-pair_from.ensures c.items.invariant.so_far)
+    c.items.words c.in-Some.word.now c.next.new.self
+    (all_at pair_from MAX_VALUES c.args.words.now) is more
+    c.in_err-pair_from.ensures c.items.invariant.so_far)
 
 pub items-preserved : goal.items-preserved
 items-preserved c =

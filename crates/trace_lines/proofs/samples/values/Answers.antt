@@ -12,20 +12,20 @@ returns-then-len-eq-MAX_VALUES c =
     let is : c.items.words ≡ c.in-Some.word.now ∷ c.next.new.self = search rules in
     let full : length c.items.values.items ≡ MAX_VALUES = omega arith in
     inr (too_many value_from MAX_VALUES c.items.values.items c.items.words c.in-Some.word.now
-        c.next.new.self (all_at value_from MAX_VALUES c.args.words.now) is full
-        c.items.invariant.so_far)
+    c.next.new.self (all_at value_from MAX_VALUES c.args.words.now) is full
+    c.items.invariant.so_far)
 
 pub returns-in_err-value : goal.returns-in_err-value
 returns-in_err-value c =
     let is : c.items.words ≡ c.in-Some.word.now ∷ c.next.new.self = search rules in
     let more : length c.items.values.items ≢ MAX_VALUES = omega arith in
     let p = err_from_is_err_and c.from_residual-in_err-value.result
-        c.from_residual-in_err-value.ensures.1 in
+    c.from_residual-in_err-value.ensures.1 in
     rw (p.1, p.2) (refused value_from MAX_VALUES c.in_err-value.field-0.0 c.items.values.items
-        c.items.words c.in-Some.word.now c.next.new.self
-        (all_at value_from MAX_VALUES c.args.words.now) is more
-        (value_fails c.in-Some.word.now c.next.new.self c.in_err-value.field-0.0
-        (sym c.value.ensures ∙ c.in_err-value.was)) c.items.invariant.so_far)
+    c.items.words c.in-Some.word.now c.next.new.self
+    (all_at value_from MAX_VALUES c.args.words.now) is more
+    (value_fails c.in-Some.word.now c.next.new.self c.in_err-value.field-0.0
+    (sym c.value.ensures ∙ c.in_err-value.was)) c.items.invariant.so_far)
 
 pub items-preserved : goal.items-preserved
 items-preserved c =

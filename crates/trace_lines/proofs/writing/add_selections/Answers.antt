@@ -8,15 +8,17 @@ use Rattle.trace_lines.proofs.writing.add_selections.Goals as goal
 
 -- the default of a look-up past the end of the items
 abbrev no_item : AttributeSelection
-no_item = record { attr = record { class = record { 0 = 0 }; name = record { 0 = [] }; number = 0 };
-    selected = false }
+no_item = record {
+  attr = record { class = record { 0 = 0 }; name = record { 0 = [] }; number = 0 };
+  selected = false;
+}
 
 pub loop-item-preserved : goal.loop-item-preserved
 loop-item-preserved c =
     one_more selection_words selection_stands c.args.items.now c.loop-item.item-index
-        (get_or c.args.items.now c.loop-item.item-index no_item) no_item c.loop-item.out.items
-        c.add_selection.new.out.items (c.args.out.now.items
-        ++ words_after_blanks (all_words selection_words c.args.items.now))
+    (get_or c.args.items.now c.loop-item.item-index no_item) no_item c.loop-item.out.items
+    c.add_selection.new.out.items (c.args.out.now.items
+    ++ words_after_blanks (all_words selection_words c.args.items.now))
     c.loop-item-test.true refl c.in_ok-add_selection.ensures c.loop-item.invariant
 
 pub returns : goal.returns

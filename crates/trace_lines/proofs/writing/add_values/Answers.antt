@@ -8,11 +8,11 @@ loop-value-preserved c =
     let v : ℕ = get_or c.args.values.now c.loop-value.value-index 0 in
     let written : c.add_number.new.out.items ≡ c.loop-value.out.items ++ ((32 ∷ decimal v) ++ []) =
     c.in_ok-add_number.ensures.ok ∙ ap (λ (n : ℕ). c.loop-value.out.items ++ 32
-        ∷ decimal n) c.from.ensures ∙ ap (λ (bs : List ℕ). c.loop-value.out.items
-        ++ bs) (sym (append-nil (32 ∷ decimal v))) in
+    ∷ decimal n) c.from.ensures ∙ ap (λ (bs : List ℕ). c.loop-value.out.items
+    ++ bs) (sym (append-nil (32 ∷ decimal v))) in
     one_more value_words value_stands c.args.values.now c.loop-value.value-index v 0
-        c.loop-value.out.items c.add_number.new.out.items (c.args.out.now.items
-        ++ words_after_blanks (all_words value_words c.args.values.now))
+    c.loop-value.out.items c.add_number.new.out.items (c.args.out.now.items
+    ++ words_after_blanks (all_words value_words c.args.values.now))
     c.loop-value-test.true refl written c.loop-value.invariant
 
 pub returns : goal.returns

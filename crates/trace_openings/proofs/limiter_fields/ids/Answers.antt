@@ -11,20 +11,26 @@ pub returns-then-len-eq-MAX_GROUPS : goal.returns-then-len-eq-MAX_GROUPS
 returns-then-len-eq-MAX_GROUPS c =
     let is : c.items.words ≡ c.in-Some.word.now ∷ c.next.new.self = search rules in
     let full : length c.items.ids.items ≡ MAX_GROUPS = omega arith in
-    record { ids = inr (too_many id_from MAX_GROUPS c.items.ids.items c.items.words
-        c.in-Some.word.now c.next.new.self (all_at id_from MAX_GROUPS c.args.words.now) is full
-        c.items.invariant.so_far); within_max = tt }
+    record {
+      ids = inr (too_many id_from MAX_GROUPS c.items.ids.items c.items.words
+          c.in-Some.word.now c.next.new.self (all_at id_from MAX_GROUPS c.args.words.now) is full
+          c.items.invariant.so_far);
+      within_max = tt;
+    }
 
 pub returns-in_err-long_in : goal.returns-in_err-long_in
 returns-in_err-long_in c =
     let is : c.items.words ≡ c.in-Some.word.now ∷ c.next.new.self = search rules in
     let more : length c.items.ids.items ≢ MAX_GROUPS = omega arith in
     let p = err_from_is_err_and c.from_residual.result c.from_residual.ensures.1 in
-    rw (p.1, p.2) (record { ids = refused id_from MAX_GROUPS c.in_err-long_in.field-0.0
-        c.items.ids.items c.items.words c.in-Some.word.now c.next.new.self
-        (all_at id_from MAX_GROUPS c.args.words.now) is more
-        (id_fails c.in-Some.word.now c.next.new.self c.in_err-long_in.field-0.0
-        (sym c.long_in.ensures ∙ c.in_err-long_in.was)) c.items.invariant.so_far; within_max = tt })
+    rw (p.1, p.2) (record {
+      ids = refused id_from MAX_GROUPS c.in_err-long_in.field-0.0
+          c.items.ids.items c.items.words c.in-Some.word.now c.next.new.self
+          (all_at id_from MAX_GROUPS c.args.words.now) is more
+          (id_fails c.in-Some.word.now c.next.new.self c.in_err-long_in.field-0.0
+          (sym c.long_in.ensures ∙ c.in_err-long_in.was)) c.items.invariant.so_far;
+      within_max = tt;
+    })
 
 pub items-preserved : goal.items-preserved
 items-preserved c =
@@ -40,6 +46,9 @@ items-preserved c =
     }
 
 pub returns : goal.returns
-returns c = record { ids = is_done id_from MAX_GROUPS c.items.ids.items c.items.words
-    (all_at id_from MAX_GROUPS c.args.words.now) c.in_default.ensures.steps.0
-    c.items.invariant.so_far; within_max = c.items.invariant.so_far.few }
+returns c = record {
+  ids = is_done id_from MAX_GROUPS c.items.ids.items c.items.words
+      (all_at id_from MAX_GROUPS c.args.words.now) c.in_default.ensures.steps.0
+      c.items.invariant.so_far;
+  within_max = c.items.invariant.so_far.few;
+}

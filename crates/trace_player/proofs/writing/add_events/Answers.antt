@@ -7,8 +7,8 @@ use Rattle.trace_text.specs.Lines.{rows_text}
 pub events-preserved : goal.events-preserved
 events-preserved c =
     event_more c.args.events.now c.events.event-index c.event-item.result c.events.out.items
-        c.add_event.new.out.items (c.args.out.now.items
-        ++ rows_text (map event_row c.args.events.now))
+    c.add_event.new.out.items (c.args.out.now.items
+    ++ rows_text (map event_row c.args.events.now))
     c.events-test.true c.event-item.is c.in_ok-add_event.ensures c.events.invariant
 
 pub returns : goal.returns

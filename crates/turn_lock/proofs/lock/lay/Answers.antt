@@ -10,9 +10,9 @@ new-requires-2 g c =
     let key = c.of-key.result.value in
     let same : key ≡ c.args.value = c.of-key.ensures in
     let items : c.push.new.self.items ≡ full_slot key None ∷ [] = c.in_default.ensures.items
-        ∙ (ap (λ l. l ++ full_slot c.in-Ok.lodged None ∷ []) c.new-slots.ensures.items
-        ∙ ap (λ x. full_slot x None ∷ []) (c.in-Ok.ensures.ok ∙ sym same)) in
+    ∙ (ap (λ l. l ++ full_slot c.in-Ok.lodged None ∷ []) c.new-slots.ensures.items
+    ∙ ap (λ x. full_slot x None ∷ []) (c.in-Ok.ensures.ok ∙ sym same)) in
     subst (λ xs. Keeps t.origin t.stands t.legal key
-        (opening (0 ∷ 0 ∷ []) xs (first_view (t.origin key)))) (sym items)
+    (opening (0 ∷ 0 ∷ []) xs (first_view (t.origin key)))) (sym items)
     (made t.origin t.stands t.legal key g.met.T.Turned.is_legal key
-        (subst (λ x. t.stands x []) (sym same) c.requires) refl)
+    (subst (λ x. t.stands x []) (sym same) c.requires) refl)

@@ -17,7 +17,7 @@ returns-then-try_draw-clause-watches g c =
     let first = known_of c.args.place.now in
     let drew = c.try_draw.ensures.yes c.if-try_draw.true in
     subst (λ s. Watches g.T.Turned.legal first s.view.known) (sym drew)
-        (watches_trans _ _ _ c.loop.invariant.4 c.look-turn.ensures.watches)
+    (watches_trans _ _ _ c.loop.invariant.4 c.look-turn.ensures.watches)
 
 pub loop-preserved : goal.loop-preserved
 loop-preserved g c =
@@ -26,19 +26,28 @@ loop-preserved g c =
     let now = c.else-served-turn.place in
     let ready = c.look-turn.ensures.seat.1 in
     let same : (now.table_id ≡ looked.table_id) × (state_of now ≡ state_of looked) =
-        elim c.else-served-turn.branch [
-      | else-served-turn-via-then-served-turn+else-try_draw w ↦ (ap (λ p. p.table_id) w.place-is
-          ∙ w.try_draw.ensures.seat, ap (λ p. state_of p) w.place-is
-          ∙ w.try_draw.ensures.no w.if-try_draw.false)
-      | else-served-turn-via-else-served-turn w ↦ (ap (λ p. p.table_id) w.place-is,
-          ap (λ p. state_of p) w.place-is)
+    elim c.else-served-turn.branch [
+      | else-served-turn-via-then-served-turn+else-try_draw w ↦ (
+        ap (λ p. p.table_id) w.place-is
+            ∙ w.try_draw.ensures.seat,
+        ap (λ p. state_of p) w.place-is
+            ∙ w.try_draw.ensures.no w.if-try_draw.false,
+      )
+      | else-served-turn-via-else-served-turn w ↦ (
+        ap (λ p. p.table_id) w.place-is,
+        ap (λ p. state_of p) w.place-is,
+      )
     ] in (
       tt,
       tt,
       same.0 ∙ (c.look-turn.ensures.seat.0 ∙ c.loop.invariant.2),
-      record { port = ap (λ s. s.view.is_port) same.1
-          ∙ ready.port; stage_is = ap (λ s. s.view.stage) same.1 ∙ ready.stage_is; carried_is =
-          ap (λ s. s.carried) same.1 ∙ ready.carried_is },
+      record {
+        port = ap (λ s. s.view.is_port) same.1
+            ∙ ready.port;
+        stage_is = ap (λ s. s.view.stage) same.1 ∙ ready.stage_is;
+        carried_is =
+            ap (λ s. s.carried) same.1 ∙ ready.carried_is;
+      },
       subst (λ s. Watches g.T.Turned.legal first s.view.known) (sym same.1)
           (watches_trans _ _ _ c.loop.invariant.4 c.look-turn.ensures.watches),
     )

@@ -7,5 +7,5 @@ use Rattle.turn_lock.proofs.steps.draw.Given as goal
 abbrev pub invariant-loop : goal.invariant-loop
 invariant-loop g l =
     (goal.iterator-loop g).can_next l.iterator' × (goal.iterator-loop g).is_finite l.iterator'
-        × (l.place.table_id ≡ l.fn.place.table_id) × IsReady l.place Idle []
+    × (l.place.table_id ≡ l.fn.place.table_id) × IsReady l.place Idle []
     × Watches g.T.Turned.legal (known_of l.fn.place) (known_of l.place)

@@ -6,9 +6,12 @@ use Rattle.turn_lock.proofs.steps.try_reach.Goals as goal
 pub load-requires : goal.load-requires
 load-requires g c =
     let t = g.T.Turned in
-    let was = c.requires.waiting in
-    (search rules, search rules, reaches t.origin t.stands t.legal c.args.top.now.key.value _ _
-        c.args.turn _ was.port was.stage_is)
+    let was = c.requires.waiting in (
+      search rules,
+      search rules,
+      reaches t.origin t.stands t.legal c.args.top.now.key.value _ _
+          c.args.turn _ was.port was.stage_is,
+    )
 
 pub returns-clause-yes : goal.returns-clause-yes
 returns-clause-yes g c = λ yes. (c.load.ensures.2 c.args.turn c.requires.waiting.stage_is).if_served

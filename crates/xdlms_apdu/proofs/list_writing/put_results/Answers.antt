@@ -7,5 +7,5 @@ pub returns-in_err-put_result-clause-extends : goal.returns-in_err-put_result-cl
 returns-in_err-put_result-clause-extends c =
     let extended : Extends c.args.out.now c.put_result.new.out =
     extends_more _ c.in_ok-append_length.ensures.ok
-        (extends_on c.loop-outcome.invariant.1 c.in_err-put_result.ensures.extends) in
+    (extends_on c.loop-outcome.invariant.1 c.in_err-put_result.ensures.extends) in
     search rules

@@ -7,5 +7,5 @@ use Rattle.xdlms_apdu.proofs.list_writing.put_results.Given as goal
 abbrev pub invariant-loop-outcome : goal.invariant-loop-outcome
 invariant-loop-outcome l =
     (l.out ++ flat_map result_part.text (drop l.outcome-index l.results) ≡ l.initial.out
-        ++ flat_map result_part.text l.results)
+    ++ flat_map result_part.text l.results)
     × Extends l.initial.out l.out

@@ -8,9 +8,9 @@ use Rattle.xdlms_apdu.proofs.request_reading.read_request.Goals as goal
 pub returns-clause-found : goal.returns-clause-found
 returns-clause-found c =
     gives_found (SpellsRequest c.args.bytes.now) Memory (λ (r : Request). r) c.read_whole.result
-        (request_of c.args.bytes.now) c.read_whole.ensures (request_found c.args.bytes.now)
+    (request_of c.args.bytes.now) c.read_whole.ensures (request_found c.args.bytes.now)
 
 pub returns-clause-only : goal.returns-clause-only
 returns-clause-only c = λ r s.
     gives_only Memory (λ (q : Request). q) c.read_whole.result (request_of c.args.bytes.now) r
-        c.read_whole.ensures (request_again c.args.bytes.now r s)
+    c.read_whole.ensures (request_again c.args.bytes.now r s)

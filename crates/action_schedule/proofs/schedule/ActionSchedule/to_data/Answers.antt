@@ -8,17 +8,17 @@ use Rattle.action_schedule.proofs.schedule.ActionSchedule.to_data.Goals as goal
 pub returns-in-ExecutedScript-clause-read_back : goal.returns-in-ExecutedScript-clause-read_back
 returns-in-ExecutedScript-clause-read_back c =
     reads_back c.write_script.result ExecutedScript c.args.attribute _ c.args.self.now
-        c.in-ExecutedScript.is c.self.view_is
-        (selector_written c.write_script.result c.self.inside.selector c.write_script.ensures)
+    c.in-ExecutedScript.is c.self.view_is
+    (selector_written c.write_script.result c.self.inside.selector c.write_script.ensures)
 
 pub returns-in-Kind-clause-read_back : goal.returns-in-Kind-clause-read_back
 returns-in-Kind-clause-read_back c =
     reads_back (done ℕ (Enum c.number.result)) Kind c.args.attribute _ c.args.self.now c.in-Kind.is
-        c.self.view_is (kind_written c.number.result c.self.inside.kind c.number.ensures)
+    c.self.view_is (kind_written c.number.result c.self.inside.kind c.number.ensures)
 
 pub returns-in-ExecutionTime-clause-read_back : goal.returns-in-ExecutionTime-clause-read_back
 returns-in-ExecutionTime-clause-read_back c =
     reads_back c.write_entries.result ExecutionTime c.args.attribute _ c.args.self.now
-        c.in-ExecutionTime.is c.self.view_is
+    c.in-ExecutionTime.is c.self.view_is
     (entries_written c.write_entries.result c.as_slice.result.now c.self.inside.entries
-        c.self.invariant c.as_slice.ensures c.write_entries.ensures)
+    c.self.invariant c.as_slice.ensures c.write_entries.ensures)

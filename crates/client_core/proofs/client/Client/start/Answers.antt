@@ -4,6 +4,8 @@ use Rattle.client_core.proofs.client.Client.start.Goals as goal
 
 pub returns : goal.returns
 returns c =
-    starts c.args.job.now.verb c.args.password.now _ refl c.fresh.ensures c.new.ensures refl
-    (ap Some c.in_ok-aarq_frame.ensures, ap Some c.in_ok-request_frame.ensures,
-        ap Some c.in_ok-release_frame.ensures)
+    starts c.args.job.now.verb c.args.password.now _ refl c.fresh.ensures c.new.ensures refl (
+      ap Some c.in_ok-aarq_frame.ensures,
+      ap Some c.in_ok-request_frame.ensures,
+      ap Some c.in_ok-release_frame.ensures,
+    )

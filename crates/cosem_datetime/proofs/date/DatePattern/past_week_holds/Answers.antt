@@ -9,11 +9,11 @@ loop-back-init c = none_below_zero _
 pub loop-back-preserved : goal.loop-back-preserved
 loop-back-preserved c =
     none_below_more _ _ c.loop-back.invariant
-        (ap (date_holds c.args.self.now) (sym c.date_of_day.ensures.date)
-        ∙ (sym c.holds.ensures ∙ c.if-holds.false))
+    (ap (date_holds c.args.self.now) (sym c.date_of_day.ensures.date)
+    ∙ (sym c.holds.ensures ∙ c.if-holds.false))
 
 pub returns-then-holds : goal.returns-then-holds
 returns-then-holds c =
     sym (some_below_found _ 7 c.loop-back.back (omega arith)
-        (ap (date_holds c.args.self.now) (sym c.date_of_day.ensures.date)
-        ∙ (sym c.holds.ensures ∙ c.if-holds.true)))
+    (ap (date_holds c.args.self.now) (sym c.date_of_day.ensures.date)
+    ∙ (sym c.holds.ensures ∙ c.if-holds.true)))

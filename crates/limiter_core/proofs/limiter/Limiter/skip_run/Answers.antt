@@ -7,4 +7,4 @@ pub returns-then-n-gt0-clause-rows : goal.returns-then-n-gt0-clause-rows
 returns-then-n-gt0-clause-rows c = λ rows values keeps kinds count.
     let some : 0 < c.args.n = search rules in
     keeps_after c.args.kind c.args.self.now c.jump.new.self rows values c.args.n c.args.last
-        c.jump.ensures.limiter keeps kinds count some c.requires.quiet c.jump.ensures.state
+    c.jump.ensures.limiter keeps kinds count some c.requires.quiet c.jump.ensures.state

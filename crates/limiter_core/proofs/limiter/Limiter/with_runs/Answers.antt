@@ -7,5 +7,10 @@ use Rattle.limiter_core.proofs.limiter.Limiter.with_runs.Goals as goal
 pub returns-clause-rows : goal.returns-clause-rows
 returns-clause-rows c =
     let fit : IsFit c.args.last c.args.over c.args.under = search rules in
-    opened (record { settings = c.self.inside.settings; moment = c.self.inside.moment;
-        last = c.args.last; over = c.args.over; under = c.args.under }) fit
+    opened (record {
+      settings = c.self.inside.settings;
+      moment = c.self.inside.moment;
+      last = c.args.last;
+      over = c.args.over;
+      under = c.args.under;
+    }) fit

@@ -36,7 +36,7 @@ samples-preserved c =
       takes = takes_pairs_on c.args.self.now c.samples.self c.take_stretch_of_pairs-at.new.self
           no_firings c.samples.firings
           c.take_stretch_of_pairs-at.new.firings c.args.values.now c.args.others.now c.samples.at
-              c.take_stretch_of_pairs-at.result
+          c.take_stretch_of_pairs-at.result
           c.requires.same_length c.samples.invariant.takes taken.takes;
       within = taken.within;
       right = c.scan_at-scan-in-samples.ensures.right;
@@ -47,10 +47,10 @@ samples-preserved c =
 pub returns : goal.returns
 returns c =
     let P : List ℕ → Type 0 = λ values. Takes c.args.self.now c.samples.self no_firings
-        c.samples.firings (pairs values (take c.samples.at c.args.others.now)) in
+    c.samples.firings (pairs values (take c.samples.at c.args.others.now)) in
     let Q : List ℕ → Type 0 = λ others. Takes c.args.self.now c.samples.self no_firings
-        c.samples.firings (pairs c.args.values.now others) in
+    c.samples.firings (pairs c.args.values.now others) in
     subst Q (take_all c.samples.at c.args.others.now
-        (omega (arith, c.requires.same_length, c.samples-test.false)))
+    (omega (arith, c.requires.same_length, c.samples-test.false)))
     (subst P (take_all c.samples.at c.args.values.now c.samples-test.false)
-        c.samples.invariant.takes)
+    c.samples.invariant.takes)

@@ -30,7 +30,7 @@ samples-preserved c =
       takes = takes_values_on c.args.self.now c.samples.self c.take_stretch-at.new.self no_firings
           c.samples.firings c.take_stretch-at.new.firings
           c.args.values.now c.samples.at c.take_stretch-at.result c.samples.invariant.takes
-              taken.takes;
+          taken.takes;
       within = taken.within;
       right = c.scan_at-scan-in-samples.ensures.right;
       counted = taken.counted;
@@ -39,5 +39,5 @@ samples-preserved c =
 pub returns : goal.returns
 returns c =
     let P : List ℕ → Type 0 = λ values. Takes c.args.self.now c.samples.self no_firings
-        c.samples.firings (imports values) in
+    c.samples.firings (imports values) in
     subst P (take_all c.samples.at c.args.values.now c.samples-test.false) c.samples.invariant.takes

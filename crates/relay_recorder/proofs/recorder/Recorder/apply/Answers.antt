@@ -15,9 +15,9 @@ invariant_of-self-2 c =
       Prim.search (rules, common_steps),
       goes_on old new c.args.event reply
           (applied inside.core inside.opening c.step.new.self c.keep.new.opening inside.kept
-              c.keep.new.ring c.args.event _ reply
+          c.keep.new.ring c.args.event _ reply
           told.world told.reply c.new.ensures c.keep.ensures.ring c.keep.ensures.opening)
-              c.self.invariant.1,
+          c.self.invariant.1,
     )
 
 pub returns-clause-history : goal.returns-clause-history
@@ -28,5 +28,5 @@ returns-clause-history c =
     let new = recording c.step.new.self c.keep.new.opening c.keep.new.ring in
     subst (λ (r : Recording). Continues r new c.args.event reply) c.self.view_is
     (applied inside.core inside.opening c.step.new.self c.keep.new.opening inside.kept
-        c.keep.new.ring c.args.event _ reply
+    c.keep.new.ring c.args.event _ reply
     told.world told.reply c.new.ensures c.keep.ensures.ring c.keep.ensures.opening)

@@ -11,5 +11,5 @@ pub returns-clause-replays : goal.returns-clause-replays
 returns-clause-replays c = λ history origin stands.
     let world = world_of_opening c.in_ok-to_opening.field-0 in
     let agrees = subst (λ (r : Recording). (w : World) → StandsFor r.opening w
-        → Agree world w) c.self.view_is c.in_ok-to_opening.ensures.agrees in
+    → Agree world w) c.self.view_is c.in_ok-to_opening.ensures.agrees in
     runs_again c.args.self.now history origin world stands c.in_ok-to_opening.ensures.range agrees

@@ -9,8 +9,7 @@ use Rattle.relay_recorder.proofs.recorder.Recorder.from_core.Goals as goal
 pub invariant_of-result : goal.invariant_of-result
 invariant_of-result c =
     let empty = ap (λ (b : Buffer Event). b.items)
-        (rw c.in-Ok-with_capacity.is at c.with_capacity.ensures) in
-    (
+    (rw c.in-Ok-with_capacity.is at c.with_capacity.ensures) in (
       Prim.search (rules, common_steps),
       begins c.args.core c.in-Ok.opening c.in-Ok-with_capacity.kept
           (world_of_opening (opening_of c.args.core))

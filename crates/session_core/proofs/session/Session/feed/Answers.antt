@@ -12,14 +12,14 @@ returns-in-Ok-clause-ok c = feeds_any c.args.self.now c.args.bytes.now c.feed.ne
 pub returns-in-Err-Version-clause-ok : goal.returns-in-Err-Version-clause-ok
 returns-in-Err-Version-clause-ok c =
     feeds_behind_version c.args.self.now c.args.bytes.now c.feed.new.self c.if-self.false
-        c.in-Err-Version.ensures.err (bad_version _ _ c.in-Err-Version.field-0-is
-        c.in-Err-Version.ensures.stops)
+    c.in-Err-Version.ensures.err (bad_version _ _ c.in-Err-Version.field-0-is
+    c.in-Err-Version.ensures.stops)
 
 pub returns-in-Err-TooLong-clause-ok : goal.returns-in-Err-TooLong-clause-ok
 returns-in-Err-TooLong-clause-ok c =
     feeds_behind_length c.args.self.now c.args.bytes.now c.feed.new.self c.if-self.false
-        c.in-Err-TooLong.ensures.err (too_long _ _ c.in-Err-TooLong.field-0-is
-        c.in-Err-TooLong.ensures.stops)
+    c.in-Err-TooLong.ensures.err (too_long _ _ c.in-Err-TooLong.field-0-is
+    c.in-Err-TooLong.ensures.stops)
 
 pub returns-in-Some-clause-ok : goal.returns-in-Some-clause-ok
 returns-in-Some-clause-ok c =

@@ -6,7 +6,7 @@ use Rattle.session_core.proofs.session.Session.work.Goals as goal
 pub returns-in_ok-step-in-Read-clause-works : goal.returns-in_ok-step-in-Read-clause-works
 returns-in_ok-step-in-Read-clause-works c =
     reads_any the_row.Denot c.args.self.now c.take.new.self c.in-Read.joined
-        c.in_ok-step-in-Read.step c.take.result c.in-Read.is c.in_ok-step-in-Read.ensures.outcome
+    c.in_ok-step-in-Read.step c.take.result c.in-Read.is c.in_ok-step-in-Read.ensures.outcome
     c.in_ok-step-in-Read.ensures.settled c.take.ensures.next c.take.ensures.after
 
 pub returns-in-Await-clause-works : goal.returns-in-Await-clause-works

@@ -8,8 +8,8 @@ returns-in-Some-clause-tends g c = λ t.
     let conn = g.C.Connection in
     let same = returned_same _ _ _ (c.requires.hands_back _) c.join-own.ensures in
     tends_close port_of (terms_of conn.terms) conn.hands_back t g.T.Turned.legal _ _ _ _ _
-        c.in-Some.session c.join-own.result (sym c.try_remove.ensures.value
-        ∙ c.in-Some.is) c.try_remove.ensures.updates c.try_remove.ensures.capacity
+    c.in-Some.session c.join-own.result (sym c.try_remove.ensures.value
+    ∙ c.in-Some.is) c.try_remove.ensures.updates c.try_remove.ensures.capacity
     c.join-own.ensures same c.join.ensures.lock.0 c.join.ensures.lock.1 c.join.ensures.joins
 
 pub returns-in_default-clause-tends : goal.returns-in_default-clause-tends

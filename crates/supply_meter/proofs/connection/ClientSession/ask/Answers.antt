@@ -22,11 +22,15 @@ nothing_awaited u d s e nothing = ap (λ (x : Dialogue). awaits_reply x.under_wa
     ∙ ap awaits_reply nothing
 
 pub invariant_of-self : goal.invariant_of-self
-invariant_of-self c = record { agrees = c.in_err-event.ensures.not_asking
-    ∙ sym (nothing_awaited _ _ _ c.self.view_is c.requires) }
+invariant_of-self c = record {
+  agrees = c.in_err-event.ensures.not_asking
+      ∙ sym (nothing_awaited _ _ _ c.self.view_is c.requires);
+}
 
 pub invariant_of-self-in-End : goal.invariant_of-self-in-End
 invariant_of-self-in-End c =
-    record { agrees = over_silent _ c.in-End.end _ refl
-        (rw c.in-End.is at c.in_ok-event.ensures.leaves)
-        ∙ sym (nothing_awaited _ _ _ c.self.view_is c.requires) }
+    record {
+      agrees = over_silent _ c.in-End.end _ refl
+          (rw c.in-End.is at c.in_ok-event.ensures.leaves)
+          ∙ sym (nothing_awaited _ _ _ c.self.view_is c.requires);
+    }

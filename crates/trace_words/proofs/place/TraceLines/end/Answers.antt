@@ -7,7 +7,7 @@ pub returns-then-is_empty : goal.returns-then-is_empty
 returns-then-is_empty c =
     let none : length c.rest.result.now ≡ 0 = grind (arith, common_steps) in
     sym (nothing_is_left c.args.self.now c.self.inside.number c.self.inside.lines
-        (sym c.self.view_is) (no_bytes c.rest.result.now c.self.inside.lines c.rest.ensures none))
+    (sym c.self.view_is) (no_bytes c.rest.result.now c.self.inside.lines c.rest.ensures none))
 
 pub returns-else-is_empty : goal.returns-else-is_empty
 returns-else-is_empty c = sym (something_is_left c.args.self.now c.self.inside.number
