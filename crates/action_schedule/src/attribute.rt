@@ -1,6 +1,8 @@
 //! Attributes 2 to 4 of a single action schedule (IEC 62056-6-2, class 22) and their numbers.
-ghost use Rattle.std.specs.Prelude.{◌≡◌};
+ghost use Rattle.cosem_names.specs.UnknownNumber.{Finds};
 ghost use Rattle.action_schedule.specs.Attributes.{attribute_numbered};
+
+use cosem_names::UnknownNumber;
 
 /// The attributes of a schedule after its logical name, each with its number (IEC 62056-6-2, class
 /// 22).
@@ -14,16 +16,18 @@ pub enum ScheduleAttribute {
     ExecutionTime = 4,
 }
 
-impl ScheduleAttribute {
-    /// Returns the attribute of a number, or `None` if the number is not 2 to 4.
-    pub fn of_number(number: u8) -> Option<ScheduleAttribute>
-        ensures { result ≡ attribute_numbered number }
-    {
-        Some(match number {
+/// Returns the attribute of a number. Fails if the number is not 2 to 4.
+impl TryFrom<u8> for ScheduleAttribute {
+    type Error = UnknownNumber;
+
+    ghost try_from_gives = { Finds attribute_numbered };
+
+    fn try_from(number: u8) -> Result<ScheduleAttribute, UnknownNumber> {
+        Ok(match number {
             2 => ScheduleAttribute::ExecutedScript,
             3 => ScheduleAttribute::Kind,
             4 => ScheduleAttribute::ExecutionTime,
-            _ => return None,
+            _ => return Err(UnknownNumber(number)),
         })
     }
 }

@@ -1,6 +1,9 @@
 //! The five types of a single action schedule (IEC 62056-6-2, class 22, type) and their numbers.
 ghost use Rattle.std.specs.Prelude.{◌≡◌};
+ghost use Rattle.cosem_names.specs.UnknownNumber.{Finds};
 ghost use Rattle.action_schedule.specs.Kinds.{number_of, type_of_number};
+
+use cosem_names::UnknownNumber;
 
 /// The type of a schedule, attribute 3 (IEC 62056-6-2, class 22): how many entries it has, whether
 /// their times may differ, and whether their dates may have wildcards. A wildcard is a year, month
@@ -19,12 +22,12 @@ pub enum ScheduleType {
     Type5,
 }
 
-impl ScheduleType {
-    /// Returns the number of the type, 1 to 5, as attribute 3 shows it.
-    pub fn number(self) -> u8
-        ensures { result ≡ number_of self }
-    {
-        match self {
+/// Returns the number of the type, 1 to 5, as attribute 3 shows it.
+impl From<ScheduleType> for u8 {
+    ghost from_gives = { λ kind number. number ≡ number_of kind };
+
+    fn from(kind: ScheduleType) -> u8 {
+        match kind {
             ScheduleType::Type1 => 1,
             ScheduleType::Type2 => 2,
             ScheduleType::Type3 => 3,
@@ -32,18 +35,22 @@ impl ScheduleType {
             ScheduleType::Type5 => 5,
         }
     }
+}
 
-    /// Returns the type of a number, or `None` if the number is not 1 to 5.
-    pub fn of_number(number: u8) -> Option<ScheduleType>
-        ensures { result ≡ type_of_number number }
-    {
-        Some(match number {
+/// Returns the type of a number. Fails if the number is not 1 to 5.
+impl TryFrom<u8> for ScheduleType {
+    type Error = UnknownNumber;
+
+    ghost try_from_gives = { Finds type_of_number };
+
+    fn try_from(number: u8) -> Result<ScheduleType, UnknownNumber> {
+        Ok(match number {
             1 => ScheduleType::Type1,
             2 => ScheduleType::Type2,
             3 => ScheduleType::Type3,
             4 => ScheduleType::Type4,
             5 => ScheduleType::Type5,
-            _ => return None,
+            _ => return Err(UnknownNumber(number)),
         })
     }
 }

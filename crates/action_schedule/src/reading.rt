@@ -37,7 +37,7 @@ pub(crate) fn read_kind(value: &Data) -> Result<ScheduleType, WriteFault>
     ensures no_memory { ¬ IsErrOf result WriteFault.Memory }
 {
     let number = value.enumerated().ok_or(WriteFault::Unmatched)?;
-    ScheduleType::of_number(number).ok_or(WriteFault::Value)
+    Ok(ScheduleType::try_from(number)?)
 }
 
 // Reads an entry: `Unmatched` if a type or length differs, then `Value` if a field of the time or

@@ -132,7 +132,7 @@ impl ActionSchedule {
     {
         match attribute {
             ScheduleAttribute::ExecutedScript => write_script(alloc, self.selector),
-            ScheduleAttribute::Kind => Ok(Data::Enum(self.kind.number())),
+            ScheduleAttribute::Kind => Ok(Data::Enum(u8::from(self.kind))),
             ScheduleAttribute::ExecutionTime => write_entries(alloc, self.entries.as_slice()),
         }
     }

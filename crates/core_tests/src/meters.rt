@@ -14,8 +14,8 @@ pub(crate) type Standing = (u8, u8, bool);
 
 pub(crate) fn standing(meter: &SupplyMeter) -> Standing {
     (
-        meter.state().number(),
-        meter.mode().number(),
+        u8::from(meter.state()),
+        u8::from(meter.mode()),
         meter.output(),
     )
 }

@@ -1,6 +1,8 @@
 //! Attributes 2 to 4 of the disconnect control (IEC 62056-6-2, class 70) and their numbers.
-ghost use Rattle.std.specs.Prelude.{◌≡◌};
+ghost use Rattle.cosem_names.specs.UnknownNumber.{Finds};
 ghost use Rattle.disconnect_control.specs.Attributes.{attribute_numbered};
+
+use cosem_names::UnknownNumber;
 
 /// The attributes of the switch after its logical name, each with its number (IEC 62056-6-2, class
 /// 70).
@@ -14,16 +16,18 @@ pub enum ControlAttribute {
     ControlMode = 4,
 }
 
-impl ControlAttribute {
-    /// Returns the attribute of a number, or `None` if the number is not 2 to 4.
-    pub fn of_number(number: u8) -> Option<ControlAttribute>
-        ensures { result ≡ attribute_numbered number }
-    {
-        Some(match number {
+/// Returns the attribute of a number. Fails if the number is not 2 to 4.
+impl TryFrom<u8> for ControlAttribute {
+    type Error = UnknownNumber;
+
+    ghost try_from_gives = { Finds attribute_numbered };
+
+    fn try_from(number: u8) -> Result<ControlAttribute, UnknownNumber> {
+        Ok(match number {
             2 => ControlAttribute::OutputState,
             3 => ControlAttribute::ControlState,
             4 => ControlAttribute::ControlMode,
-            _ => return None,
+            _ => return Err(UnknownNumber(number)),
         })
     }
 }

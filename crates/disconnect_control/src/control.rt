@@ -1,13 +1,14 @@
 //! The disconnect control (IEC 62056-6-2, class 70): its state and mode, its transitions, and the
 //! result of each trigger.
 ghost use Rattle.std.specs.Prelude.{◌≡◌, ◌≢◌, ◌↔◌, option_map, IsTrue, IsNone, IfSome};
+ghost use Rattle.cosem_names.specs.UnknownNumber.{Finds};
 ghost use Rattle.disconnect_control.specs.declared.state.ControlState.TheVariants.{Connected};
 ghost use Rattle.disconnect_control.specs.declared.state.ControlMode.TheVariants.{Mode0};
 ghost use Rattle.disconnect_control.specs.Transitions.{allowed_transition, is_target, is_state, result_of, state_number, mode_number, mode_of};
 ghost use Rattle.disconnect_control.specs.Control.{Control, control_after, is_mode_fit, with_mode, mode_result};
 
 use crate::state::{ControlMode, ControlState, Trigger};
-use cosem_names::ResultCode;
+use cosem_names::{ResultCode, UnknownNumber};
 use std::marker::Model;
 
 /// The supply switch: its state and its mode (IEC 62056-6-2, class 70). In mode 0 it is always
@@ -28,28 +29,32 @@ impl Model for DisconnectControl {
     ghost inverse = { λ c. record { state = c.state; mode = c.mode } };
 }
 
-impl ControlState {
-    /// Returns the number of the state, 0 to 2, as control_state (attribute 3) shows it.
-    pub fn number(self) -> u8
-        ensures { result ≡ state_number self }
-    {
-        self as u8
+/// Returns the number of the state, 0 to 2, as control_state (attribute 3) shows it.
+impl From<ControlState> for u8 {
+    ghost from_gives = { λ state number. number ≡ state_number state };
+
+    fn from(state: ControlState) -> u8 {
+        state as u8
     }
 }
 
-impl ControlMode {
-    /// Returns the number of the mode, 0 to 6, as control_mode (attribute 4) shows it.
-    pub fn number(self) -> u8
-        ensures { result ≡ mode_number self }
-    {
-        self as u8
-    }
+/// Returns the number of the mode, 0 to 6, as control_mode (attribute 4) shows it.
+impl From<ControlMode> for u8 {
+    ghost from_gives = { λ mode number. number ≡ mode_number mode };
 
-    /// Returns the mode of a number, or `None` if the number is above 6.
-    pub fn of_number(number: u8) -> Option<ControlMode>
-        ensures { result ≡ mode_of number }
-    {
-        Some(match number {
+    fn from(mode: ControlMode) -> u8 {
+        mode as u8
+    }
+}
+
+/// Returns the mode of a number. Fails if the number is above 6.
+impl TryFrom<u8> for ControlMode {
+    type Error = UnknownNumber;
+
+    ghost try_from_gives = { Finds mode_of };
+
+    fn try_from(number: u8) -> Result<ControlMode, UnknownNumber> {
+        Ok(match number {
             0 => ControlMode::Mode0,
             1 => ControlMode::Mode1,
             2 => ControlMode::Mode2,
@@ -57,7 +62,7 @@ impl ControlMode {
             4 => ControlMode::Mode4,
             5 => ControlMode::Mode5,
             6 => ControlMode::Mode6,
-            _ => return None,
+            _ => return Err(UnknownNumber(number)),
         })
     }
 }

@@ -16,8 +16,8 @@ impl DisconnectControl {
     {
         match attribute {
             ControlAttribute::OutputState => Data::Boolean(self.output()),
-            ControlAttribute::ControlState => Data::Enum(self.state().number()),
-            ControlAttribute::ControlMode => Data::Enum(self.mode().number()),
+            ControlAttribute::ControlState => Data::Enum(u8::from(self.state())),
+            ControlAttribute::ControlMode => Data::Enum(u8::from(self.mode())),
         }
     }
 }
@@ -30,5 +30,5 @@ pub fn read_mode(value: &Data) -> Result<ControlMode, WriteFault>
     ensures { result ≡ mode_form value.now }
 {
     let number = value.enumerated().ok_or(WriteFault::Unmatched)?;
-    ControlMode::of_number(number).ok_or(WriteFault::Value)
+    Ok(ControlMode::try_from(number)?)
 }

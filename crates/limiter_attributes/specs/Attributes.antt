@@ -25,7 +25,7 @@ number_of EmergencyProfileGroupIdList = 9
 number_of EmergencyProfileActive = 10
 number_of Actions = 11
 
--- all attributes: `LimiterAttribute::number` ensures that each is found by its number
+-- all attributes: the number of a `LimiterAttribute` as a `u8` ensures that each is found by it
 abbrev pub attributes : List LimiterAttribute
 attributes =
     MonitoredValue ∷ ThresholdActive ∷ ThresholdNormal ∷ ThresholdEmergency

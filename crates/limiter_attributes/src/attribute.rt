@@ -1,6 +1,9 @@
 //! Attributes 2 to 11 of a limiter (IEC 62056-6-2, class 71) and their numbers.
-ghost use Rattle.std.specs.Prelude.{◌≡◌, Some, IfSome};
+ghost use Rattle.std.specs.Prelude.{◌≡◌, Some, IfSome, IfOk};
+ghost use Rattle.cosem_names.specs.UnknownNumber.{Finds};
 ghost use Rattle.limiter_attributes.specs.Attributes.{number_of, attribute_numbered};
+
+use cosem_names::UnknownNumber;
 
 /// The attributes of a limiter after its logical name, each with its number (IEC 62056-6-2, class
 /// 71).
@@ -42,25 +45,37 @@ pub(crate) const ATTRIBUTES: [LimiterAttribute; 10] = [
     LimiterAttribute::Actions,
 ];
 
-impl LimiterAttribute {
-    /// Returns the number of the attribute, 2 to 11.
-    #[tactic(auto, unfolding(crate::specs::Attributes::attribute_numbered))]
-    pub fn number(self) -> u8
-        ensures value { result ≡ number_of self }
-        ensures found { attribute_numbered result ≡ Some self }
-    {
-        self as u8
-    }
+/// Returns the number of the attribute, 2 to 11.
+impl From<LimiterAttribute> for u8 {
+    ghost from_gives = { λ attribute number. (number ≡ number_of attribute)
+        × (attribute_numbered number ≡ Some attribute) };
 
-    /// Returns the attribute of a number, or `None` if the number is not 2 to 11.
     #[tactic(auto, unfolding(crate::specs::Attributes::attribute_numbered))]
-    pub fn of_number(number: u8) -> Option<LimiterAttribute>
-        ensures value { result ≡ attribute_numbered number }
-        ensures number { IfSome result (λ attribute. number_of attribute ≡ number) }
-    {
-        ATTRIBUTES
-            .iter()
-            .copied()
-            .find(|attribute| attribute.number() == number)
+    fn from(attribute: LimiterAttribute) -> u8 {
+        attribute as u8
+    }
+}
+
+// Finds the attribute of a number: `None` if the number is not 2 to 11.
+#[tactic(auto, unfolding(crate::specs::Attributes::attribute_numbered))]
+fn find_attribute(number: u8) -> Option<LimiterAttribute>
+    ensures value { result ≡ attribute_numbered number }
+    ensures number { IfSome result (λ attribute. number_of attribute ≡ number) }
+{
+    ATTRIBUTES
+        .iter()
+        .copied()
+        .find(|attribute| u8::from(*attribute) == number)
+}
+
+/// Returns the attribute of a number. Fails if the number is not 2 to 11.
+impl TryFrom<u8> for LimiterAttribute {
+    type Error = UnknownNumber;
+
+    ghost try_from_gives = { λ number result. Finds attribute_numbered number result
+        × IfOk result (λ attribute. number_of attribute ≡ number) };
+
+    fn try_from(number: u8) -> Result<LimiterAttribute, UnknownNumber> {
+        find_attribute(number).ok_or(UnknownNumber(number))
     }
 }

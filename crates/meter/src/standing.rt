@@ -16,7 +16,7 @@ pub extern "C" fn meter_control_state(alloc: Global, meter: &mut MeterHandle, st
     let Some(held) = meter.take(alloc) else {
         return CallResult::NotOpen.code();
     };
-    *state = held.state().number();
+    *state = u8::from(held.state());
     meter.put(held);
     CallResult::Done.code()
 }
@@ -31,7 +31,7 @@ pub extern "C" fn meter_control_mode(alloc: Global, meter: &mut MeterHandle, mod
     let Some(held) = meter.take(alloc) else {
         return CallResult::NotOpen.code();
     };
-    *mode = held.mode().number();
+    *mode = u8::from(held.mode());
     meter.put(held);
     CallResult::Done.code()
 }

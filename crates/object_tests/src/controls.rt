@@ -1,7 +1,7 @@
 //! Sequences of triggers on the supply switch in each mode, and the numbers of modes and attributes
 //! (IEC 62056-6-2, class 70).
 use cosem_axdr::Data;
-use cosem_names::{ResultCode, WriteFault};
+use cosem_names::{ResultCode, UnknownNumber, WriteFault};
 use disconnect_control::{
     ControlAttribute, ControlMode, ControlState, DisconnectControl, Trigger, read_mode,
 };
@@ -25,7 +25,7 @@ fn in_mode(rt: &impl Abort, mode: ControlMode) -> DisconnectControl {
 
 fn shown(control: &DisconnectControl) -> (ControlState, u8, bool) {
     let state = control.state();
-    (state, state.number(), control.output())
+    (state, u8::from(state), control.output())
 }
 
 /// Applies these triggers to a new switch of a mode, checks each result, and returns the switch.
@@ -100,9 +100,9 @@ fn the_local_reconnection_is_of_modes_5_and_6(rt: HostRuntime) {
 
 /// Returns whether a number is that of a mode, and the mode returns it.
 fn has_its_mode(number: u8) -> bool {
-    match ControlMode::of_number(number) {
-        Some(mode) => mode.number() == number,
-        None => false,
+    match ControlMode::try_from(number) {
+        Ok(mode) => u8::from(mode) == number,
+        Err(_) => false,
     }
 }
 
@@ -111,12 +111,12 @@ fn modes_have_their_numbers(rt: HostRuntime) {
     for number in 0..7u8 {
         assert!(rt; has_its_mode(number), "{number}");
     }
-    assert!(rt; ControlMode::of_number(7).is_none());
+    assert!(rt; ControlMode::try_from(7) == Err(UnknownNumber(7)));
 }
 
 /// Returns the value of an attribute of a switch, by its number.
 fn attribute_of(control: &DisconnectControl, number: u8) -> Option<Data> {
-    let attribute = ControlAttribute::of_number(number)?;
+    let attribute = ControlAttribute::try_from(number).ok()?;
     Some(control.to_data(attribute))
 }
 

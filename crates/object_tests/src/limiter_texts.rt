@@ -1,7 +1,7 @@
 //! Attributes of limiters, read and written.
 use crate::texts::{data, is_text};
 use cosem_axdr::Data;
-use cosem_names::Which;
+use cosem_names::{UnknownNumber, Which};
 use limiter_attributes::{
     LimiterAttribute, Setting, SettingFault, read_attribute, read_groups, read_setting,
 };
@@ -189,14 +189,17 @@ static NUMBERS: [(u8, LimiterAttribute); 10] = [
 #[test]
 fn attributes_have_the_numbers_2_to_11(rt: HostRuntime) {
     for (number, attribute) in &NUMBERS {
-        let found = LimiterAttribute::of_number(*number);
+        let found = LimiterAttribute::try_from(*number);
         assert!(rt;
-            found == Some(*attribute) && attribute.number() == *number,
+            found == Ok(*attribute) && u8::from(*attribute) == *number,
             "{number}"
         );
     }
     for number in [0, 1, 12, 255] {
-        assert!(rt; LimiterAttribute::of_number(number).is_none(), "{number}");
+        assert!(rt;
+            LimiterAttribute::try_from(number) == Err(UnknownNumber(number)),
+            "{number}"
+        );
     }
 }
 

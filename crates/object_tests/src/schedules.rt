@@ -2,6 +2,7 @@
 use crate::texts::{data, is_text};
 use action_schedule::{ActionSchedule, ScheduleAttribute, ScheduleFault, ScheduleType};
 use cosem_axdr::Data;
+use cosem_names::UnknownNumber;
 use std::alloc::{AllocError, Global};
 use std::process::Abort;
 use std::test::Fail;
@@ -526,9 +527,9 @@ fn a_schedule_without_entries_is_never_due(rt: HostRuntime) {
 
 #[test]
 fn attributes_of_a_schedule_have_their_numbers(rt: HostRuntime) {
-    assert!(rt; ScheduleAttribute::of_number(1).is_none());
-    assert!(rt; ScheduleAttribute::of_number(2) == Some(ScheduleAttribute::ExecutedScript));
-    assert!(rt; ScheduleAttribute::of_number(3) == Some(ScheduleAttribute::Kind));
-    assert!(rt; ScheduleAttribute::of_number(4) == Some(ScheduleAttribute::ExecutionTime));
-    assert!(rt; ScheduleAttribute::of_number(5).is_none());
+    assert!(rt; ScheduleAttribute::try_from(1) == Err(UnknownNumber(1)));
+    assert!(rt; ScheduleAttribute::try_from(2) == Ok(ScheduleAttribute::ExecutedScript));
+    assert!(rt; ScheduleAttribute::try_from(3) == Ok(ScheduleAttribute::Kind));
+    assert!(rt; ScheduleAttribute::try_from(4) == Ok(ScheduleAttribute::ExecutionTime));
+    assert!(rt; ScheduleAttribute::try_from(5) == Err(UnknownNumber(5)));
 }

@@ -31,9 +31,9 @@ impl RelayCore {
             → result ≡ result_of_attribute (λ attribute. control_data attribute w.control)
             (control_attribute number) }
     {
-        match ControlAttribute::of_number(number) {
-            Some(attribute) => GetResult::Value(self.control.to_data(attribute)),
-            None => GetResult::Code(ResultCode::ReadWriteDenied),
+        match ControlAttribute::try_from(number) {
+            Ok(attribute) => GetResult::Value(self.control.to_data(attribute)),
+            Err(_) => GetResult::Code(ResultCode::ReadWriteDenied),
         }
     }
 
@@ -51,7 +51,7 @@ impl RelayCore {
         ensures plain { IsTrue (is_plain_where is_plain_register (register_attribute number))
             → IsOk result }
     {
-        let Some(attribute) = RegisterAttribute::of_number(number) else {
+        let Ok(attribute) = RegisterAttribute::try_from(number) else {
             return Ok(GetResult::Code(ResultCode::ReadWriteDenied));
         };
         let data = read_register(alloc, attribute, self.limiter(which).value())?;
@@ -72,7 +72,7 @@ impl RelayCore {
         ensures plain { IsTrue (is_plain_where is_plain_limiter (limiter_attribute number))
             → IsOk result }
     {
-        let Some(attribute) = LimiterAttribute::of_number(number) else {
+        let Ok(attribute) = LimiterAttribute::try_from(number) else {
             return Ok(GetResult::Code(ResultCode::ReadWriteDenied));
         };
         let data = read_attribute(alloc, which, self.limiter(which), attribute)?;

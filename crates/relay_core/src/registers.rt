@@ -1,8 +1,10 @@
 //! The registers of active power: value and scaler_unit, in watts (IEC 62056-6-2, class 3).
 ghost use Rattle.std.specs.Prelude.{◌≡◌, IfOk, IsOk, IsTrue};
+ghost use Rattle.cosem_names.specs.UnknownNumber.{Finds};
 ghost use Rattle.relay_core.specs.Registers.{attribute_numbered, data_at, is_plain};
 
 use cosem_axdr::{Data, Items};
+use cosem_names::UnknownNumber;
 use std::alloc::{AllocError, Global};
 
 // The unit W (IEC 62056-6-2, class 3, scaler_unit, table of units).
@@ -18,15 +20,17 @@ pub(crate) enum RegisterAttribute {
     ScalerUnit = 3,
 }
 
-impl RegisterAttribute {
-    // Returns the attribute of this number, or `None` if it isn't 2 or 3.
-    pub(crate) fn of_number(number: u8) -> Option<RegisterAttribute>
-        ensures { result ≡ attribute_numbered number }
-    {
-        Some(match number {
+// Returns the attribute of a number. Fails if the number is not 2 or 3.
+impl TryFrom<u8> for RegisterAttribute {
+    type Error = UnknownNumber;
+
+    ghost try_from_gives = { Finds attribute_numbered };
+
+    fn try_from(number: u8) -> Result<RegisterAttribute, UnknownNumber> {
+        Ok(match number {
             2 => RegisterAttribute::Value,
             3 => RegisterAttribute::ScalerUnit,
-            _ => return None,
+            _ => return Err(UnknownNumber(number)),
         })
     }
 }

@@ -97,7 +97,7 @@ pub(crate) fn read_schedule(
         (attribute_numbered number)) }
     ensures plain { IsTrue (is_plain_where is_plain (attribute_numbered number)) → IsOk result }
 {
-    let Some(attribute) = ScheduleAttribute::of_number(number) else {
+    let Ok(attribute) = ScheduleAttribute::try_from(number) else {
         return Ok(GetResult::Code(ResultCode::ReadWriteDenied));
     };
     Ok(GetResult::Value(schedule.to_data(alloc, attribute)?))
@@ -138,10 +138,10 @@ fn write_attribute(schedule: &mut ActionSchedule, number: u8, value: &Data) -> R
         ≡ schedule_after_write (attribute_numbered number) value.now schedule.old }
     ensures code { result ≡ schedule_code (attribute_numbered number) value.now }
 {
-    match ScheduleAttribute::of_number(number) {
-        Some(ScheduleAttribute::ExecutedScript) => write_script(schedule, value),
-        Some(ScheduleAttribute::Kind) => write_kind(schedule, value),
-        Some(ScheduleAttribute::ExecutionTime) | None => ResultCode::ReadWriteDenied,
+    match ScheduleAttribute::try_from(number) {
+        Ok(ScheduleAttribute::ExecutedScript) => write_script(schedule, value),
+        Ok(ScheduleAttribute::Kind) => write_kind(schedule, value),
+        Ok(ScheduleAttribute::ExecutionTime) | Err(_) => ResultCode::ReadWriteDenied,
     }
 }
 

@@ -55,7 +55,7 @@ impl RelayCore {
         ensures code { (w : World) → StandsFor self.old w
             → result ≡ (at_limiter which (attribute_numbered number) value.now w).code }
     {
-        let Some(attribute) = LimiterAttribute::of_number(number) else {
+        let Ok(attribute) = LimiterAttribute::try_from(number) else {
             return ResultCode::ReadWriteDenied;
         };
         match read_setting(attribute, value) {
@@ -117,7 +117,7 @@ impl RelayCore {
         ensures code { (w : World) → StandsFor self.old w
             → result ≡ (at_control (control_attribute number) value.now w).code }
     {
-        let Some(ControlAttribute::ControlMode) = ControlAttribute::of_number(number) else {
+        let Ok(ControlAttribute::ControlMode) = ControlAttribute::try_from(number) else {
             return ResultCode::ReadWriteDenied;
         };
         match read_mode(value) {

@@ -14,7 +14,7 @@ fn parameter(alloc: Global, step: &Step) -> Result<Data, AllocError>
     ensures { IfOk result (λ value. value ≡ parameter_of step.now) }
 {
     Ok(match step {
-        Step::WriteMode(mode) => Data::Enum(mode.number()),
+        Step::WriteMode(mode) => Data::Enum(u8::from(*mode)),
         Step::WriteNormal(_, number)
         | Step::WriteEmergency(_, number)
         | Step::WriteMinOver(_, number)

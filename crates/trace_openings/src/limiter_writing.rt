@@ -1,5 +1,5 @@
 //! Writes the lines of a limiter in a trace's opening.
-#![tactic(auto, unfolding(trace_text::specs::TextLines::rows_text, trace_text::specs::TextLines::text_of, trace_text::specs::Words::line_of))]
+#![tactic(auto, unfolding(trace_text::specs::Lines::rows_text, trace_text::specs::Lines::text_of, trace_text::specs::Words::line_of))]
 
 ghost use Rattle.std.specs.Prelude.{◌≡◌, ◌++◌, ◌∷◌, [], OnOk, codes, decimal};
 ghost use Rattle.trace_text.specs.Lines.{rows_text};

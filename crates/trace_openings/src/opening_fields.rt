@@ -88,7 +88,7 @@ fn mode_in(state: ControlState, word: &[u8]) -> Result<ControlMode, RowFault>
     ensures mode { result ≡ mode_in state word.now }
     ensures fit { IfOk result (λ mode. mode ≡ Mode0 → state ≡ Connected) }
 {
-    let Some(mode) = ControlMode::of_number(number_in(word, 6)? as u8) else {
+    let Ok(mode) = ControlMode::try_from(number_in(word, 6)? as u8) else {
         return Err(RowFault::Wrong);
     };
     match (mode, state) {
@@ -153,9 +153,9 @@ pub(crate) fn table(alloc: Global, words: &mut Words) -> Result<ScriptTable, Row
 fn type_in(word: &[u8]) -> Result<ScheduleType, RowFault>
     ensures { result ≡ type_in word.now }
 {
-    match ScheduleType::of_number(number_in(word, 5)? as u8) {
-        Some(kind) => Ok(kind),
-        None => Err(RowFault::Wrong),
+    match ScheduleType::try_from(number_in(word, 5)? as u8) {
+        Ok(kind) => Ok(kind),
+        Err(_) => Err(RowFault::Wrong),
     }
 }
 

@@ -1,5 +1,5 @@
 //! Writes the opening of a trace, in version 2 of the format.
-#![tactic(auto, unfolding(trace_text::specs::TextLines::rows_text, trace_text::specs::TextLines::text_of, trace_text::specs::Words::line_of))]
+#![tactic(auto, unfolding(trace_text::specs::Lines::rows_text, trace_text::specs::Lines::text_of, trace_text::specs::Words::line_of))]
 
 ghost use Rattle.std.specs.Prelude.{◌≡◌, ◌++◌, ◌∷◌, [], OnOk, codes};
 ghost use Rattle.action_schedule.specs.Writing.{entries_data};
@@ -40,7 +40,7 @@ fn write_state(out: &mut Vec<u8>, state: ControlState) -> Result<(), AllocError>
     ensures { OnOk result (out.new.items ≡ out.old.items
         ++ rows_text (number_row (codes "state") (state_number state) ∷ [])) }
 {
-    write_number_line(out, b"state", u64::from(state.number()))
+    write_number_line(out, b"state", u64::from(u8::from(state)))
 }
 
 // Appends the line of the control mode.
@@ -48,7 +48,7 @@ fn write_mode(out: &mut Vec<u8>, mode: ControlMode) -> Result<(), AllocError>
     ensures { OnOk result (out.new.items ≡ out.old.items
         ++ rows_text (number_row (codes "mode") (mode_number mode) ∷ [])) }
 {
-    write_number_line(out, b"mode", u64::from(mode.number()))
+    write_number_line(out, b"mode", u64::from(u8::from(mode)))
 }
 
 // Appends the lines of the version, the device name and the switch.
@@ -132,7 +132,7 @@ fn write_schedule(
     out.extend_from_slice(b"schedule")?;
     add_number(out, number)?;
     add_number(out, u64::from(schedule.selector()))?;
-    add_number(out, u64::from(schedule.kind().number()))?;
+    add_number(out, u64::from(u8::from(schedule.kind())))?;
     add_entries(alloc, out, schedule)?;
     end_line(out)
 }

@@ -28,7 +28,7 @@ pub fn add_data(alloc: Global, out: &mut Vec<u8>, value: &Data) -> Result<(), Al
 
 /// Appends a line of a first word and a number, with the byte 0A that ends it. On an error a part
 /// of it may have been appended.
-#[tactic(auto, unfolding(trace_text::specs::TextLines::rows_text, trace_text::specs::TextLines::text_of, trace_text::specs::Words::line_of))]
+#[tactic(auto, unfolding(trace_text::specs::Lines::rows_text, trace_text::specs::Lines::text_of, trace_text::specs::Words::line_of))]
 pub fn write_number_line(out: &mut Vec<u8>, name: &[u8], number: u64) -> Result<(), AllocError>
     ensures { OnOk result (out.new.items ≡ out.old.items
         ++ rows_text (number_row name.now number ∷ [])) }

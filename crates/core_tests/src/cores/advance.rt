@@ -73,8 +73,8 @@ fn advance_to_disconnected(core: &mut RelayCore, alloc: Global) -> Result<(), Al
 }
 
 fn is_disconnected(core: &RelayCore) -> bool {
-    core.state().number() == 0
-        && core.mode().number() == 1
+    u8::from(core.state()) == 0
+        && u8::from(core.mode()) == 1
         && !core.output()
         && core.last_moment() == Some(5)
 }

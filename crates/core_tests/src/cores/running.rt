@@ -38,7 +38,7 @@ fn events_in_mode_1(alloc: Global) -> Result<Events, AllocError> {
 fn are_lines(lines: &Lines, expected: &[(u8, bool)]) -> bool {
     lines.len() == expected.len()
         && lines.as_slice().iter().zip(expected).all(|(line, (state, output))| {
-            code(&line.reply) == 0 && line.state.number() == *state && line.output == *output
+            code(&line.reply) == 0 && u8::from(line.state) == *state && line.output == *output
         })
 }
 

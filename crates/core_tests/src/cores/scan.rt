@@ -272,7 +272,7 @@ pub(super) fn fires_with(
     Ok(
         takes_all(core, alloc, plan.settings)?
             && fires_over_all(core, alloc, plan.blocks, scan)?
-            && core.state().number() == plan.state
+            && u8::from(core.state()) == plan.state
             && reads_threshold(core, alloc, plan.threshold)?
             && under_run(core, alloc)? == plan.under_run,
     )

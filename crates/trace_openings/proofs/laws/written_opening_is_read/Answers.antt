@@ -3,4 +3,4 @@ use Rattle.trace_openings.proofs.OpeningLaws.{opening_again}
 use Rattle.trace_openings.proofs.laws.written_opening_is_read.Goals as goal
 
 pub returns : goal.returns
-returns c = record { again = opening_again c.fit_runs_mean.ensures; rows = opening_are_rows }
+returns c = record { read_back = opening_again c.fit_runs_mean.ensures; rows = opening_are_rows }

@@ -13,8 +13,8 @@ returns-in-ExecutedScript-clause-read_back c =
 
 pub returns-in-Kind-clause-read_back : goal.returns-in-Kind-clause-read_back
 returns-in-Kind-clause-read_back c =
-    reads_back (done ℕ (Enum c.number.result)) Kind c.args.attribute _ c.args.self.now c.in-Kind.is
-    c.self.view_is (kind_written c.number.result c.self.inside.kind c.number.ensures)
+    reads_back (done ℕ (Enum c.from.result)) Kind c.args.attribute _ c.args.self.now c.in-Kind.is
+    c.self.view_is (kind_written c.from.result c.self.inside.kind c.from.ensures)
 
 pub returns-in-ExecutionTime-clause-read_back : goal.returns-in-ExecutionTime-clause-read_back
 returns-in-ExecutionTime-clause-read_back c =
