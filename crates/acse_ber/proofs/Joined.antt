@@ -21,18 +21,8 @@ pub then_agrees : {X Z : Type 0} (first : List ℕ → Read X) (next : X → Lis
     → Agrees X first P → ((x : X) → Agrees Z (next x) (Q x))
     → Agrees Z (λ bytes. first bytes >>= λ x. next x.0 x.1) (IsThen P Q)
 then_agrees first next P Q one others =
-    agreeing.then_agrees first next P Q (IsThen P Q) one others
-    (λ x z a b p q. (
-      x,
-      record {
-        first = a;
-        others = b;
-        parts = refl;
-        is_first = p;
-        are_others = q;
-      },
-    ))
-    (λ z text f. let j = f.1 in (f.0, j.first, j.others, j.parts, j.is_first, j.are_others))
+    agreeing.then_agrees first next P Q (IsThen P Q) one others (λ x z text j. (x, j))
+    (λ z text f. f)
 
 -- a test
 abbrev pub IsGuarded : {X : Type 0} → Bool → (X → List ℕ → Type 0) → X → List ℕ → Type 0

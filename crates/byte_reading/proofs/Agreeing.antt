@@ -11,6 +11,7 @@ use Rattle.std.proofs.Common.{Result, Ok, Err, refl, sym, ap, subst, ◌∙◌, 
 use Rattle.std.proofs.Common.{arith}
 use Rattle.std.proofs.lemmas.Bool.{leb-true, le-leb}
 use Rattle.std.proofs.lemmas.List.{take_at, drop_at, take-append-drop, length-append, length-take}
+use Rattle.byte_reading.specs.Format.{IsJoined}
 use Rattle.byte_reading.specs.Outcome.{◌>>=◌}
 use Rattle.byte_reading.specs.Reading.{read_as, whole_or, first_token, first_byte, first_bytes}
 use Rattle.byte_reading.proofs.OutcomeLemmas.{done, ok_is, bind_ok, guard_ok}
@@ -41,14 +42,29 @@ none_agrees {T = T} {F = F} {X = X} none = record {
   again = λ x text rest s. rw s.1 (ap (λ (z : X). done F (z, rest)) s.0);
 }
 
+-- two spellings, one after the other
+pub join : {T : Type 0} {P Q : List T → Type 0} (a b : List T) → P a → Q b → IsJoined P Q (a ++ b)
+join a b p q = record { first = a; others = b; parts = refl; is_first = p; are_others = q }
+
+-- the same text, with another property of its second part
+pub with_others : {T : Type 0} {P Q R : List T → Type 0} {text : List T} (j : IsJoined P Q text)
+    → R j.others → IsJoined P R text
+with_others j r =
+    record {
+      first = j.first;
+      others = j.others;
+      parts = j.parts;
+      is_first = j.is_first;
+      are_others = r;
+    }
+
 -- a step, and then others that depend on what it read: two parts of the bytes spell them
 pub then_agrees : {T F X Z : Type 0} (first : List T → Result (X × List T) F)
     (next : X → List T → Result (Z × List T) F) (P : X → List T → Type 0)
     (Q : X → Z → List T → Type 0) (S : Z → List T → Type 0)
     → Agrees X first P → ((x : X) → Agrees Z (next x) (Q x))
-    → ((x : X) (z : Z) (one other : List T) → P x one → Q x z other → S z (one ++ other))
-    → ((z : Z) (text : List T) → S z text → (x : X) × (one : List T) × (other : List T)
-    × (text ≡ one ++ other) × P x one × Q x z other)
+    → ((x : X) (z : Z) (text : List T) → IsJoined (P x) (Q x z) text → S z text)
+    → ((z : Z) (text : List T) → S z text → (x : X) × IsJoined (P x) (Q x z) text)
     → Agrees Z (λ bytes. first bytes >>= λ x. next x.0 x.1) S
 then_agrees {T = T} first next P Q S one others to from = record {
   takes = λ bytes z e.
@@ -59,15 +75,16 @@ then_agrees {T = T} first next P Q S one others to from = record {
         text = s.text ++ t.text;
         parts = s.parts ∙ ap (λ (r : List T). s.text ++ r) t.parts
             ∙ sym (append_assoc s.text t.text z.1);
-        spelled = to b.0.0 z.0 s.text t.text s.spelled t.spelled;
+        spelled = to b.0.0 z.0 (s.text ++ t.text) (join s.text t.text s.spelled t.spelled);
       };
   again = λ z text rest s.
       let f = from z text s in
-      let apart : text ++ rest ≡ f.1 ++ (f.2 ++ rest) = ap (λ (t : List T). t ++ rest) f.3
-      ∙ append_assoc f.1 f.2 rest in
-      let p : first (text ++ rest) ≡ Ok (f.0, f.2 ++ rest) = ap first apart
-      ∙ one.again f.0 f.1 (f.2 ++ rest) f.4 in
-      rw p ((others f.0).again z f.2 rest f.5);
+      let j = f.1 in
+      let apart : text ++ rest ≡ j.first ++ (j.others ++ rest) =
+      ap (λ (t : List T). t ++ rest) j.parts ∙ append_assoc j.first j.others rest in
+      let p : first (text ++ rest) ≡ Ok (f.0, j.others ++ rest) =
+      ap first apart ∙ one.again f.0 j.first (j.others ++ rest) j.is_first in
+      rw p ((others f.0).again z j.others rest j.are_others);
 }
 
 -- what was read, as another value

@@ -6,14 +6,15 @@ use Rattle.std.specs.Int.{Width, w16, w32, byte_len, from_be_bytes, to_be_bytes}
 use Rattle.std.proofs.lemmas.Bool.{eqb-true, eq-eqb}
 use Rattle.std.proofs.lemmas.Nat.{from_be_bytes-to_be_bytes_2, from_be_bytes-to_be_bytes_4}
 use Rattle.byte_reading.specs.Reading.{read_as, first_byte, first_bytes}
-use Rattle.byte_reading.specs.Format.{Format}
+use Rattle.byte_reading.specs.Format.{Format, IsJoined}
 use Rattle.byte_reading.specs.Choice.{Choice, Parts, value_of, is_distinct}
 use Rattle.byte_reading.specs.ByteFormats.{IsByte, same_byte, byte, octets, number, IsFlag, flag}
 use Rattle.byte_reading.specs.ByteFormats.{OptionalSpells, optional, one_of}
 use Rattle.byte_reading.proofs.Agreeing.{Agrees, IsNone, IsMade, AreBytes, none_agrees, then_agrees}
-use Rattle.byte_reading.proofs.Agreeing.{made_agrees, seen_as, byte_agrees, bytes_agrees}
+use Rattle.byte_reading.proofs.Agreeing.{made_agrees, seen_as, byte_agrees, bytes_agrees, join}
+use Rattle.byte_reading.proofs.Agreeing.{with_others}
 use Rattle.byte_reading.proofs.ChoiceLaws.{AreLawful, keyed_lawful}
-use Rattle.byte_reading.proofs.Lawful.{AreAll, others_all, IsLawful, IsEquality, join}
+use Rattle.byte_reading.proofs.Lawful.{AreAll, others_all, IsLawful, IsEquality}
 use Rattle.byte_reading.proofs.Lawful.{seen_lawful, empty_lawful, both_lawful, exactly_lawful}
 use Rattle.byte_reading.proofs.Lawful.{dropped_lawful}
 
@@ -130,20 +131,23 @@ optional_lawful {A = A} fault part lawful = record {
   fitting = fitting;
 }
   where
-    to : (present : Bool) (o : Option A) (one other : List ℕ) → IsFlag present one
-        → Present part.Spells present o other → OptionalSpells part.Spells o (one ++ other)
-    to true o one other p q = subst (λ (x : Option A). OptionalSpells part.Spells x (one ++ other))
-        q.1 (join one other p q.2)
-    to false o one other p q =
-        let absent : one ++ other ≡ 0 ∷ [] = ap (λ (s : List ℕ). one ++ s) q.1 ∙ append-nil one
-        ∙ no_is_zero one p in
-        subst (λ (x : Option A). OptionalSpells part.Spells x (one ++ other)) q.0 absent
+    to : (present : Bool) (o : Option A) (text : List ℕ)
+        → IsJoined (IsFlag present) (Present part.Spells present o) text
+        → OptionalSpells part.Spells o text
+    to true o text j = subst (λ (x : Option A). OptionalSpells part.Spells x text)
+        j.are_others.1 (with_others j j.are_others.2)
+    to false o text j = subst (λ (x : Option A). OptionalSpells part.Spells x text) j.are_others.0
+        (j.parts ∙ ap (λ (s : List ℕ). j.first ++ s) j.are_others.1 ∙ append-nil j.first
+        ∙ no_is_zero j.first j.is_first)
 
-    from : (o : Option A) (text : List ℕ) → OptionalSpells part.Spells o text → (present : Bool)
-        × (one : List ℕ) × (other : List ℕ) × (text ≡ one ++ other) × IsFlag present one
-        × Present part.Spells present o other
-    from None text s = (false, 0 ∷ [], [], s, (0, refl, refl), (refl, refl))
-    from (Some a) text j = (true, j.first, j.others, j.parts, j.is_first, (a, refl, j.are_others))
+    from : (o : Option A) (text : List ℕ) → OptionalSpells part.Spells o text
+        → (present : Bool) × IsJoined (IsFlag present) (Present part.Spells present o) text
+    from None text s = (
+      false,
+      subst (IsJoined (IsFlag false) (IsNone None None)) (sym s)
+          (join (0 ∷ []) [] (0, refl, refl) (refl, refl)),
+    )
+    from (Some a) text j = (true, with_others j (a, refl, j.are_others))
 
     written : (o : Option A) → (optional fault part).Fits o
         → (optional fault part).Spells o ((optional fault part).text o)
@@ -162,7 +166,7 @@ pub one_of_lawful : {F A : Type 0} (missing : F) (c : Choice ℕ F A) (parts : A
     → is_distinct same_byte c ≡ true → AreLawful IsByte c
     → IsLawful IsByte (one_of missing c parts)
 one_of_lawful missing c parts there back distinct lawful =
-    keyed_lawful same_byte byte_equality missing c parts there back distinct lawful
+    keyed_lawful IsByte same_byte byte_equality missing c parts there back distinct lawful
 
 -- what `search` needs to prove that a format value_of of these is lawful
 pub ruleset byte_formats = (

@@ -7,10 +7,10 @@ use Rattle.std.proofs.Common.{append_assoc, append-nil, arith, inl, inr}
 use Rattle.std.specs.List.{flat_map}
 use Rattle.byte_reading.specs.Outcome.{◌>>=◌, Fails}
 use Rattle.byte_reading.specs.Reading.{read_as}
-use Rattle.byte_reading.specs.Format.{Format, items_read, AreItems}
+use Rattle.byte_reading.specs.Format.{Format, IsJoined, items_read, AreItems}
 use Rattle.byte_reading.proofs.Agreeing.{Agrees, IsNone, IsMade, none_agrees, then_agrees}
-use Rattle.byte_reading.proofs.Agreeing.{made_agrees, seen_as}
-use Rattle.byte_reading.proofs.Lawful.{AreAll, first_all, others_all, IsLawful, join}
+use Rattle.byte_reading.proofs.Agreeing.{made_agrees, seen_as, join, with_others}
+use Rattle.byte_reading.proofs.Lawful.{AreAll, first_all, others_all, IsLawful}
 use Rattle.byte_reading.proofs.OutcomeLemmas.{done}
 
 -- ---- laws
@@ -37,22 +37,14 @@ items_agrees {T = T} {A = A} read IsItem agrees (suc n) =
     (λ x. IsMade (λ xs. x ∷ xs) (AreCounted IsItem n)) (AreCounted IsItem (suc n))
     agrees (λ x. made_agrees (λ xs. x ∷ xs) (items_read read n) (AreCounted IsItem n)
     (items_agrees read IsItem agrees n))
-    (λ x items one other p q. subst (λ (xs : List A). AreCounted IsItem (suc n) xs (one ++ other))
-    q.1 (ap suc q.2.0, join one other p q.2.1))
+    (λ x items text j. subst (λ (xs : List A). AreCounted IsItem (suc n) xs text) j.are_others.1
+    (ap suc j.are_others.2.0, with_others j j.are_others.2.1))
     apart
   where
-    apart : (items : List A) (text : List T) → AreCounted IsItem (suc n) items text → (x : A)
-        × (one : List T) × (other : List T) × (text ≡ one ++ other) × IsItem x one
-        × IsMade (λ xs. x ∷ xs) (AreCounted IsItem n) items other
+    apart : (items : List A) (text : List T) → AreCounted IsItem (suc n) items text
+        → (x : A) × IsJoined (IsItem x) (IsMade (λ xs. x ∷ xs) (AreCounted IsItem n) items) text
     apart [] text s = absurd (omega (arith, s.0))
-    apart (x ∷ xs) text s = let j = s.1 in (
-      x,
-      j.first,
-      j.others,
-      j.parts,
-      j.is_first,
-      (xs, refl, (omega (arith, s.0), j.are_others)),
-    )
+    apart (x ∷ xs) text s = (x, with_others s.1 (xs, refl, (omega (arith, s.0), s.1.are_others)))
 
 pub items_written : {T F A : Type 0} {IsToken : T → Type 0} (item : Format T F A)
     → IsLawful IsToken item → (items : List A) → All item.Fits items
@@ -125,3 +117,6 @@ is_done {F = F} {A = A} read front count i tokens total le so_far =
     let one : with_front front (items_read read (count - i) tokens) ≡ Ok (front, tokens) =
     rw k (ap (λ (xs : List A). done F (xs, tokens)) (append-nil front)) in
     sym so_far ∙ one
+
+-- what proves such a loop, but for its exit with the fault of an item (`ends`)
+pub ruleset item_loops = (goes_on, is_done)

@@ -8,7 +8,9 @@ use Rattle.std.proofs.Common.{sym, ap, ap₂, subst, ◌∙◌, append-nil}
 use Rattle.byte_reading.specs.Reading.{read_as, whole_or}
 use Rattle.byte_reading.specs.Format.{Format, IsJoined, iso, empty, ◌&◌, found_or, narrow, exactly}
 use Rattle.byte_reading.specs.Format.{placeholder}
-use Rattle.byte_reading.proofs.Agreeing.{Took, Agrees, IsNone, IsMade, none_agrees, then_agrees}
+use Rattle.byte_reading.proofs.Agreeing.{Took, Agrees, IsNone, IsMade, none_agrees, join}
+use Rattle.byte_reading.proofs.Agreeing.{with_others}
+use Rattle.byte_reading.proofs.Agreeing.{then_agrees}
 use Rattle.byte_reading.proofs.Agreeing.{made_agrees, seen_as, all_read, all_taken}
 use Rattle.byte_reading.proofs.OutcomeLemmas.{done, ok_is, bind_ok, guard_ok}
 
@@ -78,21 +80,6 @@ only_one {T = T} {F = F} {A = A} {f = f} lawful text rest a b one other =
 
 -- ---- formats made from others
 
--- two spellings, one after the other
-pub join : {T : Type 0} {P Q : List T → Type 0} (a b : List T) → P a → Q b → IsJoined P Q (a ++ b)
-join a b p q = record { first = a; others = b; parts = refl; is_first = p; are_others = q }
-
--- the same text, with another property of its second part
-pub with_others : {T : Type 0} {P Q R : List T → Type 0} {text : List T} (j : IsJoined P Q text)
-    → R j.others → IsJoined P R text
-with_others j r = record {
-  first = j.first;
-  others = j.others;
-  parts = j.parts;
-  is_first = j.is_first;
-  are_others = r;
-}
-
 pub seen_lawful : {T F A B : Type 0} {IsToken : T → Type 0} (to : A → B) (from : B → A)
     (part : Format T F A) → ((b : B) → to (from b) ≡ b) → ((a : A) → from (to a) ≡ a)
     → IsLawful IsToken part → IsLawful IsToken (iso to from part)
@@ -116,21 +103,13 @@ empty_lawful {T = T} {F = F} = record {
 pub both_lawful : {T F A B : Type 0} {IsToken : T → Type 0} (first : Format T F A)
     (second : Format T F B) → IsLawful IsToken first → IsLawful IsToken second
     → IsLawful IsToken (first & second)
-both_lawful {T = T} {A = A} {B = B} {IsToken = IsToken} first second one two = record {
+both_lawful {A = A} {B = B} {IsToken = IsToken} first second one two = record {
   agrees = then_agrees first.read (λ a tokens. read_as (λ b. (a, b)) (second.read tokens))
-      first.Spells (λ a. IsMade (λ b. (a, b)) second.Spells)
-      (λ both tokens. IsJoined (first.Spells both.0) (second.Spells both.1) tokens)
+      first.Spells (λ a. IsMade (λ b. (a, b)) second.Spells) (first & second).Spells
       one.agrees (λ a. made_agrees (λ b. (a, b)) second.read second.Spells two.agrees)
-      (λ a both front back p q. subst (λ (z : A × B). IsJoined (first.Spells z.0)
-      (second.Spells z.1) (front ++ back)) q.1 (join front back p q.2))
-      (λ both text j. (
-        both.0,
-        j.first,
-        j.others,
-        j.parts,
-        j.is_first,
-        (both.1, refl, j.are_others),
-      ));
+      (λ a both text j. subst (λ (z : A × B). (first & second).Spells z text) j.are_others.1
+      (with_others j j.are_others.2))
+      (λ both text j. (both.0, with_others j (both.1, refl, j.are_others)));
   written = λ both fit. join (first.text both.0) (second.text both.1) (one.written both.0 fit.0)
       (two.written both.1 fit.1);
   fitting = λ both text all j. (

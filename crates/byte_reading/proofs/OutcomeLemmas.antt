@@ -1,5 +1,6 @@
 -- What follows from the result of a definition that reads bytes.
-use Rattle.std.proofs.Common.{◌≡◌, ◌⊎◌, Bool, true, false, cond, Result, Ok, Err, IfOk, MatchResult, refl, inl, inr}
+use Rattle.std.proofs.Common.{◌≡◌, ◌⊎◌, Bool, true, false, cond, Result, Ok, Err, IfOk, MatchResult}
+use Rattle.std.proofs.Common.{refl, inl, inr}
 use Rattle.byte_reading.specs.Outcome.{◌>>=◌, ◌>>◌, guard, Fails, Gives}
 
 -- an `Ok` whose type of faults is given

@@ -6,12 +6,13 @@ use Rattle.std.specs.List.{flat_map}
 use Rattle.std.proofs.lemmas.Bool.{and_parts, and_from, ltb-true, leb-true, lt-ltb, le-ltb, le-leb}
 use Rattle.std.proofs.lemmas.List.{drop_at, take-append-drop}
 use Rattle.byte_reading.specs.ByteFormats.{IsByte}
-use Rattle.byte_reading.specs.Format.{Format, items_read}
+use Rattle.byte_reading.specs.Format.{Format, AreItems, IsJoined, items_read}
 use Rattle.byte_reading.specs.Reading.{read_as, first_bytes}
-use Rattle.byte_reading.proofs.Agreeing.{Took, AreBytes, then_agrees, bytes_agrees}
+use Rattle.byte_reading.proofs.Agreeing.{Took, AreBytes, join, with_others, then_agrees}
+use Rattle.byte_reading.proofs.Agreeing.{bytes_agrees}
 use Rattle.byte_reading.proofs.ByteLaws.{bytes_at}
 use Rattle.byte_reading.proofs.Items.{AreCounted, items_agrees, items_written, items_fit}
-use Rattle.byte_reading.proofs.Lawful.{first_all, others_all, IsLawful, join}
+use Rattle.byte_reading.proofs.Lawful.{first_all, others_all, IsLawful}
 use Rattle.byte_reading.proofs.OutcomeLemmas.{done, ok_is, bind_ok, guard_ok, chosen}
 use Rattle.cosem_axdr.specs.Formats.{count_read, count, raw, list, front_or, axdr_data}
 use Rattle.cosem_axdr.specs.Reading.{big_endian, first_data}
@@ -87,14 +88,22 @@ pub raw_lawful : {F : Type 0} (fault : F) → IsLawful IsByte (raw fault)
 raw_lawful fault = record {
   agrees = then_agrees (count_read fault) (first_bytes fault) IsCount AreBytes (raw fault).Spells
       (count_lawful fault).agrees (bytes_agrees fault)
-      (λ n bytes one other p q.
-      record {
-        length_text = one;
-        parts = ap (λ (s : List ℕ). one ++ s) (sym q.1);
-        is_length =
-            subst (λ (m : ℕ). IsLength one m) (sym q.0 ∙ ap (λ (s : List ℕ). length s) (sym q.1)) p;
+      (λ n bytes text j. record {
+        length_text = j.first;
+        parts = j.parts ∙ ap (λ (s : List ℕ). j.first ++ s) (sym j.are_others.1);
+        is_length = subst (λ (m : ℕ). IsLength j.first m)
+            (sym j.are_others.0 ∙ ap (λ (s : List ℕ). length s) (sym j.are_others.1)) j.is_first;
       })
-      (λ bytes text s. (length bytes, s.length_text, bytes, s.parts, s.is_length, (refl, refl)));
+      (λ bytes text s. (
+        length bytes,
+        record {
+          first = s.length_text;
+          others = bytes;
+          parts = s.parts;
+          is_first = s.is_length;
+          are_others = (refl, refl);
+        },
+      ));
   written = λ bytes fit. record {
     length_text = length_text (length bytes);
     parts = refl;
@@ -112,20 +121,13 @@ list_lawful {A = A} fault item lawful = record {
   agrees = then_agrees (count_read fault) (items_read item.read) IsCount (AreCounted item.Spells)
       (list fault item).Spells (count_lawful fault).agrees
       (items_agrees item.read item.Spells lawful.agrees)
-      (λ n items one other p q. join one other (subst (λ (m : ℕ). IsLength one m) (sym q.0) p) q.1)
-      (λ items text j. (
-        length items,
-        j.first,
-        j.others,
-        j.parts,
-        j.is_first,
-        (refl, j.are_others),
-      ));
+      (λ n items text j. subst (λ (m : ℕ). IsJoined (IsCount m) (AreItems item.Spells items) text)
+      (sym j.are_others.0) (with_others j j.are_others.1))
+      (λ items text j. (length items, with_others j (refl, j.are_others)));
   written = λ items fit. join (length_text (length items)) (flat_map item.text items)
       (length_spells (length items) fit.0) (items_written item lawful items fit.1);
   fitting = λ items text all j. (
-    (count_lawful fault).fitting (length items) j.first
-        (first_all IsByte all j) j.is_first,
+    (count_lawful fault).fitting (length items) j.first (first_all IsByte all j) j.is_first,
     items_fit IsByte item lawful items j.others (others_all IsByte all j) j.are_others,
   );
 }

@@ -23,6 +23,7 @@ pub(crate) fn read_targets(
 }
 
 // Reads `count` attributes.
+#[tactic(auto, using(byte_reading::proofs::Items::item_loops))]
 fn read_target_items(
     alloc: Global,
     count: usize,
@@ -51,6 +52,7 @@ pub(crate) fn read_results(
 }
 
 // Reads `count` results.
+#[tactic(auto, using(byte_reading::proofs::Items::item_loops))]
 fn read_result_items(
     alloc: Global,
     count: usize,
