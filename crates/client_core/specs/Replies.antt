@@ -1,5 +1,102 @@
 -- The meaning of a meter's responses for a job.
 --     Progress          a Rust struct: whether the request may be sent, and the outcome if it is
 --                       settled
-
+--     after_aare           the meaning of the first response, to the AARQ
+--     outcome_of_response  the meaning of the second response, to the request
 use Rattle.std.specs.Prelude.{ℕ, Bool, false, true, not, ◌&&◌, ◌==◌, nat_le, if◌then◌else◌, bit_and, Some, None, List, [], ◌∷◌, take, Result, Ok, Err}
+use Rattle.acse_ber.specs.Reading.{aare_of}
+use Rattle.acse_ber.specs.declared.aare.Aare.{Aare}
+use Rattle.acse_ber.specs.declared.aare.Info.{Info}
+use Rattle.acse_ber.specs.declared.aare.Info.TheVariants.{Absent, Response, InitiateError}
+use Rattle.acse_ber.specs.declared.fault.AcseFault.{AcseFault}
+use Rattle.client_core.specs.declared.job.Verb.{Verb}
+use Rattle.client_core.specs.declared.job.Verb.TheVariants.{Disconnect, Reconnect, ReadState}
+use Rattle.client_core.specs.declared.job.Outcome.{Outcome}
+use Rattle.client_core.specs.declared.job.Outcome.TheVariants.{Done, Refused, Rejected, Unknown}
+use Rattle.client_core.specs.declared.progress.Progress.{Progress}
+use Rattle.cosem_axdr.specs.declared.value.Data.TheVariants.{Enum}
+use Rattle.cosem_names.specs.declared.result_code.ResultCode.TheVariants.{Success}
+use Rattle.cosem_names.specs.declared.service.GetResult.TheVariants as result
+use Rattle.xdlms_apdu.specs.Responses.{response_format}
+use Rattle.xdlms_apdu.specs.declared.invoke_id.InvokeId.{InvokeId}
+use Rattle.xdlms_apdu.specs.declared.response.Response.TheVariants as response
+
+-- ---- the response to the AARQ (IEC 62056-5-3, AARE)
+
+-- no response yet; the association is open and the request may be sent; the outcome is settled
+-- before the request is sent
+abbrev pub fresh : Progress
+fresh = record { accepted = false; outcome = None }
+
+abbrev pub asking : Progress
+asking = record { accepted = true; outcome = None }
+
+abbrev pub with_outcome : Outcome → Progress
+with_outcome outcome = record { accepted = false; outcome = Some outcome }
+
+-- the bit of the request's service in the conformance block, whose bit 0 is the highest of 24 (IEC
+-- 62056-5-3): GET is bit 19, ACTION bit 23
+abbrev pub service_bit : Verb → ℕ
+service_bit Disconnect = 0x000001
+service_bit Reconnect = 0x000001
+service_bit ReadState = 0x000010
+
+-- the negotiated services include that of the request
+abbrev pub grants : Verb → Info → Bool
+grants verb (Response bits limit) = not (bit_and bits (service_bit verb) == 0)
+grants verb Absent = false
+grants verb (InitiateError code) = false
+
+-- an AARE opens the association or settles the outcome; any other bytes settle it as unknown
+abbrev pub opened_by : Verb → Result Aare AcseFault → Progress
+opened_by verb (Ok aare) =
+    if aare.result == 0 then (if grants verb aare.info then asking else with_outcome (Rejected 0))
+    else with_outcome (Rejected aare.diagnostic)
+opened_by verb (Err fault) = with_outcome Unknown
+
+unfoldable pub after_aare : Verb → List ℕ → Progress
+after_aare verb payload = opened_by verb (aare_of payload)
+
+-- ---- the response to the request (IEC 62056-5-3, ACTION and GET; IEC 62056-6-2, class 70,
+-- control_state)
+
+-- the first bytes of the responses that count: of a result of the method; of a refusal; of the
+-- control state, up to the tag of its enum. Their invoke-id is C1, that of the request
+abbrev pub request_id : InvokeId
+request_id = record { 0 = 0xC1 }
+
+abbrev pub action_front : List ℕ
+action_front = take 3 (response_format.text (response.Action request_id Success))
+
+abbrev pub refused_front : List ℕ
+refused_front = take 4 (response_format.text (response.Get request_id (result.Code Success)))
+
+abbrev pub state_front : List ℕ
+state_front = take 5 (response_format.text (response.Get request_id (result.Value (Enum 0))))
+
+-- whether two texts are the same
+abbrev pub is_text : List ℕ → List ℕ → Bool
+is_text [] [] = true
+is_text (a ∷ one) (b ∷ other) = a == b && is_text one other
+is_text _ _ = false
+
+-- Action-Response-Normal: a result, and any further bytes
+abbrev pub action_reply : List ℕ → Outcome
+action_reply (tag ∷ form ∷ id ∷ code ∷ tail) = if is_text (tag ∷ form ∷ id ∷ []) action_front
+    then (if code == 0 then Done 0 else Refused code) else Unknown
+action_reply _ = Unknown
+
+-- Get-Response-Normal with no further bytes: a result other than 0, or the control state
+abbrev pub state_reply : List ℕ → Outcome
+state_reply (tag ∷ form ∷ id ∷ choice ∷ code ∷ []) =
+    if is_text (tag ∷ form ∷ id ∷ choice ∷ []) refused_front && not (code == 0)
+    then Refused code else Unknown
+state_reply (tag ∷ form ∷ id ∷ choice ∷ kind ∷ state ∷ []) =
+    if is_text (tag ∷ form ∷ id ∷ choice ∷ kind ∷ []) state_front && nat_le state 2
+    then Done state else Unknown
+state_reply _ = Unknown
+
+unfoldable pub outcome_of_response : Verb → List ℕ → Outcome
+outcome_of_response Disconnect payload = action_reply payload
+outcome_of_response Reconnect payload = action_reply payload
+outcome_of_response ReadState payload = state_reply payload

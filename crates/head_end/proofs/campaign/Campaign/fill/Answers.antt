@@ -2,8 +2,8 @@ use Rattle.std.proofs.Common.{arith}
 use Rattle.head_end.proofs.CampaignLemmas.{campaign_lines, same_length, row_at, are_tried}
 use Rattle.head_end.proofs.campaign.Campaign.fill.Goals as goal
 
-pub gather-requires-clause-few : goal.gather-requires-clause-few
-gather-requires-clause-few g c = omega (
+pub gather-requires-clause-within_max : goal.gather-requires-clause-within_max
+gather-requires-clause-within_max g c = omega (
   arith,
   same_length c.args.self.now.jobs.now c.args.lines.now c.requires.names,
   c.requires.room,
