@@ -24,13 +24,15 @@ returns-clause-end g c =
 pub returns-clause-order : goal.returns-clause-order
 returns-clause-order g c = λ password texts_of happened at.
     orders_end (λ more. texts_of []) (still_sends c.settle.new.session) happened
-    (g.V.Watch.passed c.args.watch.now) (g.V.Watch.passed c.settle.new.watch) c.settle.result
+    (g.V.SessionWatch.passed c.args.watch.now) (g.V.SessionWatch.passed c.settle.new.watch)
+    c.settle.result
     (c.settle.ensures.order password (λ more. texts_of []) happened
     (at_finished happened c.args.session.now c.finish.new.self c.finish.ensures at))
 
 pub returns-in_err-end-clause-order : goal.returns-in_err-end-clause-order
 returns-in_err-end-clause-order g c = λ password texts_of happened at.
     orders_end (λ more. texts_of []) (still_sends c.settle.new.session) happened
-    (g.V.Watch.passed c.args.watch.now) (g.V.Watch.passed c.settle.new.watch) c.settle.result
+    (g.V.SessionWatch.passed c.args.watch.now) (g.V.SessionWatch.passed c.settle.new.watch)
+    c.settle.result
     (c.settle.ensures.order password (λ more. texts_of []) happened
     (at_finished happened c.args.session.now c.finish.new.self c.finish.ensures at))

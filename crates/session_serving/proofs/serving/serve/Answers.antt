@@ -17,7 +17,8 @@ reads-init g c = record {
   writable = c.requires.writable;
   read_even = refl;
   write_even = refl;
-  order = λ password owes. waits_new password c.args.session.now (g.V.Watch.passed c.args.watch.now)
+  order = λ password owes. waits_new password c.args.session.now
+      (g.V.SessionWatch.passed c.args.watch.now)
       (g.R.Reader.remaining c.args.reader.now) owes;
   room = refl;
 }
@@ -118,16 +119,16 @@ reads-preserved g c = record {
   write_even = c.in_ok-end.ensures.failures_unchanged ∙ c.reads.invariant.write_even;
   order = λ password owes.
       let r = (has_read password c.reads.session (take c.in-Ok.count c.read.new.buffer)
-      (g.V.Watch.passed c.args.watch.now) (g.V.Watch.passed c.reads.watch)
-      (g.V.Watch.passed c.read.new.self)
+      (g.V.SessionWatch.passed c.args.watch.now) (g.V.SessionWatch.passed c.reads.watch)
+      (g.V.SessionWatch.passed c.read.new.self)
       (g.R.Reader.remaining c.args.reader.now) (g.R.Reader.remaining c.reads.reader)
       (g.R.Reader.remaining c.read.new.reader)
       (c.reads.invariant.order password owes) c.reads.invariant.stands.settled
       c.in-Ok.ensures.bytes.0 c.in-Ok.ensures.passes) in
       waits_next password c.reads.session c.take_in.new.session
       (take c.in-Ok.count c.read.new.buffer)
-      (g.V.Watch.passed c.args.watch.now) (g.V.Watch.passed c.read.new.self)
-      (g.V.Watch.passed c.take_in.new.watch)
+      (g.V.SessionWatch.passed c.args.watch.now) (g.V.SessionWatch.passed c.read.new.self)
+      (g.V.SessionWatch.passed c.take_in.new.watch)
       (g.R.Reader.remaining c.args.reader.now) (g.R.Reader.remaining c.read.new.reader) r
       (c.in_ok-end.ensures.order password (texts_after password r.happened) r.happened r.is_at);
   room = c.read.auto.buffer ∙ c.reads.invariant.room;
@@ -149,8 +150,8 @@ returns-clause-served g c = λ password owes.
 
 pub returns-in-Err-clause-order : goal.returns-in-Err-clause-order
 returns-in-Err-clause-order g c = λ password owes.
-    in_order_unread password c.reads.session (g.V.Watch.passed c.args.watch.now)
-    (g.V.Watch.passed c.reads.watch) (g.V.Watch.passed c.read.new.self)
+    in_order_unread password c.reads.session (g.V.SessionWatch.passed c.args.watch.now)
+    (g.V.SessionWatch.passed c.reads.watch) (g.V.SessionWatch.passed c.read.new.self)
     (g.R.Reader.remaining c.args.reader.now) (g.R.Reader.remaining c.reads.reader)
     (g.R.Reader.remaining c.read.new.reader)
     (c.reads.invariant.order password owes) c.reads.invariant.stands.settled
@@ -164,55 +165,56 @@ returns-then-count-eq0-clause-order g c = λ password owes.
     let none : take c.in-Ok.count c.read.new.buffer ≡ [] = ap (λ (n : ℕ). take n c.read.new.buffer)
     c.if-count-eq0.true in
     let r = (has_read password c.reads.session (take c.in-Ok.count c.read.new.buffer)
-    (g.V.Watch.passed c.args.watch.now) (g.V.Watch.passed c.reads.watch)
-    (g.V.Watch.passed c.read.new.self)
+    (g.V.SessionWatch.passed c.args.watch.now) (g.V.SessionWatch.passed c.reads.watch)
+    (g.V.SessionWatch.passed c.read.new.self)
     (g.R.Reader.remaining c.args.reader.now) (g.R.Reader.remaining c.reads.reader)
     (g.R.Reader.remaining c.read.new.reader)
     (c.reads.invariant.order password owes) c.reads.invariant.stands.settled c.in-Ok.ensures.bytes.0
     c.in-Ok.ensures.passes) in
     in_order_stop password c.reads.session (take c.in-Ok.count c.read.new.buffer)
-    (g.V.Watch.passed c.args.watch.now) (g.V.Watch.passed c.read.new.self)
-    (g.V.Watch.passed c.end_input.new.watch)
+    (g.V.SessionWatch.passed c.args.watch.now) (g.V.SessionWatch.passed c.read.new.self)
+    (g.V.SessionWatch.passed c.end_input.new.watch)
     (g.R.Reader.remaining c.args.reader.now) (g.R.Reader.remaining c.read.new.reader) r
     (c.end_input.ensures.order password (texts_after password r.happened) r.happened
     (at_end password c.reads.session (take c.in-Ok.count c.read.new.buffer)
-    (g.V.Watch.passed c.args.watch.now) (g.V.Watch.passed c.read.new.self)
+    (g.V.SessionWatch.passed c.args.watch.now) (g.V.SessionWatch.passed c.read.new.self)
     (g.R.Reader.remaining c.args.reader.now) (g.R.Reader.remaining c.read.new.reader) none r))
 
 pub returns-in_err-end-clause-order : goal.returns-in_err-end-clause-order
 returns-in_err-end-clause-order g c = λ password owes.
     let r = (has_read password c.reads.session (take c.in-Ok.count c.read.new.buffer)
-    (g.V.Watch.passed c.args.watch.now) (g.V.Watch.passed c.reads.watch)
-    (g.V.Watch.passed c.read.new.self)
+    (g.V.SessionWatch.passed c.args.watch.now) (g.V.SessionWatch.passed c.reads.watch)
+    (g.V.SessionWatch.passed c.read.new.self)
     (g.R.Reader.remaining c.args.reader.now) (g.R.Reader.remaining c.reads.reader)
     (g.R.Reader.remaining c.read.new.reader)
     (c.reads.invariant.order password owes) c.reads.invariant.stands.settled c.in-Ok.ensures.bytes.0
     c.in-Ok.ensures.passes) in
     in_order_stop password c.reads.session (take c.in-Ok.count c.read.new.buffer)
-    (g.V.Watch.passed c.args.watch.now) (g.V.Watch.passed c.read.new.self)
-    (g.V.Watch.passed c.take_in.new.watch)
+    (g.V.SessionWatch.passed c.args.watch.now) (g.V.SessionWatch.passed c.read.new.self)
+    (g.V.SessionWatch.passed c.take_in.new.watch)
     (g.R.Reader.remaining c.args.reader.now) (g.R.Reader.remaining c.read.new.reader) r
     (c.in_err-end.ensures.order password (texts_after password r.happened) r.happened r.is_at)
 
 pub returns-in-Some-clause-order : goal.returns-in-Some-clause-order
 returns-in-Some-clause-order g c = λ password owes.
     let r = (has_read password c.reads.session (take c.in-Ok.count c.read.new.buffer)
-    (g.V.Watch.passed c.args.watch.now) (g.V.Watch.passed c.reads.watch)
-    (g.V.Watch.passed c.read.new.self)
+    (g.V.SessionWatch.passed c.args.watch.now) (g.V.SessionWatch.passed c.reads.watch)
+    (g.V.SessionWatch.passed c.read.new.self)
     (g.R.Reader.remaining c.args.reader.now) (g.R.Reader.remaining c.reads.reader)
     (g.R.Reader.remaining c.read.new.reader)
     (c.reads.invariant.order password owes) c.reads.invariant.stands.settled c.in-Ok.ensures.bytes.0
     c.in-Ok.ensures.passes) in
     in_order_stop password c.reads.session (take c.in-Ok.count c.read.new.buffer)
-    (g.V.Watch.passed c.args.watch.now) (g.V.Watch.passed c.read.new.self)
-    (g.V.Watch.passed c.take_in.new.watch)
+    (g.V.SessionWatch.passed c.args.watch.now) (g.V.SessionWatch.passed c.read.new.self)
+    (g.V.SessionWatch.passed c.take_in.new.watch)
     (g.R.Reader.remaining c.args.reader.now) (g.R.Reader.remaining c.read.new.reader) r
-    (stops_here r.happened (g.V.Watch.passed c.read.new.self) (g.V.Watch.passed c.take_in.new.watch)
+    (stops_here r.happened (g.V.SessionWatch.passed c.read.new.self)
+    (g.V.SessionWatch.passed c.take_in.new.watch)
     (c.in_ok-end.ensures.order password (texts_after password r.happened) r.happened r.is_at))
 
 pub returns-clause-order : goal.returns-clause-order
 returns-clause-order g c = λ password owes.
-    in_order_waiting password c.reads.session (g.V.Watch.passed c.args.watch.now)
-    (g.V.Watch.passed c.reads.watch)
+    in_order_waiting password c.reads.session (g.V.SessionWatch.passed c.args.watch.now)
+    (g.V.SessionWatch.passed c.reads.watch)
     (g.R.Reader.remaining c.args.reader.now) (g.R.Reader.remaining c.reads.reader)
     (c.reads.invariant.order password owes)

@@ -26,7 +26,8 @@ invariant-reads g l = record {
   read_even : g.R.Reader.failures l.reader ≡ g.R.Reader.failures l.initial.reader;
   write_even : g.W.Writer.failures l.writer ≡ g.W.Writer.failures l.initial.writer;
   order : (password : List ℕ) → Owes password l.initial.session
-      → Waits password l.session (g.V.Watch.passed l.initial.watch) (g.V.Watch.passed l.watch)
+      → Waits password l.session (g.V.SessionWatch.passed l.initial.watch)
+      (g.V.SessionWatch.passed l.watch)
       (g.R.Reader.remaining l.initial.reader) (g.R.Reader.remaining l.reader);
   room : length l.buffer ≡ length l.initial.buffer;
 }

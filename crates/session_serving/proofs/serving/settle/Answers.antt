@@ -16,7 +16,8 @@ due-init g c = record {
   finished = refl;
   writable = c.requires.writable;
   even = refl;
-  order = λ password texts_of happened at. comes_new happened (g.V.Watch.passed c.args.watch.now)
+  order = λ password texts_of happened at. comes_new happened
+      (g.V.SessionWatch.passed c.args.watch.now)
       at;
 }
 
@@ -60,11 +61,13 @@ due-preserved-in-Ok g c =
       writable = c.in_ok-write-in-Ok.ensures.ready;
       even = c.in_ok-write-in-Ok.ensures.failures_unchanged ∙ c.due.invariant.even;
       order = λ password texts_of happened at.
-          comes_sent happened (g.V.Watch.passed c.args.watch.now) (g.V.Watch.passed c.call.new.self)
-          (g.V.Watch.passed c.write.new.watch)
+          comes_sent happened (g.V.SessionWatch.passed c.args.watch.now)
+          (g.V.SessionWatch.passed c.call.new.self)
+          (g.V.SessionWatch.passed c.write.new.watch)
           answered.between c.answer_get-answered.new.self c.in-Ok.frame
-          (comes_asked happened (g.V.Watch.passed c.args.watch.now) (g.V.Watch.passed c.due.watch)
-          (g.V.Watch.passed c.call.new.self)
+          (comes_asked happened (g.V.SessionWatch.passed c.args.watch.now)
+          (g.V.SessionWatch.passed c.due.watch)
+          (g.V.SessionWatch.passed c.call.new.self)
           c.due.session c.next_get.new.self answered.between
           (event.Get c.in-Some.level c.in-Some.attr false) c.in_ok-reply-in-Some.reply
           (c.due.invariant.order password texts_of happened at) asked.steps asked.awaits
@@ -130,8 +133,9 @@ due-preserved-in-Ok-answer g c =
       writable = c.due.invariant.writable;
       even = c.due.invariant.even;
       order = λ password texts_of happened at.
-          comes_asked happened (g.V.Watch.passed c.args.watch.now) (g.V.Watch.passed c.due.watch)
-          (g.V.Watch.passed c.call-in-Ask.new.self)
+          comes_asked happened (g.V.SessionWatch.passed c.args.watch.now)
+          (g.V.SessionWatch.passed c.due.watch)
+          (g.V.SessionWatch.passed c.call-in-Ask.new.self)
           c.due.session c.next.new.self c.answer.new.self c.in-Ask.event c.in_ok-reply-in-Ask.reply
           (c.due.invariant.order password texts_of happened at) stepped left
           c.in_ok-reply-in-Ask.ensures.passes taken;
@@ -164,8 +168,9 @@ due-preserved g c =
       writable = c.in_ok-write-in-Send.ensures.ready;
       even = c.in_ok-write-in-Send.ensures.failures_unchanged ∙ c.due.invariant.even;
       order = λ password texts_of happened at.
-          comes_sent happened (g.V.Watch.passed c.args.watch.now) (g.V.Watch.passed c.due.watch)
-          (g.V.Watch.passed c.write-in-Send.new.watch)
+          comes_sent happened (g.V.SessionWatch.passed c.args.watch.now)
+          (g.V.SessionWatch.passed c.due.watch)
+          (g.V.SessionWatch.passed c.write-in-Send.new.watch)
           c.due.session c.next.new.self c.in-Send.frame
           (c.due.invariant.order password texts_of happened at) stepped
           (rw c.as_slice-in-Send.ensures at c.in_ok-write-in-Send.ensures.passes);
@@ -198,10 +203,11 @@ pub returns-in_err-reply-in-Some-clause-order : goal.returns-in_err-reply-in-Som
 returns-in_err-reply-in-Some-clause-order g c = λ password texts_of happened at.
     let asked = c.in-Some.ensures.asks in
     orders_stop (λ f. f ≡ fault_of c.in_err-reply-in-Some.field-0.0) texts_of
-    (still_sends c.next_get.new.self) happened (g.V.Watch.passed c.args.watch.now)
-    (g.V.Watch.passed c.call.new.self) c.from_residual.result c.from_residual.ensures.1
-    (stops_refused happened (g.V.Watch.passed c.args.watch.now) (g.V.Watch.passed c.due.watch)
-    (g.V.Watch.passed c.call.new.self)
+    (still_sends c.next_get.new.self) happened (g.V.SessionWatch.passed c.args.watch.now)
+    (g.V.SessionWatch.passed c.call.new.self) c.from_residual.result c.from_residual.ensures.1
+    (stops_refused happened (g.V.SessionWatch.passed c.args.watch.now)
+    (g.V.SessionWatch.passed c.due.watch)
+    (g.V.SessionWatch.passed c.call.new.self)
     c.due.session c.next_get.new.self (event.Get c.in-Some.level c.in-Some.attr false)
     (c.due.invariant.order password texts_of happened at) asked.steps asked.awaits
     c.in_err-reply-in-Some.ensures.passes)
@@ -209,8 +215,9 @@ returns-in_err-reply-in-Some-clause-order g c = λ password texts_of happened at
 pub returns-in-Err-clause-order : goal.returns-in-Err-clause-order
 returns-in-Err-clause-order g c = λ password texts_of happened at.
     let asked = c.in-Some.ensures.asks in
-    stops_asked happened (g.V.Watch.passed c.args.watch.now) (g.V.Watch.passed c.due.watch)
-    (g.V.Watch.passed c.call.new.self)
+    stops_asked happened (g.V.SessionWatch.passed c.args.watch.now)
+    (g.V.SessionWatch.passed c.due.watch)
+    (g.V.SessionWatch.passed c.call.new.self)
     c.due.session c.next_get.new.self (event.Get c.in-Some.level c.in-Some.attr false)
     c.in_ok-reply-in-Some.reply
     (c.due.invariant.order password texts_of happened at) asked.steps asked.awaits
@@ -221,14 +228,16 @@ returns-in_err-write-in-Ok-clause-order g c = λ password texts_of happened at.
     let asked = c.in-Some.ensures.asks in
     let answered = c.in-Ok.ensures.ok in
     orders_stop (λ f. f ≡ c.in_err-write-in-Ok.field-0.0) texts_of
-    (still_sends c.answer_get-answered.new.self) happened (g.V.Watch.passed c.args.watch.now)
-    (g.V.Watch.passed c.write.new.watch) c.from_residual-in_err-write-in-Ok.result
+    (still_sends c.answer_get-answered.new.self) happened (g.V.SessionWatch.passed c.args.watch.now)
+    (g.V.SessionWatch.passed c.write.new.watch) c.from_residual-in_err-write-in-Ok.result
     c.from_residual-in_err-write-in-Ok.ensures.1
-    (stops_unsent happened (g.V.Watch.passed c.args.watch.now) (g.V.Watch.passed c.call.new.self)
-    (g.V.Watch.passed c.write.new.watch)
+    (stops_unsent happened (g.V.SessionWatch.passed c.args.watch.now)
+    (g.V.SessionWatch.passed c.call.new.self)
+    (g.V.SessionWatch.passed c.write.new.watch)
     c.in_err-write-in-Ok.field-0.0
-    (comes_asked happened (g.V.Watch.passed c.args.watch.now) (g.V.Watch.passed c.due.watch)
-    (g.V.Watch.passed c.call.new.self)
+    (comes_asked happened (g.V.SessionWatch.passed c.args.watch.now)
+    (g.V.SessionWatch.passed c.due.watch)
+    (g.V.SessionWatch.passed c.call.new.self)
     c.due.session c.next_get.new.self answered.between
     (event.Get c.in-Some.level c.in-Some.attr false) c.in_ok-reply-in-Some.reply
     (c.due.invariant.order password texts_of happened at) asked.steps asked.awaits
@@ -238,9 +247,10 @@ returns-in_err-write-in-Ok-clause-order g c = λ password texts_of happened at.
 pub returns-in_err-event-in-None-clause-order : goal.returns-in_err-event-in-None-clause-order
 returns-in_err-event-in-None-clause-order g c = λ password texts_of happened at.
     orders_stop (λ f. f ≡ fault.Memory) texts_of (still_sends c.next.new.self) happened
-    (g.V.Watch.passed c.args.watch.now) (g.V.Watch.passed c.due.watch)
+    (g.V.SessionWatch.passed c.args.watch.now) (g.V.SessionWatch.passed c.due.watch)
     c.from_residual-in_err-event-in-None.result c.from_residual-in_err-event-in-None.ensures.1
-    (stops_here happened (g.V.Watch.passed c.args.watch.now) (g.V.Watch.passed c.due.watch)
+    (stops_here happened (g.V.SessionWatch.passed c.args.watch.now)
+    (g.V.SessionWatch.passed c.due.watch)
     (c.due.invariant.order password texts_of happened at))
 
 pub returns-in_err-reply-in-Ask-clause-order : goal.returns-in_err-reply-in-Ask-clause-order
@@ -249,11 +259,12 @@ returns-in_err-reply-in-Ask-clause-order g c = λ password texts_of happened at.
     let stepped = rw (c.in-Ask.is, same) at c.in_ok-event-in-None.ensures.steps in
     let left = rw c.in-Ask.is at c.in_ok-event-in-None.ensures.leaves in
     orders_stop (λ f. f ≡ fault_of c.in_err-reply-in-Ask.field-0.0) texts_of
-    (still_sends c.next.new.self) happened (g.V.Watch.passed c.args.watch.now)
-    (g.V.Watch.passed c.call-in-Ask.new.self) c.from_residual-in_err-reply-in-Ask.result
+    (still_sends c.next.new.self) happened (g.V.SessionWatch.passed c.args.watch.now)
+    (g.V.SessionWatch.passed c.call-in-Ask.new.self) c.from_residual-in_err-reply-in-Ask.result
     c.from_residual-in_err-reply-in-Ask.ensures.1
-    (stops_refused happened (g.V.Watch.passed c.args.watch.now) (g.V.Watch.passed c.due.watch)
-    (g.V.Watch.passed c.call-in-Ask.new.self)
+    (stops_refused happened (g.V.SessionWatch.passed c.args.watch.now)
+    (g.V.SessionWatch.passed c.due.watch)
+    (g.V.SessionWatch.passed c.call-in-Ask.new.self)
     c.due.session c.next.new.self c.in-Ask.event
     (c.due.invariant.order password texts_of happened at) stepped left.0
     c.in_err-reply-in-Ask.ensures.passes)
@@ -263,8 +274,9 @@ returns-in-Err-answer-clause-order g c = λ password texts_of happened at.
     let same : c.next_get.new.self ≡ c.due.session = c.in-None.ensures.none in
     let stepped = rw (c.in-Ask.is, same) at c.in_ok-event-in-None.ensures.steps in
     let left = rw c.in-Ask.is at c.in_ok-event-in-None.ensures.leaves in
-    stops_asked happened (g.V.Watch.passed c.args.watch.now) (g.V.Watch.passed c.due.watch)
-    (g.V.Watch.passed c.call-in-Ask.new.self)
+    stops_asked happened (g.V.SessionWatch.passed c.args.watch.now)
+    (g.V.SessionWatch.passed c.due.watch)
+    (g.V.SessionWatch.passed c.call-in-Ask.new.self)
     c.due.session c.next.new.self c.in-Ask.event c.in_ok-reply-in-Ask.reply
     (c.due.invariant.order password texts_of happened at) stepped left.0
     c.in_ok-reply-in-Ask.ensures.passes
@@ -272,10 +284,12 @@ returns-in-Err-answer-clause-order g c = λ password texts_of happened at.
 pub returns-in_err-write-in-Send-clause-order : goal.returns-in_err-write-in-Send-clause-order
 returns-in_err-write-in-Send-clause-order g c = λ password texts_of happened at.
     orders_stop (λ f. f ≡ c.in_err-write-in-Send.field-0.0) texts_of (still_sends c.next.new.self)
-    happened (g.V.Watch.passed c.args.watch.now) (g.V.Watch.passed c.write-in-Send.new.watch)
+    happened (g.V.SessionWatch.passed c.args.watch.now)
+    (g.V.SessionWatch.passed c.write-in-Send.new.watch)
     c.from_residual-in_err-write-in-Send.result c.from_residual-in_err-write-in-Send.ensures.1
-    (stops_unsent happened (g.V.Watch.passed c.args.watch.now) (g.V.Watch.passed c.due.watch)
-    (g.V.Watch.passed c.write-in-Send.new.watch)
+    (stops_unsent happened (g.V.SessionWatch.passed c.args.watch.now)
+    (g.V.SessionWatch.passed c.due.watch)
+    (g.V.SessionWatch.passed c.write-in-Send.new.watch)
     c.in_err-write-in-Send.field-0.0
     (c.due.invariant.order password texts_of happened at)
     c.in_err-write-in-Send.ensures.fails_to_pass)
@@ -284,12 +298,14 @@ pub returns-in-Wait-clause-order : goal.returns-in-Wait-clause-order
 returns-in-Wait-clause-order g c = λ password texts_of happened at.
     let same : c.next_get.new.self ≡ c.due.session = c.in-None.ensures.none in
     let stepped = rw (c.in-Wait.is, same) at c.in_ok-event-in-None.ensures.steps in
-    comes_still happened (g.V.Watch.passed c.args.watch.now) (g.V.Watch.passed c.due.watch)
+    comes_still happened (g.V.SessionWatch.passed c.args.watch.now)
+    (g.V.SessionWatch.passed c.due.watch)
     stepped.sends (c.due.invariant.order password texts_of happened at)
 
 pub returns-in-End-clause-order : goal.returns-in-End-clause-order
 returns-in-End-clause-order g c = λ password texts_of happened at.
     let same : c.next_get.new.self ≡ c.due.session = c.in-None.ensures.none in
     let stepped = rw (c.in-End.is, same) at c.in_ok-event-in-None.ensures.steps in
-    comes_still happened (g.V.Watch.passed c.args.watch.now) (g.V.Watch.passed c.due.watch)
+    comes_still happened (g.V.SessionWatch.passed c.args.watch.now)
+    (g.V.SessionWatch.passed c.due.watch)
     stepped.sends (c.due.invariant.order password texts_of happened at)

@@ -22,7 +22,7 @@ invariant-due g l = record {
       (happened : List Happening)
       → IsAt g.F.Form.written_as password texts_of (still_sends l.initial.session) happened
       → ComesOn g.F.Form.written_as password texts_of (still_sends l.session) happened
-      (g.V.Watch.passed l.initial.watch) (g.V.Watch.passed l.watch);
+      (g.V.SessionWatch.passed l.initial.watch) (g.V.SessionWatch.passed l.watch);
 }
 
 abbrev pub decreases-due : goal.decreases-due

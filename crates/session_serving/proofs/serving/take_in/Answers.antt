@@ -23,18 +23,18 @@ returns-then-is_idle-clause-ok g c =
 pub returns-in_err-feed-clause-order : goal.returns-in_err-feed-clause-order
 returns-in_err-feed-clause-order g c = λ password texts_of happened at.
     orders_stop (λ f. f ≡ fault.Memory) texts_of (still_sends c.feed.new.self) happened
-    (g.V.Watch.passed c.args.watch.now) (g.V.Watch.passed c.args.watch.now)
+    (g.V.SessionWatch.passed c.args.watch.now) (g.V.SessionWatch.passed c.args.watch.now)
     c.from_residual.result c.from_residual.ensures.1
     (record {
       new = [];
-      passed = nothing_passed (g.V.Watch.passed c.args.watch.now);
+      passed = nothing_passed (g.V.SessionWatch.passed c.args.watch.now);
       unread = refl;
       ordered = at.ordered;
     })
 
 pub returns-then-is_idle-clause-order : goal.returns-then-is_idle-clause-order
 returns-then-is_idle-clause-order g c = λ password texts_of happened at.
-    comes_new happened (g.V.Watch.passed c.args.watch.now)
+    comes_new happened (g.V.SessionWatch.passed c.args.watch.now)
     (at_fed happened c.args.session.now c.feed.new.self c.args.bytes.now c.in_ok-feed.ensures.ok
     at)
 

@@ -17,4 +17,4 @@ serve-end-requires-clause-ends g c = ends_new c.args.password.now c.in_ok-sessio
 
 pub returns-in_err-session-clause-order : goal.returns-in_err-session-clause-order
 returns-in_err-session-clause-order g c = in_order_none c.args.password.now
-    (g.V.Watch.passed c.args.watch.now) (g.R.Reader.remaining c.args.reader.now)
+    (g.V.SessionWatch.passed c.args.watch.now) (g.R.Reader.remaining c.args.reader.now)

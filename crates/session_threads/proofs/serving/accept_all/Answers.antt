@@ -7,7 +7,7 @@ use Rattle.session_threads.proofs.serving.accept_all.Goals as goal
 
 pub returns-in_default-clause-tends : goal.returns-in_default-clause-tends
 returns-in_default-clause-tends g c =
-    let conn = g.L.Connection.Connection in
+    let conn = g.L.Connection.PortConnection in
     tends_trans port_of (terms_of conn.terms) conn.hands_back _ _ _ _ _ _ _
     c.connections.invariant.tends (tends_by port_of (terms_of conn.terms) conn.hands_back _ _ _
     _ _ _ c.connections.invariant.terms c.take_next.ensures.tends)
@@ -17,7 +17,7 @@ connections-preserved g c =
     record {
       can_next = tt;
       is_finite = tt;
-      tends = let conn = g.L.Connection.Connection in
+      tends = let conn = g.L.Connection.PortConnection in
           tends_trans port_of (terms_of conn.terms) conn.hands_back _ _ _ _ _ _ _
           c.connections.invariant.tends (tends_by port_of (terms_of conn.terms) conn.hands_back
           _ _ _ _ _ _ c.connections.invariant.terms c.take_next.ensures.tends);

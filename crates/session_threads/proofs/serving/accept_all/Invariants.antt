@@ -7,14 +7,16 @@ abbrev pub invariant-connections : goal.invariant-connections
 invariant-connections g l = record {
   can_next : (goal.iterator-connections g).can_next l.iterator';
   is_finite : (goal.iterator-connections g).is_finite l.iterator';
-  tends : Tends port_of (terms_of g.L.Connection.Connection.terms)
-      g.L.Connection.Connection.hands_back (g.L.Listener.terms l.initial.listener) l.initial.port
+  tends : Tends port_of (terms_of g.L.Connection.PortConnection.terms)
+      g.L.Connection.PortConnection.hands_back (g.L.ConnectionSource.terms l.initial.listener)
+      l.initial.port
       l.initial.sessions.handles l.port l.sessions.handles;
   served : IsServed l.initial.port.known.splits l.port.known.splits l.accepted;
   going : l.accepted.has_failed ≡ false;
-  terms : g.L.Listener.terms l.listener ≡ g.L.Listener.terms l.initial.listener;
-  borrowed : g.L.Listener.borrowed l.listener ≡ g.L.Listener.borrowed l.initial.listener;
-  counted : IsCounted (g.L.Listener.accepted l.initial.listener) (l.accepted.served
-      + l.accepted.turned_away) (g.L.Listener.accepted l.listener);
+  terms : g.L.ConnectionSource.terms l.listener ≡ g.L.ConnectionSource.terms l.initial.listener;
+  borrowed : g.L.ConnectionSource.borrowed l.listener
+      ≡ g.L.ConnectionSource.borrowed l.initial.listener;
+  counted : IsCounted (g.L.ConnectionSource.accepted l.initial.listener) (l.accepted.served
+      + l.accepted.turned_away) (g.L.ConnectionSource.accepted l.listener);
   within : 0 < l.limit → l.accepted.served + l.accepted.turned_away ≤ l.limit;
 }

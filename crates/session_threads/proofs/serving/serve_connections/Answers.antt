@@ -4,13 +4,13 @@ use Rattle.session_threads.proofs.serving.serve_connections.Goals as goal
 
 pub returns-clause-port_continues : goal.returns-clause-port_continues
 returns-clause-port_continues g c =
-    let conn = g.L.Connection.Connection in
+    let conn = g.L.Connection.PortConnection in
     (tends_trans port_of (terms_of conn.terms) conn.hands_back _ _ _ _ _ _ _
     c.accept_all-accepted.ensures.tends (c.close_all.ensures.tends _)).goes
 
 pub returns-clause-joined : goal.returns-clause-joined
 returns-clause-joined g c =
-    let conn = g.L.Connection.Connection in
+    let conn = g.L.Connection.PortConnection in
     joined_all port_of (terms_of conn.terms) conn.hands_back _ _ _ _ _
     c.in_ok-sessions.ensures (tends_trans port_of (terms_of conn.terms) conn.hands_back _ _ _ _
     _ _ _ c.accept_all-accepted.ensures.tends (c.close_all.ensures.tends _))
@@ -18,7 +18,7 @@ returns-clause-joined g c =
 
 pub returns-clause-sessions : goal.returns-clause-sessions
 returns-clause-sessions g c =
-    let conn = g.L.Connection.Connection in
+    let conn = g.L.Connection.PortConnection in
     served_all port_of (terms_of conn.terms) conn.hands_back _ _ _ _ _
     c.in_ok-sessions.ensures (tends_trans port_of (terms_of conn.terms) conn.hands_back _ _ _ _
     _ _ _ c.accept_all-accepted.ensures.tends (c.close_all.ensures.tends _))

@@ -5,7 +5,7 @@ use Rattle.session_threads.proofs.serving.take_next.Goals as goal
 
 pub returns-in-Ok-clause-tends : goal.returns-in-Ok-clause-tends
 returns-in-Ok-clause-tends g c =
-    let conn = g.L.Connection.Connection in
+    let conn = g.L.Connection.PortConnection in
     tends_trans port_of (terms_of conn.terms) conn.hands_back _ _ _ _ _ _ _ (c.reap.ensures.tends _)
     (c.take_in.ensures.tends _ c.in-Ok.ensures.served)
 

@@ -5,14 +5,14 @@ use Rattle.session_threads.proofs.sessions.Sessions.admit.Goals as goal
 
 pub returns-in_default-clause-tends : goal.returns-in_default-clause-tends
 returns-in_default-clause-tends g c =
-    let conn = g.C.Connection in
+    let conn = g.C.PortConnection in
     let split = c.in_default.ensures in
     tends_same port_of (terms_of conn.terms) conn.hands_back _ _ _ _ _ split.lock.0 split.lock.1
     split.err refl
 
 pub returns-in-Ok-start-clause-tends : goal.returns-in-Ok-start-clause-tends
 returns-in-Ok-start-clause-tends g c =
-    let conn = g.C.Connection in
+    let conn = g.C.PortConnection in
     let split = c.in-Ok.ensures in
     let begun = c.in-Ok-start.ensures in
     let put = c.insert_reserved.ensures in
@@ -25,7 +25,7 @@ returns-in-Ok-start-clause-tends g c =
 
 pub returns-in-Err-clause-tends : goal.returns-in-Err-clause-tends
 returns-in-Err-clause-tends g c =
-    let conn = g.C.Connection in
+    let conn = g.C.PortConnection in
     let split = c.in-Ok.ensures in
     let joined = c.take_back.ensures in
     let same = returned_same _ _ _ (c.requires.hands_back _) c.in-Err.ensures.err in

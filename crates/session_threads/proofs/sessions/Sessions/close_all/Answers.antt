@@ -7,7 +7,8 @@ use Rattle.session_threads.proofs.sessions.Sessions.close_all.Goals as goal
 pub last-preserved : goal.last-preserved
 last-preserved g c =
     record {
-      tends = λ t. tends_trans port_of (terms_of g.C.Connection.terms) g.C.Connection.hands_back t _
+      tends = λ t. tends_trans port_of (terms_of g.C.PortConnection.terms)
+          g.C.PortConnection.hands_back t _
           _ _ _ _ _ (c.last.invariant.tends t) (c.close.ensures.tends t);
       splits = c.close.ensures.splits ∙ c.last.invariant.splits;
       closed = below_more _ _ (λ key below. c.close.ensures.others key

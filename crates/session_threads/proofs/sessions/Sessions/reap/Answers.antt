@@ -6,7 +6,8 @@ use Rattle.session_threads.proofs.sessions.Sessions.reap.Goals as goal
 pub places-preserved : goal.places-preserved
 places-preserved g c =
     record {
-      tends = λ t. tends_trans port_of (terms_of g.C.Connection.terms) g.C.Connection.hands_back t _
+      tends = λ t. tends_trans port_of (terms_of g.C.PortConnection.terms)
+          g.C.PortConnection.hands_back t _
           _ _ _ _ _ (c.places.invariant.tends t) (c.reap_one.ensures.tends t);
       splits = c.reap_one.ensures.splits ∙ c.places.invariant.splits;
     }
