@@ -19,7 +19,7 @@ use Rattle.relay_recorder.specs.contracts.kept.RecordedEvent as kept_event
 use Rattle.relay_recorder.specs.contracts.kept.RecordedEvent.TheInside as event_inside
 use Rattle.relay_recorder.specs.contracts.recorder.Recorder as recorder
 use Rattle.relay_recorder.specs.contracts.recorder.Recorder.TheInside as inside
-use Rattle.kept_meter.specs.contracts.kept.RecordedEvent as kept
+use Rattle.kept_meter.specs.contracts.kept.Kept as kept
 
 event_field_send : IsSend (event.the_field).row
 event_field_send = search (
