@@ -14,4 +14,4 @@ returns c =
     tells_run c.args.kept.now.recorder c.recorder.result.now c.in_ok-trace.trace
     c.write_trace-text.result c.recorder.ensures is
     c.exported_run_is_played.ensures c.write_trace-text.ensures.text
-    c.write_trace-text.ensures.again c.write_trace-text.ensures.short
+    c.write_trace-text.ensures.read_back c.write_trace-text.ensures.short
