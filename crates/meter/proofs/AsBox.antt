@@ -19,7 +19,7 @@ use Rattle.std_heap.proofs.Global.TheLaws as heap
 use Rattle.supply_meter.specs.contracts.supply_meter.SupplyMeter as Held
 use Rattle.supply_meter.proofs.supply_meter.SupplyMeter.TheLaws as held
 use Rattle.boxed_parts.specs.contracts.parts.BoxParts as BoxParts
-use Rattle.meter.specs.contracts.slot.Slot as Own
+use Rattle.meter.specs.contracts.slot.HandleSlot as Own
 
 abbrev pub E : Bx
 E = record {
