@@ -8,7 +8,7 @@ returns c =
       opening = exported.opening;
       events = exported.events;
       fit = exported.fit;
-      few = exported.few;
+      few = exported.within_max;
       replays = exported.replays;
     } in
     tells_run c.args.self.now.recorder c.recorder.result.now c.in_ok-trace.trace
