@@ -183,7 +183,7 @@ def the_header_has_the_types_of_the_exports(name):
     """The header declares each parameter of an export with its C type."""
     source = "".join(it.read_text() for it in sorted((LIBRARY / "src").glob("*.rt")))
     header = re.sub(r"/\*.*?\*/", "", HEADER.read_text(), flags=re.S)
-    types = {"&mut Meter": ["struct meter *"], "&[u8]": ["const uint8_t *", "size_t "], "&mut [u8]": ["uint8_t *", "size_t "], "&[u32]": ["const uint32_t *", "size_t "],
+    types = {"&mut MeterHandle": ["struct meter *"], "&[u8]": ["const uint8_t *", "size_t "], "&mut [u8]": ["uint8_t *", "size_t "], "&[u32]": ["const uint32_t *", "size_t "],
              "u8": ["uint8_t "], "u16": ["uint16_t "], "u32": ["uint32_t "], "&mut u8": ["uint8_t *"], "&mut u32": ["uint32_t *"], "&mut usize": ["size_t *"],
              "&mut bool": ["bool *"], "&mut Firings": ["struct meter_fired *"], "Global": []}
     for export, parameters in re.findall(r'extern "C" fn (meter_\w+)\(([^)]*)\)', source):
