@@ -1,8 +1,8 @@
 #!/usr/bin/env python3
 """Tests switching campaigns over the loopback interface: `head_end run` with 200 running meters
 (`meter_server serve`) and with scripted meters that refuse, reject, stay silent, disconnect or send
-garbage; `bin/campaign` with a crowd of scripted meters, by GNU parallel and by ssh. Every wait has
-a time limit.
+garbage; `bin/campaign` with a crowd of scripted meters, by GNU parallel, by ssh and by a Slurm
+cluster of one node that the test starts. Every wait has a time limit.
 
 usage: tests/campaigns.py [--short]     (--short: campaigns of 2,000 jobs instead of 20,000)"""
 
@@ -18,11 +18,13 @@ import socket
 import subprocess
 import sys
 import tempfile
+import threading
 import time
 
 sys.dont_write_bytecode = True  # importing the modules of tests/ leaves no files
 
 import serving
+from one_node_slurm import LONG_PATIENCE, Slurm, missing_commands, wait_until
 from scripted_meters import AARQ, CROWD, HOLDING, RELEASE, REQUESTS, SCRIPTS, Crowd, ScriptedMeter, Unheard, does_it
 from serving import MODE, PASSWORD, PATIENCE, PLAYER, SERVER, TOP, Client, Server, check, played, test
 
@@ -393,11 +395,25 @@ def is_running(program):
     return False
 
 
-def becomes(wanted, program, seconds=20):
-    end = time.monotonic() + seconds
-    while is_running(program) != wanted and time.monotonic() < end:
-        time.sleep(0.05)
-    return is_running(program) == wanted
+started = []  # campaigns that may still run
+
+
+def start_campaign(path, *words, errors):
+    """Starts bin/campaign, which writes to a pipe and to the open file `errors`. The files of
+    parallel go to the folder of the jobs."""
+    environment = {**os.environ, "METER_PASSWORD": PASSWORD, "PARALLEL_HOME": str(path.parent)}
+    made = subprocess.Popen([str(CAMPAIGN), *words, str(path)], stdin=subprocess.DEVNULL, stdout=subprocess.PIPE, stderr=errors, text=True, env=environment)
+    started.append(made)
+    return made
+
+
+def stop_campaigns():
+    """Stops what a test that failed has left."""
+    while started:
+        made = started.pop()
+        if made.poll() is None:
+            made.terminate()
+            made.communicate(timeout=LONG_PATIENCE)
 
 
 def drain(silent):
@@ -423,8 +439,7 @@ def a_campaign_is_stopped(name, folder):
             # (standard error is a file: a pipe that nobody reads would block the campaign)
             log = folder / "errors"
             with log.open("w") as errors:
-                made = subprocess.Popen([str(CAMPAIGN), "--program", str(program), "--jobs", "2", str(path)], stdin=subprocess.DEVNULL, stdout=subprocess.PIPE,
-                                        stderr=errors, text=True, env={**os.environ, "METER_PASSWORD": PASSWORD, "PARALLEL_HOME": str(folder)})
+                made = start_campaign(path, "--program", str(program), "--jobs", "2", errors=errors)
             # (once it has connected, a part runs)
             client, _ = silent.accept()
             made.send_signal(signal_sent)
@@ -434,8 +449,80 @@ def a_campaign_is_stopped(name, folder):
             named = [line.split(" failed")[0] for line in own_lines(errors) if " failed" in line]
             check(f"{name}: {signal_sent.name}", (made.returncode, text) == (wanted, ""), made.returncode, text, errors[:500])
             check(f"{name}: {signal_sent.name}, its parts", named == ["campaign: part 1", "campaign: part 2", "campaign: part 3"], errors[:500])
-            check(f"{name}: {signal_sent.name}, no head end is left", becomes(False, program))
+            check(f"{name}: {signal_sent.name}, no head end is left", wait_until(lambda: not is_running(program)))
             drain(silent)
+
+
+def what_is_known_is_printed(name, crowd, folder):
+    """A campaign that is stopped prints the reports of the parts that have ended, even if an
+    earlier part has not."""
+    jobs, wanted, expected = crowd_jobs(crowd, 1000)
+    path, joblog, log = folder / "known", folder / "joblog", folder / "errors"
+    with socket.create_server(("127.0.0.1", 0)) as silent:
+        silent.settimeout(PATIENCE)
+        path.write_text(f"silent 127.0.0.1:{silent.getsockname()[1]} disconnect\n" + "\n" * 999 + jobs)
+        with log.open("w") as errors:
+            made = start_campaign(path, "--program", str(HEAD_END), "--workers", "8", "--jobs", "2", "--joblog", str(joblog), errors=errors)
+        client, _ = silent.accept()
+        check(f"{name}: a part ends", wait_until(lambda: joblog.exists() and joblog.read_text().count("\n") == 2))
+        made.send_signal(signal.SIGTERM)
+        text, _ = made.communicate(timeout=60)
+        client.close()
+    check(f"{name}: report", (made.returncode, text) == (143, wanted), made.returncode, differing(wanted, text))
+    lines = [line for line in own_lines(without_warnings(log.read_text())) if "SIGTERM" not in line]
+    check(f"{name}: the other part", len(lines) == 2 and " part 1 failed " in lines[0] and lines[1].endswith(" silent"), lines)
+    check(f"{name}: each command once", crowd.counts() == counted(expected))
+
+
+# A head end of two jobs that reports one as done and waits for a file.
+WAITING = """#!/bin/sh
+[ "$1" = run ] || exit 0
+case "$*" in *--progress*) echo "jobs done 1 of 2, unknown 1, about 7 s to go" >&2 ;; esac
+while [ ! -e "$(dirname "$0")/go" ]; do sleep 0.1; done
+printf 'm1 unknown\\nm2 done 0\\n'
+"""
+PROGRESS_OF_CAMPAIGN = r"campaign: jobs done [012] of 2, unknown [01]"
+
+
+def run_waiting(folder, lines, errors, read_errors, *words, seconds=PATIENCE):
+    """Runs a campaign with the head end WAITING until it has reported this number of lines of
+    progress, or these seconds have passed; returns its status, its report, standard error and the
+    seconds that it took."""
+    program, go, path = folder / "waiting", folder / "go", folder / "two"
+    program.write_text(WAITING)
+    program.chmod(0o700)
+    path.write_text("m1 h:1 state\nm2 h:2 state\n")
+    begun = time.monotonic()
+    made = start_campaign(path, "--program", str(program), *words, errors=errors)
+    wait_until(lambda: len(re.findall(PROGRESS_OF_CAMPAIGN, read_errors())) >= lines, seconds)
+    go.touch()
+    text, _ = made.communicate(timeout=60)
+    go.unlink()
+    return made.returncode, text, read_errors(), time.monotonic() - begun
+
+
+def campaigns_report_progress(name, folder):
+    report, log = "m1 unknown\nm2 done 0\n", folder / "errors"
+    with log.open("w") as errors:
+        status, text, lines, seconds = run_waiting(folder, 2, errors, log.read_text, "--progress", seconds=4)
+    few = 1 <= lines.count("\n") <= 1 + seconds // 10
+    check(f"{name}: a file", (status, text) == (0, report) and few and re.match(PROGRESS_OF_CAMPAIGN, lines), status, text, lines, seconds)
+    terminal, standard_error = pty.openpty()
+    os.set_blocking(terminal, False)
+    shown = []
+
+    def read_terminal():
+        try:
+            shown.append(os.read(terminal, 4_096).decode().replace("\r\n", "\n"))
+        except BlockingIOError:
+            pass
+        return "".join(shown)
+
+    status, text, lines, seconds = run_waiting(folder, 4, standard_error, read_terminal, "--progress", "--fail")
+    os.close(standard_error)
+    os.close(terminal)
+    check(f"{name}: a terminal, and a row that fails", (status, text) == (1, report) and 4 <= lines.count("\n") <= seconds, status, text, lines, seconds)
+    check(f"{name}: a line", "campaign: jobs done 1 of 2, unknown 1, about " in lines, lines)
 
 
 class Shell:
@@ -522,6 +609,128 @@ def campaigns_by_ssh(name, crowd, folder, count):
             shell.stop()
 
 
+# A head end that fails if the password is not the text of a file, or if that text is in the command
+# line of a process or in what Slurm stores.
+SECRET = """#!/bin/sh
+[ "$1" = run ] || exit 0
+cd {folder} && [ "$METER_PASSWORD" = "$(cat secret)" ] || exit 4
+! cat /proc/[0-9]*/cmdline 2> /dev/null | grep -qaF -f secret || exit 5
+! grep -rqaF -f secret slurm || exit 6
+sed 's/ .*/ done 0/'
+"""
+
+
+def the_password_is_not_shown(name, folder):
+    secret, program, path = os.urandom(12).hex(), folder / "secretive", folder / "one"
+    (folder / "secret").write_text(secret)
+    program.write_text(SECRET.format(folder=folder))
+    program.chmod(0o700)
+    path.write_text("m1 h:1 state\n")
+    made = subprocess.run([str(CAMPAIGN), "--slurm", "--program", str(program), str(path)], stdin=subprocess.DEVNULL, capture_output=True, text=True,
+                          timeout=LONGEST, env={**os.environ, "METER_PASSWORD": secret})
+    check(name, (made.returncode, made.stdout, made.stderr) == (0, "m1 done 0\n", ""), made)
+
+
+def begin_again(folder, part):
+    """Runs the task of a part, as Slurm would if it requeued it; returns its status."""
+    (work,) = folder.glob("campaign.*")
+    words = ["sh", str(work / "task"), str(work), str(HEAD_END), "run"]
+    return subprocess.run(words, stdin=subprocess.DEVNULL, capture_output=True, timeout=PATIENCE, env={**os.environ, "SLURM_ARRAY_TASK_ID": str(part)}).returncode
+
+
+def program_of_tasks(folder):
+    """A head end that writes the number of its task's shell to a file, and its executable."""
+    program, copy = folder / "task", folder / "head_end"
+    shutil.copy(HEAD_END, copy)
+    program.write_text(f'#!/bin/sh\n[ "$1" != run ] || echo $PPID > {folder}/shell.$SLURM_ARRAY_TASK_ID\nexec {copy} "$@"\n')
+    program.chmod(0o700)
+    return program, copy
+
+
+def a_task_is_killed(name, crowd, folder):
+    """The second of three tasks is killed when eight of its meters have a request and don't
+    answer."""
+    jobs, wanted, expected = crowd_jobs(crowd, 2000)
+    requested = threading.Semaphore(0)
+
+    def holds(talk):
+        talk.open()
+        requested.release()
+
+    meters = [ScriptedMeter(does_it if number < 16 else holds) for number in range(40)]
+    lines = jobs.splitlines(keepends=True)
+    path, log = folder / "killed", folder / "errors"
+    own = [f"own{number} 127.0.0.1:{meter.port} disconnect\n" for number, meter in enumerate(meters)]
+    path.write_text("".join([*lines[:1000], *own, "\n" * 960, *lines[1000:]]))
+    program, copy = program_of_tasks(folder)
+    with log.open("w") as errors:
+        made = start_campaign(path, "--slurm", "--jobs", "3", "--workers", "8", "--program", str(program), errors=errors)
+    check(f"{name}: its meters get requests", all(requested.acquire(timeout=LONG_PATIENCE) for _ in range(8)))
+    check(f"{name}: it is not begun again", begin_again(folder, 2) != 0)
+    os.kill(int((folder / "shell.2").read_text()), signal.SIGKILL)
+    text, _ = made.communicate(timeout=LONGEST)
+    check(f"{name}: report", (made.returncode, text) == (1, wanted), made.returncode, differing(wanted, text))
+    first, *names = own_lines(without_warnings(log.read_text()))
+    line = r"campaign: part 2 failed \(no exit status(; Slurm: \w+)?\): the results of its jobs are unknown, and none is sent again. Its jobs:"
+    check(f"{name}: its jobs", re.fullmatch(line, first) and names == [f"campaign:     own{number}" for number in range(40)], first, names)
+    check(f"{name}: no head end is left", wait_until(lambda: not is_running(copy)))
+    check(f"{name}: each command once in the other parts", crowd.counts() == counted(expected))
+    for meter in meters:
+        meter.stop()
+    counts = [sum(talk.frames.count(REQUESTS["disconnect"]) for talk in meter.talks) for meter in meters]
+    check(f"{name}: no command twice", max(counts) == 1 and sum(counts) >= 8, counts)
+
+
+def an_array_is_stopped(name, crowd, slurm, folder):
+    """A signal stops a campaign whose first part has ended, whose second one runs and whose third
+    one is pending."""
+    jobs, wanted, expected = crowd_jobs(crowd, 1000)
+    program, copy = program_of_tasks(folder)
+    path, log = folder / "stopped", folder / "errors"
+    with socket.create_server(("127.0.0.1", 0)) as silent:
+        silent.settimeout(LONG_PATIENCE)
+        port = silent.getsockname()[1]
+        path.write_text(jobs + "".join(f"job{number} 127.0.0.1:{port} disconnect\n" for number in range(1000, 2001)))
+        with log.open("w") as errors:
+            made = start_campaign(path, "--slurm", "--workers", "8", "--program", str(program), errors=errors)
+        client, _ = silent.accept()
+        made.send_signal(signal.SIGTERM)
+        text, _ = made.communicate(timeout=LONGEST)
+        client.close()
+    check(f"{name}: report", (made.returncode, text) == (143, wanted), made.returncode, differing(wanted, text))
+    failed = [line for line in own_lines(without_warnings(log.read_text())) if " failed" in line]
+    check(f"{name}: its parts", len(failed) == 2 and " part 2 failed " in failed[0] and "the results of its jobs are unknown" in failed[0]
+          and " part 3 failed " in failed[1] and "it was not begun" in failed[1], failed)
+    check(f"{name}: no head end is left", not is_running(copy))
+    check(f"{name}: no task is left", slurm.has_no_task())
+    check(f"{name}: each command once", crowd.counts() == counted(expected))
+
+
+def campaigns_by_slurm(name, crowd, folder, count):
+    missing = missing_commands()
+    if missing:
+        print(f"SKIPPED Slurm: {', '.join(missing)} not installed")
+        return
+    slurm = Slurm(folder / "slurm")
+    jobs, wanted, expected = crowd_jobs(crowd, count)
+    path = folder / "jobs"
+    path.write_text(jobs)
+    try:
+        if not slurm.start():
+            print(f"SKIPPED Slurm: the daemons that the test started accept no tasks: {slurm.errors()}")
+            return
+        os.environ["SLURM_CONF"] = str(slurm.configuration)
+        check_campaign(f"{name}: eight parts in parallel", crowd, path, wanted, expected, "--slurm", "--jobs", "8")
+        the_password_is_not_shown(f"{name}: the password", folder)
+        a_task_is_killed(f"{name}: a task is killed", crowd, folder)
+        an_array_is_stopped(f"{name}: a signal", crowd, slurm, folder)
+        check(f"{name}: no folder is left", not list(folder.glob("campaign.*")))
+    finally:
+        stop_campaigns()
+        slurm.stop()
+        os.environ.pop("SLURM_CONF", None)
+
+
 def campaigns_of_a_crowd(name, count):
     if not shutil.which("parallel"):
         print("SKIPPED bin/campaign: GNU parallel is not installed")
@@ -535,8 +744,12 @@ def campaigns_of_a_crowd(name, count):
             a_wrong_list_sends_nothing(f"{name}: a wrong list", crowd, folder)
             a_list_is_warned_of(f"{name}: warnings", crowd, folder)
             a_campaign_is_stopped(f"{name}: a signal", folder)
+            what_is_known_is_printed(f"{name}: a signal and a part that has ended", crowd, folder)
+            campaigns_report_progress(f"{name}: progress", folder)
             campaigns_by_ssh(f"{name}: by ssh", crowd, folder, count)
+            campaigns_by_slurm(f"{name}: by Slurm", crowd, folder, count)
     finally:
+        stop_campaigns()
         crowd.stop()
 
 

@@ -1,6 +1,6 @@
 #!/usr/bin/env python3
-"""Draws the worked trace and a long one with bin/trace_chart, checks the marks of the charts, and
-renders both with a browser.
+"""Draws the worked trace and a long one with bin/trace_chart, whole and in parts, checks the marks of
+the charts, and renders both with a browser.
 
 The long trace has the maximum number of events. The expected marks follow from how it is made, not
 from the player's output. Without matplotlib the test is skipped, and without a browser the
@@ -31,6 +31,10 @@ BROWSERS = ("chromium", "chromium-browser", "google-chrome")
 WORKED_LABELS = ["1 set control_mode 1", "2 remote_disconnect", "3 button: refused, 2", "4 remote_reconnect", "5 button", "6 get output_state (public)",
                  "9 moment 4: stale"]
 ROUNDS = 936
+SETUP, ROUND = 16, 70  # the number of events that set the meter up, and of those of a round
+# The list that the server's sampler reads, and another one of a client.
+SAMPLER_READ = "getlist 1 2 71 0000110000FF 3 0 71 0001110000FF 3 0"
+CLIENT_READ = "getlist 1 2 71 0000110000FF 4 0 71 0001110000FF 4 0"
 
 
 def long_trace():
@@ -101,9 +105,91 @@ def long_rows(svg):
     yield "the last moment", f"{34 * ROUNDS // 3600:02}:" in "".join(it[11:14] for it in labels if it.startswith("2000-01-01 "))
 
 
-def charted(path, to):
+def charted(path, to, *options):
     with open(to, "wb") as file:
-        return subprocess.run([TOP / "bin" / "trace_chart", path], stdout=file, stderr=subprocess.PIPE, timeout=600)
+        return subprocess.run([TOP / "bin" / "trace_chart", *options, path], stdout=file, stderr=subprocess.PIPE, timeout=600)
+
+
+def part_of(path, to, *options):
+    """The chart of a part of a trace, or an empty one."""
+    ran = charted(path, to, *options)
+    if ran.returncode:
+        print(ran.stderr.decode(errors="replace"))
+        return Tree.Element("svg")
+    return Tree.parse(to).getroot()
+
+
+def number_of(label):
+    """The number of the event that a label names, or None."""
+    found = re.match(r"(\d+) [a-z]", label)
+    return found and int(found[1])
+
+
+def part_rows(room):
+    """Parts of the long trace: ten rounds by their events, and ten seconds by the clock."""
+    count = f"{SETUP + ROUNDS * ROUND:,}"
+    first, last = SETUP + ROUNDS // 2 * ROUND + 1, SETUP + (ROUNDS // 2 + 10) * ROUND
+    svg = part_of(room / "long.trace", room / "rounds.svg", "--from", str(first), "--to", str(last))
+    labels = texts(svg)
+    yield "ten rounds: the title", f"RELAY1: events {first:,} to {last:,} of {count}, 3,400 samples" in labels
+    yield "ten rounds: their firings", (marks(svg, "firings-import-over"), marks(svg, "firings-export-over")) == (10, 2)
+    numbers = [it for it in map(number_of, labels) if it]
+    yield "ten rounds: the numbers of the trace", numbers and min(numbers) == first + 68 and max(numbers) == last
+    lines = (room / "long.trace").read_text().splitlines()
+    lines = lines[next(at for at, it in enumerate(lines) if it.startswith("events ")) + 1 :]
+    first, last = lines.index("moment 60") + 1, lines.index("moment 70")
+    title = f"RELAY1: events {first:,} to {last:,} of {count}, 100 samples"
+    svg = part_of(room / "long.trace", room / "seconds.svg", "--from", "2000-01-01T00:01", "--to", "2000-01-01 00:01:09")
+    yield "ten seconds: the title", title in texts(svg)
+    yield "ten seconds: the first moment", "2000-01-01 00:01:00" in texts(svg)
+
+
+def range_rows(room):
+    """Ranges of the worked trace: the whole, a day, and those that are refused with one line."""
+    whole = (room / "worked_trace.svg").read_bytes()
+    for words in (["--from", "1"], ["--to", "9"], ["--from", "1", "--to", "100"], ["--to", "2000-01-01"]):
+        ran = charted(WORKED, room / "part.svg", *words)
+        yield f"the whole: {words}", ran.returncode == 0 and (room / "part.svg").read_bytes() == whole
+    svg = part_of(WORKED, room / "day.svg", "--from", "2000-01-01", "--to", "2000-01-01")
+    yield "a day begins with its first moment", "RELAY1: events 8 to 9 of 9, 0 samples" in texts(svg)
+    svg = part_of(WORKED, room / "part.svg", "--from", "3", "--to", "4")
+    yield "a part has its own labels", [it for it in texts(svg) if number_of(it)] == WORKED_LABELS[2:4]
+    yield "a part begins in the state before it", all(finds(svg, f"state-{it}") is not None for it in (0, 2)) and finds(svg, "supply") is not None
+    for words in (["--from", "10"], ["--to", "0"], ["--from", "5", "--to", "4"], ["--from", "2001-01-01"], ["--from", "2000-01-01", "--to", "1999-12-31"]):
+        ran = charted(WORKED, room / "part.svg", "--output", room / "none.svg", *words)
+        yield f"no event: {words}", ran.returncode == 2 and ran.stderr.count(b"\n") == 1 and b"no event" in ran.stderr
+    for word in ("", "now", "2000-13-01", "-1", "2000-01-01T00:00:00Z"):
+        ran = charted(WORKED, room / "part.svg", "--output", room / "none.svg", "--from", word)
+        yield f"no place: {word}", ran.returncode == 2 and b"--from: expected the number of an event" in ran.stderr
+    yield "a refused range: no file", not (room / "none.svg").exists()
+
+
+def sampler_rows(room):
+    """The sampler's read and a client's have other labels."""
+    trace = room / "sampler.trace"
+    trace.write_text(rows.trace_text(rows.NEW_METER, [SAMPLER_READ, "samples 10", CLIENT_READ, SAMPLER_READ.replace("getlist 1", "getlist 16")]))
+    svg = part_of(trace, room / "sampler.svg")
+    wanted = ["1 sampler: reads both thresholds", "3 get 2 attributes", "4 get 2 attributes (public)"]
+    yield "the sampler's read is told apart", [it for it in texts(svg) if number_of(it)] == wanted
+
+
+def command_rows(room):
+    script = TOP / "bin" / "trace_chart"
+    for words in (["--help"], ["-h"], ["--version"], ["-V"]):
+        ran = subprocess.run([script, *words], capture_output=True, timeout=60)
+        yield f"{words[0]}", ran.returncode == 0 and ran.stdout and not ran.stderr
+    ran = subprocess.run([script, "-"], input=WORKED.read_bytes(), capture_output=True, timeout=600)
+    yield "standard input", ran.returncode == 0 and ran.stdout == (room / "worked_trace.svg").read_bytes()
+    ran = subprocess.run([script, "-"], input=b"RELAYTRACE 3\n", capture_output=True, timeout=600)
+    yield "standard input: one line that names it", ran.returncode == 2 and ran.stderr.count(b"\n") == 1 and b"standard input: line 1: " in ran.stderr
+    ran = subprocess.run([script, "--output", room / "none" / "run.svg", WORKED], capture_output=True, timeout=600)
+    yield "a folder that is missing: one line that names it", ran.returncode == 3 and ran.stderr.count(b"\n") == 1 and b"none/run.svg: " in ran.stderr
+    (room / "full.svg").symlink_to("/dev/full")
+    ran = subprocess.run([script, "--output", room / "full.svg", WORKED], capture_output=True, timeout=600)
+    yield "a full disk: one line that names it", ran.returncode == 3 and ran.stderr.count(b"\n") == 1 and b"full.svg: " in ran.stderr
+    before = set(room.iterdir())
+    ran = subprocess.run([script, "--output", room / "run.png", WORKED], capture_output=True, timeout=600)
+    yield "a PNG", ran.returncode == 0 and (room / "run.png").read_bytes().startswith(b"\x89PNG") and set(room.iterdir()) - before == {room / "run.png"}
 
 
 def rendered(browser, svg, picture):
@@ -138,6 +224,12 @@ def all_rows(room, browser):
     trace = room / "long.trace"
     trace.write_text(rows.trace_text(rows.NEW_METER, long_trace()))
     yield from judged("long", trace, room, long_rows, browser)
+    for rows_of in (part_rows, range_rows, sampler_rows, command_rows):
+        yield from rows_of(room)
+    yield from wrong_rows(room)
+
+
+def wrong_rows(room):
     wrong = room / "wrong.trace"
     wrong.write_text("RELAYTRACE 3\n")
     ran = charted(wrong, room / "wrong.svg")

@@ -13,6 +13,7 @@ ENVIRONMENT = {name: value for name, value in os.environ.items() if name != "MET
 
 FAULT_INPUT = b"fault: input\n"
 FAULT_LISTEN = b"fault: listen\n"
+FAULT_READ = b"fault: read\n"
 
 HEX = ["hex", "--password", "12345678"]
 SERVE = ["serve", "--password", "12345678"]
@@ -28,8 +29,22 @@ MANAGEMENT_AARQ = (b"00010001000100386036A1090607608574050801018A0207808B0760857
 MANAGEMENT_AARE = b"000100010001002B6129A109060760857405080101A203020100A305A103020100BE10040E0800065F1F0400001C1904000007\n"
 
 # A trace of nine events in version 1 and its run; the lines of a limiter.
-TRACE = (TOP / "crates" / "trace_player_cli" / "stdin").read_bytes()
-PLAYED = (TOP / "crates" / "trace_player_cli" / "stdout").read_bytes()
+TRACE_FILE = str(TOP / "crates" / "trace_player_cli" / "stdin")
+PLAYED_FILE = str(TOP / "crates" / "trace_player_cli" / "stdout")
+TRACE = pathlib.Path(TRACE_FILE).read_bytes()
+PLAYED = pathlib.Path(PLAYED_FILE).read_bytes()
+# Its run with the event at the end of each line.
+WITH_EVENTS = [
+    b"1: code 0; state 1; supply on; event set 1 70 000060030AFF 4 0 1601\n",
+    b"2: code 0; state 0; supply off; event execute 1 70 000060030AFF 1 0F00\n",
+    b"3: code 2; state 0; supply off; event button\n",
+    b"4: code 0; state 2; supply off; event execute 1 70 000060030AFF 2 -\n",
+    b"5: code 0; state 1; supply on; event button\n",
+    b"6: value 0301; state 1; supply on; event get 16 70 000060030AFF 2 0\n",
+    b"7: sampled 0 1; state 1; supply on; event samples 10 20\n",
+    b"8: ran 0; state 1; supply on; event moment 5\n",
+    b"9: stale 5; state 1; supply on; event moment 4\n",
+]
 OPENING = TRACE.split(b"events ")[0]
 LIMITER = (b"normal 4294967295\nemergency 4294967295\nminover 0\nminunder 0\nprofile 0 FFFFFFFFFFFFFFFFFF8000FF 0\n"
            b"groups\nactions 0 0\nover 0 0\nunder 0 0\n")
@@ -240,7 +255,77 @@ CASES = [
      b"line 22: unknown event\n" + FAULT_INPUT, 2),
     ("where a trace is too long", "trace_player_cli", ["--verbose"], LARGEST + b"\n", b"",
      b"byte 33554433: the trace has more than 33,554,432 bytes\n" + FAULT_INPUT, 2),
-    ("an argument", "trace_player_cli", ["trace"], TRACE, b"", None, 2),
+    ("a trace of a file", "trace_player_cli", [TRACE_FILE], b"", PLAYED, b"", 0),
+    ("a trace of a file, with messages", "trace_player_cli", ["--verbose", TRACE_FILE], TRACE[:-1], PLAYED, b"", 0),
+    ("a trace of standard input by its name", "trace_player_cli", ["-"], TRACE, PLAYED, b"", 0),
+    ("a file that is no trace", "trace_player_cli", ["--verbose", PLAYED_FILE], TRACE, b"",
+     b"line 1: expected `RELAYTRACE VERSION`: RELAYTRACE is missing\n" + FAULT_INPUT, 2),
+    ("a file that is missing", "trace_player_cli", ["no/such/trace"], TRACE, b"", FAULT_READ, 3),
+    ("why a file is missing", "trace_player_cli", ["--verbose", "no/such/trace"], TRACE, b"", b"no/such/trace: no such file\n" + FAULT_READ, 3),
+    ("a path through a file", "trace_player_cli", [TRACE_FILE + "/trace", "--verbose"], TRACE, b"",
+     TRACE_FILE.encode() + b"/trace: a part of the path is no folder\n" + FAULT_READ, 3),
+    ("a name of 256 bytes", "trace_player_cli", ["--verbose", "n" * 256], TRACE, b"", b"n" * 256 + b": the name is too long\n" + FAULT_READ, 3),
+    ("a folder", "trace_player_cli", ["/"], TRACE, b"", FAULT_READ, 3),
+    ("a folder can't be read", "trace_player_cli", ["--verbose", "/"], TRACE, b"", b"/: a read failed\n" + FAULT_READ, 3),
+    ("two files", "trace_player_cli", [TRACE_FILE, TRACE_FILE], b"", b"", None, 2),
+    ("each line with its event", "trace_player_cli", ["--events"], TRACE, b"".join(WITH_EVENTS), b"", 0),
+    ("each line of version 2 with its event", "trace_player_cli", ["--events", "-"],
+     with_events(OPENING_2, b"pairs 10 0 20 0", b"getlist 16 1 70 000060030AFF 3 0", b"samples"),
+     b"1: sampled 0 1 0 1; state 1; supply on; event pairs 10 0 20 0\n"
+     b"2: values 1 value 1601; state 1; supply on; event getlist 16 1 70 000060030AFF 3 0\n"
+     b"3: sampled 0 0; state 1; supply on; event samples\n", b"", 0),
+    ("events 3 to 5", "trace_player_cli", ["--from", "3", "--to", "5"], TRACE,
+     b"3: code 2; state 0; supply off\n4: code 0; state 2; supply off\n5: code 0; state 1; supply on\n", b"", 0),
+    ("events from 8", "trace_player_cli", ["--from", "8"], TRACE, b"8: ran 0; state 1; supply on\n9: stale 5; state 1; supply on\n", b"", 0),
+    ("events to 2", "trace_player_cli", ["--to=2"], TRACE, b"1: code 0; state 1; supply on\n2: code 0; state 0; supply off\n", b"", 0),
+    ("one event and its text", "trace_player_cli", ["--from", "4", "--to", "4", "--events"], TRACE, WITH_EVENTS[3], b"", 0),
+    ("all events by their numbers", "trace_player_cli", ["--from", "1", "--to", "9"], TRACE, PLAYED, b"", 0),
+    ("events behind the last", "trace_player_cli", ["--from", "10"], TRACE, b"", b"", 0),
+    ("events up to the greatest number", "trace_player_cli", ["--from", "9", "--to", "4294967295"], TRACE, b"9: stale 5; state 1; supply on\n", b"", 0),
+    ("a wrong event outside the range", "trace_player_cli", ["--to", "2"], TRACE.replace(b"moment 4", b"moment 04"), b"", FAULT_INPUT, 2),
+    ("from event 0", "trace_player_cli", ["--from", "0"], TRACE, b"", None, 2),
+    ("to event 0", "trace_player_cli", ["--to", "0"], TRACE, b"", None, 2),
+    ("to an event with a number of 33 bits", "trace_player_cli", ["--to", "4294967296"], TRACE, b"", None, 2),
+    ("from no number", "trace_player_cli", ["--from", "two"], TRACE, b"", None, 2),
+    ("from without a number", "trace_player_cli", ["--from"], TRACE, b"", None, 2),
+    ("events 5 to 3", "trace_player_cli", ["--from", "5", "--to", "3", "no/such/trace"], TRACE, b"",
+     b"error: invalid value for '--to <N>': it must not be less than the value of '--from <N>'\n\n"
+     b"Usage: trace_player [OPTIONS] [FILE]\n\nFor more information, try '--help'.\n", 2),
+    ("changes", "trace_player_cli", ["--changes"], TRACE,
+     b"2: code 0; state 0; supply off\n4: code 0; state 2; supply off\n5: code 0; state 1; supply on\n", b"", 0),
+    ("changes and their events", "trace_player_cli", ["--changes", "--events"], TRACE, WITH_EVENTS[1] + WITH_EVENTS[3] + WITH_EVENTS[4], b"", 0),
+    ("changes of a range", "trace_player_cli", ["--changes", "--from", "3", "--to", "4"], TRACE, b"4: code 0; state 2; supply off\n", b"", 0),
+    ("no change", "trace_player_cli", ["--changes", "--from", "6"], TRACE, b"", b"", 0),
+    ("a change of the first event", "trace_player_cli", ["--changes"],
+     with_events(OPENING.replace(b"mode 0", b"mode 1"), b"execute 1 70 000060030AFF 1 0F00", b"button"),
+     b"1: code 0; state 0; supply off\n", b"", 0),
+    ("no change of the first event", "trace_player_cli", ["--changes"],
+     with_events(OPENING.replace(b"state 1", b"state 0").replace(b"mode 0", b"mode 1"), b"button", b"execute 1 70 000060030AFF 2 -", b"button"),
+     b"2: code 0; state 2; supply off\n3: code 0; state 1; supply on\n", b"", 0),
+    ("a damaged trace that is whole", "trace_player_cli", ["--partial"], TRACE, PLAYED, b"", 0),
+    ("a last line that isn't ended is damaged", "trace_player_cli", ["--partial"], TRACE[:-1], b"".join(PLAYED.splitlines(True)[:8]),
+     b"line 30: expected a whole line, found the end of the trace\n" + FAULT_INPUT, 2),
+    ("a trace that is cut off in its third event", "trace_player_cli", ["--partial"], TRACE[:TRACE.index(b"button") + 3],
+     b"1: code 0; state 1; supply on\n2: code 0; state 0; supply off\n",
+     b"line 24: expected a whole line, found the end of the trace\n" + FAULT_INPUT, 2),
+    ("a trace that is cut off before its events", "trace_player_cli", ["--partial"], TRACE[:TRACE.index(b"set 1")], b"",
+     b"line 22: expected a whole line, found the end of the trace\n" + FAULT_INPUT, 2),
+    ("a wrong event before others", "trace_player_cli", ["--partial"], TRACE.replace(b"moment 5\n", b"moment 5 6\n"),
+     b"".join(PLAYED.splitlines(True)[:7]), b"line 29: expected `moment SECONDS`: unexpected extra word\n" + FAULT_INPUT, 2),
+    ("a line after the last event", "trace_player_cli", ["--partial"], TRACE + b"button\n", PLAYED,
+     b"line 31: unexpected line: `events COUNT` counts fewer events\n" + FAULT_INPUT, 2),
+    ("a damaged opening", "trace_player_cli", ["--partial"], TRACE.replace(b"mode 0", b"mode 7"), b"",
+     b"line 4: expected `mode MODE`: a value is not valid here\n" + FAULT_INPUT, 2),
+    ("a damaged number of events", "trace_player_cli", ["--partial"], TRACE.replace(b"events 9", b"events nine"), b"",
+     b"line 21: expected `events COUNT`: COUNT must be a decimal number\n" + FAULT_INPUT, 2),
+    ("the changes of a damaged trace", "trace_player_cli", ["--partial", "--changes", "--events", "--from", "3"], TRACE[:-1],
+     WITH_EVENTS[3] + WITH_EVENTS[4], b"line 30: expected a whole line, found the end of the trace\n" + FAULT_INPUT, 2),
+    ("a damaged trace that is too long", "trace_player_cli", ["--partial"], LARGEST + b"\n", b"",
+     b"byte 33554433: the trace has more than 33,554,432 bytes\n" + FAULT_INPUT, 2),
+    ("a damaged trace that is missing", "trace_player_cli", ["--partial", "no/such/trace"], b"", b"", b"no/such/trace: no such file\n" + FAULT_READ, 3),
+    ("events of no trace", "trace_player_cli", ["--events", "--verbose"], TRACE[:-1], b"",
+     b"line 30: expected a whole line, found the end of the trace\n" + FAULT_INPUT, 2),
+    ("events of no trace, without messages", "trace_player_cli", ["--events"], TRACE + b"button\n", b"", FAULT_INPUT, 2),
     ("help of the player", "trace_player_cli", ["--help"], b"", None, b"", 0),
     ("jobs are counted", "head_end_cli", ["check"], b"m1 127.0.0.1:4059 disconnect\nm2 127.0.0.1:4060 state\n", b"jobs 2\n", b"", 0),
     ("no jobs", "head_end_cli", ["check"], b"", b"jobs 0\n", b"", 0),

@@ -94,9 +94,11 @@ def a_client_has_failing_connections(name):
 
 def served_failed(**which):
     """Serves two clients, one after the other, with a failed call. Returns whether the trace has
-    what they saw."""
+    what they saw. The console's read is the first call in every run, since the clients wait for
+    it."""
     server = Server("--connections", "2", environment=refusing.environment(**which))
     server.end_input()
+    refusing.wait_for_end_of_input()
     clients, whole = [], 0
     for _ in range(2):
         clients.append(Client(server.port))

@@ -6,9 +6,11 @@ with the programs that the gate or bin/build left.
 ones, and random sessions. Both must answer the same, and the trace that C exported must play to the
 replies in the answers. Then each call of the heap is refused in turn. The super-loop runs with the
 pool, also on 64-bit ARM without a C library (Debian: apt-get install gcc-aarch64-linux-gnu
-qemu-user) and with valgrind; a test whose tool is missing is skipped with a message.
+qemu-user) and with valgrind; a test whose tool is missing is skipped with a message. A meter whose
+state is in simulated flash has its power cut wherever it writes.
 
-usage: tests/firmware.py [--long]     (--long: every refused call, and 1,000 sessions instead of 200)"""
+usage: tests/firmware.py [--long]     (--long: every refused call, 1,000 sessions instead of 200, and
+                                       50 times the pairs of power cuts)"""
 
 import argparse
 import collections
@@ -17,9 +19,11 @@ import pathlib
 import random
 import re
 import shutil
+import struct
 import subprocess
 import sys
 import tempfile
+import zlib
 
 sys.dont_write_bytecode = True  # importing the modules of tests/ leaves no files
 
@@ -47,6 +51,9 @@ LOOP = """0.0 s: state 1
 18.0 s: state 1, supply on
 frames sent: 8
 """.split("\n", 1)[1]
+STORED = [EXAMPLES / "stored_meter.c", EXAMPLES / "slots.c", EXAMPLES / "flash_simulated.c", HEAPS / "heap_pool.c"]
+RING = ["-DFLASH_SLOTS=5", "-DFLASH_UNIT=256"]
+NEW_LIMITER = ["normal 4294967295", "emergency 4294967295", "minover 0", "minunder 0", "profile 0 FFFFFFFFFFFFFFFFFF8000FF 0", "groups", "actions 0 0", "over 0 0", "under 0 0"]
 PC_TARGET, ARM_TARGET = "x86_64-unknown-linux-gnu", "aarch64-unknown-linux-gnu"
 ARM = ("aarch64-linux-gnu-gcc", "qemu-aarch64")  # compiles for 64-bit ARM and runs it
 
@@ -264,11 +271,88 @@ def the_super_loop_runs(name):
     check(name, ran.startswith(LOOP) and ran.endswith("left: 0\n"), ran)
 
 
+def state_text(*lines, scripts):
+    """The text of a state without events, with these lines up to the export limiter, which is new."""
+    exporting = ["xvalue 0", *["x" + line for line in NEW_LIMITER]]
+    schedules = [f"schedule {number} 0 5 0100" for number in range(4)]
+    return "".join(line + "\n" for line in ("RELAYTRACE 2", "device 52454C415931", *lines, *exporting, f"scripts {scripts}", *schedules, "events 0")).encode()
+
+
+def texts_in(image, slots, size, unit):
+    """The sequence number and the text of each slot, by the layout that slots.h describes."""
+    texts = {}
+    for slot in range(slots):
+        header, rest = image[slot * size:slot * size + 16], image[slot * size + unit:(slot + 1) * size]
+        word, sequence, length, checksum = struct.unpack("<4sIII", header)
+        assert word == b"MSL1" and zlib.crc32(header[:12] + rest[:length]) == checksum and set(rest[length:]) == {0xFF}, (slot, header)
+        texts[sequence] = rest[:length]
+    return texts
+
+
+def a_power_cut_loses_nothing_that_was_answered(name):
+    """Each write of a run is cut, in each manner; then pairs of writes are."""
+    pairs = 50_000 if is_long else 1_000
+    print("two slots:", *made(place / "power_cuts", "single").splitlines(), sep="\n  ")
+    print("five slots:", *made(place / "power_cuts_ring", "single", 1 if is_long else 29).splitlines()[1:], sep="\n  ")
+    for built in ("power_cuts", "power_cuts_ring"):
+        check(f"{name}: pairs, {built}", "runs with two cuts" in made(place / built, "double", pairs))
+
+
+def damaged_slots_have_a_defined_result(name):
+    for built in ("power_cuts", "power_cuts_ring"):
+        ran = made(place / built, "damage")
+        check(f"{name}: {built}", ran.endswith("all results of damaged slots are as defined\n"), ran)
+
+
+def the_slots_have_the_described_layout(name):
+    """The slots after the run, whose last two texts were worked out by hand. The last save but one
+    followed a press that reconnected, which ends a run, and moment 2000; the last one followed ten
+    samples of 3,000 W."""
+    script = "010102021200010101020516021200460906000060030AFF0F010F00"
+    limits = ["normal 5000", "emergency 4294967295", "minover 2", "minunder 0", "profile 0 FFFFFFFFFFFFFFFFFF8000FF 0", "groups", "actions 1 0"]
+    before = state_text("state 1", "mode 1", "value 6000", "now 2000", *limits, "over 0 0", "under 0 0", scripts=script)
+    after = state_text("state 1", "mode 1", "value 3000", "now 2000", *limits, "over 0 0", "under 10 1", scripts=script)
+    for built, slots, unit in (("power_cuts", 2, 16), ("power_cuts_ring", 5, 256)):
+        image = subprocess.run([str(place / built), "image"], capture_output=True, check=True, timeout=60).stdout
+        texts = texts_in(image, slots, 16384, unit)
+        newest = max(texts)
+        check(f"{name}: {slots} slots", len(texts) == slots and (texts[newest - 1], texts[newest]) == (before, after), texts)
+        check(f"{name}: trace_player reads each text", all(run_of(text) == [] for text in texts.values()))
+
+
+def limiter_lines(mark, run):
+    """The longest lines of a limiter, with or without the x of the export limiter."""
+    return [mark + line for line in (
+        "value 4294967294", "normal 4294967295", "emergency 4294967295", "minover 4294967295", "minunder 4294967295", "profile 65535 07D00101FF00012800800000 4294967295",
+        "groups" + 32 * " 65535", "actions 65535 65535", *run)]
+
+
+def largest_state():
+    """The text of the largest state: 16 scripts of eight steps that each write an emergency profile,
+    and four schedules of 16 entries."""
+    run = ("over 0 0", "under 42949672950 1")
+    step = "0205160112004709060000110000FF0F08020312FFFF090C07D00101FF0001280080000006FFFFFFFF"
+    scripts = "0110" + "".join(f"020212{65535 - number:04X}0108" + 8 * step for number in range(16))
+    entries = "0110" + 16 * "02020904173B3B000905FFFFFFFEFF"
+    lines = ["RELAYTRACE 2", "device " + 16 * "41", "state 1", "mode 6", limiter_lines("", run)[0], "now 4294967295", *limiter_lines("", run)[1:], *limiter_lines("x", run),
+             f"scripts {scripts}", *[f"schedule {number} 65535 5 {entries}" for number in range(4)], "events 0"]
+    return "".join(line + "\n" for line in lines).encode()
+
+
+def the_largest_state_fits_a_slot(name):
+    """The longest export is one byte longer than the measured one: the management client's port is 1, the public one's 16."""
+    header = (EXAMPLES / "stored_meter.h").read_text()
+    state, export = (int(re.search(rf"#define STORED_{word}_BYTES (\d+)", header)[1]) for word in ("STATE", "EXPORT"))
+    ran = subprocess.run([str(place / "power_cuts"), "largest"], input=largest_state(), capture_output=True, timeout=60)
+    print("largest:", ran.stdout.decode().strip())
+    check(name, ran.returncode == 0 and len(largest_state()) == state and ran.stdout.startswith(f"state {state}, export {export - 1}, ".encode()), ran, len(largest_state()))
+
+
 def valgrind_finds_nothing(name):
     if not shutil.which("valgrind"):
         print("SKIPPED valgrind: not installed (Debian: apt-get install valgrind)")
         return
-    for words in ([place / "session", PASSWORD], [place / "super_loop"]):
+    for words in ([place / "session", PASSWORD], [place / "super_loop"], [place / "power_cuts", "single", "1999"]):
         ran = subprocess.run(["valgrind", "--quiet", "--leak-check=full", "--error-exitcode=9", *map(str, words)], input=(AARQ + frame(request(random.Random(1)))).hex().encode(),
                              capture_output=True, timeout=120)
         check(f"{name}: {words[0].name}", ran.returncode == 0, ran.stderr)
@@ -290,10 +374,17 @@ def the_super_loop_runs_on_arm(name):
     check(name, ran == made(place / "super_loop"), ran)
 
 
+def power_cuts_lose_nothing_on_arm(name):
+    archive = place / f"libmeter-{ARM_TARGET}.a"
+    if archive.exists():
+        program("power_cuts_arm", TOOLS / "power_cuts.c", *STORED, archive, compiler=ARM[0], words=["-static"])
+        check(name, "runs with one cut" in made(ARM[1], place / "power_cuts_arm", "single", 499))
+
+
 def main():
     global place, is_long
     parser = argparse.ArgumentParser()
-    parser.add_argument("--long", action="store_true", help="every refused call, and 1,000 sessions instead of 200")
+    parser.add_argument("--long", action="store_true", help="every refused call, 1,000 sessions instead of 200, and 50 times the pairs of power cuts")
     is_long = parser.parse_args().long
     if not shutil.which("cc"):
         print("SKIPPED: no C compiler is installed (no command cc)\n1 passed, 0 failed")
@@ -304,9 +395,13 @@ def main():
         program("session", EXAMPLES / "session.c", HEAPS / "heap_malloc.c", archive)
         program("refused", EXAMPLES / "session.c", TOOLS / "refusing_heap.c", archive)
         program("super_loop", EXAMPLES / "super_loop.c", EXAMPLES / "platform_hosted.c", HEAPS / "heap_pool.c", archive)
+        program("power_cuts", TOOLS / "power_cuts.c", *STORED, archive)
+        program("power_cuts_ring", TOOLS / "power_cuts.c", *STORED, archive, words=RING)
         program("exports_test", TOOLS / "exports_test.c", HEAPS / "heap_malloc.c", archive)
         for one in (the_header_has_the_exports, the_header_has_the_types_of_the_exports, the_header_has_the_numbers_of_the_definitions, each_export_answers,
-                    the_pool_keeps_its_blocks, streams_are_answered_as_by_the_program, each_refusal_can_be_made_again, the_super_loop_runs, valgrind_finds_nothing, the_super_loop_runs_on_arm):
+                    the_pool_keeps_its_blocks, streams_are_answered_as_by_the_program, each_refusal_can_be_made_again, the_super_loop_runs,
+                    a_power_cut_loses_nothing_that_was_answered, damaged_slots_have_a_defined_result, the_slots_have_the_described_layout, the_largest_state_fits_a_slot, valgrind_finds_nothing,
+                    the_super_loop_runs_on_arm, power_cuts_lose_nothing_on_arm):
             test(one)
     print(f"{serving.passed} passed, {serving.failed} failed")
     return 1 if serving.failed else 0

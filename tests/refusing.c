@@ -1,9 +1,9 @@
 /* Preloaded between a program and the C library, for tests/refusing.py: refuses one allocation or one
    thread, or fails, shortens or interrupts one read or write. These variables have the number of that call,
-   from 1: REFUSE_MEMORY, REFUSE_THREAD, FAIL_STREAM, SHORT_STREAM, INTERRUPT_STREAM. When the program ends,
-   a line of numbers is written to the file REFUSING_REPORT: allocations, reads and writes, writes to the
-   failed stream after its failure, connections, and started threads. Writes to standard error are not
-   counted and never fail. */
+   from 1: REFUSE_MEMORY, REFUSE_THREAD, FAIL_STREAM, SHORT_STREAM, INTERRUPT_STREAM. When standard input
+   ends or fails, and when the program ends, a line of numbers is written to the file REFUSING_REPORT:
+   allocations, reads and writes, writes to the failed stream after its failure, connections, and started
+   threads. Writes to standard error are not counted and never fail. */
 
 typedef unsigned long size;
 typedef long count;
@@ -18,7 +18,7 @@ extern void *dlsym(void *, const char *);
 
 enum { READ = 0, WRITE = 1, OPEN = 2, CLOSE = 3, WRITEV = 20, CONNECT = 42, SENDTO = 44, RECVFROM = 45, SENDMSG = 46, EXIT_GROUP = 231 };
 enum { INTERRUPTED = 4, FAILED = 5, TRY_AGAIN = 11, NO_MEMORY = 12 };
-enum { STANDARD_ERROR = 2, NONE = -1 };
+enum { STANDARD_INPUT = 0, STANDARD_ERROR = 2, NONE = -1 };
 
 static size refused, refused_thread, failing, shortened, interrupted;
 static size allocations, streams, late, connections, threads;
@@ -101,7 +101,9 @@ static count allowed(int file, size bytes, int is_write) {
 
 count read(int file, void *to, size bytes) {
     count most = allowed(file, bytes, 0);
-    return most < 0 ? -1 : syscall(READ, file, to, most);
+    count transferred = most < 0 ? -1 : syscall(READ, file, to, most);
+    if (file == STANDARD_INPUT && transferred <= 0) report();
+    return transferred;
 }
 
 count write(int file, const void *from, size bytes) {

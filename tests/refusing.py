@@ -5,6 +5,7 @@ import os
 import pathlib
 import subprocess
 import tempfile
+import time
 from typing import NamedTuple
 
 from serving import PATIENCE, TOP
@@ -58,6 +59,12 @@ class Refusing:
         self.report.unlink(missing_ok=True)
         named = {name.upper(): str(number) for name, number in which.items()}
         return {"LD_PRELOAD": str(self.library), "REFUSING_REPORT": str(self.report), **named}
+
+    def wait_for_end_of_input(self):
+        """Waits until the program has read the end of its standard input, or has failed to."""
+        end = time.monotonic() + PATIENCE
+        while not self.report.exists() and time.monotonic() < end:
+            time.sleep(0.001)
 
     def counts(self):
         """The counts of the last program; zeros if it was killed."""

@@ -19,8 +19,8 @@ import types
 
 TOP = os.path.dirname(os.path.dirname(os.path.realpath(__file__)))
 
-# Edits of the crate program_fault, whose function has a wrong body in wrong/: names, old and new
-# texts, and the expected lines.
+# Edits of the crate program, whose functions have wrong bodies in wrong/: names, old and new texts,
+# and the expected lines.
 EDITS = {
     "a_right_body": ("Fault::Memory | Fault::Turns => 4,", "Fault::Turns | Fault::Memory => 4,", r"NOT REFUSED"),
     "a_body_that_cannot_be_read": ("Fault::Memory | Fault::Turns => 4,", "Fault::Memory | Fault::Turns => 4)(,", r"BAD EDIT"),
@@ -75,7 +75,7 @@ fn a_law()
     ensures { ⊤ }
 {}
 
-impl<'a, I: Read + Drop + Send> session_threads::Connection<
+impl<'a, I: Read + Drop + Send> port_threads::Connection<
     Port<Kept>,
 > for Client<'a, I> {
     fn serve(self) -> u8 {
@@ -190,17 +190,17 @@ def judge_edits():
         for name, (old, new, _) in EDITS.items():
             file = f"{folder}/{name}.edit"
             with open(file, "w", encoding="utf-8") as it:
-                it.write(f"file: src/lib.rt\nold: {old}\nnew: {new}\n")
-            words += ["--with", f"program_fault={file}"]
-        ran = subprocess.run([f"{TOP}/bin/wrong_bodies", *words, "program_fault"], capture_output=True, text=True)
+                it.write(f"file: src/fault.rt\nold: {old}\nnew: {new}\n")
+            words += ["--with", f"program={file}"]
+        ran = subprocess.run([f"{TOP}/bin/wrong_bodies", *words, "program"], capture_output=True, text=True)
     return ran.returncode, ran.stdout.rstrip("\n").split("\n")
 
 
 def main():
     status, lines = judge_edits()
-    own = [it for it in lines if "program_fault/" in it and not any(name in it for name in EDITS)]
-    rows = {name: any(f"program_fault/{name}: " in it and re.search(wanted, it) for it in lines) for name, (_, _, wanted) in EDITS.items()}
-    rows["the wrong body of the crate is refused"] = bool(own) and all(": refused" in it for it in own)
+    own = [it for it in lines if "program/" in it and not any(name in it for name in EDITS)]
+    rows = {name: any(f"program/{name}: " in it and re.search(wanted, it) for it in lines) for name, (_, _, wanted) in EDITS.items()}
+    rows["the wrong bodies of the crate are refused"] = bool(own) and all(": refused" in it for it in own)
     rows["all are counted"] = status == 1 and lines[-1] == f"{len(own)} passed, {len(EDITS)} failed"
     rows.update(users_are_found())
     rows.update(bodies_are_left_out())

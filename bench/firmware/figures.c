@@ -1,8 +1,11 @@
 /* Heap, stack and time of a meter through its handle: the bytes of the pool in use after each step, the bytes
- * of the stack that each call writes, and the time of a GET from its bytes to its response. */
+ * of the stack that each call writes, and the time of a GET from its bytes to its response, and of a save to
+ * simulated flash. */
 #define _POSIX_C_SOURCE 200809L
+#include "flash_simulated.h"
 #include "heap_pool.h"
 #include "meter.h"
+#include "stored_meter.h"
 
 #include <pthread.h>
 #include <stdio.h>
@@ -12,6 +15,7 @@
 
 #define KEPT_EVENTS 64
 #define GETS 200000
+#define SAVES 2000
 #define ROUNDS 5
 #define STACK_BYTES 262144
 #define PAINT 0xA5
@@ -19,6 +23,7 @@
 static _Alignas(16) uint8_t pool[1048576];
 static _Alignas(4096) uint8_t stack[STACK_BYTES];
 static struct meter meter;
+static struct stored_meter stored;
 static uint8_t text[65536];
 
 /* AARQ of the management client with the password 12345678, and a GET of control_state, each after the header of the TCP wrapper. */
@@ -56,14 +61,53 @@ static void open_session(uint8_t session)
     need(ask(session, get, sizeof get) == 14, "a GET is refused");
 }
 
+static double nanoseconds_since(const struct timespec *began)
+{
+    struct timespec ended;
+    clock_gettime(CLOCK_MONOTONIC, &ended);
+    return (double)(ended.tv_sec - began->tv_sec) * 1e9 + (double)(ended.tv_nsec - began->tv_nsec);
+}
+
 static double nanoseconds_of_a_get(void)
 {
-    struct timespec began, ended;
+    struct timespec began;
     clock_gettime(CLOCK_MONOTONIC, &began);
     for (long i = 0; i < GETS; i++)
         ask(0, get, sizeof get);
-    clock_gettime(CLOCK_MONOTONIC, &ended);
-    return ((double)(ended.tv_sec - began.tv_sec) * 1e9 + (double)(ended.tv_nsec - began.tv_nsec)) / GETS;
+    return nanoseconds_since(&began) / GETS;
+}
+
+/* Opens a new meter in empty flash. */
+static void open_stored(void)
+{
+    static const uint8_t name[] = "RELAY1", password[] = "12345678";
+    flash_begin();
+    need(stored_open(&stored, name, sizeof name - 1, password, sizeof password - 1) == STORED_NEW, "no meter is stored");
+}
+
+/* Saves of a state that differs from the stored one by `step` seconds of the clock. */
+static double nanoseconds_of_a_save(uint32_t step)
+{
+    static uint32_t moment = 1000;
+    struct timespec began;
+    uint8_t code;
+    clock_gettime(CLOCK_MONOTONIC, &began);
+    for (long i = 0; i < SAVES; i++, moment += step)
+        need(meter_moment(&stored.meter, moment, &code) == METER_OK && stored_save(&stored) == STORED_OK, "a state is not saved");
+    return nanoseconds_since(&began) / SAVES;
+}
+
+/* The heap and the time of a save. Each save of the first kind writes a slot. */
+static void tell_saves(void)
+{
+    size_t before;
+    heap_pool_begin(pool, sizeof pool);
+    open_stored();
+    before = heap_pool_used();
+    printf("a save of a changed state, to simulated flash: %.1f us\n", nanoseconds_of_a_save(1) / 1000);
+    printf("a save of an unchanged state: %.1f us\n", nanoseconds_of_a_save(0) / 1000);
+    printf("heap of a stored meter, in bytes: %zu; during a save: %zu\n", before, heap_pool_most());
+    stored_close(&stored);
 }
 
 static void *do_nothing(void *unused)
@@ -113,6 +157,15 @@ static void *do_export(void *unused)
     return unused;
 }
 
+static void *do_save(void *unused)
+{
+    uint8_t code;
+    open_stored();
+    need(meter_press(&stored.meter, &code) == METER_OK && stored_save(&stored) == STORED_OK, "a state is not saved");
+    stored_close(&stored);
+    return unused;
+}
+
 /* The number of bytes of a painted stack that a call writes. */
 static size_t written_by(void *(*call)(void *))
 {
@@ -134,7 +187,7 @@ static void tell_stacks(void)
         const char *name;
         void *(*call)(void *);
     } calls[] = { { "meter_open", do_open }, { "an association and a GET", do_associate }, { "a SET of a Data nested eight deep", do_set }, { "256 samples", do_samples },
-                  { "a press and a moment", do_own_calls }, { "meter_export", do_export } };
+                  { "a press and a moment", do_own_calls }, { "meter_export", do_export }, { "stored_open and stored_save", do_save } };
     size_t idle = written_by(do_nothing);
     for (size_t i = 0; i < sizeof calls / sizeof calls[0]; i++)
         printf("stack of %s, in bytes: %zu\n", calls[i].name, written_by(calls[i].call) - idle);
@@ -161,5 +214,6 @@ int main(void)
     meter_close(&meter);
     printf("after meter_close: %zu\n", heap_pool_used());
     tell_stacks();
+    tell_saves();
     return 0;
 }

@@ -1,19 +1,24 @@
 -- The reader of an AARQ agrees with the spelling relation.
-use Rattle.std.proofs.Common.{◌≡◌, ℕ, Option, Some, None, List, [], length, Ok, refl, sym, ap, subst, arith, inl, inr}
+use Rattle.std.proofs.Common.{◌≡◌, ℕ, Option, Some, None, List, [], length, Result, Ok, Err, refl, sym, ap, subst, arith, inl, inr}
 use Rattle.std.specs.Prelude.{unwrap_or}
-use Rattle.byte_reading.specs.Outcome.{◌>>=◌}
-use Rattle.byte_reading.proofs.OutcomeLemmas.{done, ok_is, bind_ok}
-use Rattle.acse_ber.specs.Reading.{Field, tag_contents, fields_of, field_of, or_unreadable, inner_of, aarq_in, aarq_of}
+use Rattle.wire_bytes.specs.Outcome.{◌>>=◌}
+use Rattle.wire_bytes.proofs.OutcomeLemmas.{done, ok_is, bind_ok}
+use Rattle.acse_ber.specs.Parts.{Field}
+use Rattle.acse_ber.specs.Reading.{tag_contents, fields_of, plain, field_of, or_unreadable, inner_of, aarq_in, aarq_of}
 use Rattle.acse_ber.specs.Spelling.{HasMechanism, IsApdu, SpellsAarq}
 use Rattle.acse_ber.specs.declared.aarq.Aarq.{Aarq}
 use Rattle.acse_ber.specs.declared.fault.AcseFault.{AcseFault}
-use Rattle.acse_ber.proofs.Parts.{tagged_found, tagged_again, fields_found, fields_again, none_found, one_found, none_again, one_again, inner_found, inner_again, needed_ok}
+use Rattle.acse_ber.proofs.Fields.{tagged_found, tagged_again, fields_found, fields_again, none_found, one_found, none_again, one_again, inner_found, inner_again, needed_ok}
+
+plain_ok : {X : Type 0} (r : Result X AcseFault) (x : X) → plain r ≡ Ok x → r ≡ Ok x
+plain_ok (Ok y) x e = e
+plain_ok (Err fault) x e = absurd cc
 
 -- if the field of a tag was searched successfully, all fields are known
 pub fields_known : (tag : ℕ) (body : List ℕ) (o : Option (List ℕ)) → field_of tag body ≡ Ok o
     → (fields : List Field) × (fields_of body ≡ Ok fields)
 unfolding field_of
-fields_known tag body o e = let b = bind_ok (fields_of body) _ o e in (b.0, b.1)
+fields_known tag body o e = let b = bind_ok (fields_of body) _ o (plain_ok _ o e) in (b.0, b.1)
 
 -- an APDU from its parts
 pub apdu_found : (tag : ℕ) (bytes body : List ℕ) (fields : List Field) → tag_contents tag bytes
@@ -68,7 +73,8 @@ aarq_found bytes aarq e =
           (needed_ok (inner_of 0xA1 0x06 t.0) c.0 c.1);
       mechanism = mechanism_found t.0 f.0 m.0 f.1 m.1;
       password = inner_found 0xAC 0x80 t.0 f.0 p.0 f.1 p.1;
-      user = inner_found 0xBE 0x04 t.0 f.0 (Some u.0) f.1 (needed_ok (inner_of 0xBE 0x04 t.0) u.0 u.1);
+      user = inner_found 0xBE 0x04 t.0 f.0 (Some u.0) f.1
+          (needed_ok (inner_of 0xBE 0x04 t.0) u.0 u.1);
     })
 
 -- what is spelled is read

@@ -2,29 +2,23 @@
 -- read as one.
 use Rattle.std.proofs.Common.{◌≡◌, ◌↔◌, ℕ, Bool, true, List, [], ◌++◌, Result, Ok, Err, refl, sym, ap, ◌∙◌, append-nil}
 use Rattle.std.specs.Prelude.{is_ok}
-use Rattle.byte_reading.specs.Outcome.{◌>>=◌}
-use Rattle.byte_reading.proofs.OutcomeLemmas.{ok_is, bind_ok}
-use Rattle.acse_ber.specs.Reading.{tag_contents, tagged_at, fields_of, aarq_of, aare_of, is_release_text}
-use Rattle.acse_ber.specs.Spelling.{IsTagged, SpellsAarq, SpellsAare, SpellsRelease}
+use Rattle.wire_bytes.specs.Outcome.{◌>>=◌}
+use Rattle.wire_bytes.proofs.Lawful.{only_one}
+use Rattle.wire_bytes.proofs.OutcomeLemmas.{ok_is, bind_ok}
+use Rattle.acse_ber.specs.Parts.{tagged_part}
+use Rattle.acse_ber.specs.Reading.{tag_contents, fields_of, aarq_of, aare_of, is_release_text}
+use Rattle.acse_ber.specs.Spelling.{SpellsAarq, SpellsAare, SpellsRelease}
 use Rattle.acse_ber.specs.declared.aarq.Aarq.{Aarq}
 use Rattle.acse_ber.specs.declared.aare.Aare.{Aare}
 use Rattle.acse_ber.specs.declared.fault.AcseFault.{AcseFault}
-use Rattle.acse_ber.proofs.Parts.{tagged_agrees}
+use Rattle.acse_ber.proofs.PartLaws.{tagged_lawful}
 use Rattle.acse_ber.proofs.Aarqs.{apdu_found, apdu_again, aarq_again}
 use Rattle.acse_ber.proofs.Aares.{aare_again}
 
 -- the length after a tag determines where the contents end
-ends : (tag : ℕ) (bytes rest one other : List ℕ) → IsTagged tag one bytes
-    → IsTagged tag other (bytes ++ rest) → rest ≡ []
-ends tag bytes rest one other s t =
-    let here : tagged_at tag (bytes ++ rest) ≡ Ok (one, rest) =
-    (tagged_agrees tag).again one bytes rest s in
-    let there : tagged_at tag (bytes ++ rest)
-    ≡ Ok (other, []) = ap (tagged_at tag) (sym (append-nil (bytes ++ rest)))
-    ∙ (tagged_agrees tag).again other (bytes ++ rest) [] t in
-    let a : List ℕ × List ℕ = (one, rest) in
-    let b : List ℕ × List ℕ = (other, []) in
-    ap (λ (x : List ℕ × List ℕ). x.1) (ok_is {F = AcseFault} a b (sym here ∙ there))
+ends : (tag : ℕ) (bytes rest one other : List ℕ) → (tagged_part tag).Spells one bytes
+    → (tagged_part tag).Spells other (bytes ++ rest) → rest ≡ []
+ends tag bytes rest one other s t = (only_one (tagged_lawful tag) bytes rest one other s t).0
 
 -- bytes followed by nothing are the same bytes
 same_bytes : (bytes rest : List ℕ) → rest ≡ [] → bytes ++ rest ≡ bytes

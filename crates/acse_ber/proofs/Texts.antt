@@ -1,44 +1,34 @@
 -- The written text of an APDU that fits spells it.
-use Rattle.std.proofs.Common.{◌≡◌, ℕ, ◌+◌, ◌/◌, ◌%◌, ◌^◌, ◌<◌, ◌≤◌, true, Option, Some, None, List, [], ◌∷◌, ◌++◌, length, refl, sym, ap, append-nil, arith, inl, inr}
-use Rattle.std.specs.Int.{w16, w32, to_be_bytes, from_be_bytes, bytes_high_first}
-use Rattle.std.proofs.lemmas.Bool.{cases_lt, lt-ltb, le-ltb}
+use Rattle.std.proofs.Common.{◌≡◌, ℕ, ◌+◌, ◌/◌, ◌%◌, ◌^◌, ◌<◌, true, Option, Some, None, List, []}
+use Rattle.std.proofs.Common.{◌∷◌, ◌++◌, length, refl, sym, ap, subst, append-nil, arith}
+use Rattle.std.proofs.Common.{inl, inr}
+use Rattle.std.specs.Int.{bytes_high_first}
 use Rattle.std.proofs.lemmas.List.{length-append}
-use Rattle.std.proofs.lemmas.Nat.{from_be_bytes-to_be_bytes_2}
+use Rattle.std.specs.List.{flat_map}
+use Rattle.wire_bytes.specs.Format.{AreItems}
+use Rattle.wire_bytes.proofs.Agreeing.{join}
+use Rattle.wire_bytes.proofs.Lawful.{AreAll}
 use Rattle.cosem_axdr.specs.Spelling.{length_text}
 use Rattle.acse_ber.specs.Fit.{IsFitAarq, IsFitInfo, IsFitAare}
-use Rattle.acse_ber.specs.Reading.{Field, contents_of, is_response}
-use Rattle.acse_ber.specs.Spelling.{IsLength, IsTagged, IsField, AreFields, IsApdu, HasInner, HasMechanism, IsResponse, SpellsAarq, SpellsAare}
-use Rattle.acse_ber.specs.Text.{tagged_text, context_text, mechanism_text, password_text, user_text, aarq_body, aarq_text, result_text, diagnostic_text, response_text, ln_context, aare_text}
+use Rattle.acse_ber.specs.Parts.{Field, tagged_part, is_field_tag, field_part, info_part, result_part}
+use Rattle.acse_ber.specs.Parts.{diagnostic_part}
+use Rattle.acse_ber.specs.Reading.{contents_of, is_response}
+use Rattle.acse_ber.specs.Spelling.{IsApdu, HasInner, HasMechanism, IsInfo, HasInfo, SpellsAarq}
+use Rattle.acse_ber.specs.Spelling.{SpellsAare}
+use Rattle.acse_ber.specs.Text.{tagged_text, context_text, mechanism_text, password_text, user_text}
+use Rattle.acse_ber.specs.Text.{aarq_body, aarq_text, ln_context, aare_body, aare_text}
 use Rattle.acse_ber.specs.declared.aarq.Aarq.{Aarq}
 use Rattle.acse_ber.specs.declared.aare.Aare.{Aare}
 use Rattle.acse_ber.specs.declared.aare.Info.{Info}
 use Rattle.acse_ber.specs.declared.aare.Info.TheVariants.{Absent, Response, InitiateError}
+use Rattle.acse_ber.proofs.PartLaws.{tagged_lawful, field_lawful, info_lawful, result_lawful}
+use Rattle.acse_ber.proofs.PartLaws.{diagnostic_lawful}
 
--- ---- lengths and tags
-
-one_byte : (n : ℕ) → n < 2 ^ 8 → bytes_high_first 1 n ≡ n ∷ []
-one_byte n below = ap (λ (m : ℕ). m ∷ []) (omega arith)
-
--- the shortest form of a length is one of its forms
-pub length_spells : (n : ℕ) → n < 2 ^ 16 → IsLength (length_text n) n
-length_spells n below =
-    elim (cases_lt n 0x80) [
-      | inl h ↦ rw (lt-ltb n 0x80 h) (inl (h, refl))
-      | inr h ↦ rw (le-ltb n 0x80 h) (elim (cases_lt n (2 ^ 8)) [
-        | inl a ↦ rw (lt-ltb n (2 ^ 8) a) (inr
-            (inl (ap (λ (bs : List ℕ). 0x81 ∷ bs) (one_byte n a))))
-        | inr a ↦ rw (le-ltb n (2 ^ 8) a, lt-ltb n (2 ^ 16) below)
-            (inr (inr (to_be_bytes w16 n, refl, (refl, sym (from_be_bytes-to_be_bytes_2 n below)))))
-      ])
-    ]
+-- ---- tags
 
 pub tagged_spells : (tag : ℕ) (contents : List ℕ) → length contents < 2 ^ 16
-    → IsTagged tag contents (tagged_text tag contents)
-tagged_spells tag contents below = record {
-  length_text = length_text (length contents);
-  parts = refl;
-  is_length = length_spells (length contents) below;
-}
+    → (tagged_part tag).Spells contents (tagged_text tag contents)
+tagged_spells tag contents below = (tagged_lawful tag).written contents (tt, below)
 
 -- the length of the text of a tag, and of one within another
 pub tagged_long : (tag : ℕ) (contents : List ℕ) → length (tagged_text tag contents) ≡ 1
@@ -50,43 +40,36 @@ tagged_long tag contents = omega (arith, length-append (length_text (length cont
 abbrev pub field : ℕ → List ℕ → Field
 field tag contents = record { tag = tag; contents = contents }
 
-field_spells : (tag : ℕ) (contents : List ℕ) → 0x80 ≤ tag → tag ≤ 0xBF → length contents < 2 ^ 16
-    → IsField (field tag contents) (tagged_text tag contents)
-field_spells tag contents low high below = record {
-  low = low;
-  high = high;
-  is_tagged = tagged_spells tag contents below;
-}
+abbrev fields_text : List Field → List ℕ
+fields_text fields = flat_map field_part.text fields
 
--- a field followed by others
-before : (f : Field) (fs : List Field) (text others : List ℕ) → IsField f text → AreFields fs others
-    → AreFields (f ∷ fs) (text ++ others)
-before f fs text others is are = record {
-  first = text;
-  others = others;
-  parts = refl;
-  is_first = is;
-  are_others = are;
-}
+abbrev HaveTags : List Field → Type 0
+HaveTags fields = AreAll (λ f. is_field_tag f.tag ≡ true) fields
 
--- a single field
-alone : (f : Field) (text : List ℕ) → IsField f text → AreFields (f ∷ []) text
-alone f text is = record {
-  first = text;
-  others = [];
-  parts = sym (append-nil text);
-  is_first = is;
-  are_others = refl;
-}
+-- fields that are short enough together are spelled
+fields_spell : (fields : List Field) → HaveTags fields → length (fields_text fields) < 2 ^ 16
+    → AreItems field_part.Spells fields (fields_text fields)
+fields_spell [] tags short = refl
+fields_spell (f ∷ fs) tags short =
+    let all = length-append (tagged_text f.tag f.contents) (fields_text fs) in
+    join (field_part.text f) (fields_text fs)
+    (field_lawful.written f ((tags.0, tt), omega (arith, short, all, tagged_long f.tag f.contents)))
+    (fields_spell fs tags.1 (omega (arith, short, all)))
 
--- fields that fill an APDU
-apdu_spells : (tag : ℕ) (fields : List Field) (body : List ℕ) → length body < 2 ^ 16
-    → AreFields fields body → IsApdu tag fields (tagged_text tag body)
-apdu_spells tag fields body below are = record {
+-- an APDU with such fields
+apdu_spells : (tag : ℕ) (fields : List Field) (body : List ℕ)
+    → (body ≡ fields_text fields) × HaveTags fields → length body < 2 ^ 16
+    → IsApdu tag fields (tagged_text tag body)
+apdu_spells tag fields body is short = record {
   body = body;
-  is_tagged = tagged_spells tag body below;
-  are_fields = are;
+  is_tagged = tagged_spells tag body short;
+  are_fields = subst (AreItems field_part.Spells fields) (sym is.0)
+      (fields_spell fields is.1 (subst (λ (s : List ℕ). length s < 2 ^ 16) is.0 short));
 }
+
+-- user information is the last field
+before_user : (front user : List ℕ) → front ++ user_text user ≡ front ++ (user_text user ++ [])
+before_user front user = ap (λ (u : List ℕ). front ++ u) (sym (append-nil (user_text user)))
 
 -- the contents of an outer tag and of an inner one are shorter than the text
 outer_short : (tag : ℕ) (contents : List ℕ) (limit : ℕ) → length (tagged_text tag contents) < limit
@@ -111,31 +94,30 @@ abbrev aarq_fields : Aarq → List Field
 aarq_fields aarq = field 0xA1 (tagged_text 0x06 aarq.context)
     ∷ mechanism_fields aarq.mechanism (password_fields aarq.password (user_fields aarq.user))
 
-user_are : (user : List ℕ) → length (user_text user) < 2 ^ 16 → AreFields (user_fields user) (user_text user)
-user_are user below = alone (field 0xBE (tagged_text 0x04 user)) (user_text user) (field_spells 0xBE (tagged_text 0x04 user) (omega arith) (omega arith) (outer_short 0xBE (tagged_text 0x04 user) (2 ^ 16) below))
-
-password_are : (password : Option (List ℕ)) (fs : List Field) (others : List ℕ)
-    → length (password_text password) < 2 ^ 16 → AreFields fs others
-    → AreFields (password_fields password fs) (password_text password ++ others)
-password_are None fs others below are = are
-password_are (Some password) fs others below are =
-    before (field 0xAC (tagged_text 0x80 password)) fs
-    (tagged_text 0xAC (tagged_text 0x80 password)) others
-    (field_spells 0xAC (tagged_text 0x80 password) (omega arith) (omega arith)
-    (outer_short 0xAC (tagged_text 0x80 password) (2 ^ 16) below)) are
-
-mechanism_are : (mechanism : List ℕ) (fs : List Field) (others : List ℕ)
-    → length (mechanism_text mechanism) < 2 ^ 16 → AreFields fs others
-    → AreFields (mechanism_fields mechanism fs) (mechanism_text mechanism ++ others)
-mechanism_are [] fs others below are = are
-mechanism_are (byte ∷ bytes) fs others below are =
-    let short : length (tagged_text 0x8B (byte ∷ bytes)) < 2 ^ 16 = omega arith in
-    before (field 0x8A (0x07 ∷ 0x80 ∷ [])) (field 0x8B (byte ∷ bytes) ∷ fs) (0x8A ∷ 0x02 ∷ 0x07
-    ∷ 0x80 ∷ []) (tagged_text 0x8B (byte ∷ bytes) ++ others)
-    (field_spells 0x8A (0x07 ∷ 0x80 ∷ []) (omega arith) (omega arith) (omega arith))
-    (before (field 0x8B (byte ∷ bytes)) fs (tagged_text 0x8B (byte ∷ bytes)) others
-    (field_spells 0x8B (byte ∷ bytes) (omega arith) (omega arith)
-    (outer_short 0x8B (byte ∷ bytes) (2 ^ 16) short)) are)
+aarq_listed : (context mechanism : List ℕ) (password : Option (List ℕ)) (user : List ℕ)
+    → let aarq : Aarq = record {
+      context = context;
+      mechanism = mechanism;
+      password = password;
+      user = user;
+    } in (aarq_body aarq ≡ fields_text (aarq_fields aarq)) × HaveTags (aarq_fields aarq)
+aarq_listed context [] None user =
+    (before_user (context_text context) user, (refl, (refl, tt)))
+aarq_listed context [] (Some password) user = (
+  ap (λ (u : List ℕ). context_text context ++ u)
+      (before_user (password_text (Some password)) user),
+  (refl, (refl, (refl, tt))),
+)
+aarq_listed context (byte ∷ bytes) None user = (
+  ap (λ (u : List ℕ). context_text context ++ u)
+      (before_user (mechanism_text (byte ∷ bytes)) user),
+  (refl, (refl, (refl, (refl, tt)))),
+)
+aarq_listed context (byte ∷ bytes) (Some password) user = (
+  ap (λ (u : List ℕ). context_text context ++ (mechanism_text (byte ∷ bytes) ++ u))
+      (before_user (password_text (Some password)) user),
+  (refl, (refl, (refl, (refl, (refl, tt))))),
+)
 
 -- the fields with each tag
 one_context : (context mechanism : List ℕ) (password : Option (List ℕ)) (user : List ℕ)
@@ -221,11 +203,8 @@ aarq_spells aarq fit =
     outer_short 0xBE (tagged_text 0x04 aarq.user) (2 ^ 16) p.3 in
     record {
       fields = aarq_fields aarq;
-      is_apdu = apdu_spells 0x60 (aarq_fields aarq) (aarq_body aarq) fit
-          (before (field 0xA1 (tagged_text 0x06 aarq.context)) _ (context_text aarq.context) _
-          (field_spells 0xA1 (tagged_text 0x06 aarq.context) (omega arith) (omega arith) context)
-          (mechanism_are aarq.mechanism _ _ p.1
-          (password_are aarq.password _ _ p.2 (user_are aarq.user p.3))));
+      is_apdu = apdu_spells 0x60 (aarq_fields aarq) (aarq_body aarq)
+          (aarq_listed aarq.context aarq.mechanism aarq.password aarq.user) fit;
       context = record {
         contents = tagged_text 0x06 aarq.context;
         one = one_context aarq.context aarq.mechanism aarq.password aarq.user;
@@ -252,120 +231,73 @@ low_24_bits bits =
 
 -- ---- AARE
 
-pub three_back : (bits : ℕ) → bits < 2 ^ 24 → bits
-    ≡ from_be_bytes w32 (0x00 ∷ bytes_high_first 3 bits)
-three_back bits below = omega arith
-
-response_spells : (bits limit : ℕ) → bits < 2 ^ 24 → limit < 2 ^ 16
-    → IsResponse bits limit (response_text bits limit)
-response_spells bits limit below small = record {
-  quality = 0x00 ∷ [];
-  version = 0x06;
-  conformance = bytes_high_first 3 bits;
-  size = to_be_bytes w16 limit;
-  name = 0x00 ∷ 0x07 ∷ [];
-  parts = refl;
-  is_quality = inl refl;
-  three = refl;
-  are_bits = three_back bits below;
-  is_size = (refl, sym (from_be_bytes-to_be_bytes_2 limit small));
-  two = refl;
-}
-
-abbrev first_fields : ℕ → ℕ → List Field → List Field
-first_fields outcome diagnostic others =
-    field 0xA1 (tagged_text 0x06 ln_context) ∷ field 0xA2 (0x02 ∷ 0x01 ∷ outcome ∷ [])
-    ∷ field 0xA3 (0xA1 ∷ 0x03 ∷ 0x02 ∷ 0x01 ∷ diagnostic ∷ []) ∷ others
-
-abbrev first_text : ℕ → ℕ → List ℕ → List ℕ
-first_text outcome diagnostic others = context_text ln_context
-    ++ (result_text outcome ++ (diagnostic_text diagnostic ++ others))
-
-first_are : (outcome diagnostic : ℕ) (fs : List Field) (others : List ℕ) → AreFields fs others
-    → AreFields (first_fields outcome diagnostic fs) (first_text outcome diagnostic others)
-first_are outcome diagnostic fs others are =
-    let result_field = field 0xA2 (0x02 ∷ 0x01 ∷ outcome ∷ []) in
-    let diagnostic_field = field 0xA3 (0xA1 ∷ 0x03 ∷ 0x02 ∷ 0x01 ∷ diagnostic ∷ []) in
-    let last = before diagnostic_field fs (diagnostic_text diagnostic) others
-    (field_spells 0xA3 (0xA1 ∷ 0x03 ∷ 0x02 ∷ 0x01 ∷ diagnostic ∷ []) (omega arith) (omega arith)
-    (omega arith)) are in
-    let both = before result_field (diagnostic_field ∷ fs) (result_text outcome)
-    (diagnostic_text diagnostic ++ others) (field_spells 0xA2 (0x02 ∷ 0x01 ∷ outcome
-    ∷ []) (omega arith) (omega arith) (omega arith)) last in
-    before (field 0xA1 (tagged_text 0x06 ln_context)) (result_field ∷ diagnostic_field
-    ∷ fs) (context_text ln_context) (result_text outcome
-    ++ (diagnostic_text diagnostic ++ others))
-    (field_spells 0xA1 (tagged_text 0x06 ln_context) (omega arith) (omega arith) (omega arith)) both
+abbrev aare_fields : ℕ → ℕ → List Field → List Field
+aare_fields outcome diagnostic others =
+    field 0xA1 (tagged_text 0x06 ln_context) ∷ field 0xA2 (result_part.text outcome)
+    ∷ field 0xA3 (diagnostic_part.text diagnostic) ∷ others
 
 -- an AARE from its numbers and its user information
-info_spells : (outcome diagnostic : ℕ) (info : Info) → IsFitInfo info
-    → (outcome ≡ 0 → is_response info ≡ true)
-    → SpellsAare (aare_text (record { result = outcome; diagnostic = diagnostic; info = info }))
-    (record { result = outcome; diagnostic = diagnostic; info = info })
+info_spells : (outcome diagnostic : ℕ) (info : Info) (user : List Field)
+    → let aare : Aare = record { result = outcome; diagnostic = diagnostic; info = info } in
+    let fields = aare_fields outcome diagnostic user in
+    length (aare_body aare) < 2 ^ 16 → (aare_body aare ≡ fields_text fields) × HaveTags fields
+    → contents_of 0xA2 user ≡ [] → contents_of 0xA3 user ≡ []
+    → HasInfo fields info → (outcome ≡ 0 → is_response info ≡ true)
+    → SpellsAare (aare_text aare) aare
 unfolding aare_text
-info_spells outcome diagnostic Absent fit responds = record {
-  fields = first_fields outcome diagnostic [];
-  is_apdu = apdu_spells 0x61 (first_fields outcome diagnostic []) (first_text outcome diagnostic [])
-      (omega arith) (first_are outcome diagnostic [] [] refl);
-  result_field = record { contents = 0x02 ∷ 0x01 ∷ outcome ∷ []; one = refl; holds = refl };
-  diagnostic_field = record {
-    contents = 0xA1 ∷ 0x03 ∷ 0x02 ∷ 0x01 ∷ diagnostic ∷ [];
-    one = refl;
-    holds = (0xA1, inl refl, refl);
-  };
-  user = inl (refl, refl);
-  responds = responds;
-}
-info_spells outcome diagnostic (Response bits limit) fit responds = record {
-  fields = first_fields outcome diagnostic (user_fields (response_text bits limit));
-  is_apdu = apdu_spells 0x61 (first_fields outcome diagnostic
-      (user_fields (response_text bits limit)))
-      (first_text outcome diagnostic (user_text (response_text bits limit))) (omega arith)
-      (first_are outcome diagnostic (user_fields (response_text bits limit))
-      (user_text (response_text bits limit))
-      (user_are (response_text bits limit) (omega arith)));
-  result_field = record { contents = 0x02 ∷ 0x01 ∷ outcome ∷ []; one = refl; holds = refl };
-  diagnostic_field = record {
-    contents = 0xA1 ∷ 0x03 ∷ 0x02 ∷ 0x01 ∷ diagnostic ∷ [];
-    one = refl;
-    holds = (0xA1, inl refl, refl);
-  };
-  user = inr (
-    response_text bits limit,
+info_spells outcome diagnostic info user short listed none nor has responds =
+    let fields = aare_fields outcome diagnostic user in
+    let aare : Aare = record { result = outcome; diagnostic = diagnostic; info = info } in
     record {
-      contents = tagged_text 0x04 (response_text bits limit);
-      one = refl;
-      holds = tagged_spells 0x04 (response_text bits limit) (omega arith);
-    },
-    response_spells bits limit fit.0 fit.1,
-  );
-  responds = responds;
-}
-info_spells outcome diagnostic (InitiateError error) fit responds = record {
-  fields = first_fields outcome diagnostic (user_fields (0x0E ∷ 0x01 ∷ 0x06 ∷ error ∷ []));
-  is_apdu = apdu_spells 0x61 (first_fields outcome diagnostic
-      (user_fields (0x0E ∷ 0x01 ∷ 0x06 ∷ error ∷ [])))
-      (first_text outcome diagnostic (user_text (0x0E ∷ 0x01 ∷ 0x06 ∷ error ∷ []))) (omega arith)
-      (first_are outcome diagnostic (user_fields (0x0E ∷ 0x01 ∷ 0x06 ∷ error ∷ []))
-      (user_text (0x0E ∷ 0x01 ∷ 0x06 ∷ error ∷ []))
-      (user_are (0x0E ∷ 0x01 ∷ 0x06 ∷ error ∷ []) (omega arith)));
-  result_field = record { contents = 0x02 ∷ 0x01 ∷ outcome ∷ []; one = refl; holds = refl };
-  diagnostic_field = record {
-    contents = 0xA1 ∷ 0x03 ∷ 0x02 ∷ 0x01 ∷ diagnostic ∷ [];
-    one = refl;
-    holds = (0xA1, inl refl, refl);
-  };
-  user = inr (
-    0x0E ∷ 0x01 ∷ 0x06 ∷ error ∷ [],
-    record {
-      contents = tagged_text 0x04 (0x0E ∷ 0x01 ∷ 0x06 ∷ error ∷ []);
-      one = refl;
-      holds = tagged_spells 0x04 (0x0E ∷ 0x01 ∷ 0x06 ∷ error ∷ []) (omega arith);
-    },
-    refl,
-  );
-  responds = responds;
-}
+      fields = fields;
+      is_apdu = apdu_spells 0x61 fields (aare_body aare) listed short;
+      result_field = record {
+        contents = result_part.text outcome;
+        one = ap (λ (l : List (List ℕ)). result_part.text outcome ∷ l) none;
+        holds = result_lawful.written outcome (tt, tt);
+      };
+      diagnostic_field = record {
+        contents = diagnostic_part.text diagnostic;
+        one = ap (λ (l : List (List ℕ)). diagnostic_part.text diagnostic ∷ l) nor;
+        holds = diagnostic_lawful.written diagnostic (tt, (tt, tt));
+      };
+      user = has;
+      responds = responds;
+    }
 
 pub aare_spells : (aare : Aare) → IsFitAare aare → SpellsAare (aare_text aare) aare
-aare_spells aare fit = info_spells aare.result aare.diagnostic aare.info fit.info fit.responds
+aare_spells aare fit = by_info aare.result aare.diagnostic aare.info fit.info fit.responds
+  where
+    has_user : (outcome diagnostic : ℕ) (info : Info) (text : List ℕ) → length text < 2 ^ 15
+        → IsInfo info text → HasInfo (aare_fields outcome diagnostic (user_fields text)) info
+    has_user outcome diagnostic info text short is = inr (
+      text,
+      record {
+        contents = tagged_text 0x04 text;
+        one = refl;
+        holds = tagged_spells 0x04 text (omega (arith, short));
+      },
+      is,
+    )
+
+    by_info : (outcome diagnostic : ℕ) (info : Info) → IsFitInfo info
+        → (outcome ≡ 0 → is_response info ≡ true)
+        → let aare : Aare = record { result = outcome; diagnostic = diagnostic; info = info } in
+        SpellsAare (aare_text aare) aare
+    by_info outcome diagnostic Absent fit responds =
+        info_spells outcome diagnostic Absent [] (omega arith) (refl, (refl, (refl, (refl, tt))))
+        refl refl (inl (refl, refl)) responds
+    by_info outcome diagnostic (Response bits limit) fit responds =
+        let info = Response bits limit in
+        let text = info_part.text (inl (bits, limit)) in
+        let is = info_lawful.written (inl (bits, limit)) (tt, (tt, ((tt, fit.0), (fit.1, tt)))) in
+        info_spells outcome diagnostic info (user_fields text) (omega arith)
+        (refl, (refl, (refl, (refl, (refl, tt))))) refl refl
+        (has_user outcome diagnostic info text (omega arith) is) responds
+    by_info outcome diagnostic (InitiateError error) fit responds =
+        let info = InitiateError error in
+        let text = info_part.text (inr error) in
+        let is = info_lawful.written (inr error) (tt, tt) in
+        info_spells outcome diagnostic info (user_fields text) (omega arith)
+        (refl, (refl, (refl, (refl, (refl, tt))))) refl refl
+        (has_user outcome diagnostic info text (omega arith) is) responds

@@ -1,22 +1,23 @@
 -- Which clients are accepted: a management client only with the password, and always with it.
-use Rattle.std.proofs.Common.{◌≡◌, ◌≢◌, ◌⊎◌, ℕ, ◌^◌, ◌<◌, ◌≤◌, Bool, true, false, not, ◌&&◌, ◌||◌, ◌==◌, nat_le, cond, Option, Some, None, List, Result, Ok, Err, refl, sym, ap, ap₂, subst, ◌∙◌, inl, inr}
+use Rattle.std.proofs.Common.{◌≡◌, ◌≢◌, ◌⊎◌, ℕ, ◌^◌, ◌<◌, ◌≤◌, Bool, true, false, not, ◌&&◌, ◌||◌, ◌==◌, nat_le, cond, Option, Some, None, List, Result, Ok, Err, refl, sym, ap, subst, ◌∙◌, inl, inr}
 use Rattle.std.specs.Prelude.{bytes_eq, bit_and}
 use Rattle.std.proofs.lemmas.Bool.{eqb-true, eq-eqb, ne_eqb, le-leb, not-true}
-use Rattle.std.proofs.lemmas.Nat.{from_be_bytes-to_be_bytes_2}
 use Rattle.std.proofs.lemmas.Slice.Eq.{bytes_eq-Decides}
-use Rattle.byte_reading.specs.Outcome.{◌>>=◌, ◌>>◌, guard}
-use Rattle.byte_reading.proofs.OutcomeLemmas.{done, ok_is, bind_ok, guard_ok, chosen}
+use Rattle.wire_bytes.specs.Outcome.{◌>>=◌, ◌>>◌, guard}
+use Rattle.wire_bytes.proofs.Lawful.{read_again}
+use Rattle.wire_bytes.proofs.OutcomeLemmas.{done, ok_is, bind_ok, guard_ok, chosen}
 use Rattle.cosem_names.specs.declared.level.Level.{Level}
 use Rattle.cosem_names.specs.declared.level.Level.TheVariants.{Public, Management}
-use Rattle.acse_ber.specs.Reading.{optional_byte_at, conformance_at, proposed_at, proposal_at, proposal_of}
+use Rattle.acse_ber.specs.Reading.{proposal_of}
 use Rattle.acse_ber.specs.Text.{ln_context, low_level, request_text, low_level_aarq}
 use Rattle.acse_ber.specs.Verdict.{is_no_mechanism, level_of, must_authenticate, is_password, proposal_or_refusal, offered_services, proposal_check, authentication_check, association_check, verdict_by, verdict_of}
 use Rattle.acse_ber.specs.declared.aarq.Aarq.{Aarq}
 use Rattle.acse_ber.specs.declared.fault.AcseFault.{AcseFault}
+use Rattle.acse_ber.specs.declared.fault.AcseFault.TheVariants.{Unreadable}
 use Rattle.acse_ber.specs.declared.initiate.Proposal.{Proposal}
 use Rattle.acse_ber.specs.declared.verdict.Verdict.{Verdict}
 use Rattle.acse_ber.specs.declared.verdict.Verdict.TheVariants.{Accepted, Rejected, InitiateError}
-use Rattle.acse_ber.proofs.Texts.{three_back}
+use Rattle.acse_ber.proofs.PartLaws.{proposal_lawful}
 
 -- ---- a refusal accepts no client
 
@@ -201,15 +202,15 @@ only_public aarq sap password bits limit e = public_port sap
 
 -- ---- a client with the password
 
-abbrev proposed : ℕ → ℕ → Result Proposal AcseFault
-proposed bits limit = Ok (record { version = 6; conformance = record { 0 = bits }; size = limit })
+abbrev proposal : ℕ → ℕ → Proposal
+proposal bits limit = record { version = 6; conformance = record { 0 = bits }; size = limit }
 
 proposal_is : (bits limit : ℕ) → bits < 2 ^ 24 → limit < 2 ^ 16
-    → proposal_of (request_text bits limit) ≡ proposed bits limit
-unfolding proposal_of proposal_at proposed_at optional_byte_at conformance_at
+    → proposal_of (request_text bits limit) ≡ Ok (proposal bits limit)
+unfolding proposal_of
 proposal_is bits limit below small =
-    ap₂ (λ (b s : ℕ). proposed b s) (sym (three_back bits below))
-    (from_be_bytes-to_be_bytes_2 limit small)
+    read_again Unreadable proposal_lawful (request_text bits limit) (proposal bits limit)
+    (proposal_lawful.written (proposal bits limit) ((tt, tt), (tt, (tt, ((tt, below), small)))))
 
 long_enough : (limit : ℕ) → (limit ≡ 0) ⊎ (64 ≤ limit) → (limit == 0 || nat_le 64 limit) ≡ true
 long_enough limit (inl h) = rw (eq-eqb limit 0 h) refl
@@ -217,11 +218,8 @@ long_enough limit (inr h) = rw (le-leb 64 limit h) (elim (limit == 0) as (λ b. 
     ≡ true) [ true ↦ refl | false ↦ refl ])
 
 agreed_is : (bits limit : ℕ) → bit_and offered_services bits ≢ 0 → (limit ≡ 0) ⊎ (64 ≤ limit)
-    → proposal_check Management (record {
-      version = 6;
-      conformance = record { 0 = bits };
-      size = limit;
-    }) ≡ Ok (Accepted Management (bit_and offered_services bits) limit)
+    → proposal_check Management (proposal bits limit)
+    ≡ Ok (Accepted Management (bit_and offered_services bits) limit)
 unfolding proposal_check
 agreed_is bits limit some long = rw (
   ne_eqb (bit_and offered_services bits) 0 some,

@@ -1,6 +1,7 @@
 pub mod Conformance
 pub mod Diagnostics
 pub mod Fit
+pub mod Parts
 pub mod Password
 pub mod Reading
 pub mod Spelling

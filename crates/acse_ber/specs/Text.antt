@@ -6,8 +6,9 @@
 --     low_level_aarq                  the AARQ of a client that authenticates with a password
 --     release_request, release_response    the RLRQ and the RLRE that are sent
 use Rattle.std.specs.Prelude.{ℕ, Option, Some, None, List, [], ◌∷◌, ◌++◌}
-use Rattle.std.specs.Int.{w16, to_be_bytes, bytes_high_first}
+use Rattle.std.proofs.Common.{inl, inr}
 use Rattle.cosem_axdr.specs.Spelling.{string_text}
+use Rattle.acse_ber.specs.Parts.{proposal_part, info_part, result_part, diagnostic_part}
 use Rattle.acse_ber.specs.declared.aarq.Aarq.{Aarq}
 use Rattle.acse_ber.specs.declared.aare.Aare.{Aare}
 use Rattle.acse_ber.specs.declared.aare.Info.{Info}
@@ -45,22 +46,16 @@ aarq_text aarq = tagged_text 0x60 (aarq_body aarq)
 
 -- the association result, and the diagnostic of the service user
 abbrev pub result_text : ℕ → List ℕ
-result_text outcome = 0xA2 ∷ 0x03 ∷ 0x02 ∷ 0x01 ∷ outcome ∷ []
+result_text outcome = tagged_text 0xA2 (result_part.text outcome)
 
 abbrev pub diagnostic_text : ℕ → List ℕ
-diagnostic_text diagnostic = 0xA3 ∷ 0x05 ∷ 0xA1 ∷ 0x03 ∷ 0x02 ∷ 0x01 ∷ diagnostic ∷ []
-
--- an InitiateResponse: no quality of service, version 6, the bits, the size and the VAA name 0007
-abbrev pub response_text : ℕ → ℕ → List ℕ
-response_text bits limit =
-    (0x08 ∷ 0x00 ∷ 0x06 ∷ 0x5F ∷ 0x1F ∷ 0x04 ∷ 0x00 ∷ [])
-    ++ (bytes_high_first 3 bits ++ (to_be_bytes w16 limit ++ 0x00 ∷ 0x07 ∷ []))
+diagnostic_text diagnostic = tagged_text 0xA3 (diagnostic_part.text diagnostic)
 
 -- user information, if there is any
 abbrev pub info_text : Info → List ℕ
 info_text Absent = []
-info_text (Response bits limit) = user_text (response_text bits limit)
-info_text (InitiateError e) = user_text (0x0E ∷ 0x01 ∷ 0x06 ∷ e ∷ [])
+info_text (Response bits limit) = user_text (info_part.text (inl (bits, limit)))
+info_text (InitiateError error) = user_text (info_part.text (inr error))
 
 -- the application context of logical names without ciphering (Green Book, application context
 -- names)
@@ -71,12 +66,10 @@ ln_context = 0x60 ∷ 0x85 ∷ 0x74 ∷ 0x05 ∷ 0x08 ∷ 0x01 ∷ 0x01 ∷ []
 abbrev pub low_level : List ℕ
 low_level = 0x60 ∷ 0x85 ∷ 0x74 ∷ 0x05 ∷ 0x08 ∷ 0x02 ∷ 0x01 ∷ []
 
--- an InitiateRequest: no dedicated key, neither response-allowed nor quality of service, version 6,
--- the bits and the size
+-- an InitiateRequest of version 6 with these bits and this size
 abbrev pub request_text : ℕ → ℕ → List ℕ
 request_text bits limit =
-    (0x01 ∷ 0x00 ∷ 0x00 ∷ 0x00 ∷ 0x06 ∷ 0x5F ∷ 0x1F ∷ 0x04 ∷ 0x00 ∷ [])
-    ++ (bytes_high_first 3 bits ++ to_be_bytes w16 limit)
+    proposal_part.text (record { version = 6; conformance = record { 0 = bits }; size = limit })
 
 -- the AARQ of a client with this password, which proposes these bits and this size
 unfoldable pub low_level_aarq : List ℕ → ℕ → ℕ → Aarq

@@ -1,20 +1,25 @@
 //! Reads an AARE from BER: the result, the diagnostic and the user information, in any order of the
 //! fields (IEC 62056-5-3).
 ghost use Rattle.std.specs.Prelude.{◌≡◌, Ok, IfOk, option_map};
-ghost use Rattle.byte_reading.specs.Reading.{Reads};
-ghost use Rattle.acse_ber.specs.Reading.{whole, byte_behind, result_at, diagnostic_at, response_at, initiate_error_at, info_in, info_of, is_response, aare_with_diagnostic, aare_with_result, aare_in, aare_of};
+ghost use Rattle.wire_bytes.specs.Reading.{Reads, read_as};
+ghost use Rattle.acse_ber.specs.Parts.{byte_part, after, result_part, diagnostic_part, info_part};
+ghost use Rattle.acse_ber.specs.Parts.{response_part};
+ghost use Rattle.acse_ber.specs.Reading.{whole, known_info, known_info_of, info_of, is_response};
+ghost use Rattle.acse_ber.specs.Reading.{aare_of, aare_in, aare_with_result, aare_with_diagnostic};
 ghost use Rattle.acse_ber.specs.Spelling.{SpellsAare};
 ghost use Rattle.acse_ber.specs.declared.aare.Aare.{Aare};
 
 use crate::aare::{Aare, Info};
 use crate::fault::AcseFault;
 use crate::field::{find_inner, find_required, read_tagged};
-use crate::initiate::{INITIATE_ERROR_HEAD, RESPONSE_TAG, read_conformance, skip_optional_byte};
+use crate::initiate::{
+    INITIATE_ERROR, RESPONSE_TAG, SERVICE_ERROR_TAG, read_conformance, skip_optional_byte,
+};
 use crate::length::{read_literal, read_size};
 use crate::tag;
 use bitflags::Flags;
-use byte_reading::Cursor;
 use std::alloc::Global;
+use wire_bytes::Cursor;
 
 /// Reads an AARE: a length that ends at the last byte, filled by fields in any order.
 ///
@@ -84,32 +89,30 @@ fn read_after_diagnostic(outcome: u8, diagnostic: u8, body: &[u8]) -> Result<Aar
 const ACCEPTED: u8 = 0;
 
 // Reads the association result: an integer of one byte.
-#[tactic(auto, unfolding(crate::specs::Reading::result_at))]
 fn read_result(contents: &[u8]) -> Result<u8, AcseFault>
-    ensures { result ≡ whole (result_at contents.now) }
+    ensures { result ≡ whole (result_part.read contents.now) }
 {
     let mut reader = Cursor::new(contents);
-    let outcome = read_byte_behind(&[tag::INTEGER, 1], &mut reader)?;
+    let outcome = read_byte_after(&[tag::INTEGER, 1], &mut reader)?;
     reader.finish(outcome, AcseFault::Unreadable)
 }
 
 // Reads the diagnostic, of the service user or the service provider: an integer of one byte.
-#[tactic(auto, unfolding(crate::specs::Reading::diagnostic_at))]
 fn read_diagnostic(contents: &[u8]) -> Result<u8, AcseFault>
-    ensures { result ≡ whole (diagnostic_at contents.now) }
+    ensures { result ≡ whole (diagnostic_part.read contents.now) }
 {
     let mut reader = Cursor::new(contents);
     let (tag::SERVICE_USER | tag::SERVICE_PROVIDER) = reader.byte(AcseFault::Unreadable)? else {
         return Err(AcseFault::Unreadable);
     };
-    let diagnostic = read_byte_behind(&[3, tag::INTEGER, 1], &mut reader)?;
+    let diagnostic = read_byte_after(&[3, tag::INTEGER, 1], &mut reader)?;
     reader.finish(diagnostic, AcseFault::Unreadable)
 }
 
 // Reads the expected bytes and returns the byte after them.
-#[tactic(auto, unfolding(crate::specs::Reading::byte_behind))]
-fn read_byte_behind(expected: &[u8], reader: &mut Cursor) -> Result<u8, AcseFault>
-    ensures { Reads (λ byte. byte) result reader.new (byte_behind expected.now reader.old) }
+fn read_byte_after(expected: &[u8], reader: &mut Cursor) -> Result<u8, AcseFault>
+    ensures { Reads (λ byte. byte) result reader.new
+        ((after expected.now byte_part).read reader.old) }
 {
     read_literal(expected, reader)?;
     reader.byte(AcseFault::Unreadable)
@@ -123,12 +126,9 @@ fn read_info(user: Option<&[u8]>) -> Info
     let Some(bytes) = user else {
         return Info::Absent;
     };
-    match read_response(bytes) {
+    match read_whole_info(bytes) {
         Ok(info) => info,
-        Err(_) => match read_initiate_error(bytes) {
-            Ok(info) => info,
-            Err(_) => Info::Absent,
-        },
+        Err(_) => Info::Absent,
     }
 }
 
@@ -139,27 +139,39 @@ fn is_response(info: Info) -> bool
     matches!(info, Info::Response { .. })
 }
 
-// Reads an InitiateResponse. Its version and VAA name are ignored.
-#[tactic(auto, unfolding(crate::specs::Reading::response_at))]
-fn read_response(bytes: &[u8]) -> Result<Info, AcseFault>
-    ensures { result ≡ whole (response_at bytes.now) }
+// Reads user information that is an InitiateResponse or a ConfirmedServiceError of Initiate.
+fn read_whole_info(bytes: &[u8]) -> Result<Info, AcseFault>
+    ensures { result ≡ known_info_of bytes.now }
 {
     let mut reader = Cursor::new(bytes);
-    read_literal(&[RESPONSE_TAG], &mut reader)?;
-    skip_optional_byte(&mut reader)?;
-    let _version = reader.byte(AcseFault::Unreadable)?;
-    let conformance = read_conformance(&mut reader)?;
-    let limit = read_size(&mut reader)?;
-    let _name = reader.bytes(2, AcseFault::Unreadable)?;
-    let bits = conformance.bits();
-    reader.finish(Info::Response { bits, limit }, AcseFault::Unreadable)
+    let info = read_known_info(&mut reader)?;
+    reader.finish(info, AcseFault::Unreadable)
 }
 
-// Reads a ConfirmedServiceError of Initiate.
-fn read_initiate_error(bytes: &[u8]) -> Result<Info, AcseFault>
-    ensures { result ≡ whole (initiate_error_at bytes.now) }
+// Reads an InitiateResponse or a ConfirmedServiceError of Initiate.
+fn read_known_info(reader: &mut Cursor) -> Result<Info, AcseFault>
+    ensures { Reads (λ info. info) result reader.new
+        (read_as known_info (info_part.read reader.old)) }
 {
-    let mut reader = Cursor::new(bytes);
-    let error = read_byte_behind(&INITIATE_ERROR_HEAD, &mut reader)?;
-    reader.finish(Info::InitiateError(error), AcseFault::Unreadable)
+    match reader.byte(AcseFault::Unreadable)? {
+        RESPONSE_TAG => {
+            let (bits, limit) = read_response(reader)?;
+            Ok(Info::Response { bits, limit })
+        }
+        SERVICE_ERROR_TAG => Ok(Info::InitiateError(read_byte_after(&INITIATE_ERROR, reader)?)),
+        _ => Err(AcseFault::Unreadable),
+    }
+}
+
+// Reads the conformance and the size of an InitiateResponse, after its tag. Its version and VAA
+// name are ignored.
+fn read_response(reader: &mut Cursor) -> Result<(u32, u16), AcseFault>
+    ensures { Reads (λ response. response) result reader.new (response_part.read reader.old) }
+{
+    skip_optional_byte(reader)?;
+    let _version = reader.byte(AcseFault::Unreadable)?;
+    let conformance = read_conformance(reader)?;
+    let limit = read_size(reader)?;
+    let _name = reader.bytes(2, AcseFault::Unreadable)?;
+    Ok((conformance.bits(), limit))
 }

@@ -1,12 +1,14 @@
 //! Writes an AARE in BER (IEC 62056-5-3), with each length in its shortest form.
-ghost use Rattle.std.specs.Prelude.{◌≡◌, [], ◌∷◌, ◌++◌, IfOk, OnOk};
-ghost use Rattle.acse_ber.specs.Text.{user_text, result_text, diagnostic_text, response_text, info_text, aare_text};
+ghost use Rattle.std.specs.Prelude.{◌≡◌, ◌++◌, IfOk, OnOk};
+ghost use Rattle.std.proofs.Common.{inl, inr};
+ghost use Rattle.acse_ber.specs.Parts.{info_part};
+ghost use Rattle.acse_ber.specs.Text.{user_text, result_text, diagnostic_text, info_text, aare_text};
 
 use crate::aare::{Aare, Info};
 use crate::field_writing::{put_context, put_tagged, put_user};
 use crate::identifier::LN_WITHOUT_CIPHERING;
 use crate::initiate::{
-    ABSENT, INITIATE_ERROR_HEAD, RESPONSE_TAG, VAA_NAME, VERSION, put_negotiated,
+    ABSENT, INITIATE_ERROR, RESPONSE_TAG, SERVICE_ERROR_TAG, VAA_NAME, VERSION, put_negotiated,
 };
 use crate::tag;
 use cosem_axdr::Octets;
@@ -66,7 +68,8 @@ fn put_info(alloc: Global, info: Info, out: &mut Octets) -> Result<(), AllocErro
 // Appends an InitiateResponse: no quality of service, the version, the conformance, the size and
 // the VAA name.
 fn put_response(alloc: Global, bits: u32, limit: u16, out: &mut Octets) -> Result<(), AllocError>
-    ensures { OnOk result (out.new ≡ out.old ++ user_text (response_text bits limit)) }
+    ensures { OnOk result (out.new ≡ out.old
+        ++ user_text (info_part.text (inl (bits, limit)))) }
 {
     let mut response = Octets::new(alloc);
     response.extend_from_slice(&[RESPONSE_TAG, ABSENT, VERSION])?;
@@ -77,10 +80,11 @@ fn put_response(alloc: Global, bits: u32, limit: u16, out: &mut Octets) -> Resul
 
 // Appends a ConfirmedServiceError of Initiate.
 fn put_initiate_error(alloc: Global, error: u8, out: &mut Octets) -> Result<(), AllocError>
-    ensures { OnOk result (out.new ≡ out.old ++ user_text (0x0E ∷ 0x01 ∷ 0x06 ∷ error ∷ [])) }
+    ensures { OnOk result (out.new ≡ out.old ++ user_text (info_part.text (inr error))) }
 {
     let mut text = Octets::new(alloc);
-    text.extend_from_slice(&INITIATE_ERROR_HEAD)?;
+    text.push(SERVICE_ERROR_TAG)?;
+    text.extend_from_slice(&INITIATE_ERROR)?;
     text.push(error)?;
     put_user(alloc, text.as_slice(), out)
 }

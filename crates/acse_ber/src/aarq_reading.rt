@@ -1,7 +1,7 @@
 //! Reads an AARQ from BER: application context, mechanism, authentication value and user
 //! information (IEC 62056-5-3).
 ghost use Rattle.std.specs.Prelude.{◌≡◌, IfOk, MatchResult, option_map};
-ghost use Rattle.byte_reading.specs.Outcome.{Gives};
+ghost use Rattle.wire_bytes.specs.Outcome.{Gives};
 ghost use Rattle.acse_ber.specs.Reading.{aarq_in, aarq_of};
 ghost use Rattle.acse_ber.specs.Spelling.{SpellsAarq};
 ghost use Rattle.acse_ber.specs.declared.aarq.Aarq.{Aarq};

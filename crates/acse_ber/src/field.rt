@@ -1,12 +1,14 @@
 //! The fields of an APDU, which may be in any order.
 ghost use Rattle.std.specs.Prelude.{◌≡◌, option_map, is_ok};
-ghost use Rattle.byte_reading.specs.Reading.{Reads};
-ghost use Rattle.acse_ber.specs.Reading.{Yields, field_at, tag_contents, fields_of, field_of, inner_of, needed_field, needed_inner};
+ghost use Rattle.wire_bytes.specs.Reading.{Reads};
+ghost use Rattle.acse_ber.specs.Parts.{field_part};
+ghost use Rattle.acse_ber.specs.Reading.{Yields, tag_contents, fields_of, field_of, inner_of};
+ghost use Rattle.acse_ber.specs.Reading.{needed_field, needed_inner};
 
 use crate::fault::AcseFault;
 use crate::length::read_contents;
 use crate::tag::{FIRST_FIELD, LAST_FIELD};
-use byte_reading::Cursor;
+use wire_bytes::Cursor;
 
 // A field of an APDU.
 #[derive(Clone, Copy)]
@@ -16,10 +18,9 @@ pub(crate) struct Field<'a> {
 }
 
 // Reads the next field: a context-specific tag, the length and the contents.
-#[tactic(auto, unfolding(crate::specs::Reading::field_at))]
 fn read_field<'a>(reader: &mut Cursor<'a>) -> Result<Field<'a>, AcseFault>
     ensures { Reads (λ field. record { tag = field.tag; contents = field.contents.now }) result
-        reader.new (field_at reader.old) }
+        reader.new (field_part.read reader.old) }
 {
     match reader.byte(AcseFault::Unreadable)? {
         tag @ FIRST_FIELD..=LAST_FIELD => Ok(Field {
@@ -31,7 +32,7 @@ fn read_field<'a>(reader: &mut Cursor<'a>) -> Result<Field<'a>, AcseFault>
 }
 
 // Returns the contents of a tag, which must fill the bytes.
-#[tactic(auto, unfolding(crate::specs::Reading::tag_contents, crate::specs::Reading::tagged_at))]
+#[tactic(auto, unfolding(crate::specs::Reading::tag_contents))]
 pub(crate) fn read_tagged(tag: u8, bytes: &[u8]) -> Result<&[u8], AcseFault>
     ensures { Yields (λ contents. contents.now) result (tag_contents tag bytes.now) }
 {
@@ -66,7 +67,9 @@ pub(crate) fn find_field(tag: u8, body: &[u8]) -> Result<Option<&[u8]>, AcseFaul
     let mut reader = Cursor::new(body);
     let mut found = None;
     'fields: while !reader.is_empty() {
-        let field = read_field(&mut reader)?;
+        let Ok(field) = read_field(&mut reader) else {
+            return Err(AcseFault::Unreadable);
+        };
         if field.tag == tag {
             if found.is_some() {
                 return Err(AcseFault::Unreadable);

@@ -2,17 +2,18 @@
 //! common with an InitiateResponse (IEC 62056-5-3).
 ghost use Rattle.std.specs.Prelude.{◌≡◌, [], ◌∷◌, ◌++◌, OnOk};
 ghost use Rattle.std.specs.Int.{w16, to_be_bytes, bytes_high_first};
-ghost use Rattle.byte_reading.specs.Reading.{Reads};
-ghost use Rattle.acse_ber.specs.Reading.{Yields, optional_byte_at, conformance_at, proposed_at, proposal_of};
+ghost use Rattle.wire_bytes.specs.Reading.{Reads};
+ghost use Rattle.acse_ber.specs.Parts.{optional_byte, conformance_part, proposed_part};
+ghost use Rattle.acse_ber.specs.Reading.{Yields, proposal_of};
 
 use crate::conformance::Conformance;
 use crate::fault::AcseFault;
 use crate::length::{read_literal, read_size};
 use bitflags::Flags;
-use byte_reading::Cursor;
 use byteorder::{BigEndian, ByteOrder};
 use cosem_axdr::Octets;
 use std::alloc::AllocError;
+use wire_bytes::Cursor;
 
 // The tag of an InitiateRequest, followed by the absence of a dedicated key.
 pub(crate) const REQUEST_HEAD: [u8; 2] = [0x01, 0x00];
@@ -20,9 +21,12 @@ pub(crate) const REQUEST_HEAD: [u8; 2] = [0x01, 0x00];
 // The tag of an InitiateResponse.
 pub(crate) const RESPONSE_TAG: u8 = 0x08;
 
-// The first bytes of a ConfirmedServiceError of Initiate: its tag, the choice initiate-error and
-// within it the choice initiate. The error follows.
-pub(crate) const INITIATE_ERROR_HEAD: [u8; 3] = [0x0E, 0x01, 0x06];
+// The tag of a ConfirmedServiceError.
+pub(crate) const SERVICE_ERROR_TAG: u8 = 0x0E;
+
+// The bytes between the tag of a ConfirmedServiceError and an error of Initiate: the choice
+// initiate-error and within it the choice initiate.
+pub(crate) const INITIATE_ERROR: [u8; 2] = [0x01, 0x06];
 
 // The tag of a conformance block, the length of its contents and the number of unused bits.
 const CONFORMANCE_HEAD: [u8; 4] = [0x5F, 0x1F, 0x04, 0x00];
@@ -54,7 +58,7 @@ pub(crate) struct Proposal {
 
 // Reads an InitiateRequest without a dedicated key. Its response-allowed and quality of service
 // are ignored.
-#[tactic(auto, unfolding(crate::specs::Reading::proposal_of, crate::specs::Reading::proposal_at, crate::specs::Reading::proposed_at))]
+#[tactic(auto, unfolding(crate::specs::Reading::proposal_of))]
 pub(crate) fn read_proposal(bytes: &[u8]) -> Result<Proposal, AcseFault>
     ensures { Yields (λ proposal. proposal) result (proposal_of bytes.now) }
 {
@@ -67,9 +71,8 @@ pub(crate) fn read_proposal(bytes: &[u8]) -> Result<Proposal, AcseFault>
 }
 
 // Reads the version, the conformance and the size.
-#[tactic(auto, unfolding(crate::specs::Reading::proposed_at))]
 fn read_proposal_fields(reader: &mut Cursor) -> Result<Proposal, AcseFault>
-    ensures { Reads (λ proposal. proposal) result reader.new (proposed_at reader.old) }
+    ensures { Reads (λ proposal. proposal) result reader.new (proposed_part.read reader.old) }
 {
     let version = reader.byte(AcseFault::Unreadable)?;
     let conformance = read_conformance(reader)?;
@@ -83,9 +86,8 @@ fn read_proposal_fields(reader: &mut Cursor) -> Result<Proposal, AcseFault>
 
 // Skips an optional byte: a byte that marks it as absent or present, and the byte itself if
 // present.
-#[tactic(auto, unfolding(crate::specs::Reading::optional_byte_at))]
 pub(crate) fn skip_optional_byte(reader: &mut Cursor) -> Result<(), AcseFault>
-    ensures { Reads (λ unit. unit) result reader.new (optional_byte_at reader.old) }
+    ensures { Reads (λ unit. unit) result reader.new (optional_byte.read reader.old) }
 {
     match reader.byte(AcseFault::Unreadable)? {
         ABSENT => Ok(()),
@@ -98,9 +100,9 @@ pub(crate) fn skip_optional_byte(reader: &mut Cursor) -> Result<(), AcseFault>
 }
 
 // Reads the 24 bits of a conformance block.
-#[tactic(auto, unfolding(crate::specs::Reading::conformance_at))]
 pub(crate) fn read_conformance(reader: &mut Cursor) -> Result<Conformance, AcseFault>
-    ensures { Reads (λ conformance. conformance.0) result reader.new (conformance_at reader.old) }
+    ensures { Reads (λ conformance. conformance.0) result reader.new
+        (conformance_part.read reader.old) }
 {
     read_literal(&CONFORMANCE_HEAD, reader)?;
     let bits = BigEndian::read_u24(reader.bytes(3, AcseFault::Unreadable)?);

@@ -3,8 +3,9 @@
 ghost use Rattle.std.specs.Prelude.{◌≡◌, ◌≢◌, ◌⊎◌, ℕ, ◌^◌, ◌<◌, ◌≤◌, Some, List, [], ◌++◌, length, bit_and, Ok};
 ghost use Rattle.cosem_axdr.specs.Spelling.{IsBytes, length_text};
 ghost use Rattle.acse_ber.specs.Fit.{IsFitAarq, IsFitAare};
+ghost use Rattle.acse_ber.specs.Parts.{IsLength};
 ghost use Rattle.acse_ber.specs.Reading.{aarq_of, aare_of};
-ghost use Rattle.acse_ber.specs.Spelling.{IsLength, SpellsAarq, SpellsAare, SpellsRelease};
+ghost use Rattle.acse_ber.specs.Spelling.{SpellsAarq, SpellsAare, SpellsRelease};
 ghost use Rattle.acse_ber.specs.Text.{low_level, low_level_aarq, aarq_text, aare_text, release_request, release_response};
 ghost use Rattle.acse_ber.specs.Verdict.{offered_services, verdict_of};
 ghost use Rattle.acse_ber.specs.declared.aarq.Aarq.{Aarq};

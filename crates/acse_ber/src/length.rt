@@ -1,22 +1,22 @@
 //! Readers of numbers, of lengths and of the contents that follow them.
 ghost use Rattle.std.specs.Prelude.{◌≡◌};
-ghost use Rattle.byte_reading.specs.Reading.{Reads};
-ghost use Rattle.acse_ber.specs.Reading.{size_at, literal_at, length_at, contents_at};
+ghost use Rattle.wire_bytes.specs.Reading.{Reads};
+ghost use Rattle.acse_ber.specs.Parts.{size_part, literal, length_part, contents_part};
 
 use crate::fault::AcseFault;
-use byte_reading::Cursor;
 use byteorder::{BigEndian, ByteOrder};
+use wire_bytes::Cursor;
 
 // Reads a number of two bytes.
 pub(crate) fn read_size(reader: &mut Cursor) -> Result<u16, AcseFault>
-    ensures { Reads (λ size. size) result reader.new (size_at reader.old) }
+    ensures { Reads (λ size. size) result reader.new (size_part.read reader.old) }
 {
     Ok(BigEndian::read_u16(reader.bytes(2, AcseFault::Unreadable)?))
 }
 
 // Reads bytes that must be the expected ones.
 pub(crate) fn read_literal(expected: &[u8], reader: &mut Cursor) -> Result<(), AcseFault>
-    ensures { Reads (λ unit. unit) result reader.new (literal_at expected.now reader.old) }
+    ensures { Reads (λ unit. unit) result reader.new ((literal expected.now).read reader.old) }
 {
     if reader.bytes(expected.len(), AcseFault::Unreadable)? != expected {
         return Err(AcseFault::Unreadable);
@@ -25,9 +25,9 @@ pub(crate) fn read_literal(expected: &[u8], reader: &mut Cursor) -> Result<(), A
 }
 
 // Reads a length: one byte below 80 hex, or 81 or 82 hex followed by one or two bytes.
-#[tactic(auto, unfolding(crate::specs::Reading::length_at))]
+#[tactic(auto, unfolding(crate::specs::Parts::length_read))]
 fn read_length(reader: &mut Cursor) -> Result<usize, AcseFault>
-    ensures { Reads (λ n. n) result reader.new (length_at reader.old) }
+    ensures { Reads (λ n. n) result reader.new (length_part.read reader.old) }
 {
     match reader.byte(AcseFault::Unreadable)? {
         short @ 0..=0x7F => Ok(usize::from(short)),
@@ -38,9 +38,8 @@ fn read_length(reader: &mut Cursor) -> Result<usize, AcseFault>
 }
 
 // Reads a length and returns that number of bytes.
-#[tactic(auto, unfolding(crate::specs::Reading::contents_at))]
 pub(crate) fn read_contents<'a>(reader: &mut Cursor<'a>) -> Result<&'a [u8], AcseFault>
-    ensures { Reads (λ contents. contents.now) result reader.new (contents_at reader.old) }
+    ensures { Reads (λ contents. contents.now) result reader.new (contents_part.read reader.old) }
 {
     let count = read_length(reader)?;
     reader.bytes(count, AcseFault::Unreadable)

@@ -3,7 +3,7 @@
 -- meter.
 use Rattle.std.specs.Prelude.{ℕ, nat_le, List, length, ok_or, Result, Ok}
 use Rattle.std.specs.Result.{result_ok}
-use Rattle.byte_reading.specs.Outcome.{◌>>=◌, ◌>>◌, guard}
+use Rattle.wire_bytes.specs.Outcome.{◌>>=◌, ◌>>◌, guard}
 use Rattle.cosem_axdr.specs.declared.value.Data.{Data}
 use Rattle.cosem_axdr.specs.Forms.{array_of, enumerated_of}
 use Rattle.cosem_datetime.specs.Reading.{time_of, date_of}

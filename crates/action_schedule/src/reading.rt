@@ -12,8 +12,8 @@ use crate::schedule::MAX_ENTRIES;
 use cosem_axdr::Data;
 use cosem_datetime::{EntryPattern, read_date, read_time};
 use cosem_names::{NamedScript, WriteFault, judge_each};
-use listed::Listed;
 use std::alloc::{AllocError, Global};
+use wire_bytes::Listed;
 
 // Reads the selector of the script to run: `Unmatched` if a type differs, then `Value` if the
 // script is of another script table.

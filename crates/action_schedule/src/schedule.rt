@@ -16,10 +16,10 @@ use crate::writing::{write_entries, write_script};
 use cosem_axdr::Data;
 use cosem_datetime::EntryPattern;
 use cosem_names::WriteFault;
-use listed::Listed;
 use std::alloc::{AllocError, Global};
 use std::marker::Model;
 use std::mem;
+use wire_bytes::Listed;
 
 /// The maximum number of entries of a schedule.
 pub const MAX_ENTRIES: usize = 16;

@@ -2,9 +2,9 @@
 //! too early or too late are refused.
 use cosem_axdr::{Data, Octets};
 use cosem_names::{AttrRef, AttributeSelection, ClassId, GetResult, MethodRef, Obis, ResultCode};
-use listed::Listed;
 use std::alloc::{AllocError, Global};
 use std::process::Abort;
+use wire_bytes::Listed;
 use xdlms_apdu::{
     ApduFault, DataBlock, Exception, InvokeId, Request, Response, read_request, read_response,
     text_of_request_spells, text_of_response_spells, write_request, write_response,

@@ -1,7 +1,7 @@
 //! Tests of the byte cursor: its order, the fault that its caller passes, and values that are
 //! dropped on an error.
-use byte_reading::{Cursor, and_keep};
 use std::process::Abort;
+use wire_bytes::{Cursor, and_keep};
 use xdlms_apdu::ApduFault;
 
 // A response to a GET with the value 1 of an enumeration.

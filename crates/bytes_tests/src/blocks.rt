@@ -1,9 +1,9 @@
 //! Block transfers: long texts cut into blocks and joined again, wrong block numbers, the limit of
 //! 8,192 bytes, and running out of memory.
-use octets::Octets;
 use std::alloc::{AllocError, Global};
 use std::process::Abort;
 use std::test::Fail;
+use wire_bytes::Octets;
 use xdlms_blocks::{BlockFault, GetBlocks, JoinBlocks, Piece};
 
 /// Returns the bytes 0, 1, 2 and so on, starting at 0 again after 250.

@@ -2,7 +2,7 @@
 //! too long.
 ghost use Rattle.std.specs.Prelude.{◌≡◌, false};
 
-use byte_streams::{Counted, InputFault, Reader, StreamFault, Writer, read_to_end_within};
+use counted_io::{Counted, InputFault, Reader, StreamFault, Writer, read_to_end_within};
 use std::alloc::Global;
 use std::io;
 use std::io::{ErrorKind, Read, Write};

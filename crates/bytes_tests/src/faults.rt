@@ -1,7 +1,6 @@
 //! Tests of program faults: each fault's word and exit status, the words of a command line, and
 //! failed prints.
-use program_fault::Fault;
-use program_start::{exit_code, first_fault, print_text, words};
+use program::{Fault, exit_code, first_fault, print_text, words};
 use std::alloc::{AllocError, Global};
 use std::process::ExitCode;
 use std::test::Fail;

@@ -1,7 +1,7 @@
 //! Lines that are read from an input: at the end, over the limit, and after a failed read.
 ghost use Rattle.std.specs.Prelude.{◌<◌, ◌^◌};
 
-use byte_streams::{InputFault, Monitored, read_line_within};
+use counted_io::{InputFault, Monitored, read_line_within};
 use std::alloc::Global;
 use std::io;
 use std::io::{BufReader, ErrorKind, Read};

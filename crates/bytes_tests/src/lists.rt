@@ -1,7 +1,7 @@
 //! Items that are added to a `Listed` keep their order.
-use listed::Listed;
 use std::process::Abort;
 use std::test::Fail;
+use wire_bytes::Listed;
 
 /// Adds 7 and 9 to an empty list.
 fn add_two(rt: &impl Abort, list: &mut Listed<u32>) -> Result<(), Fail> {

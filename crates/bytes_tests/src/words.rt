@@ -2,7 +2,7 @@
 use std::alloc::{AllocError, Global};
 use std::process::Abort;
 use std::test::Fail;
-use trace_text::{
+use text_lines::{
     TextLines, Words, add_hex, add_number, add_word, end_line, read_hex, read_number, split_line,
     write_hex, write_number,
 };

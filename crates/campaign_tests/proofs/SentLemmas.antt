@@ -10,7 +10,7 @@ use Rattle.client_core.specs.Standing.{Stands}
 use Rattle.client_core.specs.Texts.{aarq_frame, request_frame, release_frame}
 use Rattle.head_end.specs.Conversations.{Speaks, outcome_in}
 use Rattle.head_end.specs.Logs.{Happening, heard, heard_nothing, sent, cut_off, heard_in, sent_in, IsFront}
-use Rattle.head_end.specs.Wires.{due_text, IsDueNext, GoesOn, HasConversed}
+use Rattle.head_end.specs.Wires.{due_text, IsDueNext, Permits, HasConversed}
 
 -- the AARQ, the request and the release
 abbrev all_texts : Verb → List ℕ → List ℕ
@@ -110,7 +110,8 @@ module _ (verb : Verb) (password : List ℕ) where
   at_end log one later none front =
       subst (λ (l : List Happening). IsInOrder (log ++ one ∷ l)) (sym none) front
 
-  goes_in_order : (whole : Bool) (log later : List Happening) → GoesOn whole verb password log later
+  goes_in_order : (whole : Bool) (log later : List Happening)
+      → Permits whole verb password log later
       → IsInOrder log → IsInOrder (log ++ later)
   goes_in_order whole log [] goes front = subst IsInOrder (sym (append-nil log)) front
   goes_in_order whole log (heard bytes ∷ later) goes front =

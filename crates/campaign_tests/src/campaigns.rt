@@ -240,7 +240,7 @@ fn row_named(name: &[u8]) -> Row {
 }
 
 impl Watcher for Tally {
-    fn done(&self, job: &Job, row: Row) {
+    fn on_job_done(&self, job: &Job, row: Row) {
         let name = job.id.as_slice();
         let is_right = row == row_named(name);
         let more = if is_right { 0 } else { 0x10_0000 };

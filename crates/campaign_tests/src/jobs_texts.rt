@@ -1,9 +1,9 @@
 //! Lists of jobs that are read.
 use client_core::{Job, Verb};
 use head_end::{Jobs, JobsFault, read_jobs};
-use listed::Listed;
 use std::alloc::{AllocError, Global};
 use std::test::Fail;
+use wire_bytes::Listed;
 
 /// Returns whether a job has this name, this address and this verb.
 fn is_job(job: &Job, name: &[u8], address: &[u8], verb: Verb) -> bool {

@@ -5,8 +5,8 @@ ghost use Rattle.acse_ber.specs.Password.{IsPassword};
 use client_core::{Job, Verb};
 use cosem_axdr::Octets;
 use head_end::Jobs;
-use listed::Listed;
 use std::alloc::{AllocError, Global};
+use wire_bytes::Listed;
 
 /// The bytes of a meter that accepts the association, and then sends nothing.
 pub(crate) const OPENED: [u8; 51] = [

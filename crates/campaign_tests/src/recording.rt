@@ -8,9 +8,9 @@ ghost use Rattle.head_end.specs.Logs.{heard, heard_nothing, sent, sent_in, IsFro
 ghost use Rattle.head_end.specs.Wires.{HasConversed};
 
 use crate::meters::{DONE, OPENED, REJECTED, SENT, job, password};
-use byte_streams::StreamFault;
 use client_core::{Client, Job, Outcome};
 use cosem_axdr::Octets;
+use counted_io::StreamFault;
 use head_end::{Attempt, ConnectFault, Connection, Connector, Row, converse, run_job};
 use std::alloc::{AllocError, Global};
 use std::process::Abort;

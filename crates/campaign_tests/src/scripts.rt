@@ -3,8 +3,8 @@ ghost use Rattle.std.specs.Prelude.{◌≤◌, length, Some};
 ghost use Rattle.head_end.specs.Connections.{Forecast, ended};
 
 use crate::meters::{DONE, OPENED, REFUSED, REJECTED};
-use byte_streams::StreamFault;
 use cosem_axdr::Octets;
+use counted_io::StreamFault;
 use head_end::{ConnectFault, Connection, Connector};
 
 /// Returns its bytes in pieces, and then ends. What is written is dropped.

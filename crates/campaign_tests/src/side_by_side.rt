@@ -1,9 +1,9 @@
 //! Two meters, each of which responds only once the other has received its request.
 use crate::campaigns::lines_at;
 use crate::meters::{OPENED, jobs_named, password};
-use byte_streams::StreamFault;
 use client_core::Outcome;
 use cosem_axdr::Octets;
+use counted_io::StreamFault;
 use head_end::{ConnectFault, Connection, Connector, Jobs, Report, ReportLine, Row};
 use std::alloc::{AllocError, Global};
 use std::sync::Arc;

@@ -3,7 +3,7 @@ use Rattle.std.proofs.Common.{◌≡◌, ℕ, Bool, true, false, List, [], ◌�
 use Rattle.std.specs.Prelude.{unwrap_or, if◌then◌else◌, ◌&&◌, ◌==◌, Option}
 use Rattle.wrapper_frame.specs.Header.{head_of}
 use Rattle.wrapper_frame.specs.Messages.{frames_of, rest_of}
-use Rattle.wrapper_frame.specs.Stream.{IsFirst, IsPart, GoesOn, Stops}
+use Rattle.wrapper_frame.specs.Stream.{IsFirst, IsPart, KeepsFrames, Stops}
 use Rattle.wrapper_frame.specs.declared.header.Head.{Head}
 use Rattle.wrapper_frame.specs.declared.header.Head.TheVariants.{Part, BadVersion, TooLong, Whole}
 use Rattle.wrapper_frame.specs.declared.parts.Frame.{Frame}
@@ -73,7 +73,7 @@ frame_cases false verb p payload later = refl
 
 -- a frame that is removed has its effect, followed by that of the others
 pub moves_frame : (verb : Verb) (p : Progress) (old : List ℕ) (frame : Frame) (new : List ℕ)
-    → GoesOn old (Some frame) new → Moves verb p old (after_frame verb p frame) new
+    → KeepsFrames old (Some frame) new → Moves verb p old (after_frame verb p frame) new
 moves_frame verb p old frame new goes_on = record {
   on = λ more.
       goes_does verb p (old ++ more)

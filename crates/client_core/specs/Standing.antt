@@ -1,7 +1,7 @@
 -- The state of a client, and the effect of each call on it.
 --     Stands            a client with this verb and password, the bytes fed, the number of messages
 --                       returned, and whether the connection is over
---     Gives             to_send: the next message to send, or none
+--     GivesNextMessage             to_send: the next message to send, or none
 --     Feeds             feed: the bytes follow those fed before, unless the connection is over
 --     Ends              ended: the connection is over
 --     Tells             outcome: the outcome, once it is settled or the connection is over
@@ -38,7 +38,7 @@ pub record Stands (verb : Verb) (password fed : List ℕ) (given : ℕ) (over : 
   pub over_is : c.is_ended ≡ over
 
 -- the next message to send that was not returned, or none if each was
-pub record Gives (old : Client) (result : Option (List ℕ)) (new : Client) : Type 0 where
+pub record GivesNextMessage (old : Client) (result : Option (List ℕ)) (new : Client) : Type 0 where
   pub text : (verb : Verb) (password fed : List ℕ) (given : ℕ) (over : Bool)
       → Stands verb password fed given over old
       → result ≡ text_at (due verb password (progress_of verb fed)) given

@@ -3,7 +3,7 @@
 ghost use Rattle.std.specs.Prelude.{◌≡◌, [], false, IfOk, OnOk, OnErr};
 ghost use Rattle.acse_ber.specs.Password.{IsPassword};
 ghost use Rattle.client_core.specs.Outcomes.{is_served};
-ghost use Rattle.client_core.specs.Standing.{Stands, Gives, Feeds, Ends, Tells};
+ghost use Rattle.client_core.specs.Standing.{Stands, GivesNextMessage, Feeds, Ends, Tells};
 
 use crate::job::{Job, Outcome, Verb};
 use crate::listening::hear_more;
@@ -64,7 +64,7 @@ impl Client {
     /// association, the release once the meter has responded to the request. Returns each at most
     /// once, and `None` if there is nothing to send for now. Does not allocate.
     pub fn to_send(&mut self) -> Option<Octets>
-        ensures { Gives self.old result self.new }
+        ensures { GivesNextMessage self.old result self.new }
     {
         if let Some(aarq) = self.aarq.take() {
             return Some(aarq);

@@ -23,7 +23,7 @@ pub fn hear_more(
         (λ new. Hears verb progress (deframer.old ++ bytes.now) new deframer.new) }
 {
     match deframer.feed(bytes) {
-        Ok(()) => hear(alloc, verb, progress, deframer),
+        Ok(()) => receive(alloc, verb, progress, deframer),
         Err(WrapperFault::Memory) => Err(AllocError),
         Err(WrapperFault::Version) => Ok(or_unknown(progress)),
         Err(WrapperFault::TooLong) => Ok(or_unknown(progress)),
@@ -31,7 +31,7 @@ pub fn hear_more(
 }
 
 // Removes and processes all whole frames.
-fn hear(
+fn receive(
     alloc: Global,
     verb: Verb,
     progress: Progress,

@@ -26,7 +26,7 @@ const SERVICES: Conformance = Conformance(
         | Conformance::ACTION.0,
 );
 // The maximum size of an APDU that the client receives, in bytes.
-const MOST_BYTES: u16 = 1024;
+const MAX_RECEIVE_PDU_SIZE: u16 = 1024;
 // The invoke-id-and-priority of the request: invoke-id 1, confirmed, high priority.
 pub(crate) const INVOKE_ID: InvokeId = InvokeId(0xC1);
 // The class of the disconnect control (IEC 62056-6-2, class 70).
@@ -50,7 +50,12 @@ fn aarq_payload(alloc: Global, password: &Octets) -> Result<Octets, AllocError>
     requires { IsPassword password.now }
     ensures { IfOk result (λ text. text ≡ aarq_payload password.now) }
 {
-    let aarq = low_level_aarq(alloc, password.as_slice(), SERVICES.bits(), MOST_BYTES)?;
+    let aarq = low_level_aarq(
+        alloc,
+        password.as_slice(),
+        SERVICES.bits(),
+        MAX_RECEIVE_PDU_SIZE,
+    )?;
     write_aarq(alloc, &aarq)
 }
 

@@ -1,24 +1,12 @@
-//! Tests of `relay_core`, `relay_recorder`, `session_core` and `supply_meter`: events, runs,
-//! openings, the events that a recorder keeps and exports; sessions of clients with a meter, frame
-//! by frame; a meter with its sessions, its own events, and its trace. `tests/firmware.py` tests
-//! the C library, which depends on them.
+//! Tests of `relay_core` and `relay_recorder`: events, runs, openings, and the events that a
+//! recorder keeps and exports.
 //!
 //! Tests are in a crate of their own because a check of tests proves their whole crate again.
 #![tactic(auto)]
 
 #[cfg(test)]
-mod clients;
-#[cfg(test)]
 mod cores;
-#[cfg(test)]
-mod events;
 #[cfg(test)]
 mod exports;
 #[cfg(test)]
-mod meters;
-#[cfg(test)]
-mod prepared;
-#[cfg(test)]
 mod recorders;
-#[cfg(test)]
-mod sessions;

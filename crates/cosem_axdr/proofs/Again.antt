@@ -3,7 +3,7 @@ use Rattle.std.proofs.Common.{◌≡◌, ℕ, zero, suc, ◌+◌, ◌-◌, ◌�
 use Rattle.std.specs.Int.{Width, w8, w16, w32, w64, byte_len, from_be_bytes, cast_signed}
 use Rattle.std.proofs.lemmas.Bool.{and_from, lt-ltb, le-ltb, le-leb}
 use Rattle.std.proofs.lemmas.List.{take_at, drop_at, length-append}
-use Rattle.byte_reading.proofs.OutcomeLemmas.{done}
+use Rattle.wire_bytes.proofs.OutcomeLemmas.{done}
 use Rattle.cosem_axdr.specs.Limits.{max_items, bytes_for}
 use Rattle.cosem_axdr.specs.Reading.{Place, Read, read_as, bytes_at, byte_at, length_at, string_at, unsigned_at, bits_at, fixed_at, leaf_at, items_at, counted_at, value_at, nested_at}
 use Rattle.cosem_axdr.specs.Spelling.{IsLength, IsString, IsBits, IsCounted, IsUnsigned, IsSigned, IsFixed, AreContents, AreSpelled, Spells, tag_of}

@@ -5,15 +5,15 @@ use Rattle.std.proofs.Common.{subst, ◌∙◌, arith, inl, inr}
 use Rattle.std.specs.List.{flat_map}
 use Rattle.std.proofs.lemmas.Bool.{and_parts, and_from, ltb-true, leb-true, lt-ltb, le-ltb, le-leb}
 use Rattle.std.proofs.lemmas.List.{drop_at, take-append-drop}
-use Rattle.byte_reading.specs.ByteFormats.{IsByte}
-use Rattle.byte_reading.specs.Format.{Format, AreItems, IsJoined, items_read}
-use Rattle.byte_reading.specs.Reading.{read_as, first_bytes}
-use Rattle.byte_reading.proofs.Agreeing.{Took, AreBytes, join, with_others, then_agrees}
-use Rattle.byte_reading.proofs.Agreeing.{bytes_agrees}
-use Rattle.byte_reading.proofs.ByteLaws.{bytes_at}
-use Rattle.byte_reading.proofs.Items.{AreCounted, items_agrees, items_written, items_fit}
-use Rattle.byte_reading.proofs.Lawful.{first_all, others_all, IsLawful}
-use Rattle.byte_reading.proofs.OutcomeLemmas.{done, ok_is, bind_ok, guard_ok, chosen}
+use Rattle.wire_bytes.specs.ByteFormats.{IsByte}
+use Rattle.wire_bytes.specs.Format.{Format, AreItems, IsJoined, items_read}
+use Rattle.wire_bytes.specs.Reading.{read_as, first_bytes}
+use Rattle.wire_bytes.proofs.Agreeing.{Took, AreBytes, join, with_others, then_agrees}
+use Rattle.wire_bytes.proofs.Agreeing.{bytes_agrees}
+use Rattle.wire_bytes.proofs.ByteLaws.{bytes_at}
+use Rattle.wire_bytes.proofs.Items.{AreCounted, items_agrees, items_written, items_fit}
+use Rattle.wire_bytes.proofs.Lawful.{first_all, others_all, IsLawful}
+use Rattle.wire_bytes.proofs.OutcomeLemmas.{done, ok_is, bind_ok, guard_ok, chosen}
 use Rattle.cosem_axdr.specs.Formats.{count_read, count, raw, list, front_or, axdr_data}
 use Rattle.cosem_axdr.specs.Reading.{big_endian, first_data}
 use Rattle.cosem_axdr.specs.Spelling.{IsLength, length_text}

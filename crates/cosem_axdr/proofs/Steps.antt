@@ -1,7 +1,7 @@
 -- Consecutive items, read by a loop.
 use Rattle.std.proofs.Common.{◌≡◌, ℕ, suc, ◌-◌, ◌+◌, ◌≤◌, ◌<◌, List, [], ◌∷◌, ◌++◌, Ok, Err, refl, sym, ap, ◌∙◌, append_assoc, append-nil, arith, inl, inr}
-use Rattle.byte_reading.specs.Outcome.{◌>>=◌, Fails}
-use Rattle.byte_reading.proofs.OutcomeLemmas.{done}
+use Rattle.wire_bytes.specs.Outcome.{◌>>=◌, Fails}
+use Rattle.wire_bytes.proofs.OutcomeLemmas.{done}
 use Rattle.cosem_axdr.specs.Reading.{Place, Read, read_as, items_at}
 use Rattle.cosem_axdr.specs.declared.fault.DataFault.{DataFault}
 use Rattle.cosem_axdr.specs.declared.fault.DataFault.TheVariants.{Memory}

@@ -6,8 +6,8 @@ use Rattle.std.proofs.Common.{◌≡◌, ℕ, zero, suc, ◌+◌, ◌-◌, ◌<�
 use Rattle.std.specs.Int.{Width, w8, w16, w32, w64, byte_len, from_be_bytes, cast_signed}
 use Rattle.std.proofs.lemmas.Bool.{and_parts, ltb-true, leb-true, eqb-true}
 use Rattle.std.proofs.lemmas.List.{take-append-drop, length-append, length-take}
-use Rattle.byte_reading.specs.Outcome.{◌>>=◌, ◌>>◌, guard}
-use Rattle.byte_reading.proofs.OutcomeLemmas.{done, failed, ok_is, bind_ok, guard_ok, chosen}
+use Rattle.wire_bytes.specs.Outcome.{◌>>=◌, ◌>>◌, guard}
+use Rattle.wire_bytes.proofs.OutcomeLemmas.{done, failed, ok_is, bind_ok, guard_ok, chosen}
 use Rattle.cosem_axdr.specs.Limits.{max_items, bytes_for, without_unused_bits}
 use Rattle.cosem_axdr.specs.Reading.{Place, Read, read_as, bytes_at, byte_at, big_endian, length_at, string_at, unsigned_at, bits_at, fixed_at, leaf_at, items_at, counted_at, value_at, nested_at}
 use Rattle.cosem_axdr.specs.Spelling.{IsLength, IsString, IsBits, IsCounted, IsUnsigned, IsFixed, AreContents, AreSpelled, Spells, tag_of}

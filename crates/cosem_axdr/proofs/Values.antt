@@ -6,8 +6,8 @@
 --     read_only, begins_no_other      consequences for code that reads, and for spellings
 use Rattle.std.proofs.Common.{◌≡◌, ℕ, ◌+◌, ◌-◌, ◌≤◌, List, [], ◌++◌, length, take, drop, Result, Ok, Err, MatchResult, inl, inr, append-nil, refl, sym, ap, subst, ◌∙◌, arith}
 use Rattle.std.proofs.lemmas.List.{take_at, take-append-drop, length-append, length-take, nil_from_length}
-use Rattle.byte_reading.specs.Outcome.{Gives}
-use Rattle.byte_reading.proofs.OutcomeLemmas.{done, failed, ok_is, bind_ok}
+use Rattle.wire_bytes.specs.Outcome.{Gives}
+use Rattle.wire_bytes.proofs.OutcomeLemmas.{done, failed, ok_is, bind_ok}
 use Rattle.cosem_axdr.specs.Limits.{max_text, max_nesting}
 use Rattle.cosem_axdr.specs.Reading.{Place, start, value_at, nested_at, first_data}
 use Rattle.cosem_axdr.specs.Spelling.{IsSpelling, IsFit, text}

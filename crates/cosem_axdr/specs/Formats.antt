@@ -4,9 +4,9 @@
 use Rattle.std.specs.Prelude.{ℕ, ◌^◌, ◌<◌, ◌-◌, ◌&&◌, nat_lt, nat_le, if◌then◌else◌, List, ◌++◌}
 use Rattle.std.specs.Prelude.{length, drop, All, Result, Ok, Err}
 use Rattle.std.specs.List.{flat_map}
-use Rattle.byte_reading.specs.Format.{Format, IsJoined, items_read, AreItems}
-use Rattle.byte_reading.specs.Outcome.{◌>>=◌, ◌>>◌, guard}
-use Rattle.byte_reading.specs.Reading.{read_as, first_byte, first_bytes}
+use Rattle.wire_bytes.specs.Format.{Format, IsJoined, items_read, AreItems}
+use Rattle.wire_bytes.specs.Outcome.{◌>>=◌, ◌>>◌, guard}
+use Rattle.wire_bytes.specs.Reading.{read_as, first_byte, first_bytes}
 use Rattle.cosem_axdr.specs.Reading.{big_endian, first_data}
 use Rattle.cosem_axdr.specs.Spelling.{IsLength, IsString, IsSpelling, length_text, string_text}
 use Rattle.cosem_axdr.specs.Spelling.{text, IsFit}

@@ -8,7 +8,7 @@
 --     first_data               the Data at the front of bytes, and its number of bytes
 use Rattle.std.specs.Prelude.{◌≡◌, ℕ, zero, suc, ◌+◌, ◌-◌, ◌*◌, not, ◌&&◌, List, [], ◌∷◌, length, take, drop, fold, Result, Ok, Err, nat_lt, nat_le, ◌==◌, slice_index, if◌then◌else◌}
 use Rattle.std.specs.Int.{Width, w8, w16, w32, w64, byte_len, from_be_bytes, cast_signed}
-use Rattle.byte_reading.specs.Outcome.{◌>>=◌, ◌>>◌, guard, Fails}
+use Rattle.wire_bytes.specs.Outcome.{◌>>=◌, ◌>>◌, guard, Fails}
 use Rattle.cosem_axdr.specs.Limits.{max_text, max_items, max_nesting, bytes_for, without_unused_bits}
 use Rattle.cosem_axdr.specs.Tree.{Trees, trees_of}
 use Rattle.cosem_axdr.specs.View.{all_trees}

@@ -9,7 +9,7 @@
 --     IsFit                           a value whose text is within the limits
 use Rattle.std.specs.Prelude.{◌≡◌, ◌⊎◌, ℕ, ◌+◌, ◌^◌, ◌<◌, ◌≤◌, Bool, not, ◌==◌, nat_lt, if◌then◌else◌, ℤ, FitsSigned, List, [], ◌∷◌, ◌++◌, length, slice_index}
 use Rattle.std.specs.Int.{Width, w8, w16, w32, w64, byte_len, from_be_bytes, to_be_bytes, cast_signed, cast_unsigned, bytes_high_first}
-use Rattle.byte_reading.specs.Format.{IsJoined, IsTagged}
+use Rattle.wire_bytes.specs.Format.{IsJoined, IsTagged}
 use Rattle.cosem_axdr.specs.Limits.{max_text, max_items, max_nesting, bytes_for, without_unused_bits}
 use Rattle.cosem_axdr.specs.Reading.{big_endian}
 use Rattle.cosem_axdr.specs.Tree.{Tree, Trees, count_of, nesting, null, array, structure, boolean, bit_string, double_long, double_long_unsigned, octet_string, visible_string, utf8_string, integer, long, unsigned, long_unsigned, long64, long64_unsigned, enumerated, date_time, date, time, no_trees, tree}

@@ -5,8 +5,8 @@ ghost use Rattle.cosem_axdr.specs.Reading.{big_endian};
 ghost use Rattle.cosem_axdr.specs.Spelling.{length_text};
 
 use byteorder::{BigEndian, ByteOrder};
-use octets::Octets;
 use std::alloc::AllocError;
+use wire_bytes::Octets;
 
 /// Returns the number that at most four bytes hold, highest byte first.
 #[tactic(auto, using(crate::proofs::BigEndian::all_bytes))]

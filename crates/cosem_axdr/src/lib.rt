@@ -27,7 +27,7 @@ pub use fitting::fits;
 pub use laws::{no_spelling_begins_another, text_of_fit_spells};
 pub use length::{append_length, number_of};
 pub use measuring::text_len;
-pub use octets::Octets;
 pub use reading::read;
 pub use value::{Data, Items};
+pub use wire_bytes::Octets;
 pub use writing::{append, write};

@@ -5,7 +5,7 @@ ghost use Rattle.cosem_axdr.specs.View.{tree_of, all_trees};
 ghost use Rattle.cosem_axdr.specs.Spelling.{text, texts, contents_text, length_text, string_text};
 
 use crate::value::Data;
-use octets::Octets;
+use wire_bytes::Octets;
 
 /// Returns the length of a value's text in bytes, at most `u64::MAX` (saturating).
 #[cycle(measuring)]

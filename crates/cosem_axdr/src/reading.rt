@@ -4,7 +4,7 @@ ghost use Rattle.std.specs.Prelude.{◌≡◌, ◌≤◌, ℕ, length, take, IfO
 ghost use Rattle.cosem_axdr.specs.Spelling.{IsSpelling};
 ghost use Rattle.cosem_axdr.specs.View.{tree_of};
 ghost use Rattle.cosem_axdr.specs.declared.value.Data.{Data};
-ghost use Rattle.byte_reading.specs.Outcome.{Gives};
+ghost use Rattle.wire_bytes.specs.Outcome.{Gives};
 ghost use Rattle.cosem_axdr.specs.Reading.{Reads, string_at, bits_at, fixed_at, leaf_at, items_at, nested_at, value_at, first_data};
 
 use crate::fault::DataFault;
@@ -12,8 +12,8 @@ use crate::limits::{MAX_ITEMS, MAX_NESTING, bytes_for, clear_unused};
 use crate::reader::DataReader;
 use crate::tag;
 use crate::value::{Data, Items};
-use octets::Octets;
 use std::alloc::Global;
+use wire_bytes::Octets;
 
 /// Reads the Data at the front of bytes and returns it with the number of bytes it occupies.
 ///

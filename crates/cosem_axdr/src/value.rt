@@ -4,8 +4,8 @@ ghost use Rattle.std.specs.Prelude.{◌≡◌, ◌↔◌, IsTrue};
 ghost use Rattle.cosem_axdr.specs.Tree.{trees_of, count_of, no_trees};
 ghost use Rattle.cosem_axdr.specs.View.{all_trees, list_of};
 
-use octets::Octets;
 use std::marker::Model;
+use wire_bytes::Octets;
 
 /// A value of the DLMS/COSEM type Data (IEC 62056-6-2, common data types). Two values are equal if
 /// their trees are equal.

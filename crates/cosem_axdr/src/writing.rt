@@ -10,8 +10,8 @@ use crate::length::append_length;
 use crate::tag::tag_of;
 use crate::value::Data;
 use byteorder::{BigEndian, ByteOrder};
-use octets::Octets;
 use std::alloc::{AllocError, Global};
+use wire_bytes::Octets;
 
 /// Appends the text of a value to `out`, with each length in its shortest form. If out of memory,
 /// appends nothing.

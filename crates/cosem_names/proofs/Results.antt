@@ -2,10 +2,10 @@
 use Rattle.std.proofs.Common.{◌≡◌, ℕ, ◌==◌, cond, if◌then◌else◌, Option, Some, None, List, [], ◌∷◌}
 use Rattle.std.proofs.Common.{refl, sym, ap, ◌∙◌, inl, inr}
 use Rattle.std.proofs.lemmas.Bool.{eqb-true}
-use Rattle.byte_reading.specs.ByteFormats.{IsByte, byte}
-use Rattle.byte_reading.proofs.ByteLaws.{byte_lawful}
-use Rattle.byte_reading.proofs.Lawful.{IsLawful, narrow_lawful}
-use Rattle.byte_reading.proofs.OutcomeLemmas.{chosen}
+use Rattle.wire_bytes.specs.ByteFormats.{IsByte, byte}
+use Rattle.wire_bytes.proofs.ByteLaws.{byte_lawful}
+use Rattle.wire_bytes.proofs.Lawful.{IsLawful, narrow_lawful}
+use Rattle.wire_bytes.proofs.OutcomeLemmas.{chosen}
 use Rattle.cosem_names.specs.ResultCode.{code_of, result_of, result}
 use Rattle.cosem_names.specs.declared.result_code.ResultCode.{ResultCode}
 use Rattle.cosem_names.specs.declared.result_code.ResultCode.TheVariants.{Success, HardwareFault}

@@ -5,7 +5,7 @@ use Rattle.std.proofs.lemmas.List.{take_more}
 use Rattle.std.proofs.lemmas.List.Elements.{filter_map-append, All-push, All-head, All-tail}
 use Rattle.std.specs.List.{All, list_any, cons_option}
 use Rattle.std.specs.Result.{result_ok}
-use Rattle.byte_reading.proofs.OutcomeLemmas.{done}
+use Rattle.wire_bytes.proofs.OutcomeLemmas.{done}
 use Rattle.cosem_names.specs.WriteFault.{is_unmatched, fault_of_items, values}
 use Rattle.cosem_names.specs.declared.write_fault.WriteFault.{WriteFault}
 use Rattle.cosem_names.specs.declared.write_fault.WriteFault.TheVariants.{Unmatched, Value}

@@ -30,23 +30,23 @@ abbrev pub name_of : Data → Option Obis
 name_of value = octets_of value >>= name_in
 
 -- the bytes, if there are exactly n
-abbrev pub so_many : ℕ → List ℕ → Option (List ℕ)
-so_many n bytes = if length bytes == n then Some bytes else None
+abbrev pub bytes_of_length : ℕ → List ℕ → Option (List ℕ)
+bytes_of_length n bytes = if length bytes == n then Some bytes else None
 
 -- a date-time, or an octet-string of its twelve bytes
 abbrev pub date_time_bytes_of : Data → Option (List ℕ)
-date_time_bytes_of (OctetString bytes) = so_many 12 bytes
-date_time_bytes_of (DateTime bytes) = so_many 12 bytes
+date_time_bytes_of (OctetString bytes) = bytes_of_length 12 bytes
+date_time_bytes_of (DateTime bytes) = bytes_of_length 12 bytes
 date_time_bytes_of _ = None
 
 -- a date, or an octet-string of its five bytes
 abbrev pub date_bytes_of : Data → Option (List ℕ)
-date_bytes_of (OctetString bytes) = so_many 5 bytes
-date_bytes_of (Date bytes) = so_many 5 bytes
+date_bytes_of (OctetString bytes) = bytes_of_length 5 bytes
+date_bytes_of (Date bytes) = bytes_of_length 5 bytes
 date_bytes_of _ = None
 
 -- a time, or an octet-string of its four bytes
 abbrev pub time_bytes_of : Data → Option (List ℕ)
-time_bytes_of (OctetString bytes) = so_many 4 bytes
-time_bytes_of (Time bytes) = so_many 4 bytes
+time_bytes_of (OctetString bytes) = bytes_of_length 4 bytes
+time_bytes_of (Time bytes) = bytes_of_length 4 bytes
 time_bytes_of _ = None

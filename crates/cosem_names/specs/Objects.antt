@@ -70,3 +70,20 @@ rights_of level reference =
 unfoldable pub may_execute_of : Level → MethodRef → Bool
 may_execute_of level reference =
     unwrap_or (option_map (execution_by level) (method_of reference)) false
+
+-- what a client of this level may do with the attribute of a row
+abbrev pub rights_to : Level → Option Attribute → Rights
+rights_to level row =
+    unwrap_or (option_map (λ row. rights_by (access_by level row)) row) (rights_by NoAccess)
+
+-- what a client of this level may do with an attribute of a class
+unfoldable pub class_rights_of : Level → ClassId → ℕ → Rights
+class_rights_of level class number = rights_to level (class_attribute_of class number)
+
+-- whether a client of this level may execute the method of a row
+abbrev pub execution_to : Level → Option Method → Bool
+execution_to level row = unwrap_or (option_map (execution_by level) row) false
+
+-- whether a client of this level may execute a method of a class
+unfoldable pub class_execution_of : Level → ClassId → ℕ → Bool
+class_execution_of level class number = execution_to level (class_method_of class number)

@@ -1,8 +1,8 @@
 -- The numbers of Data-Access-Result and Action-Result in APDUs (IEC 62056-5-3), and the result of
 -- a number.
 use Rattle.std.specs.Prelude.{ℕ, Option, Some, None, ◌==◌, if◌then◌else◌}
-use Rattle.byte_reading.specs.ByteFormats.{byte}
-use Rattle.byte_reading.specs.Format.{Format, narrow}
+use Rattle.wire_bytes.specs.ByteFormats.{byte}
+use Rattle.wire_bytes.specs.Format.{Format, narrow}
 use Rattle.cosem_names.specs.declared.result_code.ResultCode.{ResultCode}
 use Rattle.cosem_names.specs.declared.result_code.ResultCode.TheVariants.{Success, HardwareFault, TemporaryFailure, ReadWriteDenied, ObjectUndefined, ObjectClassInconsistent, TypeUnmatched, ScopeOfAccessViolated, NoLongGetInProgress, NoLongSetInProgress, DataBlockNumberInvalid, OtherReason}
 

@@ -1,6 +1,6 @@
 //! Looks up objects, attributes and methods in the table, with the rights of each access level.
 ghost use Rattle.std.specs.Prelude.{◌≡◌, option_map};
-ghost use Rattle.cosem_names.specs.Objects.{object_of, class_attribute_of, class_method_of, attribute_of, method_of, rights_of, may_execute_of};
+ghost use Rattle.cosem_names.specs.Objects.{object_of, class_attribute_of, class_method_of, attribute_of, method_of, rights_of, class_rights_of, rights_to, may_execute_of, class_execution_of, execution_to};
 
 use crate::level::{Level, Rights};
 use crate::name::{AttrRef, ClassId, MethodRef, Obis};
@@ -11,7 +11,7 @@ use crate::objects::{ATTRIBUTES, Access, Attribute, METHODS, Method, OBJECTS, Ob
 pub fn object(name: Obis) -> Option<Object>
     ensures { result ≡ object_of name }
 {
-    OBJECTS.iter().copied().find(|row| row.name == name)
+    OBJECTS.iter().copied().find(|row| row.name.equals(name))
 }
 
 /// Returns the class of the object with this logical name, or `None` if no object has it.
@@ -75,7 +75,23 @@ fn method(reference: &MethodRef) -> Option<Method>
 pub fn rights(level: Level, reference: &AttrRef) -> Rights
     ensures { result ≡ rights_of level reference.now }
 {
-    let Some(row) = attribute(reference) else {
+    rights_in(level, attribute(reference))
+}
+
+/// Returns the rights of a client of this level to an attribute of a class. If the class has no
+/// such attribute, it may neither read nor write.
+#[tactic(auto, unfolding(crate::specs::Objects::class_rights_of))]
+pub fn class_rights(level: Level, class: ClassId, number: u8) -> Rights
+    ensures { result ≡ class_rights_of level class number }
+{
+    rights_in(level, class_attribute(class, number))
+}
+
+// Returns the rights of a client of this level to the attribute of a row.
+fn rights_in(level: Level, row: Option<Attribute>) -> Rights
+    ensures { result ≡ rights_to level row }
+{
+    let Some(row) = row else {
         return Rights {
             read: false,
             write: false,
@@ -106,7 +122,23 @@ pub fn rights(level: Level, reference: &AttrRef) -> Rights
 pub fn may_execute(level: Level, reference: &MethodRef) -> bool
     ensures { result ≡ may_execute_of level reference.now }
 {
-    match (method(reference), level) {
+    may_execute_in(level, method(reference))
+}
+
+/// Returns whether a client of this level may execute a method of a class. False if the class has
+/// no such method.
+#[tactic(auto, unfolding(crate::specs::Objects::class_execution_of))]
+pub fn may_execute_of_class(level: Level, class: ClassId, number: u8) -> bool
+    ensures { result ≡ class_execution_of level class number }
+{
+    may_execute_in(level, class_method(class, number))
+}
+
+// Returns whether a client of this level may execute the method of a row.
+fn may_execute_in(level: Level, row: Option<Method>) -> bool
+    ensures { result ≡ execution_to level row }
+{
+    match (row, level) {
         (None, _) => false,
         (Some(row), Level::Public) => row.public,
         (Some(row), Level::Management) => row.management,

@@ -1,7 +1,7 @@
 //! Reads logical names from Data, and dates and times in the two types in which clients may write
 //! them (IEC 62056-6-2).
 ghost use Rattle.std.specs.Prelude.{◌≡◌, ℕ, option_map};
-ghost use Rattle.cosem_names.specs.Forms.{so_many, name_of, date_time_bytes_of, date_bytes_of, time_bytes_of};
+ghost use Rattle.cosem_names.specs.Forms.{bytes_of_length, name_of, date_time_bytes_of, date_bytes_of, time_bytes_of};
 
 use crate::name::Obis;
 use cosem_axdr::Data;
@@ -26,7 +26,7 @@ pub fn name_in(value: &Data) -> Option<Obis>
 
 // Returns the bytes, or `None` if their number is not `length`.
 fn of_length(bytes: &[u8], length: usize) -> Option<&[u8]>
-    ensures { option_map (λ bytes. bytes.now) result ≡ so_many length bytes.now }
+    ensures { option_map (λ bytes. bytes.now) result ≡ bytes_of_length length bytes.now }
 {
     if bytes.len() == length {
         Some(bytes)

@@ -18,7 +18,9 @@ mod service;
 mod unknown_number;
 mod write_fault;
 
-pub use access::{attribute, find, may_execute, object, rights};
+pub use access::{
+    attribute, class_rights, find, may_execute, may_execute_of_class, object, rights,
+};
 pub use forms::{date_bytes, date_time_bytes, name_in, time_bytes};
 pub use judging::judge_each;
 pub use laws::tables_are_told;

@@ -1,7 +1,7 @@
 -- The attributes of the switch after its logical name: their numbers, and their values as Data when
 -- read and written (IEC 62056-6-2, class 70).
 use Rattle.std.specs.Prelude.{ℕ, Option, Some, None, ok_or, Result, Ok, Err, ◌==◌, if◌then◌else◌}
-use Rattle.byte_reading.specs.Outcome.{◌>>=◌}
+use Rattle.wire_bytes.specs.Outcome.{◌>>=◌}
 use Rattle.cosem_axdr.specs.Forms.{enumerated_of}
 use Rattle.cosem_axdr.specs.declared.value.Data.{Data}
 use Rattle.cosem_axdr.specs.declared.value.Data.TheVariants.{Boolean, Enum}

@@ -2,8 +2,8 @@
 use Rattle.std.proofs.Common.{◌≡◌, ◌≢◌, ℕ, suc, List, [], ◌∷◌, ◌++◌, map, Option, Some, None, Ok, Err, refl, sym, ap, ◌∙◌, append_assoc}
 use Rattle.std.specs.Prelude.{IsSome, Result}
 use Rattle.std.proofs.lemmas.List.Concat.{flat_map-append}
-use Rattle.trace_text.specs.Lines.{lines_of, unended_of}
-use Rattle.trace_text.proofs.JoinedTexts.{lines_joined, unended_joined}
+use Rattle.text_lines.specs.Lines.{lines_of, unended_of}
+use Rattle.text_lines.proofs.JoinedTexts.{lines_joined, unended_joined}
 use Rattle.client_core.specs.declared.job.Job.{Job}
 use Rattle.head_end.specs.declared.row.Row.{Row}
 use Rattle.head_end.specs.declared.row.Row.TheVariants.{Came, Memory}

@@ -3,9 +3,9 @@ use Rattle.std.proofs.Common.{◌≡◌, ◌+◌, ◌≤◌, ◌-◌, ℕ, suc, 
 use Rattle.std.specs.Prelude.{Result}
 use Rattle.std.proofs.lemmas.List.Sums.{count_by-le-length}
 use Rattle.std.proofs.lemmas.List.Splits.{length-slice_split}
-use Rattle.trace_text.proofs.Cuts.{is_byte}
-use Rattle.trace_text.specs.Parts.{parts_at}
-use Rattle.trace_text.specs.Lines.{all_but_last, lines_of, unended_of}
+use Rattle.text_lines.proofs.Cuts.{is_byte}
+use Rattle.text_lines.specs.Parts.{parts_at}
+use Rattle.text_lines.specs.Lines.{all_but_last, lines_of, unended_of}
 use Rattle.client_core.specs.declared.job.Job.{Job}
 use Rattle.head_end.specs.declared.fault.JobsFault.{JobsFault}
 use Rattle.head_end.specs.declared.fault.JobsFault.TheVariants as fault

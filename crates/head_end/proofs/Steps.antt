@@ -1,12 +1,12 @@
 -- A client follows the initially predicted reads of its connection.
 use Rattle.std.proofs.Common.{◌≡◌, ℕ, suc, Bool, true, false, List, [], ◌++◌, Option, Some, None, Ok, Err, sym, ap, subst, ◌∙◌, append-nil}
 use Rattle.std.specs.Prelude.{unwrap_or}
-use Rattle.byte_streams.specs.declared.fault.StreamFault.{StreamFault}
+use Rattle.counted_io.specs.declared.fault.StreamFault.{StreamFault}
 use Rattle.client_core.specs.declared.client.Client.{Client}
 use Rattle.client_core.specs.declared.job.Verb.{Verb}
 use Rattle.client_core.specs.declared.job.Outcome.{Outcome}
 use Rattle.client_core.specs.declared.job.Outcome.TheVariants.{Unknown}
-use Rattle.client_core.specs.Standing.{Stands, Gives, Ends, Tells}
+use Rattle.client_core.specs.Standing.{Stands, GivesNextMessage, Ends, Tells}
 use Rattle.head_end.specs.Connections.{Forecast, WriteTells, failed}
 use Rattle.head_end.specs.Conversations.{Follows, At, AtEnd, GivesUp, SendsAll}
 
@@ -37,7 +37,7 @@ all_fed start verb password left given client now fed follows stands none =
 -- ---- writing
 
 at_written : (start : Forecast) (verb : Verb) (password text : List ℕ) (left : ℕ) (old new : Client)
-    (before after : Option Forecast) → Gives old (Some text) new
+    (before after : Option Forecast) → GivesNextMessage old (Some text) new
     → WriteTells {X = Unit {0}} before (Ok tt) after → At start verb password left old before
     → At start verb password left new after
 at_written start verb password text left old new before after gives writes at =
@@ -55,7 +55,7 @@ at_written start verb password text left old new before after gives writes at =
     }
 
 at_cut : (start : Forecast) (verb : Verb) (password text : List ℕ) (left : ℕ) (old new : Client)
-    (before after : Option Forecast) (fault : StreamFault) → Gives old (Some text) new
+    (before after : Option Forecast) (fault : StreamFault) → GivesNextMessage old (Some text) new
     → WriteTells {X = Unit {0}} before (Err fault) after → At start verb password left old before
     → AtEnd start verb password new
 at_cut start verb password text left old new before after fault gives writes at =
@@ -76,7 +76,7 @@ all_twice old mid new before between after goes_on first second = record {
 }
 
 pub all_text : (old new : Client) (text : List ℕ) (before after : Option Forecast)
-    → Gives old (Some text) new → WriteTells {X = Unit {0}} before (Ok tt) after
+    → GivesNextMessage old (Some text) new → WriteTells {X = Unit {0}} before (Ok tt) after
     → SendsAll old before true new after
 all_text old new text before after gives writes = record {
   on = λ start verb password left at. at_written start verb password text left old new before after
@@ -84,14 +84,14 @@ all_text old new text before after gives writes = record {
 }
 
 pub all_cut : (old new : Client) (text : List ℕ) (before after : Option Forecast)
-    (fault : StreamFault) → Gives old (Some text) new
+    (fault : StreamFault) → GivesNextMessage old (Some text) new
     → WriteTells {X = Unit {0}} before (Err fault) after → SendsAll old before false new after
 all_cut old new text before after fault gives writes = record {
   on = λ start verb password left at. at_cut start verb password text left old new before after
       fault gives writes at;
 }
 
-pub all_nothing : (old new : Client) (now : Option Forecast) → Gives old None new
+pub all_nothing : (old new : Client) (now : Option Forecast) → GivesNextMessage old None new
     → SendsAll old now true new now
 all_nothing old new now gives = record {
   on = λ start verb password left at. record {

@@ -3,19 +3,19 @@ use Rattle.std.proofs.Common.{◌≡◌, ◌≢◌, ◌≤◌, ◌<◌, ◌+◌,
 use Rattle.std.specs.Prelude.{Option, Result, IsSome}
 use Rattle.std.specs.Result.{IsErr}
 use Rattle.std.specs.List.{concat}
-use Rattle.byte_streams.specs.declared.fault.StreamFault.{StreamFault}
+use Rattle.counted_io.specs.declared.fault.StreamFault.{StreamFault}
 use Rattle.client_core.specs.declared.client.Client.{Client}
 use Rattle.client_core.specs.declared.job.Verb.{Verb}
 use Rattle.client_core.specs.declared.job.Outcome.{Outcome}
 use Rattle.client_core.specs.declared.progress.Progress.{Progress}
 use Rattle.client_core.specs.Outcomes.{progress_of, outcome_after, outcome_of, due, is_served}
 use Rattle.client_core.specs.Texts.{text_at}
-use Rattle.client_core.specs.Standing.{Stands, Gives, Feeds, Tells}
+use Rattle.client_core.specs.Standing.{Stands, GivesNextMessage, Feeds, Tells}
 use Rattle.client_core.proofs.Accepting.{accepted_stays}
 use Rattle.client_core.proofs.Lookups.{nothing_said}
 use Rattle.head_end.specs.Connections.{ended}
 use Rattle.head_end.specs.Logs.{Happening, heard, heard_nothing, sent, cut_off, heard_in, sent_in, reads_in, ReadLogs, WriteLogs, IsFront, IsCutOff}
-use Rattle.head_end.specs.Wires.{due_text, given_text, IsDueNext, Listens, GoesOn, Conversation, HasConversed}
+use Rattle.head_end.specs.Wires.{due_text, given_text, IsDueNext, Listens, Permits, Conversation, HasConversed}
 use Rattle.head_end.specs.Conversations.{GivesUp, Talks, HasSent, Waits, IsCut, SentAfter, Sends, TurnAfter, TakesTurn, Speaks}
 use Rattle.head_end.proofs.Texts.{due_by, given_by, given_within, all_given, three_given, given_front, front_more, due_grows}
 
@@ -164,13 +164,14 @@ pub record TalksFrom (count : ℕ) (verb : Verb) (password : List ℕ) (reads : 
   pub talks : Talks verb password reads client now
   pub some : count ≤ talks.given
 
-pub record Keeps (count : ℕ) (old : Client) (before : Option (List Happening)) (new : Client)
+pub record KeepsTalking (count : ℕ) (old : Client) (before : Option (List Happening)) (new : Client)
     (after : Option (List Happening)) : Type 0 where
   pub on : (verb : Verb) (password : List ℕ) (reads : ℕ) → Talks verb password reads old before
       → TalksFrom count verb password reads new after
   pub unknown : before ≡ None → after ≡ None
 
-pub keeps_none : (client : Client) (now : Option (List Happening)) → Keeps 0 client now client now
+pub keeps_none : (client : Client) (now : Option (List Happening))
+    → KeepsTalking 0 client now client now
 keeps_none client now = record {
   on = λ verb password reads talks. record
       { talks = talks; some = omega arith };
@@ -200,7 +201,7 @@ cut_log : (log : List Happening) (text : List ℕ) (before after : Option (List 
 cut_log log text before after fault is writes = rw is at writes
 
 talks_sent : (verb : Verb) (password text : List ℕ) (reads : ℕ) (old new : Client)
-    (before after : Option (List Happening)) → Gives old (Some text) new
+    (before after : Option (List Happening)) → GivesNextMessage old (Some text) new
     → WriteLogs {X = Unit {0}} before text (Ok tt) after
     → (t : Talks verb password reads old before) → TalksFrom
     (suc t.given) verb password reads new after
@@ -230,16 +231,16 @@ talks_sent verb password text reads old new before after gives writes t =
         more = λ whole next goes.
             let all = t.more whole (sent text ∷ next)
             (due_in verb password text t.log t.given t.sent_is is, goes) in
-            subst (λ (log : List Happening). GoesOn whole verb password [] log) (sym
+            subst (λ (log : List Happening). Permits whole verb password [] log) (sym
             (append_assoc t.log (sent text ∷ []) next)) all;
       };
       some = omega arith;
     }
 
 pub keeps_text : (count : ℕ) (old mid new : Client) (text : List ℕ) (first before after : Option
-    (List Happening)) → Keeps count old first mid before
-    → Gives mid (Some text) new → WriteLogs {X = Unit {0}} before text (Ok tt) after
-    → Keeps (count + 1) old first new after
+    (List Happening)) → KeepsTalking count old first mid before
+    → GivesNextMessage mid (Some text) new → WriteLogs {X = Unit {0}} before text (Ok tt) after
+    → KeepsTalking (count + 1) old first new after
 keeps_text count old mid new text first before after keeps gives writes = record {
   on = λ verb password reads talks.
       let here = keeps.on verb password reads talks in
@@ -251,7 +252,7 @@ keeps_text count old mid new text first before after keeps gives writes = record
 
 -- no message may be sent
 talks_quiet : (verb : Verb) (password : List ℕ) (reads : ℕ) (old new : Client) (now : Option
-    (List Happening)) → Gives old None new
+    (List Happening)) → GivesNextMessage old None new
     → Talks verb password reads old now → HasSent verb password reads new now
 talks_quiet verb password reads old new now gives t = record {
   talks = record {
@@ -269,7 +270,7 @@ talks_quiet verb password reads old new now gives t = record {
 }
 
 pub sends_none : (count : ℕ) (old mid new : Client) (first before : Option (List Happening))
-    → Keeps count old first mid before → Gives mid None new
+    → KeepsTalking count old first mid before → GivesNextMessage mid None new
     → Sends old first true new before
 sends_none count old mid new first before keeps gives = record {
   on = λ verb password reads talks. talks_quiet verb password reads mid new before gives
@@ -279,7 +280,7 @@ sends_none count old mid new first before keeps gives = record {
 
 -- three messages were written
 pub sends_three : (count : ℕ) (old new : Client) (first before : Option (List Happening))
-    → 3 ≤ count → Keeps count old first new before
+    → 3 ≤ count → KeepsTalking count old first new before
     → Sends old first true new before
 sends_three count old new first before many keeps = record {
   on = λ verb password reads talks.
@@ -298,7 +299,7 @@ sends_three count old new first before many keeps = record {
 -- a write fails
 talks_cut : (verb : Verb) (password text : List ℕ) (reads : ℕ) (old new : Client)
     (before after : Option (List Happening)) (fault : StreamFault)
-    → Gives old (Some text) new → WriteLogs {X = Unit {0}} before text (Err fault) after
+    → GivesNextMessage old (Some text) new → WriteLogs {X = Unit {0}} before text (Err fault) after
     → Talks verb password reads old before
     → IsCut verb password new after
 talks_cut verb password text reads old new before after fault gives writes t =
@@ -320,7 +321,7 @@ talks_cut verb password text reads old new before after fault gives writes t =
 
 pub sends_cut : (count : ℕ) (old mid new : Client) (text : List ℕ) (first before after : Option
     (List Happening)) (fault : StreamFault)
-    → Keeps count old first mid before → Gives mid (Some text) new
+    → KeepsTalking count old first mid before → GivesNextMessage mid (Some text) new
     → WriteLogs {X = Unit {0}} before text (Err fault) after
     → Sends old first false new after
 sends_cut count old mid new text first before after fault keeps gives writes = record {
@@ -443,7 +444,7 @@ talks_heard verb password bytes reads old new before after w feeds is =
       reads_are = reads_heard t.log bytes ∙ ap suc t.reads_are;
       more = λ whole next goes.
           let all = t.more whole (heard bytes ∷ next) (w.listens, goes) in
-          subst (λ (log : List Happening). GoesOn whole verb password [] log) (sym
+          subst (λ (log : List Happening). Permits whole verb password [] log) (sym
           (append_assoc t.log (heard bytes ∷ []) next)) all;
     }
 
@@ -502,7 +503,7 @@ settled_by E verb password reads client now (Some outcome) tells s =
     record {
       log = t.log;
       log_is = t.log_is;
-      conversation = subst (λ (log : List Happening). GoesOn true verb password [] log)
+      conversation = subst (λ (log : List Happening). Permits true verb password [] log)
           (append-nil t.log) all;
       outcome_is =
           sym (tells.stays verb password (heard_in t.log) t.given false t.stands outcome settled [])
@@ -616,7 +617,7 @@ speaks_last old client begun now reads outcome all reaches gives = record {
       record {
         log = t.log;
         log_is = t.log_is;
-        conversation = subst (λ (log : List Happening). GoesOn true verb password [] log)
+        conversation = subst (λ (log : List Happening). Permits true verb password [] log)
             (append-nil t.log) whole;
         outcome_is = gives_at verb password (heard_in t.log) t.given client outcome gives t.stands;
       };

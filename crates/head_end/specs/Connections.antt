@@ -2,7 +2,7 @@
 --     Forecast              the results of a number of reads of a connection
 --     ReadTells, WriteTells, ConnectTells      the effect of a read, a write and a connect on them
 use Rattle.std.specs.Prelude.{◌≡◌, ℕ, zero, suc, List, [], ◌++◌, length, take, Option, Some, None, Result, Ok, Err, ⊤}
-use Rattle.byte_streams.specs.declared.fault.StreamFault.{StreamFault}
+use Rattle.counted_io.specs.declared.fault.StreamFault.{StreamFault}
 use Rattle.head_end.specs.declared.connection.ConnectFault.{ConnectFault}
 
 -- how the bytes of a connection end: at its end, at a failed read or write, or not yet

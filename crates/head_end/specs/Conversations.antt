@@ -11,7 +11,7 @@ use Rattle.client_core.specs.Outcomes.{progress_of, due, outcome_of}
 use Rattle.client_core.specs.Standing.{Stands}
 use Rattle.head_end.specs.Connections.{Forecast}
 use Rattle.head_end.specs.Logs.{Happening, heard_in, sent_in, reads_in}
-use Rattle.head_end.specs.Wires.{due_text, given_text, Listens, GoesOn, Conversation, HasConversed}
+use Rattle.head_end.specs.Wires.{due_text, given_text, Listens, Permits, Conversation, HasConversed}
 
 -- of the initially predicted bytes these were read, and this number of reads is left
 pub record Follows (start : Forecast) (now : Option Forecast) (seen : List ℕ)
@@ -81,8 +81,8 @@ pub record Talks (verb : Verb) (password : List ℕ) (reads : ℕ) (client : Cli
   pub sent_is : sent_in log ≡ given_text verb password given
   pub within : given ≤ length (due verb password (progress_of verb (heard_in log)))
   pub reads_are : reads_in log ≡ reads
-  pub more : (whole : Bool) (next : List Happening) → GoesOn whole verb password log next
-      → GoesOn whole verb password [] (log ++ next)
+  pub more : (whole : Bool) (next : List Happening) → Permits whole verb password log next
+      → Permits whole verb password [] (log ++ next)
 
 -- all messages that may be sent were sent
 pub record HasSent (verb : Verb) (password : List ℕ) (reads : ℕ) (client : Client) (now : Option

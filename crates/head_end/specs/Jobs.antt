@@ -5,8 +5,8 @@
 --     jobs_of           the jobs of a text, or its fault
 use Rattle.std.specs.Prelude.{◌≡◌, ℕ, suc, Bool, ◌&&◌, nat_lt, nat_le, if◌then◌else◌, List, [], ◌∷◌, ◌++◌, length, codes, decimal, bytes_eq, Option, Some, None, Result, Ok, Err}
 use Rattle.std.specs.List.{list_all}
-use Rattle.trace_text.specs.Lines.{lines_of, unended_of}
-use Rattle.trace_text.specs.Words.{words_of}
+use Rattle.text_lines.specs.Lines.{lines_of, unended_of}
+use Rattle.text_lines.specs.Words.{words_of}
 use Rattle.client_core.specs.declared.job.Job.{Job}
 use Rattle.client_core.specs.declared.job.Verb.{Verb}
 use Rattle.client_core.specs.declared.job.Verb.TheVariants.{Disconnect, Reconnect, ReadState}

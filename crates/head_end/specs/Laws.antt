@@ -7,7 +7,7 @@
 --     campaign_text     the report of jobs, as a function of the connector's predictions
 use Rattle.std.specs.Prelude.{◌≡◌, ◌≢◌, ℕ, List, [], ◌∷◌, ◌++◌, length, map, Option, Some, None, IsSome, Ok, ⊤}
 use Rattle.std.specs.List.{All}
-use Rattle.trace_text.specs.Lines.{unended_of}
+use Rattle.text_lines.specs.Lines.{unended_of}
 use Rattle.client_core.specs.declared.job.Job.{Job}
 use Rattle.client_core.specs.declared.job.Outcome.TheVariants.{Unknown}
 use Rattle.client_core.specs.Outcomes.{outcome_of}

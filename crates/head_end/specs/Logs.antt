@@ -3,7 +3,7 @@
 --     heard_in, sent_in     the bytes that were received, and the bytes that were sent
 --     ReadLogs, WriteLogs   what a read and a write add to the log of a connection
 use Rattle.std.specs.Prelude.{◌≡◌, ℕ, zero, suc, List, [], ◌∷◌, ◌++◌, take, Option, Some, None, Result, Ok, Err, ⊤}
-use Rattle.byte_streams.specs.declared.fault.StreamFault.{StreamFault}
+use Rattle.counted_io.specs.declared.fault.StreamFault.{StreamFault}
 
 -- a read that returned bytes; a read that returned none, at the end of the connection or after a
 -- failure; a write; a write that failed after this prefix of its bytes

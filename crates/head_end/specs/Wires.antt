@@ -41,19 +41,19 @@ EndsAt true verb password log = (sent_in log ≡ due_text verb password (heard_i
 
 -- what may follow a log: bytes that may be sent next, or, if all were sent, a read. Nothing follows
 -- a read without bytes or a write that failed
-abbrev pub GoesOn : Bool → Verb → List ℕ → List Happening → List Happening → Type 0
-GoesOn whole verb password log [] = EndsAt whole verb password log
-GoesOn whole verb password log (heard bytes ∷ later) = Listens verb password log
-    × GoesOn whole verb password (log ++ heard bytes ∷ []) later
-GoesOn whole verb password log (heard_nothing ∷ later) = Listens verb password log × (later ≡ [])
-GoesOn whole verb password log (sent bytes ∷ later) = IsDueNext verb password log bytes
-    × GoesOn whole verb password (log ++ sent bytes ∷ []) later
-GoesOn whole verb password log (cut_off bytes ∷ later) = IsDueNext verb password log bytes
+abbrev pub Permits : Bool → Verb → List ℕ → List Happening → List Happening → Type 0
+Permits whole verb password log [] = EndsAt whole verb password log
+Permits whole verb password log (heard bytes ∷ later) = Listens verb password log
+    × Permits whole verb password (log ++ heard bytes ∷ []) later
+Permits whole verb password log (heard_nothing ∷ later) = Listens verb password log × (later ≡ [])
+Permits whole verb password log (sent bytes ∷ later) = IsDueNext verb password log bytes
+    × Permits whole verb password (log ++ sent bytes ∷ []) later
+Permits whole verb password log (cut_off bytes ∷ later) = IsDueNext verb password log bytes
     × (later ≡ [])
 
 -- a conversation from its start, whole or cut short out of memory
 abbrev pub Conversation : Bool → Verb → List ℕ → List Happening → Type 0
-Conversation whole verb password log = GoesOn whole verb password [] log
+Conversation whole verb password log = Permits whole verb password [] log
 
 -- this log is a conversation: a whole one, with the outcome of the bytes received; or one without
 -- an outcome, cut short out of memory

@@ -177,7 +177,7 @@ impl<'a, W: Watcher> Campaign<'a, W> {
     {
         if let Some(job) = self.jobs.get(place_of(self.turns, self.workers, slot)) {
             place.row = run_job(alloc, job, &mut place.attempt, self.password);
-            self.watcher.done(job, place.row);
+            self.watcher.on_job_done(job, place.row);
         }
     }
 }

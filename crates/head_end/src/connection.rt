@@ -5,8 +5,8 @@ ghost use Rattle.std.specs.Io.{ReadsAtMost};
 ghost use Rattle.head_end.specs.Connections.{Forecast, ReadTells, WriteTells, ConnectTells};
 ghost use Rattle.head_end.specs.Logs.{Happening, ReadLogs, WriteLogs, IsNewLog};
 
-use byte_streams::StreamFault;
 use cosem_axdr::Octets;
+use counted_io::StreamFault;
 use thiserror::Error;
 
 /// A connection to a meter, for reading and writing.

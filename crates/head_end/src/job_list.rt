@@ -4,8 +4,8 @@ ghost use Rattle.head_end.specs.Jobs.{limited_jobs};
 
 use crate::fault::JobsFault;
 use client_core::Job;
-use listed::Listed;
 use std::marker::Model;
+use wire_bytes::Listed;
 
 /// The maximum number of jobs of a campaign.
 pub const MAX_JOBS: usize = 1_000;

@@ -7,9 +7,9 @@ use crate::fault::JobsFault;
 use crate::job_list::Jobs;
 use client_core::{Job, Verb};
 use cosem_axdr::Octets;
-use listed::Listed;
 use std::alloc::{AllocError, Global};
-use trace_text::{Words, split_line};
+use text_lines::{Words, split_line};
+use wire_bytes::Listed;
 
 /// The longest name of a job, in bytes.
 pub const MAX_ID: usize = 32;

@@ -5,7 +5,7 @@ ghost use Rattle.std.specs.Io.{ReadsAtMost};
 ghost use Rattle.head_end.specs.Logs.{Happening, ReadLogs, WriteLogs};
 
 use crate::connection::Connection;
-use byte_streams::StreamFault;
+use counted_io::StreamFault;
 use std::time::{Clock, Duration, Instant};
 
 /// A stream whose next read or write has a time limit.

@@ -3,8 +3,8 @@ ghost use Rattle.std.specs.Prelude.{◌≡◌, IfSome};
 
 use crate::connection::{ConnectFault, Connector};
 use crate::limited::{LimitedConnection, LimitedStream};
-use byte_streams::{Counted, Reader, StreamFault, Writer};
 use cosem_axdr::Octets;
+use counted_io::{Counted, Reader, StreamFault, Writer};
 use std::net::{Net, TcpStream, ToSocketAddrs};
 use std::time::{Clock, Duration, Instant};
 

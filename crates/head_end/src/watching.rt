@@ -6,7 +6,7 @@ use client_core::Job;
 /// the job. It does not influence the results.
 pub trait Watcher: Sync {
     /// Is called with a job and its result.
-    fn done(&self, job: &Job, row: Row);
+    fn on_job_done(&self, job: &Job, row: Row);
 }
 
 /// A watcher that does nothing.
@@ -14,5 +14,5 @@ pub trait Watcher: Sync {
 pub struct UnwatchedCampaign;
 
 impl Watcher for UnwatchedCampaign {
-    fn done(&self, _job: &Job, _row: Row) {}
+    fn on_job_done(&self, _job: &Job, _row: Row) {}
 }

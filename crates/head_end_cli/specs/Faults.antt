@@ -1,10 +1,10 @@
 -- The program's fault for each reason why the list of jobs was not read.
-use Rattle.byte_streams.specs.declared.fault.InputFault.{InputFault}
-use Rattle.byte_streams.specs.declared.fault.InputFault.TheVariants as input
+use Rattle.counted_io.specs.declared.fault.InputFault.{InputFault}
+use Rattle.counted_io.specs.declared.fault.InputFault.TheVariants as input
 use Rattle.head_end.specs.declared.fault.JobsFault.{JobsFault}
 use Rattle.head_end.specs.declared.fault.JobsFault.TheVariants as jobs
-use Rattle.program_fault.specs.declared.Fault.{Fault}
-use Rattle.program_fault.specs.declared.Fault.TheVariants as program
+use Rattle.program.specs.declared.fault.Fault.{Fault}
+use Rattle.program.specs.declared.fault.Fault.TheVariants as program
 
 -- the fault if standard input was not read
 abbrev pub input_fault : InputFault → Fault

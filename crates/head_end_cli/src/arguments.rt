@@ -1,6 +1,6 @@
 //! The command line and its help.
 use clap::{Arg, ArgAction, Command, value_parser};
-use program_start::{with_argument, with_subcommand};
+use program::{with_argument, with_subcommand};
 use std::alloc::{AllocError, Global};
 
 // The end of `--help`.

@@ -48,7 +48,7 @@ pub(crate) struct ProgressWatch<'a> {
 }
 
 impl<'a> Watcher for ProgressWatch<'a> {
-    fn done(&self, _job: &Job, row: Row) {
+    fn on_job_done(&self, _job: &Job, row: Row) {
         let done = self
             .progress
             .done

@@ -2,11 +2,11 @@
 ghost use Rattle.std.specs.Prelude.{◌≡◌};
 ghost use Rattle.head_end_cli.specs.Faults.{input_fault, jobs_fault};
 
-use byte_streams::InputFault;
+use counted_io::InputFault;
 use head_end::{JobsFault, MAX_ADDRESS, MAX_ID};
-use program_fault::Fault;
+use program::Fault;
+use text_lines::{TextLines, Words};
 use thiserror::Error;
-use trace_text::{TextLines, Words};
 
 // Returns the program's fault if standard input cannot be read.
 pub(crate) fn input_fault(fault: InputFault) -> Fault

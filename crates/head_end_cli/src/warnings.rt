@@ -1,15 +1,16 @@
 //! Warnings about jobs that are valid but may be mistakes. A warning does not change what is run.
+use crate::text_filter::TextFilter;
 use client_core::Job;
 use head_end::Jobs;
 use memchr::{memchr, memrchr};
 use std::net::SocketAddr;
-use trace_text::read_number;
+use text_lines::read_number;
 
 // Writes the warnings about all jobs of a text to standard error, a line each.
 pub(crate) fn warn(rt: &HostRuntime, text: &[u8], jobs: &Jobs) {
     let mut number: u64 = 0;
-    let mut place: usize = 0;
     let mut rest = jobs.as_slice().iter();
+    let mut earlier = EarlierJobs::new(text, jobs.as_slice());
     for line in text.split(|byte| *byte == b'\n') {
         number = number.saturating_add(1);
         if line.is_empty() {
@@ -17,8 +18,8 @@ pub(crate) fn warn(rt: &HostRuntime, text: &[u8], jobs: &Jobs) {
         }
         if let Some(job) = rest.next() {
             warn_of_job(rt, number, job);
-            warn_of_earlier(rt, number, text, jobs.as_slice(), place, job);
-            place = place.saturating_add(1);
+            earlier.warn_of_double(rt, number, job);
+            earlier.add(job);
         }
     }
 }
@@ -35,52 +36,65 @@ fn warn_of_job(rt: &HostRuntime, number: u64, job: &Job) {
     }
 }
 
-// Writes the warnings about a name or an address that an earlier line has too. `place` is the index
-// of the job in the list.
-fn warn_of_earlier(
-    rt: &HostRuntime,
-    number: u64,
-    text: &[u8],
-    jobs: &[Job],
-    place: usize,
-    job: &Job,
-) {
-    if let Some(first) = first_named(jobs, place, job.id.as_slice()) {
-        let first = line_of(text, first);
-        let _ = eprintln!(rt; "line {number}: warning: line {first} has the same name");
-    }
-    if let Some(first) = first_at(jobs, place, job.address.as_slice()) {
-        let first = line_of(text, first);
-        let _ = eprintln!(rt;
-            "line {number}: warning: line {first} has the same address: the two run in any order"
-        );
-    }
+// The jobs before one of a list, of which `count` came so far.
+#[derive(Drop)]
+struct EarlierJobs<'a> {
+    text: &'a [u8],
+    jobs: &'a [Job],
+    count: usize,
+    names: TextFilter,
+    addresses: TextFilter,
 }
 
-// Returns the index of the first job before `end` with this name, or `None` if there is none.
-fn first_named(jobs: &[Job], end: usize, name: &[u8]) -> Option<usize> {
-    for (place, job) in jobs.iter().enumerate() {
-        if place >= end {
-            return None;
-        }
-        if job.id.as_slice() == name {
-            return Some(place);
+impl<'a> EarlierJobs<'a> {
+    // Returns the jobs before the first one.
+    fn new(text: &'a [u8], jobs: &'a [Job]) -> EarlierJobs<'a> {
+        EarlierJobs {
+            text,
+            jobs,
+            count: 0,
+            names: TextFilter::new(),
+            addresses: TextFilter::new(),
         }
     }
-    None
-}
 
-// Returns the index of the first job before `end` with this address, or `None` if there is none.
-fn first_at(jobs: &[Job], end: usize, address: &[u8]) -> Option<usize> {
-    for (place, job) in jobs.iter().enumerate() {
-        if place >= end {
-            return None;
+    // Counts a job, and remembers its name and address.
+    fn add(&mut self, job: &Job) {
+        self.count = self.count.saturating_add(1);
+        self.names.add(job.id.as_slice());
+        self.addresses.add(job.address.as_slice());
+    }
+
+    // Writes the warnings about a name or an address of a job that an earlier line has too.
+    fn warn_of_double(&self, rt: &HostRuntime, number: u64, job: &Job) {
+        let (name, address) = (job.id.as_slice(), job.address.as_slice());
+        if self.names.may_have(name) {
+            let place = self.jobs.iter().position(|it| it.id.as_slice() == name);
+            if let Some(first) = self.line_of(place) {
+                let _ = eprintln!(rt; "line {number}: warning: line {first} has the same name");
+            }
         }
-        if job.address.as_slice() == address {
-            return Some(place);
+        if self.addresses.may_have(address) {
+            let place = self
+                .jobs
+                .iter()
+                .position(|it| it.address.as_slice() == address);
+            if let Some(first) = self.line_of(place) {
+                let _ = eprintln!(rt;
+                    "line {number}: warning: line {first} has the same address: \
+                    the two run in any order"
+                );
+            }
         }
     }
-    None
+
+    // Returns the number of the line of the job at a place, or `None` if it is not an earlier one.
+    fn line_of(&self, place: Option<usize>) -> Option<u64> {
+        match place {
+            Some(place) if place < self.count => Some(line_of(self.text, place)),
+            _ => None,
+        }
+    }
 }
 
 // Returns the number of the line of the job at an index. Empty lines are skipped.

@@ -2,7 +2,7 @@
 use Rattle.std.specs.Prelude.{◌≤◌, length, IfSome}
 use Rattle.std.specs.Option.{option_map}
 use Rattle.lane_sampler.specs.declared.samples.Block.TheInside.{Inside}
-use Rattle.lane_sampler.specs.Samples.{Samples, AreEven, most_values}
+use Rattle.lane_sampler.specs.Samples.{Samples, AreEven, max_values}
 use Rattle.lane_sampler.specs.Scans.{AreRightScans}
 
 -- the samples of a block
@@ -12,8 +12,8 @@ samples_of block = record {
   export = option_map (λ v. v.items) block.export;
 }
 
--- a block has at most `most_values` values or pairs, and its scans are right for them
+-- a block has at most `max_values` values or pairs, and its scans are right for them
 pub record IsBlock (block : Inside) : Type 0 where
-  pub few : length block.import.items ≤ most_values
+  pub few : length block.import.items ≤ max_values
   pub even : AreEven (samples_of block)
   pub right : IfSome block.scans.value (AreRightScans (samples_of block))

@@ -2,8 +2,8 @@
 use Rattle.std.specs.Prelude.{◌≡◌, ℕ, List, length, Option, Some, None, IfSome}
 
 -- the maximum number of values, or of pairs of values, in a block
-abbrev pub most_values : ℕ
-most_values = 256
+abbrev pub max_values : ℕ
+max_values = 256
 
 -- the import values, and in a block of pairs the export values
 pub record Samples : Type 0 where

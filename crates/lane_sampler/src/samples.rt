@@ -3,7 +3,7 @@
 ghost use Rattle.std.specs.Prelude.{◌≡◌, ◌≢◌, ◌<◌, ◌≤◌, ◌↔◌, length, IfOk, IfSome, IsErrOf};
 ghost use Rattle.lane_sampler.specs.Numbers.{fault_number};
 ghost use Rattle.std.specs.Option.{option_copied};
-ghost use Rattle.lane_sampler.specs.Samples.{AreEven, most_values, pairs_of, values_alone};
+ghost use Rattle.lane_sampler.specs.Samples.{AreEven, max_values, pairs_of, values_alone};
 ghost use Rattle.lane_sampler.specs.Scans.{AreRightScans, IsRightScan};
 
 use crate::lanes::{Masks, classify};
@@ -85,7 +85,7 @@ impl Block {
     /// more than 256 values, `Memory` if out of memory.
     pub fn from_slice(alloc: Global, values: &[u32]) -> Result<Block, BlockMade>
         ensures made { IfOk result (λ block. block ≡ values_alone values.now) }
-        ensures too_long { IsErrOf result BlockMade.TooLong ↔ (most_values < length values.now) }
+        ensures too_long { IsErrOf result BlockMade.TooLong ↔ (max_values < length values.now) }
         ensures never_uneven { ¬ (IsErrOf result BlockMade.Uneven) }
     {
         if values.len() > MAX_VALUES {
@@ -107,7 +107,7 @@ impl Block {
         ensures made { IfOk result (λ block. block ≡ pairs_of import.now export.now) }
         ensures uneven { IsErrOf result BlockMade.Uneven ↔ (length import.now ≢ length export.now) }
         ensures too_long { IsErrOf result BlockMade.TooLong
-            ↔ ((length import.now ≡ length export.now) × (most_values < length import.now)) }
+            ↔ ((length import.now ≡ length export.now) × (max_values < length import.now)) }
     {
         if import.len() != export.len() {
             return Err(BlockMade::Uneven);
@@ -128,7 +128,7 @@ impl Block {
     /// Returns the import values, at most 256.
     pub fn values(&self) -> &[u32]
         ensures values { result.now ≡ self.now.import }
-        ensures within_max { length self.now.import ≤ most_values }
+        ensures within_max { length self.now.import ≤ max_values }
     {
         &self.import
     }
@@ -138,7 +138,7 @@ impl Block {
     pub fn export(&self) -> Option<&[u32]>
         ensures values { option_copied result ≡ self.now.export }
         ensures same_length { IfSome result (λ values. length values.now ≡ length self.now.import) }
-        ensures within_max { IfSome result (λ values. length values.now ≤ most_values) }
+        ensures within_max { IfSome result (λ values. length values.now ≤ max_values) }
     {
         match &self.export {
             Some(values) => Some(values.as_slice()),
@@ -164,7 +164,7 @@ impl Block {
     /// name. Returns `None` before the first `scan`.
     pub fn scanned(&self) -> Option<&Scans>
         ensures right { IfSome result (λ scans. AreRightScans self.now scans.now) }
-        ensures within_max { length self.now.import ≤ most_values }
+        ensures within_max { length self.now.import ≤ max_values }
         ensures same_length { AreEven self.now }
     {
         match &*self.scans {
@@ -198,7 +198,7 @@ fn scans_of(
     export: Option<&[u32]>,
     export_threshold: u32,
 ) -> Scans
-    requires within_max { length import.now ≤ most_values }
+    requires within_max { length import.now ≤ max_values }
     requires same_length { IfSome export (λ values. length values.now ≡ length import.now) }
     ensures right { AreRightScans
         (record { import = import.now; export = option_copied export.entry }) result }
@@ -215,7 +215,7 @@ fn scans_of(
 }
 
 fn scan_of(values: &[u32], threshold: u32) -> Scan
-    requires { length values.now ≤ most_values }
+    requires { length values.now ≤ max_values }
     ensures right { IsRightScan values.now result }
     ensures threshold { result.threshold ≡ threshold }
 {

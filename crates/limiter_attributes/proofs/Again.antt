@@ -4,8 +4,8 @@ use Rattle.std.proofs.lemmas.Bool.Decides.{nat_tests}
 use Rattle.std.proofs.lemmas.List.{length-map}
 use Rattle.std.specs.List.{filter_map}
 use Rattle.std.specs.Result.{result_ok}
-use Rattle.byte_reading.specs.Outcome.{◌>>=◌, ◌>>◌, guard}
-use Rattle.byte_reading.proofs.OutcomeLemmas.{done, ok_is, bind_ok, guard_ok}
+use Rattle.wire_bytes.specs.Outcome.{◌>>=◌, ◌>>◌, guard}
+use Rattle.wire_bytes.proofs.OutcomeLemmas.{done, ok_is, bind_ok, guard_ok}
 use Rattle.cosem_axdr.specs.Forms.{double_long_unsigned_of, long_unsigned_of}
 use Rattle.cosem_axdr.specs.declared.value.Data.{Data}
 use Rattle.cosem_axdr.specs.declared.value.Data.TheVariants.{DoubleLongUnsigned, LongUnsigned}

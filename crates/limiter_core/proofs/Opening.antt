@@ -5,7 +5,7 @@ use Rattle.std.proofs.lemmas.List.Folds.{prefix_len-replicate}
 use Rattle.limiter_core.specs.declared.count.Count.{Count}
 use Rattle.limiter_core.specs.Rows.{Row, Side, OverThreshold, UnderThreshold, is_past, need, run, any_below, has_fired}
 use Rattle.limiter_core.specs.Counting.{cap, count_of, no_run}
-use Rattle.limiter_core.specs.State.{State, Keeps, IsFit, IsFitCount}
+use Rattle.limiter_core.specs.State.{State, CountsRows, IsFit, IsFitCount}
 use Rattle.limiter_core.specs.Opening.{opened_need, one_over, one_under, opened_rows}
 use Rattle.limiter_core.proofs.Firing.{same_count, counted_by, count_of_none, has_fired_past, reaches_past}
 
@@ -97,7 +97,7 @@ no_count count e fit = same_count count no_run e (fit.none e)
 
 opened_if : (b : Bool) (state : State) → (state.over.run == 0) ≡ b
     → IsFit state.last state.over state.under →
-    Keeps state (if b then replicate state.under.run (one_under state.last state.under)
+    CountsRows state (if b then replicate state.under.run (one_under state.last state.under)
     else replicate state.over.run (one_over state.last state.over))
 opened_if true state e fit =
     let zero : state.over.run ≡ 0 = grind (arith, nat_tests) in
@@ -121,6 +121,6 @@ opened_if false state e fit =
 
 -- a limiter with fit counts represents the rows that restore it
 pub opened : (state : State) → IsFit state.last state.over state.under
-    → Keeps state (opened_rows state.last state.over state.under)
+    → CountsRows state (opened_rows state.last state.over state.under)
 unfolding opened_rows
 opened state fit = opened_if (state.over.run == 0) state refl fit

@@ -9,7 +9,7 @@ use Rattle.limiter_core.specs.declared.settings.Settings.{Settings}
 use Rattle.limiter_core.specs.Rows.{Row, Side, OverThreshold, UnderThreshold, is_past, need, fire_of, fire_past}
 use Rattle.limiter_core.specs.Settings.{Limits, is_active, active_threshold, need_of, row_of, kind_of}
 use Rattle.limiter_core.specs.Counting.{cap, count_of, no_run, count_after, fires_at, before, count_after_run}
-use Rattle.limiter_core.specs.State.{State, limits_of, Keeps, IsLimiter, IsFitCount, state_after_run, rows_after, IsQuiet, AreOfKind, fire_on, quiet_count}
+use Rattle.limiter_core.specs.State.{State, limits_of, CountsRows, IsLimiter, IsFitCount, state_after_run, rows_after, IsQuiet, AreOfKind, fire_on, quiet_count}
 use Rattle.limiter_core.proofs.Firing.{same_count, counted, fire_counted}
 
 -- whether samples of the kind are past the threshold on that side
@@ -247,7 +247,7 @@ room_before n need count other same few =
     let P : Count → Type 0 = λ c. Room n need c in
     subst P same (room_if count.fired n need count refl few)
 
-room_of : (kind : Kind) (state : State) (rows : List Row) (n : ℕ) → Keeps state rows
+room_of : (kind : Kind) (state : State) (rows : List Row) (n : ℕ) → CountsRows state rows
     → n ≤ quiet_count kind state → HasRoom kind (limits_of state) n rows
 room_of Over state rows n keeps few OverThreshold e = room_before n
     (need_of state.settings.min_over_threshold_duration) state.over (count_of OverThreshold rows)
@@ -261,7 +261,7 @@ room_of Equal state rows n keeps few side e = cc
 
 -- as many samples as `quiet_count` says do not fire
 pub quiet_up_to : (kind : Kind) (state : State) (rows : List Row) (values : List ℕ)
-    → IsLimiter state → Keeps state rows → AreOfKind kind (limits_of state).threshold values →
+    → IsLimiter state → CountsRows state rows → AreOfKind kind (limits_of state).threshold values →
     length values ≤ quiet_count kind state → IsQuiet (limits_of state) values rows
 quiet_up_to kind state rows values fit keeps k few =
     are_quiet kind (limits_of state) (are_counted kind state fit) values rows k
@@ -279,7 +279,8 @@ room_always n need count other same small all =
     subst P same (inl (fired_if count.fired need count refl small all))
 
 room_for_all : (kind : Kind) (state : State) (rows : List Row) (n : ℕ) → IsLimiter state
-    → Keeps state rows → quiet_count kind state ≡ 2 ^ 64 - 1 → HasRoom kind (limits_of state) n rows
+    → CountsRows state rows → quiet_count kind state ≡ 2 ^ 64 - 1
+    → HasRoom kind (limits_of state) n rows
 room_for_all Over state rows n fit keeps all OverThreshold e =
     room_always n (need_of state.settings.min_over_threshold_duration) state.over
     (count_of OverThreshold rows) keeps.over (are_counted Over state fit OverThreshold e) all
@@ -293,7 +294,7 @@ room_for_all Equal state rows n fit keeps all side e = cc
 
 -- if no sample would ever fire, any number of them does not
 pub quiet_for_ever : (kind : Kind) (state : State) (rows : List Row) (values : List ℕ)
-    → IsLimiter state → Keeps state rows → AreOfKind kind (limits_of state).threshold values →
+    → IsLimiter state → CountsRows state rows → AreOfKind kind (limits_of state).threshold values →
     quiet_count kind state ≡ 2 ^ 64 - 1 → IsQuiet (limits_of state) values rows
 quiet_for_ever kind state rows values fit keeps k all =
     are_quiet kind (limits_of state) (are_counted kind state fit) values rows k
@@ -324,7 +325,7 @@ fires_then n need count other same small is few =
 
 -- one sample more than those that do not fire
 pub fires_next : (kind : Kind) (state : State) (rows : List Row) (values : List ℕ) (value : ℕ)
-    → IsLimiter state → Keeps state rows → AreOfKind kind (limits_of state).threshold values →
+    → IsLimiter state → CountsRows state rows → AreOfKind kind (limits_of state).threshold values →
     kind_of (limits_of state).threshold value ≡ kind → length values ≡ quiet_count kind state
     → length values < 2 ^ 64 - 1 →
     fire_of (row_of (limits_of state) value ∷ rows_after (limits_of state) values rows)
@@ -362,7 +363,7 @@ fires_next Under state rows values value fit keeps k last all few =
 fires_next Equal state rows values value fit keeps k last all few = absurd (omega (arith, all))
 
 over_after : (kind : Kind) (state : State) (rows : List Row) (values : List ℕ) (side : Side)
-    → past kind side ≡ true → IsLimiter state → Keeps state rows
+    → past kind side ≡ true → IsLimiter state → CountsRows state rows
     → AreOfKind kind (limits_of state).threshold values →
     length values ≤ quiet_count kind state → count_of side
     (rows_after (limits_of state) values rows)
@@ -378,9 +379,9 @@ other_after kind state rows values side e fit k some =
     sym (none_after kind (limits_of state) (are_counted kind state fit) values rows side e k some)
 
 jumped_keeps : (kind : Kind) (state : State) (rows : List Row) (values : List ℕ) (last : ℕ)
-    → IsLimiter state → Keeps state rows → AreOfKind kind (limits_of state).threshold values →
+    → IsLimiter state → CountsRows state rows → AreOfKind kind (limits_of state).threshold values →
     0 < length values → length values ≤ quiet_count kind state
-    → Keeps (state_after_run kind (length values) last state)
+    → CountsRows (state_after_run kind (length values) last state)
     (rows_after (limits_of state) values rows)
 jumped_keeps Over state rows values last fit keeps k some few = record {
   over = ap (count_after_run (length values)) keeps.over
@@ -399,11 +400,11 @@ jumped_keeps Equal state rows values last fit keeps k some few = record {
 
 -- the counts after a run that does not fire are those of its samples
 pub keeps_after : (kind : Kind) (state new : State) (rows : List Row) (values : List ℕ) (n last : ℕ)
-    → IsLimiter state → Keeps state rows → AreOfKind kind (limits_of state).threshold values →
+    → IsLimiter state → CountsRows state rows → AreOfKind kind (limits_of state).threshold values →
     length values ≡ n → 0 < n → n ≤ quiet_count kind state → new ≡ state_after_run kind n last state
-    → Keeps new (rows_after (limits_of state) values rows)
+    → CountsRows new (rows_after (limits_of state) values rows)
 keeps_after kind state new rows values n last fit keeps k e some few is =
-    let P : State → Type 0 = λ v. Keeps v (rows_after (limits_of state) values rows) in
+    let P : State → Type 0 = λ v. CountsRows v (rows_after (limits_of state) values rows) in
     subst P (ap (λ m. state_after_run kind m last state) e ∙ sym is)
     (jumped_keeps kind state rows values last fit keeps k (omega arith) (omega arith))
 

@@ -23,7 +23,7 @@ abbrev pub limits_of : State → Limits
 limits_of state = limits_at state.settings state.moment
 
 -- the counts are those of the rows
-pub record Keeps (state : State) (rows : List Row) : Type 0 where
+pub record CountsRows (state : State) (rows : List Row) : Type 0 where
   pub over : state.over ≡ count_of OverThreshold rows
   pub under : state.under ≡ count_of UnderThreshold rows
 

@@ -6,15 +6,15 @@ ghost use Rattle.limiter_core.specs.Counting.{no_run};
 ghost use Rattle.limiter_core.specs.Opening.{opened_rows};
 ghost use Rattle.limiter_core.specs.Rows.{Row, Entry, fire_of};
 ghost use Rattle.limiter_core.specs.Settings.{is_active, active_threshold, row_of, kind_of, new_settings};
-ghost use Rattle.limiter_core.specs.State.{limits_of, Keeps, rows_after, IsQuiet, AreOfKind, fire_on, quiet_count, state_after_run, IsLimiter, IsFit};
+ghost use Rattle.limiter_core.specs.State.{limits_of, CountsRows, rows_after, IsQuiet, AreOfKind, fire_on, quiet_count, state_after_run, IsLimiter, IsFit};
 
 use crate::count::{Count, are_fit};
 use crate::kinds::{Fire, Kind};
 use crate::settings::{Actions, MAX_GROUPS, Profile, Settings, samples_of};
-use listed::Listed;
 use std::alloc::{AllocError, Global};
 use std::marker::Model;
 use std::mem;
+use wire_bytes::Listed;
 
 /// A limiter (IEC 62056-6-2, class 71): its settings, the last moment of the clock, the last
 /// sample, and for each side of the threshold a run and whether that has fired.
@@ -63,7 +63,7 @@ impl Limiter {
               over = no_run;
               under = no_run;
             } }
-        ensures rows { Keeps result [] }
+        ensures rows { CountsRows result [] }
     {
         Limiter::from_parts(Settings::new(alloc), None)
     }
@@ -92,9 +92,9 @@ impl Limiter {
     /// Takes a sample, in watts, and returns the action that it fires, if any.
     #[tactic(auto, using(crate::proofs::Firing::fire_counted, crate::proofs::Firing::counted))]
     pub fn sample(&mut self, value: u32) -> Fire
-        ensures rows { (rows : List Row) → Keeps self.old rows
-            → Keeps self.new (row_of (limits_of self.old) value ∷ rows) }
-        ensures fire { (rows : List Row) → Keeps self.old rows
+        ensures rows { (rows : List Row) → CountsRows self.old rows
+            → CountsRows self.new (row_of (limits_of self.old) value ∷ rows) }
+        ensures fire { (rows : List Row) → CountsRows self.old rows
             → result ≡ fire_of (row_of (limits_of self.old) value ∷ rows) }
         ensures settings { self.new.settings ≡ self.old.settings }
         ensures moment { self.new.moment ≡ self.old.moment }
@@ -118,7 +118,8 @@ impl Limiter {
     /// Ends both runs, because the switch has entered Connected from another state.
     #[tactic(auto, using(crate::proofs::Firing::count_of_entry))]
     pub fn closed(&mut self)
-        ensures rows { (rows : List Row) → Keeps self.old rows → Keeps self.new (Entry ∷ rows) }
+        ensures rows { (rows : List Row) → CountsRows self.old rows
+            → CountsRows self.new (Entry ∷ rows) }
         ensures settings { self.new.settings ≡ self.old.settings }
         ensures moment { self.new.moment ≡ self.old.moment }
         ensures last { self.new.last ≡ self.old.last }
@@ -151,16 +152,16 @@ impl Limiter {
     #[tactic(auto, using(crate::proofs::Skipping::quiet_up_to, crate::proofs::Skipping::quiet_for_ever, crate::proofs::Skipping::fires_next))]
     pub fn before_fire(&self, kind: Kind) -> u64
         ensures count { result ≡ quiet_count kind self.now }
-        ensures quiet { (rows : List Row) (values : List ℕ) → Keeps self.now rows
+        ensures quiet { (rows : List Row) (values : List ℕ) → CountsRows self.now rows
             → AreOfKind kind (limits_of self.now).threshold values
             → length values ≤ result → IsQuiet (limits_of self.now) values rows }
-        ensures next { (rows : List Row) (values : List ℕ) (value : ℕ) → Keeps self.now rows
+        ensures next { (rows : List Row) (values : List ℕ) (value : ℕ) → CountsRows self.now rows
             → AreOfKind kind (limits_of self.now).threshold values
             → kind_of (limits_of self.now).threshold value ≡ kind
             → length values ≡ result → result < 2 ^ 64 - 1
             → fire_of (row_of (limits_of self.now) value
             ∷ rows_after (limits_of self.now) values rows) ≡ fire_on kind }
-        ensures never { (rows : List Row) (values : List ℕ) → Keeps self.now rows
+        ensures never { (rows : List Row) (values : List ℕ) → CountsRows self.now rows
             → AreOfKind kind (limits_of self.now).threshold values
             → result ≡ 2 ^ 64 - 1 → IsQuiet (limits_of self.now) values rows }
     {
@@ -199,10 +200,11 @@ impl Limiter {
     pub fn skip_run(&mut self, kind: Kind, n: u64, last: u32)
         requires quiet { n ≤ quiet_count kind self.old }
         requires last { 0 < n → kind_of (limits_of self.old).threshold last ≡ kind }
-        ensures rows { (rows : List Row) (values : List ℕ) → Keeps self.old rows
+        ensures rows { (rows : List Row) (values : List ℕ) → CountsRows self.old rows
             → AreOfKind kind (limits_of self.old).threshold values
-            → length values ≡ n → Keeps self.new (rows_after (limits_of self.old) values rows) }
-        ensures quiet { (rows : List Row) (values : List ℕ) → Keeps self.old rows
+            → length values ≡ n
+            → CountsRows self.new (rows_after (limits_of self.old) values rows) }
+        ensures quiet { (rows : List Row) (values : List ℕ) → CountsRows self.old rows
             → AreOfKind kind (limits_of self.old).threshold values
             → length values ≡ n → IsQuiet (limits_of self.old) values rows }
         ensures settings { self.new.settings ≡ self.old.settings }
@@ -422,7 +424,7 @@ impl Limiter {
         ensures fit { IsSome result ↔ IsFit last over under }
         ensures state { IfSome result (λ limiter. limiter
             ≡ record self { last = last; over = over; under = under }) }
-        ensures rows { IfSome result (λ limiter. Keeps limiter (opened_rows last over under)) }
+        ensures rows { IfSome result (λ limiter. CountsRows limiter (opened_rows last over under)) }
     {
         if !are_fit(last, over, under) {
             return None;

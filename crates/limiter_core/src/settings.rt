@@ -4,8 +4,8 @@ ghost use Rattle.std.specs.Prelude.{◌≡◌, ◌≤◌, ◌<◌, ◌^◌, [], 
 ghost use Rattle.limiter_core.specs.Settings.{is_active, active_threshold, is_within, need_of, new_settings};
 
 use cosem_datetime::{DateTimeField, moment_of};
-use listed::Listed;
 use std::alloc::{AllocError, Global};
+use wire_bytes::Listed;
 
 /// The maximum number of group ids that a limiter holds.
 pub const MAX_GROUPS: usize = 32;

@@ -16,9 +16,9 @@ use Rattle.std_alloc.proofs.BoxSteps.Form.{Bx}
 use Rattle.std_heap.specs.contracts.Global as Heap
 use Rattle.std_heap.specs.contracts.GlobalAllocator.TheImpl.{ghosts, dict}
 use Rattle.std_heap.proofs.Global.TheLaws as heap
-use Rattle.supply_meter.specs.contracts.supply_meter.SupplyMeter as Held
-use Rattle.supply_meter.proofs.supply_meter.SupplyMeter.TheLaws as held
-use Rattle.boxed_parts.specs.contracts.parts.BoxParts as BoxParts
+use Rattle.embedded_meter.specs.contracts.supply_meter.SupplyMeter as Held
+use Rattle.embedded_meter.proofs.supply_meter.SupplyMeter.TheLaws as held
+use Rattle.meter.specs.contracts.box_parts.BoxParts as BoxParts
 use Rattle.meter.specs.contracts.slot.HandleSlot as Own
 
 abbrev pub E : Bx

@@ -12,25 +12,26 @@ use Rattle.meter.specs.Outcomes.{code_of, of_fault, outcome_of_call, outcome_of_
 use Rattle.meter.specs.declared.events.Firings.{Firings}
 use Rattle.meter.specs.declared.outcome.CallResult.{CallResult}
 use Rattle.meter.specs.declared.outcome.CallResult.TheVariants as outcome
-use Rattle.meter_serving.specs.Ending.{TellsRun}
+use Rattle.trace_player.specs.RunTraces.{TellsRun}
 use Rattle.relay_events.specs.declared.event.Event.TheVariants.{Button}
 use Rattle.relay_events.specs.declared.reply.Reply.TheVariants.{Code}
 use Rattle.relay_core.specs.Stands.{StandsFor}
 use Rattle.relay_core.specs.World.{World}
-use Rattle.supply_meter.specs.Calls.{IsNew, Resumes, OpensBy, FeedsBy, FinishesBy, NextBy, ClosesBy, SamplesBy, TakesMoment}
+use Rattle.embedded_meter.specs.Calls.{IsNew, Resumes, OpensBy, FeedsBy, FinishesBy, NextBy, ClosesBy, SamplesBy, TakesMoment}
 use Rattle.relay_recorder.specs.Recording.{Recording}
-use Rattle.supply_meter.specs.Meterings.{Metering, Takes}
-use Rattle.supply_meter.specs.declared.fault.MeterFault.{MeterFault}
-use Rattle.supply_meter.specs.declared.given.Fired.{Fired}
-use Rattle.supply_meter.specs.declared.given.Given.{Given}
-use Rattle.supply_meter.specs.declared.given.Tick.{Tick}
+use Rattle.embedded_meter.specs.MeterStates.{MeterState, Takes}
+use Rattle.embedded_meter.specs.declared.fault.MeterFault.{MeterFault}
+use Rattle.embedded_meter.specs.declared.given.Fired.{Fired}
+use Rattle.embedded_meter.specs.declared.given.Given.{Given}
+use Rattle.embedded_meter.specs.declared.given.Tick.{Tick}
 use Rattle.trace_words.specs.declared.fault.TraceFault.{TraceFault}
 use Rattle.trace_player.specs.Traces.{trace_of}
 
 -- a call on the meter of a handle; if the handle is not open, the result is `NotOpen`, and `shut`
 -- holds
-abbrev pub OnOpen : (shut : Type 0) (does : Metering → ℕ → Metering → Type 0) → Option Metering → ℕ
-    → Option Metering → Type 0
+abbrev pub OnOpen : (shut : Type 0) (does : MeterState → ℕ → MeterState → Type 0)
+    → Option MeterState → ℕ
+    → Option MeterState → Type 0
 OnOpen shut does None code new = (code ≡ code_of outcome.NotOpen) × (new ≡ None) × shut
 OnOpen shut does (Some m) code None = ⊥
 OnOpen shut does (Some m) code (Some m') = does m code m'
@@ -47,7 +48,8 @@ pub record AreFit (name password : List ℕ) (kept : ℕ) : Type 0 where
   pub kept_few : kept ≤ 1024
 
 -- the outcomes of opening a meter
-abbrev pub OpensTo : List ℕ → List ℕ → ℕ → Option Metering → CallResult → Option Metering → Type 0
+abbrev pub OpensTo : List ℕ → List ℕ → ℕ → Option MeterState → CallResult → Option MeterState
+    → Type 0
 OpensTo name password kept None outcome.Done (Some m) = AreFit name password kept
     × IsNew name password kept m
 OpensTo name password kept None outcome.WrongArgument None = ¬ (AreFit name password kept)
@@ -57,8 +59,8 @@ OpensTo name password kept (Some m) outcome.IsOpen new = new ≡ Some m
 OpensTo name password kept (Some m) _ new = ⊥
 
 -- opening a meter, with the number that C receives
-pub record OpenedTo (name password : List ℕ) (kept : ℕ) (old : Option Metering) (code : ℕ)
-    (new : Option Metering) : Type 0 where
+pub record OpenedTo (name password : List ℕ) (kept : ℕ) (old : Option MeterState) (code : ℕ)
+    (new : Option MeterState) : Type 0 where
   pub outcome : CallResult
   pub does : OpensTo name password kept old outcome new
   pub told : code ≡ code_of outcome
@@ -69,7 +71,8 @@ pub record IsNoTrace (text : List ℕ) : Type 0 where
   pub told : trace_of text ≡ Err fault
 
 -- the outcomes of opening a meter that continues from a trace
-abbrev pub ResumesTo : List ℕ → List ℕ → ℕ → Option Metering → CallResult → Option Metering → Type 0
+abbrev pub ResumesTo : List ℕ → List ℕ → ℕ → Option MeterState → CallResult → Option MeterState
+    → Type 0
 ResumesTo text password kept None outcome.Done (Some m) = Resumes text password kept m
 ResumesTo text password kept None outcome.WrongArgument None = (¬ (AreFit (0 ∷ []) password kept))
     ⊎ IsNoTrace text
@@ -78,8 +81,8 @@ ResumesTo text password kept None _ new = ⊥
 ResumesTo text password kept (Some m) outcome.IsOpen new = new ≡ Some m
 ResumesTo text password kept (Some m) _ new = ⊥
 
-pub record ResumedTo (text password : List ℕ) (kept : ℕ) (old : Option Metering) (code : ℕ)
-    (new : Option Metering) : Type 0 where
+pub record ResumedTo (text password : List ℕ) (kept : ℕ) (old : Option MeterState) (code : ℕ)
+    (new : Option MeterState) : Type 0 where
   pub outcome : CallResult
   pub does : ResumesTo text password kept old outcome new
   pub told : code ≡ code_of outcome
@@ -92,18 +95,18 @@ pub record DoneTo (does : Result Unit MeterFault → Type 0) (code : ℕ) : Type
   pub done : does result
   pub told : code ≡ code_of (outcome_of_call result)
 
-abbrev pub OpenedAt : ℕ → Metering → ℕ → Metering → Type 0
+abbrev pub OpenedAt : ℕ → MeterState → ℕ → MeterState → Type 0
 OpenedAt session m code m' = DoneTo (λ (r : Result Unit MeterFault). OpensBy m session r m') code
 
-abbrev pub FedAt : ℕ → List ℕ → Metering → ℕ → Metering → Type 0
+abbrev pub FedAt : ℕ → List ℕ → MeterState → ℕ → MeterState → Type 0
 FedAt session bytes m code m' =
     DoneTo (λ (r : Result Unit MeterFault). FeedsBy m session bytes r m') code
 
-abbrev pub FinishedAt : ℕ → Metering → ℕ → Metering → Type 0
+abbrev pub FinishedAt : ℕ → MeterState → ℕ → MeterState → Type 0
 FinishedAt session m code m' =
     DoneTo (λ (r : Result Unit MeterFault). FinishesBy m session r m') code
 
-abbrev pub ClosedAt : ℕ → Metering → ℕ → Metering → Type 0
+abbrev pub ClosedAt : ℕ → MeterState → ℕ → MeterState → Type 0
 ClosedAt session m code m' = DoneTo (λ (r : Result Unit MeterFault). ClosesBy m session r m') code
 
 -- the outcome of `next`
@@ -115,8 +118,8 @@ abbrev pub next_length : Result Given MeterFault → ℕ
 next_length (Ok g) = length_of g
 next_length (Err f) = 0
 
-pub record GivenAt (session : ℕ) (buffer buffer' : List ℕ) (count : ℕ) (m : Metering) (code : ℕ)
-    (m' : Metering) : Type 0 where
+pub record GivenAt (session : ℕ) (buffer buffer' : List ℕ) (count : ℕ) (m : MeterState) (code : ℕ)
+    (m' : MeterState) : Type 0 where
   pub result : Result Given MeterFault
   pub done : NextBy m session buffer result m' buffer'
   pub told : code ≡ code_of (tells_next result)
@@ -125,7 +128,7 @@ pub record GivenAt (session : ℕ) (buffer buffer' : List ℕ) (count : ℕ) (m 
 -- ---- events of the meter's own
 
 -- a press
-pub record PressedTo (number : ℕ) (m : Metering) (code : ℕ) (m' : Metering) : Type 0 where
+pub record PressedTo (number : ℕ) (m : MeterState) (code : ℕ) (m' : MeterState) : Type 0 where
   pub result : ResultCode
   pub takes : Takes m Button (Code result) m'
   pub told : code ≡ code_of outcome.Done
@@ -152,15 +155,15 @@ firings_of fired = record {
   export_under = fired.export_under;
 }
 
-pub record SampledTo (samples : Samples) (firings : Firings) (m : Metering) (code : ℕ)
-    (m' : Metering) : Type 0 where
+pub record SampledTo (samples : Samples) (firings : Firings) (m : MeterState) (code : ℕ)
+    (m' : MeterState) : Type 0 where
   pub result : Result Fired MeterFault
   pub done : SamplesBy m samples result m'
   pub told : code ≡ code_of (tells_samples result)
   pub fires : firings ≡ firings_of (fired_of result)
 
 -- a moment
-pub record TickedTo (moment ran : ℕ) (m : Metering) (code : ℕ) (m' : Metering) : Type 0 where
+pub record TickedTo (moment ran : ℕ) (m : MeterState) (code : ℕ) (m' : MeterState) : Type 0 where
   pub tick : Tick
   pub takes : TakesMoment m moment tick m'
   pub told : code ≡ code_of (of_tick tick)
@@ -169,18 +172,18 @@ pub record TickedTo (moment ran : ℕ) (m : Metering) (code : ℕ) (m' : Meterin
 -- ---- the state of the meter
 
 -- a call that changes nothing
-pub record LooksTo (code : ℕ) (m m' : Metering) (tells : World → Type 0) : Type 0 where
+pub record LooksTo (code : ℕ) (m m' : MeterState) (tells : World → Type 0) : Type 0 where
   pub same : m' ≡ m
   pub told : code ≡ code_of outcome.Done
   pub tells_of : (w : World) → StandsFor m.recorder.core w → tells w
 
-abbrev pub StateTo : ℕ → Metering → ℕ → Metering → Type 0
+abbrev pub StateTo : ℕ → MeterState → ℕ → MeterState → Type 0
 StateTo state m code m' = LooksTo code m m' (λ (w : World). state ≡ state_number w.control.state)
 
-abbrev pub ModeTo : ℕ → Metering → ℕ → Metering → Type 0
+abbrev pub ModeTo : ℕ → MeterState → ℕ → MeterState → Type 0
 ModeTo mode m code m' = LooksTo code m m' (λ (w : World). mode ≡ mode_number w.control.mode)
 
-abbrev pub SupplyTo : Bool → Metering → ℕ → Metering → Type 0
+abbrev pub SupplyTo : Bool → MeterState → ℕ → MeterState → Type 0
 SupplyTo is_on m code m' =
     LooksTo code m m' (λ (w : World). is_on ≡ is_state w.control.state Connected)
 
@@ -193,7 +196,7 @@ abbrev pub moment_of : Option ℕ → ℕ
 moment_of None = 0
 moment_of (Some moment) = moment
 
-pub record MomentTo (moment : ℕ) (m : Metering) (code : ℕ) (m' : Metering) : Type 0 where
+pub record MomentTo (moment : ℕ) (m : MeterState) (code : ℕ) (m' : MeterState) : Type 0 where
   pub same : m' ≡ m
   pub told : (w : World) → StandsFor m.recorder.core w → code ≡ code_of (tells_moment w.moment)
   pub tells_of : (w : World) → StandsFor m.recorder.core w → moment ≡ moment_of w.moment
@@ -225,8 +228,8 @@ abbrev pub ExportsTo : Recording → List ℕ → List ℕ → ℕ → CallResul
 ExportsTo r buffer buffer' count outcome.NoMemory = (buffer' ≡ buffer) × (count ≡ 0)
 ExportsTo r buffer buffer' count outcome = TellsTrace r buffer buffer' count outcome
 
-pub record ExportedTo (buffer buffer' : List ℕ) (count : ℕ) (m : Metering) (code : ℕ)
-    (m' : Metering) : Type 0 where
+pub record ExportedTo (buffer buffer' : List ℕ) (count : ℕ) (m : MeterState) (code : ℕ)
+    (m' : MeterState) : Type 0 where
   pub same : m' ≡ m
   pub outcome : CallResult
   pub does : ExportsTo m.recorder buffer buffer' count outcome

@@ -7,7 +7,7 @@ use Rattle.std_alloc.specs.Box.Ownership.{box_owns}
 use Rattle.std.specs.Coded.{coded_option}
 use Rattle.std.specs.Global.{Global}
 use Rattle.std_heap.specs.contracts.GlobalAllocator.TheImpl.{ghosts}
-use Rattle.supply_meter.specs.contracts.supply_meter.SupplyMeter.{the_row}
+use Rattle.embedded_meter.specs.contracts.supply_meter.SupplyMeter.{the_row}
 
 abbrev pub ownership_of : Global → Ptr → Option the_row.Denot → Fml
 ownership_of alloc at None = ftrue

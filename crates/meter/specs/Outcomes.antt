@@ -7,12 +7,12 @@ use Rattle.meter.specs.declared.outcome.CallResult.{CallResult}
 use Rattle.meter.specs.declared.outcome.CallResult.TheVariants as outcome
 use Rattle.session_core.specs.declared.end.SessionEnd.{SessionEnd}
 use Rattle.session_core.specs.declared.end.SessionEnd.TheVariants as ending
-use Rattle.supply_meter.specs.declared.fault.MeterFault.{MeterFault}
-use Rattle.supply_meter.specs.declared.fault.MeterFault.TheVariants as fault
-use Rattle.supply_meter.specs.declared.given.Given.{Given}
-use Rattle.supply_meter.specs.declared.given.Given.TheVariants as given
-use Rattle.supply_meter.specs.declared.given.Tick.{Tick}
-use Rattle.supply_meter.specs.declared.given.Tick.TheVariants as tick
+use Rattle.embedded_meter.specs.declared.fault.MeterFault.{MeterFault}
+use Rattle.embedded_meter.specs.declared.fault.MeterFault.TheVariants as fault
+use Rattle.embedded_meter.specs.declared.given.Given.{Given}
+use Rattle.embedded_meter.specs.declared.given.Given.TheVariants as given
+use Rattle.embedded_meter.specs.declared.given.Tick.{Tick}
+use Rattle.embedded_meter.specs.declared.given.Tick.TheVariants as tick
 
 -- the number of an outcome
 abbrev pub code_of : CallResult → ℕ

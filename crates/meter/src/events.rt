@@ -6,8 +6,8 @@ ghost use Rattle.meter.specs.Outcomes.{code_of, of_tick, ran_of};
 
 use crate::handle::MeterHandle;
 use crate::outcome::CallResult;
+use embedded_meter::{Fired, MeterFault, Tick};
 use std::alloc::Global;
-use supply_meter::{Fired, MeterFault, Tick};
 
 /// How many times each side of each limiter has fired: `struct meter_fired` of `meter.h`.
 #[repr(C)]

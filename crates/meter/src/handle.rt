@@ -2,12 +2,12 @@
 ghost use Rattle.std.specs.Prelude.{◌≡◌};
 ghost use Rattle.meter.specs.Held.{is_held};
 
+use crate::box_parts::BoxParts;
 use crate::slot::HandleSlot;
-use boxed_parts::BoxParts;
+use embedded_meter::SupplyMeter;
 use std::alloc::Global;
 use std::mem::replace;
 use std::ptr::null_mut;
-use supply_meter::SupplyMeter;
 
 /// The handle of a meter: `struct meter` of `meter.h`. A handle of zeros is closed.
 #[repr(C)]

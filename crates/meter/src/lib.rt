@@ -4,6 +4,7 @@
 //! on the heap. `specs/Exports.antt` defines what each call does and returns.
 #![tactic(auto)]
 
+mod box_parts;
 mod events;
 mod handle;
 mod opening;
@@ -13,6 +14,7 @@ mod slot;
 mod standing;
 mod traces;
 
+pub use box_parts::BoxParts;
 pub use events::{Firings, meter_moment, meter_press, meter_sample_pairs, meter_samples};
 pub use handle::MeterHandle;
 pub use opening::{meter_close, meter_open};

@@ -1,15 +1,15 @@
 //! Opens and closes a meter.
 ghost use Rattle.std.specs.Prelude.{◌≡◌, None, IfOk, IsTrue, ◌↔◌};
 ghost use Rattle.meter.specs.Exports.{AreFit, OpensTo, OpenedTo};
-ghost use Rattle.supply_meter.specs.Calls.{IsNew};
+ghost use Rattle.embedded_meter.specs.Calls.{IsNew};
 
 use crate::handle::MeterHandle;
 use crate::outcome::CallResult;
 use acse_ber::MAX_PASSWORD;
 use cosem_axdr::Octets;
+use embedded_meter::SupplyMeter;
 use relay_core::MAX_DEVICE_NAME;
 use std::alloc::{AllocError, Global};
-use supply_meter::SupplyMeter;
 
 /// Opens a new meter.
 #[unsafe(no_mangle)]

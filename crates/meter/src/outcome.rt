@@ -2,8 +2,8 @@
 ghost use Rattle.std.specs.Prelude.{◌≡◌};
 ghost use Rattle.meter.specs.Outcomes.{code_of, of_fault};
 
+use embedded_meter::{Given, MeterFault};
 use session_core::SessionEnd;
-use supply_meter::{Given, MeterFault};
 
 /// The result of a call for C.
 #[derive(Clone, Copy, Debug, PartialEq, Eq)]

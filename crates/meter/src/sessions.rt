@@ -2,13 +2,13 @@
 ghost use Rattle.std.specs.Prelude.{◌≡◌, ℕ};
 ghost use Rattle.meter.specs.Exports.{OnOpen, OpenedAt, FedAt, FinishedAt, GivenAt, ClosedAt, tells_next, next_length};
 ghost use Rattle.meter.specs.Outcomes.{code_of, outcome_of_call, of_end};
-ghost use Rattle.supply_meter.specs.Meterings.{Metering};
+ghost use Rattle.embedded_meter.specs.MeterStates.{MeterState};
 
 use crate::handle::MeterHandle;
 use crate::outcome::CallResult;
+use embedded_meter::{Given, MeterFault};
 use session_core::SessionEnd;
 use std::alloc::Global;
-use supply_meter::{Given, MeterFault};
 
 /// Opens a session with a number of 0 to 7.
 #[unsafe(no_mangle)]

@@ -1,12 +1,12 @@
 //! The owning pointer in a handle: a meter's box as C stores it, or null.
 ghost use Rattle.std.specs.Prelude.{◌≡◌, Option, Some, None};
-ghost use Rattle.supply_meter.specs.Meterings.{Metering};
+ghost use Rattle.embedded_meter.specs.MeterStates.{MeterState};
 ghost use Rattle.meter.specs.Kept.{ownership_of, ownership_coded};
 
-use boxed_parts::BoxParts;
+use crate::box_parts::BoxParts;
+use embedded_meter::SupplyMeter;
 use std::alloc::Global;
 use std::marker::Model;
-use supply_meter::SupplyMeter;
 
 /// The pointer to the box of a meter, for C. It owns the box, or nothing.
 #[repr(C)]
@@ -15,7 +15,7 @@ pub struct HandleSlot {
     at: *mut u8,
     alloc: Global,
     /// Ghost value: the meter, if there is one.
-    pub ghost held: { Option Metering } by { ownership_coded },
+    pub ghost held: { Option MeterState } by { ownership_coded },
 }
 
 impl Model for HandleSlot {
@@ -43,7 +43,7 @@ impl HandleSlot {
 
     // Returns the parts of the box of the meter, which the slot must hold.
     pub(crate) fn into_parts(self) -> BoxParts<SupplyMeter, Global>
-        requires { (m : Metering) × (self.held ≡ Some m) }
+        requires { (m : MeterState) × (self.held ≡ Some m) }
         ensures { self.held ≡ Some result.value }
     {
         let HandleSlot { at, alloc } = self;

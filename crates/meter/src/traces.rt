@@ -6,8 +6,8 @@ use crate::handle::MeterHandle;
 use crate::opening::are_fit;
 use crate::outcome::CallResult;
 use cosem_axdr::Octets;
+use embedded_meter::{SupplyMeter, TraceFault};
 use std::alloc::{AllocError, Global};
-use supply_meter::{SupplyMeter, TraceFault};
 
 /// Opens a meter that continues from the end of a trace.
 #[unsafe(no_mangle)]

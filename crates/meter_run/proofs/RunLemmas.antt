@@ -1,34 +1,27 @@
 -- What serving did, and the meter in the lock, are a run.
 use Rattle.std.proofs.Common.{◌≡◌, ℕ, List, [], ◌∷◌, ◌++◌, map, Some, refl, sym, ap, subst, ◌∙◌, arith, inl, inr, IfOk, Result, Ok, Err}
-use Rattle.kept_meter.specs.Calls.{IsLegal, Stands}
-use Rattle.kept_meter.specs.KeptRecorder.{KeptRecorder}
+use Rattle.shared_meter.specs.Calls.{IsLegal, Stands}
+use Rattle.shared_meter.specs.KeptRecorder.{KeptRecorder}
 use Rattle.meter_run.specs.Runs.{Given, AreOfRun, IsRun, ServesAll, Traces, events_in}
-use Rattle.meter_server.specs.ServingAll.{AllBlocks, AllMoments, AllPresses, Acted, OnEnded, events_by}
+use Rattle.meter_server.proofs.ServingAllLemmas.{ended_map}
+use Rattle.meter_server.specs.ServingAll.{Acted, events_by}
 use Rattle.meter_server.specs.Sessions.{AreAsked}
 use Rattle.meter_server.specs.declared.serving_all.Served.{Served}
-use Rattle.meter_workers.specs.Handed.{MeterPort}
+use Rattle.shared_meter.specs.Blocks.{AllBlocks}
+use Rattle.shared_meter.specs.Handed.{MeterPort}
+use Rattle.shared_meter.specs.Sources.{AllMoments, AllPresses}
 use Rattle.relay_core.specs.Opening.{opening_of}
 use Rattle.relay_core.specs.declared.opening.Opening.{Opening}
 use Rattle.relay_events.specs.declared.event.Event.{Event}
 use Rattle.relay_events.specs.declared.reply.Reply.{Reply}
 use Rattle.relay_recorder.specs.Recording.{Recording}
-use Rattle.session_serving.specs.declared.fault.ServeFault.{ServeFault}
-use Rattle.session_serving.specs.declared.fault.ServeFault.TheVariants as fault
+use Rattle.session_io.specs.declared.fault.ServeFault.{ServeFault}
 use Rattle.atomic_table.specs.Seated.{TableId}
 use Rattle.turn_lock.specs.declared.known.Known.{Known}
 use Rattle.turn_lock.specs.Calls.{Yields}
 use Rattle.turn_lock.specs.History.{IsAmong}
 use Rattle.turn_lock.specs.Rule.{first_known}
 use Rattle.turn_lock.specs.declared.turned.Entry.{Entry}
-
-ended_map : (served : Result Served ServeFault) (A B : Type 0) → (A → B) → OnEnded served A
-    → OnEnded served B
-ended_map (Ok all) A B f a = f a
-ended_map (Err fault.Listen) A B f a = f a
-ended_map (Err fault.Memory) A B f a = tt
-ended_map (Err fault.Exhausted) A B f a = tt
-ended_map (Err fault.Read) A B f a = tt
-ended_map (Err fault.Write) A B f a = tt
 
 -- the calls of a port that was joined are the same in the whole history
 same_events : (q : MeterPort) (kept : KeptRecorder)

@@ -6,21 +6,23 @@
 --     ServesAll   what serving did to the port of the lock
 --     Traces      the text of the trace of the meter in the lock
 use Rattle.std.specs.Prelude.{◌≡◌, ℕ, ◌+◌, ◌<◌, ◌≤◌, List, [], ◌∷◌, map, Option, IfOk, Result}
-use Rattle.kept_meter.specs.Calls.{Calls, IsLegal, Stands}
-use Rattle.kept_meter.specs.KeptRecorder.{KeptRecorder}
+use Rattle.shared_meter.specs.Calls.{Calls, IsLegal, Stands}
+use Rattle.shared_meter.specs.KeptRecorder.{KeptRecorder}
 use Rattle.lane_sampler.specs.Samples.{Samples}
-use Rattle.meter_server.specs.ServingAll.{AllBlocks, AllMoments, AllPresses, Acted, IsServed, OnEnded}
+use Rattle.meter_server.specs.ServingAll.{Acted, IsServed, OnEnded}
 use Rattle.meter_server.specs.Sessions.{AreAsked, AreSessions}
 use Rattle.meter_server.specs.declared.serving_all.Served.{Served}
-use Rattle.meter_serving.specs.Ending.{TellsRun}
-use Rattle.meter_workers.specs.Handed.{MeterPort}
+use Rattle.trace_player.specs.RunTraces.{TellsRun}
+use Rattle.shared_meter.specs.Blocks.{AllBlocks}
+use Rattle.shared_meter.specs.Handed.{MeterPort}
+use Rattle.shared_meter.specs.Sources.{AllMoments, AllPresses}
 use Rattle.relay_core.specs.Opening.{opening_of}
 use Rattle.relay_core.specs.declared.opening.Opening.{Opening}
 use Rattle.relay_events.specs.declared.event.Event.{Event}
 use Rattle.relay_events.specs.declared.reply.Reply.{Reply}
 use Rattle.relay_recorder.specs.Recording.{Recording}
-use Rattle.session_serving.specs.declared.fault.ServeFault.{ServeFault}
-use Rattle.session_threads.specs.Ports.{GoesOn, AreJoined, child}
+use Rattle.session_io.specs.declared.fault.ServeFault.{ServeFault}
+use Rattle.port_threads.specs.Ports.{PortContinues, AreJoined, child}
 use Rattle.turn_lock.specs.Calls.{Yields}
 use Rattle.turn_lock.specs.History.{calls_by}
 use Rattle.turn_lock.specs.declared.known.Known.{Known}
@@ -67,7 +69,7 @@ pub record IsRun (recorder : Recording) (given : Given) (served : Result Served 
 -- port p became port q: clients were served and sources passed on
 pub record ServesAll (given : Given) (p q : MeterPort) (served : Result Served ServeFault) : Type 0
   where
-    pub goes : GoesOn p q
+    pub goes : PortContinues p q
     pub joined : AreJoined p.known.splits q
     pub sessions : AreSessions given.password (p.known.splits + 3) q
     pub counted : IfOk served (IsServed (p.known.splits + 3) q.known.splits)

@@ -4,7 +4,9 @@
 //! console; its result is what the server prints.
 #![tactic(auto)]
 
+mod closing;
 mod running;
 
+pub use closing::close_meter;
 pub use meter_server::Sources;
 pub use running::{MeterRun, run_meter};

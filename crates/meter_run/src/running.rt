@@ -5,21 +5,23 @@ ghost use Rattle.acse_ber.specs.Password.{IsPassword};
 ghost use Rattle.meter_run.specs.Runs.{IsRun, ServesAll, Traces};
 ghost use Rattle.meter_server.specs.ServingAll.{IsLimit, StopsFor};
 ghost use Rattle.relay_core.specs.Opening.{opening_of};
-ghost use Rattle.session_threads.specs.Listening.{IsCounted};
+ghost use Rattle.port_threads.specs.Listening.{IsCounted};
+ghost use Rattle.trace_player.specs.RunTraces.{TellsRun};
 ghost use Rattle.turn_lock.specs.Rule.{first_known};
-ghost use Rattle.program_fault.specs.declared.Fault.TheVariants.{Memory, Turns};
+ghost use Rattle.program.specs.declared.fault.Fault.TheVariants.{Memory, Turns};
 
+use crate::closing::close_meter;
 use cosem_axdr::Octets;
-use kept_meter::Kept;
 use meter_server::{
     BlockSource, ButtonSource, Listener, MomentSource, ServeFault, Served, Sources, serve_all,
 };
-use meter_serving::{closed_meter, meter_trace};
-use program_fault::Fault;
+use program::Fault;
 use relay_recorder::Recorder;
+use shared_meter::Kept;
 use std::alloc::{AllocError, Global};
 use std::sync::Wait;
 use std::thread::Threads;
+use trace_player::recorder_trace;
 use turn_lock::{Port, Shared};
 
 // The maximum number of calls in one run: 2^62, the largest bound of a lock.
@@ -94,6 +96,13 @@ fn serve<
     }
 }
 
+// Returns the text of the trace of a meter.
+fn kept_trace(alloc: Global, kept: &Kept) -> Result<Octets, AllocError>
+    ensures { IfOk result (TellsRun kept.now.recorder) }
+{
+    recorder_trace(alloc, kept.recorder())
+}
+
 // Closes a lock, and returns the text of the trace of its meter. Errors: `Turns` if a call was
 // still in its turn; `Memory`.
 fn trace_text(alloc: Global, shared: Shared<Kept>, port: Port<Kept>) -> Result<Octets, Fault>
@@ -101,9 +110,9 @@ fn trace_text(alloc: Global, shared: Shared<Kept>, port: Port<Kept>) -> Result<O
     ensures traces { IfOk result (Traces port.known) }
     ensures err { IfErr result (λ fault. (fault ≡ Turns) ⊎ (fault ≡ Memory)) }
 {
-    match closed_meter(shared, port) {
+    match close_meter(shared, port) {
         Ok(kept) => {
-            let text = meter_trace(alloc, &kept);
+            let text = kept_trace(alloc, &kept);
             drop(kept);
             match text {
                 Ok(text) => Ok(text),

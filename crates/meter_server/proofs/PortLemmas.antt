@@ -1,13 +1,13 @@
 -- The effect of a session on its port, which passes the session's events on.
-use Rattle.std.proofs.Common.{◌≡◌, ℕ, List, [], ◌∷◌, ◌++◌, Option, Result, Ok, Err, IfOk, refl, sym, ap, ◌∙◌, subst, ⊎_elim}
+use Rattle.std.proofs.Common.{◌≡◌, ℕ, List, [], ◌∷◌, ◌++◌, Result, Ok, Err, IfOk, refl, sym, ap, ◌∙◌, subst, ⊎_elim}
 use Rattle.std.proofs.lemmas.List.{append-nil, append_assoc}
-use Rattle.kept_meter.specs.Calls.{IsLegal, events_and_replies}
-use Rattle.session_serving.specs.Meters.{RepliesTo, RefusesLast}
+use Rattle.shared_meter.specs.Calls.{IsLegal, events_and_replies}
+use Rattle.session_io.specs.Meters.{RepliesTo, RefusesLast}
 use Rattle.meter_server.specs.Ports.{MeterPort, PortSteps, entries, Enters}
-use Rattle.session_serving.specs.Serving.{Plan, HasEffect, ServesSession, plan_of}
-use Rattle.session_serving.specs.Sides.{Sides}
-use Rattle.session_serving.specs.declared.fault.ServeFault.{ServeFault}
-use Rattle.session_serving.specs.declared.fault.ServeFault.TheVariants as fault
+use Rattle.session_io.specs.Serving.{Plan, HasEffect, ServesSession, plan_of}
+use Rattle.session_io.specs.Sides.{Sides}
+use Rattle.session_io.specs.declared.fault.ServeFault.{ServeFault}
+use Rattle.session_io.specs.declared.fault.ServeFault.TheVariants as fault
 use Rattle.relay_events.specs.declared.event.Event.{Event}
 use Rattle.relay_events.specs.declared.reply.Reply.{Reply}
 use Rattle.relay_core.specs.declared.opening.Opening.{Opening}
@@ -21,7 +21,7 @@ use Rattle.session_core.specs.declared.end.SessionEnd.{SessionEnd}
 use Rattle.turn_lock.specs.Calls.{Called}
 use Rattle.turn_lock.specs.History.{entry, calls_by}
 use Rattle.turn_lock.specs.Shown.{IsSame}
-use Rattle.call_fault.specs.declared.fault.CallFault.{CallFault}
+use Rattle.turn_lock.specs.declared.call_fault.CallFault.{CallFault}
 use Rattle.turn_lock.specs.declared.known.Known.{Known}
 use Rattle.turn_lock.specs.declared.turned.Entry.{Entry}
 
@@ -93,6 +93,8 @@ module _ {M : Type 0} (steps : M → Event → Result Reply CallFault → M → 
   effect_on plan seen before (Err fault.Exhausted) after effect = refused_on before.outlets.meter
       effect.asked effect.replies _ after.outlets.meter effect.refused
   effect_on plan seen before (Err fault.Listen) after effect = absurd effect
+  effect_on plan seen before (Err fault.Journal) after effect = refused_on before.outlets.meter
+      effect.asked effect.replies _ after.outlets.meter effect.refused
 
 pub is_same : (p : MeterPort) → IsSame p p
 is_same p = record {

@@ -1,70 +1,50 @@
 -- The calls of a worker once its port was joined in, and that they do not change afterwards.
-use Rattle.std.proofs.Common.{◌≡◌, ℕ, ◌≤◌, List, [], ◌++◌, refl, sym, ◌∙◌, ap, subst, inl, inr, arith, Option, Some, None, IfSome, IfOk, map}
+use Rattle.std.proofs.Common.{◌≡◌, ℕ, zero, suc, ◌+◌, ◌<◌, ◌≤◌, List, [], ◌++◌, refl, sym, ◌∙◌, ap, subst, inl, inr, arith, Option, Some, None, IfOk, map}
 use Rattle.std.proofs.lemmas.Bool.{cases_eq}
-use Rattle.std.specs.Prelude.{⊤, IfErr, OnOk, replicate, Result, Ok, Err}
-use Rattle.lane_sampler.specs.Samples.{Samples}
+use Rattle.std.specs.Prelude.{IfErr, OnOk, Result, Ok, Err}
 use Rattle.relay_events.specs.declared.event.Event.{Event}
-use Rattle.relay_events.specs.declared.event.Event.TheVariants as event
 use Rattle.relay_events.specs.declared.reply.Reply.{Reply}
 use Rattle.turn_lock.specs.declared.turned.Entry.{Entry}
-use Rattle.call_fault.specs.declared.fault.CallFault.{CallFault}
-use Rattle.call_fault.specs.declared.fault.CallFault.TheVariants as call
+use Rattle.session_io.specs.Settling.{fault_of}
+use Rattle.turn_lock.specs.declared.call_fault.CallFault.{CallFault}
+use Rattle.turn_lock.specs.declared.call_fault.CallFault.TheVariants as call
 use Rattle.turn_lock.specs.History.{IsAmong, calls_by}
 use Rattle.turn_lock.specs.Shown.{IsSame}
-use Rattle.session_threads.specs.Ports.{GoesOn, AreJoined, SplitsOff, TakesIn, child}
-use Rattle.session_threads.specs.Workers.{Ended, ComesBack}
-use Rattle.session_threads.proofs.Going.{goes_trans}
-use Rattle.meter_workers.specs.Blocks.{AreOfBlocks, ReadsBetween}
-use Rattle.meter_workers.specs.Handed.{MeterPort, own_events, unread, HandsBlocks, HandsMoments, HandsPresses}
-use Rattle.meter_workers.specs.Handed.{StopsFor as WorkerStops}
-use Rattle.session_serving.specs.Settling.{fault_of}
-use Rattle.session_serving.specs.declared.fault.ServeFault.{ServeFault}
-use Rattle.session_serving.specs.declared.fault.ServeFault.TheVariants as fault
+use Rattle.port_threads.specs.Ports.{PortContinues, AreJoined, SplitsOff, TakesIn, child}
+use Rattle.port_threads.specs.Workers.{Ended, ComesBack}
+use Rattle.port_threads.proofs.Going.{goes_trans}
+use Rattle.shared_meter.specs.Handed.{MeterPort, PassesAll, own_events}
+use Rattle.shared_meter.specs.Handed.{StopsFor as WorkerStops}
+use Rattle.shared_meter.specs.Sources.{Includes}
+use Rattle.session_io.specs.declared.fault.ServeFault.{ServeFault}
+use Rattle.session_io.specs.declared.fault.ServeFault.TheVariants as fault
 use Rattle.meter_server.specs.declared.serving_all.Served.{Served}
 use Rattle.meter_server.specs.Sessions.{AreSessions}
-use Rattle.meter_server.proofs.SessionLemmas.{sessions_on}
-use Rattle.meter_server.specs.ServingAll.{events_by, AllBlocks, AllMoments, AllPresses, Acted, EndsWith, IsServed, IsSpent, StopsFor, OnEnded, worker_fault, first_of}
+use Rattle.meter_server.proofs.SessionLemmas.{no_sessions, sessions_on}
+use Rattle.meter_server.specs.ServingAll.{events_by, Acted, EndsWith, IsServed, IsSpent, StopsFor, OnEnded, worker_fault, first_of}
+use Rattle.meter_server.specs.WithSources.{ServesWith, first_then}
 
 fresh_handed : (own : MeterPort) → calls_by own.known.number own.known.seen ≡ []
     → own_events own ≡ []
 fresh_handed own fresh = ap (map (λ (call : Entry Event Reply). call.event)) fresh
 
-pub whole_blocks : (told : Option (List Samples)) (own back : MeterPort) (events : List Event)
-    → events ≡ own_events back → own_events own ≡ []
-    → HandsBlocks told own back × ReadsBetween told own back → AllBlocks told events
-whole_blocks None own back events e fresh hands = tt
-whole_blocks (Some blocks) own back events e fresh hands =
-    let those : hands.1.events ≡ events = sym (e ∙ hands.1.handed
-    ∙ ap (λ xs. xs ++ hands.1.events) fresh) in
-    let P : List Event → Type 0 = λ xs. AreOfBlocks 0 blocks xs in (
-      ap unread e ∙ hands.0 ∙ ap (λ xs. unread xs ++ map event.Samples blocks) fresh,
-      subst P those hands.1.are,
-    )
+whole_all : (CanFollow : List Event → Type 0) (own back : MeterPort) (events : List Event)
+    → events ≡ own_events back → own_events own ≡ [] → PassesAll CanFollow own back
+    → CanFollow events
+whole_all CanFollow own back events e fresh passes =
+    subst CanFollow (sym (e ∙ passes.handed ∙ ap (λ xs. xs ++ passes.events) fresh)) passes.all
 
-pub whole_moments : (told : Option (List ℕ)) (own back : MeterPort) (events : List Event) → events
-    ≡ own_events back → own_events own ≡ [] → HandsMoments told own back → AllMoments told events
-whole_moments None own back events e fresh hands = tt
-whole_moments (Some moments) own back events e fresh hands =
-    e ∙ hands ∙ ap (λ xs. xs ++ map event.Moment moments) fresh
-
-pub whole_presses : (told : Option ℕ) (own back : MeterPort) (events : List Event) → events
-    ≡ own_events back → own_events own ≡ [] → HandsPresses told own back → AllPresses told events
-whole_presses None own back events e fresh hands = tt
-whole_presses (Some count) own back events e fresh hands =
-    e ∙ hands ∙ ap (λ xs. xs ++ replicate count event.Button) fresh
-
--- a worker's work that ends well
-abbrev Did : {W : Type 0} → (W → MeterPort → MeterPort → Type 0) → W → MeterPort → MeterPort
-    → Result (Unit {0}) CallFault → Type 0
-Did hands worker p q end = IsSame p q × OnOk end (hands worker p q) × IfErr end (WorkerStops q)
+-- the work of a worker whose events can be these
+abbrev Did : (List Event → Type 0) → MeterPort → MeterPort → Result (Unit {0}) CallFault → Type 0
+Did CanFollow p q end = IsSame p q × OnOk end (PassesAll CanFollow p q) × IfErr end (WorkerStops q)
 
 -- the work of the worker whose port was returned
-did_all : {W : Type 0} (hands : W → MeterPort → MeterPort → Type 0) (worker : W)
-    (own back : MeterPort) (end : Option (Result (Unit {0}) CallFault))
-    → Ended (Did hands worker) own back end → end ≡ Some (Ok tt) → hands worker own back
-did_all hands worker own back end ended is =
+did_all : (CanFollow : List Event → Type 0) (own back : MeterPort)
+    (end : Option (Result (Unit {0}) CallFault))
+    → Ended (Did CanFollow) own back end → end ≡ Some (Ok tt) → PassesAll CanFollow own back
+did_all CanFollow own back end ended is =
     let E : Option (Result (Unit {0}) CallFault) → Type 0 =
-    λ e. Ended (Did hands worker) own back e in
+    λ e. Ended (Did CanFollow) own back e in
     (subst E is ended).1
 
 acted_as : (own back q : MeterPort) (Whole : List Event → Type 0) → IsSame own back
@@ -82,20 +62,17 @@ their_events own back before q same taken =
     (ap (λ n. calls_by n q.known.seen) (sym same.number) ∙ taken.theirs)
 
 -- the worker whose port was returned did all its work, if it came to its end
-acted_own : {W : Type 0} (hands : W → MeterPort → MeterPort → Type 0) (worker : W)
-    (own before q : MeterPort) (end : Option (Result (Unit {0}) CallFault))
-    (Whole : List Event → Type 0)
-    → ((begun back : MeterPort) (events : List Event) → events ≡ own_events back → own_events begun
-    ≡ [] → hands worker begun back → Whole events)
-    → ComesBack (Did hands worker) own end before q → calls_by own.known.number own.known.seen ≡ []
-    → end ≡ Some (Ok tt) → Acted q own.known.number Whole
-acted_own hands worker own before q end Whole whole back fresh is =
-    acted_as own back.back q Whole back.same back.taken.joined
-    (whole own back.back _ (their_events own back.back before q back.same back.taken)
-    (fresh_handed own fresh) (did_all hands worker own back.back end back.ended is))
+acted_own : (CanFollow : List Event → Type 0) (own before q : MeterPort)
+    (end : Option (Result (Unit {0}) CallFault))
+    → ComesBack (Did CanFollow) own end before q → calls_by own.known.number own.known.seen ≡ []
+    → end ≡ Some (Ok tt) → Acted q own.known.number CanFollow
+acted_own CanFollow own before q end back fresh is =
+    acted_as own back.back q CanFollow back.same back.taken.joined
+    (whole_all CanFollow own back.back _ (their_events own back.back before q back.same back.taken)
+    (fresh_handed own fresh) (did_all CanFollow own back.back end back.ended is))
 
 -- a property of a port's number is preserved
-acted_on : (p q : MeterPort) (number : List ℕ) (Whole : List Event → Type 0) → GoesOn p q
+acted_on : (p q : MeterPort) (number : List ℕ) (Whole : List Event → Type 0) → PortContinues p q
     → Acted p number Whole → Acted q number Whole
 acted_on p q number Whole goes acted =
     let P : List Event → Type 0 = λ events. Whole events in
@@ -111,7 +88,8 @@ acted_by : (q : MeterPort) (m n : List ℕ) (Whole : List Event → Type 0) → 
 acted_by q m n Whole e acted = let Q : List ℕ → Type 0 = λ k. Acted q k Whole in subst Q e acted
 
 -- the ports that were joined in remain so; they are the ports that were split off
-joined_on : (q last : MeterPort) (from : ℕ) → GoesOn q last → last.known.splits ≡ q.known.splits
+joined_on : (q last : MeterPort) (from : ℕ) → PortContinues q last
+    → last.known.splits ≡ q.known.splits
     → AreJoined from q → AreJoined from last
 joined_on q last from goes splits joined i low high =
     let J : List ℕ → Type 0 = λ n. IsAmong n last.known.joined in
@@ -119,7 +97,7 @@ joined_on q last from goes splits joined i low high =
     (goes.joined _ (joined i low (omega (arith, high, splits))))
 
 -- one more port was split off before the others
-joined_more : (p own lent last : MeterPort) → SplitsOff p own lent → GoesOn lent last
+joined_more : (p own lent last : MeterPort) → SplitsOff p own lent → PortContinues lent last
     → AreJoined lent.known.splits last → IsAmong own.known.number last.known.joined
     → AreJoined p.known.splits last
 joined_more p own lent last off goes joined mine i low high =
@@ -131,94 +109,37 @@ joined_more p own lent last off goes joined mine i low high =
       | inr other ↦ joined i (omega (arith, low, other, off.splits)) high
     ]
 
--- a worker's fault is not the last in the order of faults
-quiet : (end : Option (Result (Unit {0}) CallFault)) (X : Type 0)
-    → IfSome (worker_fault end) (λ f. OnEnded (Err f) X)
-quiet None X = tt
-quiet (Some (Ok done)) X = tt
-quiet (Some (Err call.Memory)) X = tt
-quiet (Some (Err call.Exhausted)) X = tt
+pub ended_map : (served : Result Served ServeFault) (A B : Type 0) → (A → B) → OnEnded served A
+    → OnEnded served B
+ended_map (Ok all) A B f a = f a
+ended_map (Err fault.Listen) A B f a = f a
+ended_map (Err fault.Memory) A B f a = tt
+ended_map (Err fault.Exhausted) A B f a = tt
+ended_map (Err fault.Read) A B f a = tt
+ended_map (Err fault.Write) A B f a = tt
+ended_map (Err fault.Journal) A B f a = tt
 
-no_fault : (end : Option (Result (Unit {0}) CallFault)) → worker_fault end ≡ None → end
-    ≡ Some (Ok tt)
-no_fault None none = let some : Some fault.Memory ≡ None = none in cc
-no_fault (Some (Ok done)) none = refl
-no_fault (Some (Err refused)) none = let some : Some (fault_of refused) ≡ None = none in cc
+ended_by : (served : Result Served ServeFault) (A : Type 0) → A → OnEnded served A
+ended_by (Ok all) A a = a
+ended_by (Err fault.Listen) A a = a
+ended_by (Err fault.Memory) A a = tt
+ended_by (Err fault.Exhausted) A a = tt
+ended_by (Err fault.Read) A a = tt
+ended_by (Err fault.Write) A a = tt
+ended_by (Err fault.Journal) A a = tt
 
-ended_first : (served : Result Served ServeFault) (worker : Option ServeFault) (X Y : Type 0)
-    → IfSome worker (λ f. OnEnded (Err f) X) → OnEnded served Y → (worker ≡ None → Y → X)
-    → OnEnded (first_of served worker) X
-ended_first (Ok all) None X Y q y f = f refl y
-ended_first (Ok all) (Some g) X Y q y f = q
-ended_first (Err fault.Memory) worker X Y q y f = tt
-ended_first (Err fault.Listen) None X Y q y f = f refl y
-ended_first (Err fault.Listen) (Some g) X Y q y f = q
-ended_first (Err fault.Exhausted) None X Y q y f = tt
-ended_first (Err fault.Exhausted) (Some g) X Y q y f = q
-ended_first (Err fault.Read) None X Y q y f = tt
-ended_first (Err fault.Read) (Some g) X Y q y f = q
-ended_first (Err fault.Write) None X Y q y f = tt
-ended_first (Err fault.Write) (Some g) X Y q y f = q
+-- a worker's fault claims nothing about the sources
+not_ended : (A : Type 0) (f : CallFault) → OnEnded (Err (fault_of f)) A
+not_ended A call.Memory = tt
+not_ended A call.Exhausted = tt
+not_ended A call.Journal = tt
 
--- if no worker stopped, the clients have this result, and the worker came to its end
-on_ok : (served result : Result Served ServeFault) (end : Option (Result (Unit {0}) CallFault))
-    (X Y : Type 0) → result ≡ first_of served (worker_fault end) → OnEnded served Y → (Y → X)
-    → OnEnded result X
-on_ok served result end X Y is y f =
-    let O : Result Served ServeFault → Type 0 = λ r. OnEnded r X in
-    subst O (sym is) (ended_first served (worker_fault end) X Y (quiet end X) y (λ none. f))
-
-any_ended : (served : Result Served ServeFault) → OnEnded served ⊤
-any_ended (Ok all) = tt
-any_ended (Err fault.Memory) = tt
-any_ended (Err fault.Listen) = tt
-any_ended (Err fault.Exhausted) = tt
-any_ended (Err fault.Read) = tt
-any_ended (Err fault.Write) = tt
-
-on_end : (served result : Result Served ServeFault) (end : Option (Result (Unit {0}) CallFault))
-    (X : Type 0) → result ≡ first_of served (worker_fault end) → (end ≡ Some (Ok tt) → X)
-    → OnEnded result X
-on_end served result end X is f =
-    let O : Result Served ServeFault → Type 0 = λ r. OnEnded r X in
-    subst O (sym is) (ended_first served (worker_fault end) X ⊤ (quiet end X) (any_ended served)
-    (λ none any. f (no_fault end none)))
-
-ok_first : (served : Result Served ServeFault) (worker : Option ServeFault) (P : Served → Type 0)
-    → IfOk served P → IfOk (first_of served worker) P
-ok_first (Ok all) None P y = y
-ok_first (Ok all) (Some g) P y = tt
-ok_first (Err fault.Memory) worker P y = tt
-ok_first (Err fault.Listen) None P y = tt
-ok_first (Err fault.Listen) (Some g) P y = tt
-ok_first (Err fault.Exhausted) None P y = tt
-ok_first (Err fault.Exhausted) (Some g) P y = tt
-ok_first (Err fault.Read) None P y = tt
-ok_first (Err fault.Read) (Some g) P y = tt
-ok_first (Err fault.Write) None P y = tt
-ok_first (Err fault.Write) (Some g) P y = tt
-
-if_ok : (served result : Result Served ServeFault) (end : Option (Result (Unit {0}) CallFault))
-    (P : Served → Type 0) → result ≡ first_of served (worker_fault end) → IfOk served P
-    → IfOk result P
-if_ok served result end P is y =
-    let O : Result Served ServeFault → Type 0 = λ r. IfOk r P in
-    subst O (sym is) (ok_first served (worker_fault end) P y)
-
--- the port of a worker was joined in since, and no port was split off
-served_on : (served result : Result Served ServeFault) (end : Option (Result (Unit {0}) CallFault))
-    (from splits later : ℕ) → result ≡ first_of served (worker_fault end) → later ≡ splits
-    → IfOk served (IsServed from splits) → IfOk result (IsServed from later)
-served_on served result end from splits later is same so =
-    let O : ℕ → Type 0 = λ n. IfOk result (IsServed from n) in
-    subst O (sym same) (if_ok served result end (IsServed from splits) is so)
-
--- the same fact for an equal count of splits
-served_from : (result : Result Served ServeFault) (from before later : ℕ) → from ≡ before
-    → IfOk result (IsServed from later) → IfOk result (IsServed before later)
-served_from result from before later same so =
-    let O : ℕ → Type 0 = λ n. IfOk result (IsServed n later) in
-    subst O same so
+-- the same fact for equal counts of splits
+counted_by : (served : Result Served ServeFault) (from before splits later : ℕ) → from ≡ before
+    → splits ≡ later → IfOk served (IsServed from splits) → IfOk served (IsServed before later)
+counted_by served from before splits later same still so =
+    subst (λ n. IfOk served (IsServed before n)) still
+    (subst (λ n. IfOk served (IsServed n splits)) same so)
 
 stops_for : (A B F : Type 0) (f : ServeFault) → (A → B) → StopsFor A F f → StopsFor B F f
 stops_for A B F fault.Memory so why = tt
@@ -226,6 +147,7 @@ stops_for A B F fault.Exhausted so why = so why
 stops_for A B F fault.Listen so why = why
 stops_for A B F fault.Read so why = why
 stops_for A B F fault.Write so why = why
+stops_for A B F fault.Journal so why = why
 
 -- the reason for stopping, with its parts replaced by implied ones
 map_stops : (result : Result Served ServeFault) (A B F : Type 0) → IfErr result (StopsFor A F)
@@ -233,118 +155,206 @@ map_stops : (result : Result Served ServeFault) (A B F : Type 0) → IfErr resul
 map_stops (Ok all) A B F why so = tt
 map_stops (Err f) A B F why so = stops_for A B F f so why
 
-stops_first : (served : Result Served ServeFault) (worker : Option ServeFault) (S : ServeFault
-    → Type 0) → IfSome worker S → IfErr served S → IfErr (first_of served worker) S
-stops_first (Ok all) None S w y = tt
-stops_first (Ok all) (Some g) S w y = w
-stops_first (Err fault.Memory) worker S w y = y
-stops_first (Err fault.Listen) None S w y = y
-stops_first (Err fault.Listen) (Some g) S w y = w
-stops_first (Err fault.Exhausted) None S w y = y
-stops_first (Err fault.Exhausted) (Some g) S w y = w
-stops_first (Err fault.Read) None S w y = y
-stops_first (Err fault.Read) (Some g) S w y = w
-stops_first (Err fault.Write) None S w y = y
-stops_first (Err fault.Write) (Some g) S w y = w
+-- the first result if the worker did not stop, or stopped with this fault
+first_none : (served : Result Served ServeFault) → first_of served None ≡ served
+first_none (Ok all) = refl
+first_none (Err fault.Memory) = refl
+first_none (Err fault.Listen) = refl
+first_none (Err fault.Exhausted) = refl
+first_none (Err fault.Read) = refl
+first_none (Err fault.Write) = refl
+first_none (Err fault.Journal) = refl
 
-worker_stops : (end : Option (Result (Unit {0}) CallFault)) (B F : Type 0)
-    → (end ≡ Some (Err call.Exhausted) → B) → IfSome (worker_fault end) (StopsFor B F)
-worker_stops None B F spent = tt
-worker_stops (Some (Ok done)) B F spent = tt
-worker_stops (Some (Err call.Memory)) B F spent = tt
-worker_stops (Some (Err call.Exhausted)) B F spent = spent refl
+first_some : (P : Result Served ServeFault → Type 0) (served : Result Served ServeFault)
+    (f : ServeFault) → P (Err fault.Memory) → P (Err f) → P (first_of served (Some f))
+first_some P (Ok all) f memory stopped = stopped
+first_some P (Err fault.Memory) f memory stopped = memory
+first_some P (Err fault.Listen) f memory stopped = stopped
+first_some P (Err fault.Exhausted) f memory stopped = stopped
+first_some P (Err fault.Read) f memory stopped = stopped
+first_some P (Err fault.Write) f memory stopped = stopped
+first_some P (Err fault.Journal) f memory stopped = stopped
 
--- the server stops for the reason of the clients, or because the worker's port is spent
-stops_by : (served result : Result Served ServeFault) (end : Option (Result (Unit {0}) CallFault))
-    (A B F : Type 0) → result ≡ first_of served (worker_fault end)
-    → IfErr served (StopsFor A F) → (A → B) → (end ≡ Some (Err call.Exhausted) → B)
-    → IfErr result (StopsFor B F)
-stops_by served result end A B F is why so spent =
-    let O : Result Served ServeFault → Type 0 = λ r. IfErr r (StopsFor B F) in
-    subst O (sym is) (stops_first served (worker_fault end) (StopsFor B F)
-    (worker_stops end B F spent) (map_stops served A B F why so))
+-- the first result is that of the clients if the worker came to its end, or else the worker's fault
+first_by : (P : Result Served ServeFault → Type 0) (served : Result Served ServeFault)
+    (end : Option (Result (Unit {0}) CallFault)) → (end ≡ Some (Ok tt) → P served)
+    → P (Err fault.Memory) → ((f : CallFault) → end ≡ Some (Err f) → P (Err (fault_of f)))
+    → P (first_of served (worker_fault end))
+first_by P served None ended memory stopped = first_some P served fault.Memory memory memory
+first_by P served (Some (Ok done)) ended memory stopped =
+    subst P (sym (first_none served)) (ended refl)
+first_by P served (Some (Err f)) ended memory stopped =
+    first_some P served (fault_of f) memory (stopped f refl)
 
 -- a worker was refused a call, so the port into which its port was joined is spent
-spent_by : {W : Type 0} (hands : W → MeterPort → MeterPort → Type 0) (worker : W)
-    (own begun before q : MeterPort) (end : Option (Result (Unit {0}) CallFault))
-    → ComesBack (Did hands worker) own end before q
-    → GoesOn begun before → own.bound ≡ begun.bound → end ≡ Some (Err call.Exhausted) → IsSpent q
-spent_by hands worker own begun before q end back goes bound is =
+spent_by : (CanFollow : List Event → Type 0) (own begun before q : MeterPort)
+    (end : Option (Result (Unit {0}) CallFault))
+    → ComesBack (Did CanFollow) own end before q
+    → PortContinues begun before → own.bound ≡ begun.bound → end ≡ Some (Err call.Exhausted)
+    → IsSpent q
+spent_by CanFollow own begun before q end back goes bound is =
     let E : Option (Result (Unit {0}) CallFault) → Type 0 =
-    λ e. Ended (Did hands worker) own back.back e in
+    λ e. Ended (Did CanFollow) own back.back e in
     let spent : back.back.bound ≤ back.back.known.drawn = (subst E is back.ended).2 in
     let same : q.bound ≡ back.back.bound = back.taken.goes.bound ∙ goes.bound ∙ sym bound
     ∙ sym back.same.bound in
     omega (arith, spent, same, back.taken.drawn)
 
+-- why a worker stopped is why the server stops
+stops_by : (CanFollow : List Event → Type 0) (own begun before q : MeterPort)
+    (end : Option (Result (Unit {0}) CallFault)) (F : Type 0)
+    → ComesBack (Did CanFollow) own end before q
+    → PortContinues begun before → own.bound ≡ begun.bound
+    → (f : CallFault) → end ≡ Some (Err f) → StopsFor (IsSpent q) F (fault_of f)
+stops_by CanFollow own begun before q end F back goes bound call.Memory is = tt
+stops_by CanFollow own begun before q end F back goes bound call.Exhausted is =
+    spent_by CanFollow own begun before q end back goes bound is
+stops_by CanFollow own begun before q end F back goes bound call.Journal is =
+    let E : Option (Result (Unit {0}) CallFault) → Type 0 =
+    λ e. Ended (Did CanFollow) own back.back e in
+    absurd (subst E is back.ended).2
+
 -- a spent port remains spent
-spent_on : (p q : MeterPort) → GoesOn p q → IsSpent p → IsSpent q
+spent_on : (p q : MeterPort) → PortContinues p q → IsSpent p → IsSpent q
 spent_on p q goes spent = omega (arith, goes.bound, goes.drawn, spent)
 
--- A port was split off for a worker, the clients were served, and then the worker's port was joined
--- in
+-- A worker was joined after the clients were served
 module _ {did : MeterPort → MeterPort → Result (Unit {0}) CallFault
-    → Type 0} {p own lent mid last : MeterPort} {served result : Result Served ServeFault}
-    (off : SplitsOff p own lent) (goes : GoesOn lent mid)
+    → Type 0} {own mid last : MeterPort} {served result : Result Served ServeFault}
     (ends : EndsWith did own served result mid last) where
-  since : GoesOn lent last
-  since = goes_trans lent mid last goes ends.back.taken.goes
+  result_by : (P : Result Served ServeFault → Type 0) → (ends.end ≡ Some (Ok tt) → P served)
+      → P (Err fault.Memory) → ((f : CallFault) → ends.end ≡ Some (Err f) → P (Err (fault_of f)))
+      → P result
+  result_by P ended memory stopped =
+      subst P (sym ends.first) (first_by P served ends.end ended memory stopped)
 
-  pub goes_beside : GoesOn p last
-  goes_beside = goes_trans p lent last off.goes since
+  pub ok_beside : (P : Served → Type 0) → IfOk served P → IfOk result P
+  ok_beside P so = result_by (λ r. IfOk r P) (λ _. so) tt (λ _ _. tt)
 
-  pub joined_beside : AreJoined lent.known.splits mid → AreJoined p.known.splits last
-  joined_beside joined =
-      let J : List ℕ → Type 0 = λ n. IsAmong n last.known.joined in
-      joined_more p own lent last off since (joined_on mid last _ ends.back.taken.goes
-      ends.back.taken.splits joined) (subst J ends.back.same.number ends.back.taken.joined)
+-- A port was split off for the worker before
+module _ {W : Type 0} (CanFollow : W → List Event → Type 0) (worker : W)
+    {p own lent mid last : MeterPort} {served result : Result Served ServeFault}
+    (off : SplitsOff p own lent)
+    (ends : EndsWith (Did (CanFollow worker)) own served result mid last) where
+  pub stops_beside : (A F : Type 0) → PortContinues lent mid → IfErr served (StopsFor A F)
+      → (A → IsSpent mid) → IfErr result (StopsFor (IsSpent last) F)
+  stops_beside A F goes why so =
+      result_by ends (λ r. IfErr r (StopsFor (IsSpent last) F))
+      (λ _. map_stops served A _ F why (λ spent. spent_on mid last ends.back.taken.goes (so spent)))
+      tt
+      (stops_by (CanFollow worker) own lent mid last ends.end F ends.back goes (off.bound
+      ∙ sym off.goes.bound))
 
-  pub limit_beside : (P : Served → Type 0) → IfOk served P → IfOk result P
-  limit_beside P so = if_ok served result ends.end P ends.first so
-
-  pub served_beside : (from before : ℕ) → from ≡ before
-      → IfOk served (IsServed from mid.known.splits)
-      → IfOk result (IsServed before last.known.splits)
-  served_beside from before same so = served_from result from before _ same
-      (served_on served result ends.end from _ _ ends.first ends.back.taken.splits so)
-
-  -- facts about sessions are preserved
-  pub sessions_beside : (password : List ℕ) (from before : ℕ) → from ≡ before
-      → lent.known.splits ≤ from → AreJoined lent.known.splits mid
-      → AreSessions password from mid → AreSessions password before last
-  sessions_beside password from before same early joined sessions =
-      sessions_on password lent.known.splits from before mid last same early ends.back.taken.goes
-      ends.back.taken.splits joined sessions
+  -- the work of the worker
+  acted_itself : OnEnded result
+      (Acted last (child p.known.number p.known.splits) (CanFollow worker))
+  acted_itself =
+      result_by ends
+      (λ r. OnEnded r (Acted last (child p.known.number p.known.splits) (CanFollow worker)))
+      (λ is. ended_by served _ (acted_by last _ _ (CanFollow worker) off.number
+      (acted_own (CanFollow worker) own mid last ends.end ends.back off.fresh is))) tt
+      (λ f is. not_ended _ f)
 
   -- facts about another worker are preserved
-  pub acted_beside : (i j : ℕ) (Whole : List Event → Type 0) → i ≡ j
+  acted_beside : (i j : ℕ) (Whole : List Event → Type 0) → i ≡ j
       → OnEnded served (Acted mid (child lent.known.number i) Whole)
       → OnEnded result (Acted last (child p.known.number j) Whole)
   acted_beside i j Whole same so =
-      on_ok served result ends.end _ _ ends.first so
-      (λ acted. acted_by last _ _ Whole (ap (λ n. child n i) off.goes.number
-      ∙ ap (λ k. child p.known.number k) same)
-      (acted_on mid last _ Whole ends.back.taken.goes acted))
+      result_by ends (λ r. OnEnded r (Acted last (child p.known.number j) Whole))
+      (λ _. ended_map served _ _ (λ acted. acted_by last _ _ Whole
+      (ap (λ n. child n i) off.goes.number ∙ ap (λ k. child p.known.number k) same)
+      (acted_on mid last _ Whole ends.back.taken.goes acted)) so) tt (λ f is. not_ended _ f)
 
-module _ {W : Type 0} (hands : W → MeterPort → MeterPort → Type 0)
-    (worker : W) {p own lent mid last : MeterPort} {served result : Result Served ServeFault}
-    (off : SplitsOff p own lent) (goes : GoesOn lent mid)
-    (ends : EndsWith (Did hands worker) own served result mid last) where
-  -- the work of the worker, for an equal worker
-  pub acted_itself : (All : W → List Event → Type 0) (given : W) → worker ≡ given
-      → ((begun back : MeterPort) (events : List Event) → events ≡ own_events back
-      → own_events begun ≡ [] → hands worker begun back → All worker events)
-      → OnEnded result (Acted last (child p.known.number p.known.splits) (All given))
-  acted_itself All given same whole =
-      let P : W → Type 0 = λ w. Acted last (child p.known.number p.known.splits) (All w) in
-      on_end served result ends.end _ ends.first
-      (λ is. subst P same (acted_by last _ _ (All worker) off.number
-      (acted_own hands worker own mid last ends.end (All worker) whole ends.back off.fresh is)))
+  -- the events of the source with an index: the worker's first, and then the others
+  acted_each : (count : ℕ) (Others : ℕ → List Event → Type 0)
+      → ((i : ℕ) → i < count
+      → OnEnded served (Acted mid (child lent.known.number (lent.known.splits + i)) (Others i)))
+      → (i : ℕ) → i < count + 1
+      → OnEnded result (Acted last (child p.known.number (p.known.splits + i))
+      (first_then (CanFollow worker) Others i))
+  acted_each count Others acted zero low =
+      let same : p.known.splits ≡ p.known.splits + 0 = omega arith in
+      let O : ℕ → Type 0 = λ k. OnEnded result
+      (Acted last (child p.known.number k) (CanFollow worker)) in
+      subst O same acted_itself
+  acted_each count Others acted (suc i) low =
+      acted_beside (lent.known.splits + i) (p.known.splits + suc i) (Others i)
+      (omega (arith, off.splits)) (acted i (omega (arith, low)))
 
-  pub stops_beside : (A F : Type 0) → IfErr served (StopsFor A F) → (A → IsSpent mid)
-      → IfErr result (StopsFor (IsSpent last) F)
-  stops_beside A F why so =
-      stops_by served result ends.end A _ F ends.first why
-      (λ spent. spent_on mid last ends.back.taken.goes (so spent))
-      (λ refused. spent_by hands worker own lent mid last ends.end ends.back goes (off.bound
-      ∙ sym off.goes.bound) refused)
+  serves_worker : (password : List ℕ) (count : ℕ) (Others : ℕ → List Event → Type 0)
+      → ServesWith password count Others lent mid served
+      → ServesWith password (count + 1) (first_then (CanFollow worker) Others) p last result
+  serves_worker password count Others inner =
+      let since = goes_trans lent mid last inner.goes ends.back.taken.goes in
+      let from : lent.known.splits + count ≡ p.known.splits + (count + 1) =
+      omega (arith, off.splits) in
+      let J : List ℕ → Type 0 = λ n. IsAmong n last.known.joined in
+      record {
+        goes = goes_trans p lent last off.goes since;
+        joined = joined_more p own lent last off since (joined_on mid last _ ends.back.taken.goes
+            ends.back.taken.splits inner.joined) (subst J ends.back.same.number
+            ends.back.taken.joined);
+        sessions = sessions_on password lent.known.splits _ _ mid last from (omega arith)
+            ends.back.taken.goes ends.back.taken.splits inner.joined inner.sessions;
+        counted = ok_beside ends _ (counted_by served _ _ _ _ from (sym ends.back.taken.splits)
+            inner.counted);
+        acted = acted_each count Others inner.acted;
+      }
+
+-- the clients were served with one more source than before
+pub serves_beside : {W : Type 0} (CanFollow : W → List Event → Type 0) {worker given : W}
+    {p own lent mid last : MeterPort} {served result : Result Served ServeFault}
+    {password : List ℕ} {count : ℕ} {Others : ℕ → List Event → Type 0}
+    → worker ≡ given → SplitsOff p own lent
+    → EndsWith (Did (CanFollow worker)) own served result mid last
+    → ServesWith password count Others lent mid served
+    → ServesWith password (count + 1) (first_then (CanFollow given) Others) p last result
+serves_beside {W} CanFollow {worker} {given} {p} {own} {lent} {mid} {last} {served} {result}
+    {password}
+    {count} {Others} same off ends inner =
+    let P : W → Type 0 = λ w. ServesWith password (count + 1) (first_then (CanFollow w) Others) p
+    last
+    result in
+    subst P same (serves_worker CanFollow worker off ends password count Others inner)
+
+-- the clients were served with no source
+pub serves_alone : (password : List ℕ) (Any : ℕ → List Event → Type 0) (p q : MeterPort)
+    (served : Result Served ServeFault)
+    → PortContinues p q → AreJoined p.known.splits q → AreSessions password p.known.splits q
+    → IfOk served (IsServed p.known.splits q.known.splits) → ServesWith password 0 Any p q served
+serves_alone password Any p q served goes joined sessions counted =
+    let same : p.known.splits ≡ p.known.splits + 0 = omega arith in
+    let S : ℕ → Type 0 = λ n. AreSessions password n q in
+    record {
+      goes = goes;
+      joined = joined;
+      sessions = subst S same sessions;
+      counted = counted_by served _ _ _ _ same refl counted;
+      acted = λ i low. absurd (omega (arith, low));
+    }
+
+-- a worker was not started, so no client was served
+pub serves_none : (password : List ℕ) (count : ℕ) (Any : ℕ → List Event → Type 0) (p q : MeterPort)
+    → PortContinues p q → AreJoined p.known.splits q → q.known.splits ≤ p.known.splits + 1
+    → ServesWith password (count + 1) Any p q (Err fault.Memory)
+serves_none password count Any p q goes joined most = record {
+  goes = goes;
+  joined = joined;
+  sessions = no_sessions password _ q (omega (arith, most));
+  counted = tt;
+  acted = λ i low. tt;
+}
+
+-- the events of a source are all its events, and the result is the same
+pub acted_at : {password : List ℕ} {count : ℕ} {CanFollow : ℕ → List Event → Type 0}
+    {p q : MeterPort} {served result : Result Served ServeFault} (i n : ℕ)
+    (Whole : List Event → Type 0)
+    → ServesWith password count CanFollow p q served → i < count → p.known.splits + i ≡ n
+    → Includes Whole (CanFollow i) → served ≡ result
+    → OnEnded result (Acted q (child p.known.number n) Whole)
+acted_at {p = p} {q = q} {served = served} {result = result} i n Whole serves low same all is =
+    let N : ℕ → Type 0 = λ k. OnEnded result (Acted q (child p.known.number k) Whole) in
+    subst N same (subst (λ r. OnEnded r (Acted q (child p.known.number (p.known.splits + i))
+    Whole)) is
+    (ended_map served _ _ (λ acted. record { joined = acted.joined; whole = all _ acted.whole })
+    (serves.acted i low)))

@@ -1,20 +1,20 @@
 -- The calls of a session's port are the events of the session.
-use Rattle.std.proofs.Common.{◌≡◌, ℕ, ◌<◌, ◌≤◌, List, [], ◌∷◌, ◌++◌, map, Result, Ok, Err, refl, sym, ap, ◌∙◌, subst, inl, inr, ⊎_elim, arith, Option}
+use Rattle.std.proofs.Common.{◌≡◌, ℕ, ◌<◌, ◌≤◌, List, [], ◌∷◌, ◌++◌, map, Result, Ok, Err, refl, sym, ap, ◌∙◌, subst, inl, inr, ⊎_elim, arith}
 use Rattle.std.proofs.lemmas.List.{append-nil, append_assoc, map-append}
 use Rattle.relay_events.specs.declared.event.Event.{Event}
 use Rattle.relay_events.specs.declared.reply.Reply.{Reply}
 use Rattle.session_core.specs.Backwards.{Asks}
 use Rattle.session_core.specs.declared.end.SessionEnd.{SessionEnd}
-use Rattle.session_serving.specs.Meters.{RepliesTo, RefusesLast}
-use Rattle.session_serving.specs.Serving.{HasEffect, ServesSession, plan_of}
-use Rattle.session_serving.specs.Sides.{Sides}
-use Rattle.session_serving.specs.declared.fault.ServeFault.{ServeFault}
-use Rattle.session_serving.specs.declared.fault.ServeFault.TheVariants as fault
-use Rattle.call_fault.specs.declared.fault.CallFault.{CallFault}
+use Rattle.session_io.specs.Meters.{RepliesTo, RefusesLast}
+use Rattle.session_io.specs.Serving.{HasEffect, ServesSession, plan_of}
+use Rattle.session_io.specs.Sides.{Sides}
+use Rattle.session_io.specs.declared.fault.ServeFault.{ServeFault}
+use Rattle.session_io.specs.declared.fault.ServeFault.TheVariants as fault
+use Rattle.turn_lock.specs.declared.call_fault.CallFault.{CallFault}
 use Rattle.turn_lock.specs.declared.turned.Entry.{Entry}
 use Rattle.turn_lock.specs.History.{calls_by}
 use Rattle.turn_lock.specs.Shown.{IsSame}
-use Rattle.session_threads.specs.Ports.{GoesOn, AreJoined, AreServed, AreCallsOf, child}
+use Rattle.port_threads.specs.Ports.{PortContinues, AreJoined, AreServed, AreCallsOf, child}
 use Rattle.meter_server.specs.Ports.{MeterPort, PortSteps, entries}
 use Rattle.meter_server.specs.ServingAll.{events_by}
 use Rattle.meter_server.specs.Sessions.{AreAsked, AsksThrough, AreSessions}
@@ -95,6 +95,9 @@ effect_asks password seen before (Err fault.Exhausted) after effect =
     by_refused password seen before.outlets.meter effect.asked effect.later effect.replies _
     after.outlets.meter effect.all_asked effect.refused
 effect_asks password seen before (Err fault.Listen) after effect = absurd effect
+effect_asks password seen before (Err fault.Journal) after effect =
+    by_refused password seen before.outlets.meter effect.asked effect.later effect.replies _
+    after.outlets.meter effect.all_asked effect.refused
 
 -- a port that served a session made the calls of the session
 pub served_asks : (password : List ℕ) (before : Sides MeterPort)
@@ -140,7 +143,7 @@ no_sessions password from port few i low high = absurd (omega (arith, few, low, 
 
 -- facts about joined ports are preserved
 pub sessions_on : (password : List ℕ) (first from before : ℕ) (p q : MeterPort) → from ≡ before
-    → first ≤ from → GoesOn p q → q.known.splits ≡ p.known.splits
+    → first ≤ from → PortContinues p q → q.known.splits ≡ p.known.splits
     → AreJoined first p → AreSessions password from p → AreSessions password before q
 sessions_on password first from before p q same early goes splits joined sessions i low high =
     let within : i < p.known.splits = omega (arith, high, splits) in

@@ -1,3 +1,4 @@
 pub mod Ports
 pub mod ServingAll
 pub mod Sessions
+pub mod WithSources

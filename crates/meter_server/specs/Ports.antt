@@ -1,13 +1,13 @@
 -- A port of a shared meter, as a meter.
 use Rattle.std.specs.Prelude.{◌≡◌, ℕ, List, [], ◌∷◌, ◌++◌, Result, Ok, Err}
-use Rattle.kept_meter.specs.Calls.{IsLegal, IsSure}
+use Rattle.shared_meter.specs.Calls.{IsLegal, IsSure}
 use Rattle.relay_events.specs.declared.event.Event.{Event}
 use Rattle.relay_events.specs.declared.reply.Reply.{Reply}
 use Rattle.relay_core.specs.declared.opening.Opening.{Opening}
 use Rattle.turn_lock.specs.Calls.{Called, Watches, IsCause}
 use Rattle.turn_lock.specs.History.{entry, calls_by}
 use Rattle.turn_lock.specs.Shown.{ShownPort}
-use Rattle.call_fault.specs.declared.fault.CallFault.{CallFault}
+use Rattle.turn_lock.specs.declared.call_fault.CallFault.{CallFault}
 use Rattle.turn_lock.specs.declared.turned.Entry.{Entry}
 
 abbrev pub MeterPort : Type 0

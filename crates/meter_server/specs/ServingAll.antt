@@ -1,22 +1,18 @@
 -- The effect of the server on its sources, its clients and its port.
---     AllBlocks, AllMoments, AllPresses   the events are all that a source declared
---     Acted                               the port with a number was joined in, with these events
---     StopsFor, first_of                  which fault is returned, and the order of faults
---     EndsWith                            the result of clients that were served in parallel with a
---                                         worker, once it is joined
-use Rattle.std.specs.Prelude.{◌≡◌, ⊤, ℕ, ◌+◌, ◌<◌, ◌≤◌, List, map, replicate, Option, Some, None, IfSome, Result, Ok, Err}
-use Rattle.lane_sampler.specs.Samples.{Samples}
-use Rattle.session_serving.specs.Settling.{fault_of}
-use Rattle.session_serving.specs.declared.fault.ServeFault.{ServeFault}
-use Rattle.session_serving.specs.declared.fault.ServeFault.TheVariants as fault
+--     Acted                 the port with a number was joined in, with these events
+--     StopsFor, first_of    which fault is returned, and the order of faults
+--     EndsWith              the result of clients that were served in parallel with a worker, once
+--                           it is joined
+use Rattle.std.specs.Prelude.{◌≡◌, ⊤, ℕ, ◌+◌, ◌<◌, ◌≤◌, List, map, Option, Some, None, Result, Ok, Err}
+use Rattle.session_io.specs.Settling.{fault_of}
+use Rattle.session_io.specs.declared.fault.ServeFault.{ServeFault}
+use Rattle.session_io.specs.declared.fault.ServeFault.TheVariants as fault
 use Rattle.meter_server.specs.declared.serving_all.Served.{Served}
-use Rattle.meter_workers.specs.Blocks.{AreOfBlocks}
-use Rattle.meter_workers.specs.Handed.{MeterPort, unread}
+use Rattle.shared_meter.specs.Handed.{MeterPort}
 use Rattle.relay_events.specs.declared.event.Event.{Event}
-use Rattle.relay_events.specs.declared.event.Event.TheVariants as event
 use Rattle.relay_events.specs.declared.reply.Reply.{Reply}
-use Rattle.session_threads.specs.Workers.{ComesBack}
-use Rattle.call_fault.specs.declared.fault.CallFault.{CallFault}
+use Rattle.port_threads.specs.Workers.{ComesBack}
+use Rattle.turn_lock.specs.declared.call_fault.CallFault.{CallFault}
 use Rattle.turn_lock.specs.declared.turned.Entry.{Entry}
 use Rattle.turn_lock.specs.History.{IsAmong, calls_by}
 
@@ -25,20 +21,6 @@ use Rattle.turn_lock.specs.History.{IsAmong, calls_by}
 abbrev pub events_by : List ℕ → MeterPort → List Event
 events_by number port =
     map (λ (call : Entry Event Reply). call.event) (calls_by number port.known.seen)
-
--- apart from reads, the events are all blocks of the source's list, in order; the thresholds are
--- read at most before the first block and after every 64 further ones
-abbrev pub AllBlocks : Option (List Samples) → List Event → Type 0
-AllBlocks told events =
-    IfSome told (λ blocks. (unread events ≡ map event.Samples blocks) × AreOfBlocks 0 blocks events)
-
--- the events are all the moments that the source declared, in order
-abbrev pub AllMoments : Option (List ℕ) → List Event → Type 0
-AllMoments told events = IfSome told (λ moments. events ≡ map event.Moment moments)
-
--- the events are the number of presses that the source declared
-abbrev pub AllPresses : Option ℕ → List Event → Type 0
-AllPresses told events = IfSome told (λ count. events ≡ replicate count event.Button)
 
 -- the port with this number was joined in, and its calls are complete
 pub record Acted (port : MeterPort) (number : List ℕ) (Whole : List Event → Type 0) : Type 0 where
@@ -67,6 +49,7 @@ StopsFor spent failed fault.Exhausted = spent
 StopsFor spent failed fault.Listen = failed
 StopsFor spent failed fault.Read = ⊥
 StopsFor spent failed fault.Write = ⊥
+StopsFor spent failed fault.Journal = ⊥
 
 -- the fault of a worker: out of memory, so that its work was not started; or a refused call of the
 -- meter

@@ -2,8 +2,8 @@
 use Rattle.std.specs.Prelude.{◌≡◌, ℕ, ◌<◌, ◌≤◌, List, ◌++◌}
 use Rattle.relay_events.specs.declared.event.Event.{Event}
 use Rattle.session_core.specs.Backwards.{Asks}
-use Rattle.session_threads.specs.Ports.{child}
-use Rattle.meter_workers.specs.Handed.{MeterPort}
+use Rattle.port_threads.specs.Ports.{child}
+use Rattle.shared_meter.specs.Handed.{MeterPort}
 use Rattle.meter_server.specs.ServingAll.{events_by}
 
 -- the events are the first of a session with some input; the management client has this password

@@ -2,15 +2,15 @@
 ghost use Rattle.std.specs.Prelude.{◌≡◌, ◌≢◌, ⊤, ℕ, Option, None, Some};
 ghost use Rattle.std.specs.Prelude.{IfSome, IfNone, OnOk, OnErr};
 ghost use Rattle.acse_ber.specs.Password.{IsPassword};
-ghost use Rattle.session_threads.specs.Listening.{IfReady, RisesBy};
+ghost use Rattle.port_threads.specs.Listening.{IfReady, RisesBy};
 
 use crate::ports::serve_port;
-use byte_streams::Counted;
 use cosem_axdr::Octets;
-use kept_meter::Kept;
+use counted_io::Counted;
+use port_threads::{Arrival, ListenFault, PortConnection};
 use session_core::SessionEnd;
-use session_serving::ServeFault;
-use session_threads::{Arrival, ListenFault, PortConnection};
+use session_io::ServeFault;
+use shared_meter::Kept;
 use std::alloc::Global;
 use std::io::{Read, Write};
 use std::net::TcpStream;
@@ -21,7 +21,7 @@ use turn_lock::Port;
 /// session.
 pub trait Observer {
     /// Is called with the end of the session or its fault. The default does nothing.
-    fn ended(&self, _end: &Result<SessionEnd, ServeFault>) {}
+    fn on_session_end(&self, _end: &Result<SessionEnd, ServeFault>) {}
 }
 
 /// A plain socket reports nothing.
@@ -78,7 +78,7 @@ impl<I: Read + Drop + Send, O: Write + Observer + Drop + Send> PortConnection<Po
         let mut reader = Counted::new(input);
         let mut writer = Counted::new(output);
         let (port, end) = serve_port(rt, alloc, &mut reader, &mut writer, port, &password);
-        writer.into_inner().ended(&end);
+        writer.into_inner().on_session_end(&end);
         port
     }
 }
@@ -116,7 +116,7 @@ pub(crate) struct Clients<'a, 'b, L> {
     ghost sized: { IsPassword password.now },
 }
 
-impl<'a, 'b, L: Listener> session_threads::ConnectionSource<Port<Kept>> for Clients<'a, 'b, L> {
+impl<'a, 'b, L: Listener> port_threads::ConnectionSource<Port<Kept>> for Clients<'a, 'b, L> {
     type Connection = AcceptedClient<L::Input, L::Output>;
 
     ghost has_failed = { λ clients. L.has_failed clients.listener.now };

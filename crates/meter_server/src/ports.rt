@@ -1,26 +1,25 @@
 //! A session on a meter that it shares with others.
 ghost use Rattle.std.specs.Prelude.{◌≡◌, List};
 ghost use Rattle.acse_ber.specs.Password.{IsPassword};
-ghost use Rattle.session_serving.specs.Meters.{RepliesTo};
+ghost use Rattle.session_io.specs.Meters.{RepliesTo};
 ghost use Rattle.meter_server.specs.Ports.{MeterPort, PortSteps, Enters};
 ghost use Rattle.meter_server.specs.Sessions.{AsksThrough};
-ghost use Rattle.session_serving.specs.Serving.{ServesSession};
-ghost use Rattle.session_serving.specs.Sides.{input_of, outlets_of};
+ghost use Rattle.session_io.specs.Serving.{ServesSession};
+ghost use Rattle.session_io.specs.Sides.{input_of, outlets_of};
 ghost use Rattle.relay_events.specs.declared.event.Event.{Event};
 ghost use Rattle.relay_events.specs.declared.reply.Reply.{Reply};
 ghost use Rattle.turn_lock.specs.Shown.{IsSame};
 
-use byte_streams::{Reader, Writer};
-use call_fault::CallFault;
 use cosem_axdr::Octets;
-use kept_meter::Kept;
+use counted_io::{Reader, Writer};
 use relay_events::{Event, Reply};
 use session_core::SessionEnd;
-use session_serving::{Meter, ServeFault, serve_session};
+use session_io::{Meter, ServeFault, serve_session};
+use shared_meter::Kept;
 use std::alloc::Global;
 use std::marker::Model;
 use std::sync::Wait;
-use turn_lock::Port;
+use turn_lock::{CallFault, Port};
 
 /// A port of a shared meter, as a [`Meter`]: each event is a call of the port, and waits for its
 /// turn. Contracts refer to the port.

@@ -1,27 +1,31 @@
 //! The whole server: sessions of clients, blocks of samples, moments and presses on one meter, each
 //! session and source in a thread of its own.
-ghost use Rattle.std.specs.Prelude.{◌≡◌, ◌+◌, [], Err, IfOk, IfErr};
+ghost use Rattle.std.specs.Prelude.{◌≡◌, ◌+◌, ⊤, [], Err, IfOk, IfErr};
 ghost use Rattle.acse_ber.specs.Password.{IsPassword};
-ghost use Rattle.kept_meter.specs.Calls.{IsLegal as IsLegalRun};
-ghost use Rattle.meter_server.specs.ServingAll.{AllBlocks, AllMoments, AllPresses, Acted, EndsWith, IsLimit, IsServed, IsSpent, StopsFor, OnEnded, worker_fault, first_of};
+ghost use Rattle.shared_meter.specs.Calls.{IsLegal as IsLegalRun};
+ghost use Rattle.meter_server.specs.ServingAll.{Acted, EndsWith, IsLimit, IsServed, IsSpent, StopsFor, OnEnded, worker_fault, first_of};
 ghost use Rattle.meter_server.specs.Sessions.{AreSessions};
-ghost use Rattle.session_threads.specs.Listening.{IsCounted};
-ghost use Rattle.session_threads.specs.Ports.{GoesOn, AreJoined, child};
+ghost use Rattle.meter_server.specs.WithSources.{ServesWith, first_then};
+ghost use Rattle.shared_meter.specs.Blocks.{AllBlocks};
+ghost use Rattle.shared_meter.specs.Sources.{AllMoments, AllPresses};
+ghost use Rattle.port_threads.specs.Listening.{IsCounted};
+ghost use Rattle.port_threads.specs.Ports.{PortContinues, AreJoined, child};
 ghost use Rattle.turn_lock.specs.Calls.{IsLegal};
 ghost use Rattle.turn_lock.specs.Shown.{IsSame};
 
-use crate::acting::{Button, Clock, Sampler};
 use crate::listening::{Clients, Listener};
-use call_fault::CallFault;
+use crate::workers::SourceWorker;
 use cosem_axdr::Octets;
-use kept_meter::Kept;
-use meter_workers::{BlockSource, ButtonSource, MomentSource};
-use session_serving::ServeFault;
-use session_threads::{Worker, WorkerThread, join_worker, serve_connections, start_worker};
+use port_threads::{Worker, WorkerThread, join_worker, serve_connections, start_worker};
+use session_io::ServeFault;
+use shared_meter::{
+    BlockEvents, BlockSource, ButtonSource, EventSource, Kept, MomentEvents, MomentSource,
+    PressEvents,
+};
 use std::alloc::Global;
 use std::sync::Wait;
 use std::thread::Threads;
-use turn_lock::Port;
+use turn_lock::{CallFault, Port};
 
 /// The numbers of connections by their result. Each saturates at `u64::MAX`.
 #[derive(Clone, Copy, Debug, PartialEq, Eq)]
@@ -68,7 +72,7 @@ fn serve_clients<L: Listener, R: Threads + Wait + Copy + Send + 'static>(
     limit: u64,
 ) -> Result<Served, ServeFault>
     requires { IsPassword password.now }
-    ensures port_continues { GoesOn port.old port.new }
+    ensures port_continues { PortContinues port.old port.new }
     ensures joined { AreJoined port.old.known.splits port.new }
     ensures sessions { AreSessions password.now port.old.known.splits port.new }
     ensures limit { IfOk result (IsLimit limit) }
@@ -109,135 +113,104 @@ fn join_both<K: Worker<Port<Kept>>, R: Threads>(
     first_fault(served, end)
 }
 
-// Serves the clients and passes on the presses of the button, in parallel.
-fn serve_with_button<
+// Serves the clients and passes on the events of a source, in parallel.
+fn serve_with_one<
     L: Listener,
-    U: ButtonSource + Send + 'static,
+    S: EventSource + Send + 'static,
     R: Threads + Wait + Copy + Send + 'static,
 >(
     rt: &R,
     alloc: Global,
     listener: &mut L,
-    buttons: U,
+    source: S,
     port: &mut Port<Kept>,
     password: &Octets,
     limit: u64,
 ) -> Result<Served, ServeFault>
     requires { IsPassword password.now }
-    ensures port_continues { GoesOn port.old port.new }
-    ensures joined { AreJoined port.old.known.splits port.new }
-    ensures sessions { AreSessions password.now (port.old.known.splits + 1) port.new }
+    ensures serves { ServesWith password.now 1
+        (first_then (S.can_follow source) (λ _ _. ⊤))
+        port.old port.new result }
     ensures limit { IfOk result (IsLimit limit) }
     ensures counted { IfOk result
         (λ served. IsCounted (L.accepted listener.old) (served.served + served.turned_away)
         (L.accepted listener.new)) }
-    ensures served { IfOk result (IsServed (port.old.known.splits + 1) port.new.known.splits) }
-    ensures presses { OnEnded result
-        (Acted port.new (child port.old.known.number port.old.known.splits)
-        (AllPresses (U.forecast buttons))) }
     ensures fault { IfErr result (StopsFor (IsSpent port.new) (L.has_failed listener.new)) }
 {
-    let Some(running) = start_worker(rt, alloc, Button { source: buttons }, port) else {
+    let Some(running) = start_worker(rt, alloc, SourceWorker { source }, port) else {
         return Err(ServeFault::Memory);
     };
     let served = serve_clients(rt, alloc, listener, port, password, limit);
     join_both(rt, running, port, served)
 }
 
-// Serves the clients and passes on the moments of the clock and the presses, in parallel. `sources`
-// are those of the moments and of the presses.
-fn serve_with_clock<
+// Serves the clients and passes on the events of two sources, in parallel.
+fn serve_with_two<
     L: Listener,
-    M: MomentSource + Send + 'static,
-    U: ButtonSource + Send + 'static,
+    S: EventSource + Send + 'static,
+    T: EventSource + Send + 'static,
     R: Threads + Wait + Copy + Send + 'static,
 >(
     rt: &R,
     alloc: Global,
     listener: &mut L,
-    sources: (M, U),
+    sources: (S, T),
     port: &mut Port<Kept>,
     password: &Octets,
     limit: u64,
 ) -> Result<Served, ServeFault>
     requires { IsPassword password.now }
-    ensures port_continues { GoesOn port.old port.new }
-    ensures joined { AreJoined port.old.known.splits port.new }
-    ensures sessions { AreSessions password.now (port.old.known.splits + 2) port.new }
+    ensures serves { ServesWith password.now 2
+        (first_then (S.can_follow sources.0)
+        (first_then (T.can_follow sources.1) (λ _ _. ⊤)))
+        port.old port.new result }
     ensures limit { IfOk result (IsLimit limit) }
     ensures counted { IfOk result
         (λ served. IsCounted (L.accepted listener.old) (served.served + served.turned_away)
         (L.accepted listener.new)) }
-    ensures served { IfOk result (IsServed (port.old.known.splits + 2) port.new.known.splits) }
-    ensures moments { OnEnded result
-        (Acted port.new (child port.old.known.number port.old.known.splits)
-        (AllMoments (M.forecast sources.0))) }
-    ensures presses { OnEnded result
-        (Acted port.new (child port.old.known.number (port.old.known.splits + 1))
-        (AllPresses (U.forecast sources.1))) }
     ensures fault { IfErr result (StopsFor (IsSpent port.new) (L.has_failed listener.new)) }
 {
-    let (moments, buttons) = sources;
-    let Some(running) = start_worker(rt, alloc, Clock { source: moments }, port) else {
+    let (source, other) = sources;
+    let Some(running) = start_worker(rt, alloc, SourceWorker { source }, port) else {
         return Err(ServeFault::Memory);
     };
-    let served = serve_with_button(rt, alloc, listener, buttons, port, password, limit);
+    let served = serve_with_one(rt, alloc, listener, other, port, password, limit);
     join_both(rt, running, port, served)
 }
 
-// Serves the clients and passes on the presses, the moments and the blocks of samples, in parallel.
-fn serve_with_sampler<
+// Serves the clients and passes on the events of three sources, in parallel.
+fn serve_with_three<
     L: Listener,
-    B: BlockSource + Send + 'static,
-    M: MomentSource + Send + 'static,
-    U: ButtonSource + Send + 'static,
+    S: EventSource + Send + 'static,
+    T: EventSource + Send + 'static,
+    U: EventSource + Send + 'static,
     R: Threads + Wait + Copy + Send + 'static,
 >(
     rt: &R,
     alloc: Global,
     listener: &mut L,
-    sources: Sources<B, M, U>,
+    sources: (S, (T, U)),
     port: &mut Port<Kept>,
     password: &Octets,
     limit: u64,
 ) -> Result<Served, ServeFault>
     requires { IsPassword password.now }
-    ensures port_continues { GoesOn port.old port.new }
-    ensures joined { AreJoined port.old.known.splits port.new }
-    ensures sessions { AreSessions password.now (port.old.known.splits + 3) port.new }
+    ensures serves { ServesWith password.now 3
+        (first_then (S.can_follow sources.0)
+        (first_then (T.can_follow sources.1.0)
+        (first_then (U.can_follow sources.1.1) (λ _ _. ⊤))))
+        port.old port.new result }
     ensures limit { IfOk result (IsLimit limit) }
     ensures counted { IfOk result
         (λ served. IsCounted (L.accepted listener.old) (served.served + served.turned_away)
         (L.accepted listener.new)) }
-    ensures served { IfOk result (IsServed (port.old.known.splits + 3) port.new.known.splits) }
-    ensures blocks { OnEnded result
-        (Acted port.new (child port.old.known.number port.old.known.splits)
-        (AllBlocks (B.forecast sources.blocks))) }
-    ensures moments { OnEnded result
-        (Acted port.new (child port.old.known.number (port.old.known.splits + 1))
-        (AllMoments (M.forecast sources.moments))) }
-    ensures presses { OnEnded result
-        (Acted port.new (child port.old.known.number (port.old.known.splits + 2))
-        (AllPresses (U.forecast sources.buttons))) }
     ensures fault { IfErr result (StopsFor (IsSpent port.new) (L.has_failed listener.new)) }
 {
-    let Sources {
-        blocks,
-        moments,
-        buttons,
-    } = sources;
-    let Some(running) = start_worker(rt, alloc, Sampler { source: blocks }, port) else {
+    let (source, others) = sources;
+    let Some(running) = start_worker(rt, alloc, SourceWorker { source }, port) else {
         return Err(ServeFault::Memory);
     };
-    let served = serve_with_clock(
-        rt,
-        alloc,
-        listener,
-        (moments, buttons),
-        port,
-        password,
-        limit,
-    );
+    let served = serve_with_two(rt, alloc, listener, others, port, password, limit);
     join_both(rt, running, port, served)
 }
 
@@ -281,9 +254,9 @@ pub fn serve_all<
     limit: u64,
 ) -> Result<(Port<Kept>, Served), (Port<Kept>, ServeFault)>
     requires { IsPassword password.now }
-    ensures port_continues { IfOk result (λ r. GoesOn port r.0 × IsLegal IsLegalRun r.0.known
+    ensures port_continues { IfOk result (λ r. PortContinues port r.0 × IsLegal IsLegalRun r.0.known
         × AreJoined port.known.splits r.0) }
-    ensures goes_err { IfErr result (λ r. GoesOn port r.0 × IsLegal IsLegalRun r.0.known
+    ensures goes_err { IfErr result (λ r. PortContinues port r.0 × IsLegal IsLegalRun r.0.known
         × AreJoined port.known.splits r.0) }
     ensures sessions { IfOk result (λ r. AreSessions password.now (port.known.splits + 3) r.0) }
     ensures sessions_err { IfErr result (λ r. AreSessions password.now
@@ -315,12 +288,11 @@ pub fn serve_all<
         (Acted r.0 (child port.known.number (port.known.splits + 2))
         (AllPresses (U.forecast buttons)))) }
 {
-    let sources = Sources {
-        blocks,
-        moments,
-        buttons,
-    };
-    let served = serve_with_sampler(rt, alloc, listener, sources, &mut port, password, limit);
+    let blocks = BlockEvents::new(blocks);
+    let moments = MomentEvents { source: moments };
+    let presses = PressEvents { source: buttons };
+    let sources = (blocks, (moments, presses));
+    let served = serve_with_three(rt, alloc, listener, sources, &mut port, password, limit);
     port.has_a_legal_history();
     match served {
         Ok(served) => Ok((port, served)),

@@ -4,10 +4,10 @@
 --     PrintsText        a text of this kind was printed
 use Rattle.std.specs.Prelude.{◌≡◌, ℕ, zero, suc, Bool, true, false, Option, Some, None, List, Result, Ok, Err}
 use Rattle.std.specs.Io.KnownBytes.{Appends}
-use Rattle.meter_console.specs.Ends.{has_failed, lost_lines}
-use Rattle.meter_console.specs.declared.running.ConsoleEnd.{ConsoleEnd}
-use Rattle.program_fault.specs.declared.Fault.{Fault}
-use Rattle.program_fault.specs.declared.Fault.TheVariants as fault
+use Rattle.server_io.specs.Ends.{has_failed, lost_lines}
+use Rattle.server_io.specs.declared.running.ConsoleEnd.{ConsoleEnd}
+use Rattle.program.specs.declared.fault.Fault.{Fault}
+use Rattle.program.specs.declared.fault.Fault.TheVariants as fault
 
 -- lost lines take precedence over a failed read
 abbrev pub fault_of_lines : ℕ → Bool → Result (Unit {0}) Fault

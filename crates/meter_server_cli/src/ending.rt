@@ -1,13 +1,12 @@
 //! The end of `serve`: prints the trace, and decides which fault is reported.
 ghost use Rattle.std.specs.Prelude.{◌≡◌, false, true, Ok, Err, OnOk};
-ghost use Rattle.program_start.specs.Ends.{first_of};
+ghost use Rattle.program.specs.Ends.{first_of};
 ghost use Rattle.meter_server_cli.specs.Endings.{end_of_console, Prints};
 
 use cosem_axdr::Octets;
-use meter_console::ConsoleEnd;
 use meter_server::{ServeFault, Served};
-use program_fault::Fault;
-use program_start::{first_fault, print_text};
+use program::{Fault, first_fault, print_text};
+use server_io::ConsoleEnd;
 use std::io::Write;
 
 // Returns the fault of a run, by the result of its connections and whether the listener failed. It
@@ -22,6 +21,7 @@ pub(crate) fn run_fault(served: Result<Served, ServeFault>, has_failed: bool) ->
     ensures turns { served ≡ Err ServeFault.Exhausted → result ≡ Err Fault.Turns }
     ensures read { served ≡ Err ServeFault.Read → result ≡ Err Fault.Read }
     ensures write { served ≡ Err ServeFault.Write → result ≡ Err Fault.Write }
+    ensures journal { served ≡ Err ServeFault.Journal → result ≡ Err Fault.Write }
 {
     match served {
         Ok(_) => Ok(()),
@@ -35,7 +35,7 @@ pub(crate) fn run_fault(served: Result<Served, ServeFault>, has_failed: bool) ->
         Err(ServeFault::Memory) => Err(Fault::Memory),
         Err(ServeFault::Exhausted) => Err(Fault::Turns),
         Err(ServeFault::Read) => Err(Fault::Read),
-        Err(ServeFault::Write) => Err(Fault::Write),
+        Err(ServeFault::Write | ServeFault::Journal) => Err(Fault::Write),
     }
 }
 

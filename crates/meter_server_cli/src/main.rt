@@ -12,11 +12,9 @@ mod messages;
 mod serving;
 
 use crate::serving::Server;
-use byte_streams::Counted;
-use hex_commands::{answer_text, play_text, report_fault};
-use program_fault::Fault;
-use program_start::exit_code;
-use server_options::{HexOptions, Work, parse_command_line};
+use counted_io::Counted;
+use program::{Fault, exit_code};
+use server_commands::{HexOptions, Work, answer_text, parse_command_line, play_text, report_fault};
 use std::process::ExitCode;
 
 // The next step after the command line is read.
@@ -53,7 +51,7 @@ fn run_hex(rt: &HostRuntime, options: &HexOptions) -> Result<(), Fault> {
 // Reads the command line and performs its work, up to the first client of a server.
 fn begin(rt: &HostRuntime) -> Result<ServerCommand, Fault> {
     match parse_command_line(rt)? {
-        Work::Nothing(status) => Ok(ServerCommand::Ended(status)),
+        Work::Exit(status) => Ok(ServerCommand::Ended(status)),
         Work::Apdu(is_verbose) => {
             run_apdu(rt, is_verbose)?;
             Ok(ServerCommand::Ended(0))

@@ -1,6 +1,6 @@
 //! The messages of `serve --verbose` about faults before the first client.
 use acse_ber::MAX_PASSWORD;
-use server_options::ServeOptions;
+use server_commands::ServeOptions;
 use std::io::ErrorKind;
 
 // The maximum length of a meter's name, in bytes.

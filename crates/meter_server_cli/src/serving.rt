@@ -6,16 +6,16 @@ ghost use Rattle.meter_server_cli.specs.Endings.{PrintsText};
 
 use crate::ending::{Ends, print_trace, run_fault};
 use crate::messages::{why_not_listening, why_wrong_input};
-use byte_streams::Monitored;
-use client_sockets::{Closing, Sockets, Stopped, StreamLimits};
 use cosem_axdr::Octets;
-use meter_console::{Console, ConsoleEnd, ConsoleSources, Reading};
+use counted_io::Monitored;
 use meter_run::{MeterRun, Sources, run_meter};
 use meter_server::{ServeFault, Served};
-use program_fault::Fault;
+use program::Fault;
 use relay_recorder::Recorder;
-use serve_plan::{ServePlan, make_plan};
-use server_options::{Bounds, ServeOptions};
+use server_commands::{Bounds, ServeOptions, ServePlan, make_plan};
+use server_io::{
+    Closing, Console, ConsoleEnd, ConsoleSources, Reading, Sockets, Stopped, StreamLimits,
+};
 use std::alloc::Global;
 use std::io::{BufReader, Stdin, Write};
 use std::net::{SocketAddr, TcpListener};
@@ -50,7 +50,7 @@ fn sockets_of(
 
 // Runs the meter and prints its trace. Returns the result of its connections, and whether the
 // trace was printed.
-#[tactic(auto, using(serve_plan::proofs::Unused::unused))]
+#[tactic(auto, using(server_commands::proofs::Unused::unused))]
 fn run_and_print<R: Threads + Wait + Copy + Drop + Send + 'static, W: Write>(
     threads: &R,
     alloc: Global,
@@ -145,7 +145,7 @@ fn start_server<R: Threads + Wait + Copy + Drop + Send + 'static>(
     Fault,
 > {
     let (sockets, sources, reading) = prepare(rt, threads, bounds, input, listener, address)?;
-    match meter_console::start(threads, rt.alloc(), reading) {
+    match server_io::start(threads, rt.alloc(), reading) {
         Some(console) => Ok((sockets, sources, console)),
         None => Err(Fault::Memory),
     }

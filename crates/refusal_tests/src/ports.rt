@@ -4,15 +4,14 @@ ghost use Rattle.std.specs.Prelude.{◌≡◌, ◌<◌, ◌≤◌, [], IfOk};
 
 use crate::RefusedAndStood;
 use crate::recorders::{event_of, new_recorder};
-use call_fault::CallFault;
 use cosem_axdr::Data;
-use kept_meter::Kept;
 use relay_core::Reply;
+use shared_meter::Kept;
 use std::alloc::{AllocError, Global};
 use std::process::Abort;
 use std::sync::Wait;
 use std::test::Fail;
-use turn_lock::{Port, Shared, Turned};
+use turn_lock::{CallFault, Port, Shared, Turned};
 
 /// The public client's GET of the device name.
 const READ_NAME: &[u8] = b"get 16 1 00002A0000FF 2 0";

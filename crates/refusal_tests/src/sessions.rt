@@ -4,11 +4,11 @@ ghost use Rattle.acse_ber.specs.Password.{IsPassword};
 
 use crate::RefusedAndStood;
 use crate::page::Page;
-use byte_streams::Counted;
 use cosem_axdr::Octets;
+use counted_io::Counted;
 use relay_core::RelayCore;
 use session_core::SessionEnd;
-use session_serving::{ServeFault, serve_session};
+use session_io::{ServeFault, serve_session};
 use std::alloc::{AllocError, Global};
 use std::process::Abort;
 use std::test::Fail;

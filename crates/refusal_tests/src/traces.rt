@@ -1,7 +1,7 @@
 //! A player that runs out of memory has written nothing.
 use crate::RefusedAndStood;
 use crate::page::Page;
-use byte_streams::Counted;
+use counted_io::Counted;
 use std::alloc::Global;
 use std::test::Fail;
 use trace_player::{PlayFault, play};

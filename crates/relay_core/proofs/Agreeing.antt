@@ -20,7 +20,7 @@ use Rattle.relay_core.specs.declared.scripts.Origin.{Origin}
 use Rattle.relay_core.specs.declared.scripts.Origin.TheVariants.{Local}
 use Rattle.relay_core.specs.Agreeing.{AreCountedAlike, with_rows, Agree, AreInRange, IsSettingInRange, IsWorld}
 use Rattle.script_steps.specs.Ranges.{IsStepInRange, AreStepsInRange, AreScriptsInRange}
-use Rattle.relay_core.specs.Sampling.{Measurement, Metering, with_sample, fire_at, after_fire, after_sample, with_firing, metering_after, after_samples}
+use Rattle.relay_core.specs.Sampling.{Measurement, SamplingState, with_sample, fire_at, after_fire, after_sample, with_firing, sampling_after, after_samples}
 use Rattle.relay_core.specs.Scripts.{at_step, at_script, is_success}
 use Rattle.relay_core.specs.Switch.{with_entry, enters, with_entries_since, at_trigger}
 use Rattle.relay_core.specs.World.{World, Outcome}
@@ -368,20 +368,20 @@ sample_of_alike Export value v rows others range i e =
     record { fire = fires; after = subst P fires after }
 
 -- The effect of several samples on two worlds.
-pub record AreMetersAlike (a b : Metering) : Type 0 where
+pub record AreMetersAlike (a b : SamplingState) : Type 0 where
   pub firings : a.firings ≡ b.firings
   pub worlds : AreAlike a.world b.world
 
-pub samples_alike : (xs : List Measurement) (a b : Metering) → AreMetersAlike a b
+pub samples_alike : (xs : List Measurement) (a b : SamplingState) → AreMetersAlike a b
     → AreMetersAlike (after_samples xs a) (after_samples xs b)
-unfolding after_samples metering_after
+unfolding after_samples sampling_after
 samples_alike [] a b alike = alike
 samples_alike (x ∷ xs) a b alike =
     let P : World → Type 0 = λ w. AreMeasuredAlike x a.world w in
     let one = of_rows P a.world b.world alike.worlds.world
     (λ rows others i e. sample_of_alike x.which x.value a.world rows others alike.worlds.range i
     e) in
-    samples_alike xs (metering_after x a) (metering_after x b) (record {
+    samples_alike xs (sampling_after x a) (sampling_after x b) (record {
       firings = ap (λ (fire : Fire). with_firing x.which fire a.firings) one.fire
           ∙ ap (with_firing x.which (fire_at x b.world)) alike.firings;
       worlds = one.after;

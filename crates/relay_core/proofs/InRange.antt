@@ -1,8 +1,8 @@
 -- A setting decoded from a value is in range if the value's numbers are in the ranges of their
 -- types.
-use Rattle.std.proofs.Common.{◌≡◌, ℕ, ◌<◌, Some, IfSome, IfOk, Result, Ok, Err, refl}
-use Rattle.byte_reading.specs.Outcome.{◌>>=◌}
-use Rattle.byte_reading.proofs.OutcomeLemmas.{done}
+use Rattle.std.proofs.Common.{◌≡◌, Some, IfSome, IfOk, Result, Ok, Err, refl}
+use Rattle.wire_bytes.specs.Outcome.{◌>>=◌}
+use Rattle.wire_bytes.proofs.OutcomeLemmas.{done}
 use Rattle.cosem_axdr.specs.declared.value.Data.{Data}
 use Rattle.limiter_attributes.proofs.Again.{number_small}
 use Rattle.limiter_attributes.specs.Reading.{number_of, profile_of, actions_of, setting_of}

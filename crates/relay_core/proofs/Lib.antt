@@ -10,3 +10,4 @@ pub mod SampleLemmas
 pub mod ScheduleLemmas
 pub mod ScriptLemmas
 pub mod WriteLemmas
+pub mod TargetLemmas

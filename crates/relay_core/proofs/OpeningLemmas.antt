@@ -10,18 +10,19 @@ use Rattle.relay_core.specs.declared.schedules.Schedules.{Schedules}
 use Rattle.relay_core.specs.Agreeing.{AreCountedAlike, Agree}
 use Rattle.script_steps.specs.Ranges.{IsStepInRange, AreStepsInRange, AreScriptsInRange}
 use Rattle.relay_core.specs.Opening.{limiter_opening_of, opening_of, opened_limiter, world_of_opening}
-use Rattle.relay_core.specs.Stands.{StandsFor, MeteredStands}
-use Rattle.relay_core.specs.World.{World, Metered}
+use Rattle.relay_core.specs.Stands.{StandsFor, LimiterStateStands}
+use Rattle.relay_core.specs.World.{World, LimiterState}
 use Rattle.script_steps.specs.declared.step.Script.{Script}
 use Rattle.script_steps.specs.declared.step.Step.{Step}
 use Rattle.script_steps.specs.declared.step.Step.TheVariants as step
 use Rattle.script_steps.specs.Table.{IsStep, IsScript, IsTable}
 
 -- a limiter restored from its opening represents the same limiter, with the rows of the original
-metered_back : (limiter : State) (now : Option ℕ) (m : Metered) → MeteredStands limiter now m
+limiter_state_back : (limiter : State) (now : Option ℕ) (m : LimiterState)
+    → LimiterStateStands limiter now m
     → m ≡ record (opened_limiter (limiter_opening_of limiter)) { rows = m.rows }
-metered_back limiter now m stands =
-    let with : Settings → ℕ → Metered = λ settings last. record {
+limiter_state_back limiter now m stands =
+    let with : Settings → ℕ → LimiterState = λ settings last. record {
       settings = settings;
       last = last;
       rows = m.rows;
@@ -30,8 +31,8 @@ metered_back limiter now m stands =
     ∙ ap (with limiter.settings) (sym stands.last)
 
 -- the rows of an opened limiter are counted like the rows of the limiter that was saved
-counted_back : (limiter : State) (now : Option ℕ) (m : Metered)
-    → IsFit limiter.last limiter.over limiter.under → MeteredStands limiter now m
+counted_back : (limiter : State) (now : Option ℕ) (m : LimiterState)
+    → IsFit limiter.last limiter.over limiter.under → LimiterStateStands limiter now m
     → AreCountedAlike (opened_rows limiter.last limiter.over limiter.under) m.rows
 counted_back limiter now m fit stands =
     let keeps = rows_opened limiter fit in
@@ -40,7 +41,7 @@ counted_back limiter now m fit stands =
 -- a limiter represents the one that its opening gives at the limiter's moment
 back_stands : (limiter : State) (now : Option ℕ) → IsFit limiter.last limiter.over limiter.under
     → limiter.moment ≡ now
-    → MeteredStands limiter now (opened_limiter (limiter_opening_of limiter))
+    → LimiterStateStands limiter now (opened_limiter (limiter_opening_of limiter))
 back_stands limiter now fit clock = record {
   settings = refl;
   moment = clock;
@@ -67,7 +68,8 @@ pub opening_agrees : (core : RelayCore) (w : World)
     → IsFit core.export.last core.export.over core.export.under → StandsFor core w
     → Agree (world_of_opening (opening_of core)) w
 opening_agrees core w import_fit export_fit stands =
-    let make : List ℕ → Control → Option ℕ → Metered → Metered → List Script → Schedules → World =
+    let make : List ℕ → Control → Option ℕ → LimiterState → LimiterState → List Script → Schedules
+    → World =
     λ device control moment import export scripts schedules.
     record {
       device = device;
@@ -79,9 +81,9 @@ opening_agrees core w import_fit export_fit stands =
       schedules = schedules;
     } in
     let now = core.import.moment in
-    let import : Metered = record (opened_limiter (limiter_opening_of core.import))
+    let import : LimiterState = record (opened_limiter (limiter_opening_of core.import))
     { rows = w.import.rows } in
-    let export : Metered = record (opened_limiter (limiter_opening_of core.export))
+    let export : LimiterState = record (opened_limiter (limiter_opening_of core.export))
     { rows = w.export.rows } in
     record {
       same =
@@ -91,10 +93,12 @@ opening_agrees core w import_fit export_fit stands =
           w.schedules) (sym stands.control)
           ∙ ap (λ (x : Option ℕ). make core.device core.control x w.import w.export w.scripts
           w.schedules) (sym stands.import.moment)
-          ∙ ap (λ (x : Metered). make core.device core.control now x w.export w.scripts w.schedules)
-          (metered_back core.import w.moment w.import stands.import)
-          ∙ ap (λ (x : Metered). make core.device core.control now import x w.scripts w.schedules)
-          (metered_back core.export w.moment w.export stands.export)
+          ∙ ap (λ (x : LimiterState). make core.device core.control now x w.export w.scripts
+          w.schedules)
+          (limiter_state_back core.import w.moment w.import stands.import)
+          ∙ ap (λ (x : LimiterState). make core.device core.control now import x w.scripts
+          w.schedules)
+          (limiter_state_back core.export w.moment w.export stands.export)
           ∙ ap (λ (x : List Script). make core.device core.control now import export x w.schedules)
           (sym stands.scripts)
           ∙ ap (λ (x : Schedules). make core.device core.control now import export core.scripts x)

@@ -1,6 +1,6 @@
 -- A step of a script has the effect of the request that names the same attribute or method.
 use Rattle.std.proofs.Common.{◌≡◌, ℕ, Some, Result, Ok, refl, ap, sym}
-use Rattle.byte_reading.specs.Outcome.{◌>>=◌}
+use Rattle.wire_bytes.specs.Outcome.{◌>>=◌}
 use Rattle.cosem_names.specs.Objects.{object_of, class_attribute_of, class_method_of, attribute_of, method_of, rights_of, may_execute_of}
 use Rattle.cosem_names.specs.declared.objects.Which.{Which}
 use Rattle.cosem_names.specs.declared.objects.Which.TheVariants.{Import, Export}

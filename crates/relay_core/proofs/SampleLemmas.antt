@@ -11,14 +11,14 @@ use Rattle.limiter_core.specs.declared.kinds.Kind.{Kind}
 use Rattle.limiter_core.specs.declared.kinds.Kind.TheVariants.{Over, Under, Equal}
 use Rattle.limiter_core.specs.Rows.{Row}
 use Rattle.limiter_core.specs.Settings.{Limits, limits_at, kind_of}
-use Rattle.limiter_core.specs.State.{State, limits_of, AreOfKind, IsQuiet, Keeps, rows_after}
+use Rattle.limiter_core.specs.State.{State, limits_of, AreOfKind, IsQuiet, CountsRows, rows_after}
 use Rattle.relay_core.specs.declared.relay.RelayCore.{RelayCore}
 use Rattle.relay_core.specs.declared.sampling.FiringCounts.{FiringCounts}
-use Rattle.relay_core.specs.Limiters.{metered_of, with_metered}
-use Rattle.relay_core.specs.Sampling.{Measurement, Metering, imports, pairs, with_sample, fire_at, after_fire, after_sample, with_firing, metering_after, after_samples}
-use Rattle.relay_core.specs.Stands.{StandsFor, MeteredStands}
-use Rattle.relay_core.specs.Taking.{Takes, AreAtMost, metering_in}
-use Rattle.relay_core.specs.World.{World, Metered, IsDeviceName}
+use Rattle.relay_core.specs.Limiters.{limiter_state_of, with_limiter_state}
+use Rattle.relay_core.specs.Sampling.{Measurement, SamplingState, imports, pairs, with_sample, fire_at, after_fire, after_sample, with_firing, sampling_after, after_samples}
+use Rattle.relay_core.specs.Stands.{StandsFor, LimiterStateStands}
+use Rattle.relay_core.specs.Taking.{Takes, AreAtMost, sampling_in}
+use Rattle.relay_core.specs.World.{World, LimiterState, IsDeviceName}
 
 -- the next element of a list after the first i
 pub take_one : {A : Type 0} (xs : List A) (i : ℕ) (d : A) → i < length xs → take 1 (drop i xs)
@@ -108,29 +108,31 @@ kind_at kind threshold (x ∷ xs) (suc i) d below are =
     kind_at kind threshold xs i d (omega (arith, below)) are.1
 
 -- a limiter after more samples, all at one moment
-abbrev pub metered_after : Option ℕ → List ℕ → Metered → Metered
-metered_after now [] m = m
-metered_after now (value ∷ values) m = metered_after now values (with_sample now value m)
+abbrev pub limiter_state_after : Option ℕ → List ℕ → LimiterState → LimiterState
+limiter_state_after now [] m = m
+limiter_state_after now (value ∷ values) m = limiter_state_after now values (with_sample now value
+    m)
 
-metered_after-settings : (now : Option ℕ) (values : List ℕ) (m : Metered)
-    → (metered_after now values m).settings ≡ m.settings
-metered_after-settings now [] m = refl
-metered_after-settings now (value ∷ values) m =
-    metered_after-settings now values (with_sample now value m)
+limiter_state_after-settings : (now : Option ℕ) (values : List ℕ) (m : LimiterState)
+    → (limiter_state_after now values m).settings ≡ m.settings
+limiter_state_after-settings now [] m = refl
+limiter_state_after-settings now (value ∷ values) m =
+    limiter_state_after-settings now values (with_sample now value m)
 
-metered_after-rows : (now : Option ℕ) (values : List ℕ) (m : Metered)
-    → (metered_after now values m).rows ≡ rows_after (limits_at m.settings now) values m.rows
-metered_after-rows now [] m = refl
-metered_after-rows now (value ∷ values) m = metered_after-rows now values (with_sample now value m)
+limiter_state_after-rows : (now : Option ℕ) (values : List ℕ) (m : LimiterState)
+    → (limiter_state_after now values m).rows ≡ rows_after (limits_at m.settings now) values m.rows
+limiter_state_after-rows now [] m = refl
+limiter_state_after-rows now (value ∷ values) m = limiter_state_after-rows now values (with_sample
+    now value m)
 
-metered_after-last : (now : Option ℕ) (values : List ℕ) (i d : ℕ) (m : Metered) → i + 1
-    ≡ length values → (metered_after now values m).last ≡ get_or values i d
-metered_after-last now [] i d m is = absurd (omega (arith, is))
-metered_after-last now (x ∷ []) zero d m is = refl
-metered_after-last now (x ∷ []) (suc i) d m is = absurd (omega (arith, is))
-metered_after-last now (x ∷ y ∷ values) zero d m is = absurd (omega (arith, is))
-metered_after-last now (x ∷ y ∷ values) (suc i) d m is =
-    metered_after-last now (y ∷ values) i d (with_sample now x m) (omega (arith, is))
+limiter_state_after-last : (now : Option ℕ) (values : List ℕ) (i d : ℕ) (m : LimiterState) → i + 1
+    ≡ length values → (limiter_state_after now values m).last ≡ get_or values i d
+limiter_state_after-last now [] i d m is = absurd (omega (arith, is))
+limiter_state_after-last now (x ∷ []) zero d m is = refl
+limiter_state_after-last now (x ∷ []) (suc i) d m is = absurd (omega (arith, is))
+limiter_state_after-last now (x ∷ y ∷ values) zero d m is = absurd (omega (arith, is))
+limiter_state_after-last now (x ∷ y ∷ values) (suc i) d m is =
+    limiter_state_after-last now (y ∷ values) i d (with_sample now x m) (omega (arith, is))
 
 -- the last of one or more samples
 pub last_of_some : (n last before now : ℕ) → 0 < n → now ≡ (if nat_lt 0 n then last else before)
@@ -138,33 +140,38 @@ pub last_of_some : (n last before now : ℕ) → 0 < n → now ≡ (if nat_lt 0 
 last_of_some n last before now some is = grind (arith, some, is)
 
 -- a limiter has the limits of the one that it represents
-same_limits : (limiter : State) (now : Option ℕ) (m : Metered) → MeteredStands limiter now m
+same_limits : (limiter : State) (now : Option ℕ) (m : LimiterState)
+    → LimiterStateStands limiter now m
     → limits_of limiter ≡ limits_at m.settings now
 same_limits limiter now m stands = cc (stands.settings, stands.moment)
 
 -- a limiter that took several samples at once represents one that took them one by one
-pub metered_stands : (old new : State) (now : Option ℕ) (m : Metered) (values : List ℕ)
-    → MeteredStands old now m
+pub limiter_state_stands : (old new : State) (now : Option ℕ) (m : LimiterState) (values : List ℕ)
+    → LimiterStateStands old now m
     → new.settings ≡ old.settings → new.moment ≡ old.moment → 0 < length values → new.last
     ≡ get_or values (length values - 1) 0
-    → Keeps new (rows_after (limits_of old) values m.rows)
-    → MeteredStands new now (metered_after now values m)
-metered_stands old new now m values stands settings moment some last keeps = record {
-  settings = settings ∙ stands.settings ∙ sym (metered_after-settings now values m);
+    → CountsRows new (rows_after (limits_of old) values m.rows)
+    → LimiterStateStands new now (limiter_state_after now values m)
+limiter_state_stands old new now m values stands settings moment some last keeps = record {
+  settings = settings ∙ stands.settings ∙ sym (limiter_state_after-settings now values m);
   moment = moment ∙ stands.moment;
-  last = last ∙ sym (metered_after-last now values (length values - 1) 0 m (omega (arith, some)));
+  last = last ∙ sym (limiter_state_after-last now values (length values - 1) 0 m (omega (
+    arith,
+    some,
+  )));
   rows =
-      let P : Limits → Type 0 = λ limits. Keeps new (rows_after limits values m.rows) in
-      subst (Keeps new) (sym (metered_after-rows now values m))
+      let P : Limits → Type 0 = λ limits. CountsRows new (rows_after limits values m.rows) in
+      subst (CountsRows new) (sym (limiter_state_after-rows now values m))
       (subst P (same_limits old now m stands) keeps);
 }
 
 -- the effect of two lists of samples, in sequence
-pub after_samples-append : (xs ys : List Measurement) (m : Metering) → after_samples (xs ++ ys) m
+pub after_samples-append : (xs ys : List Measurement) (m : SamplingState)
+    → after_samples (xs ++ ys) m
     ≡ after_samples ys (after_samples xs m)
 unfolding after_samples
 after_samples-append [] ys m = refl
-after_samples-append (x ∷ xs) ys m = after_samples-append xs ys (metering_after x m)
+after_samples-append (x ∷ xs) ys m = after_samples-append xs ys (sampling_after x m)
 
 pub imports-append : (vs ws : List ℕ) → imports (vs ++ ws) ≡ imports vs ++ imports ws
 imports-append [] ws = refl
@@ -191,17 +198,18 @@ pub takes_on : (old now next : RelayCore) (f g h : FiringCounts) (xs ys : List M
     → Takes old now f g xs → Takes now next g h ys
     → Takes old next f h (xs ++ ys)
 takes_on old now next f g h xs ys first later =
-    let both : (w : World) → StandsFor old w → after_samples (xs ++ ys) (metering_in w f)
-    ≡ after_samples ys (metering_in (after_samples xs (metering_in w f)).world g) =
-    λ w stands. after_samples-append xs ys (metering_in w f)
+    let both : (w : World) → StandsFor old w → after_samples (xs ++ ys) (sampling_in w f)
+    ≡ after_samples ys (sampling_in (after_samples xs (sampling_in w f)).world g) =
+    λ w stands. after_samples-append xs ys (sampling_in w f)
     ∙ ap (λ (i : FiringCounts). after_samples ys
-    (metering_in (after_samples xs (metering_in w f)).world i)) (sym (first.firings w stands))
+    (sampling_in (after_samples xs (sampling_in w f)).world i)) (sym (first.firings w stands))
     in
     record {
-      world = λ w stands. subst (λ (m : Metering). StandsFor next m.world) (sym (both w stands))
-          (later.world (after_samples xs (metering_in w f)).world (first.world w stands));
-      firings = λ w stands. later.firings (after_samples xs (metering_in w f)).world
-          (first.world w stands) ∙ ap (λ (m : Metering). m.firings) (sym (both w stands));
+      world = λ w stands. subst (λ (m : SamplingState). StandsFor next m.world) (sym (both w
+          stands))
+          (later.world (after_samples xs (sampling_in w f)).world (first.world w stands));
+      firings = λ w stands. later.firings (after_samples xs (sampling_in w f)).world
+          (first.world w stands) ∙ ap (λ (m : SamplingState). m.firings) (sym (both w stands));
     }
 
 -- the samples of further values, and of further pairs
@@ -245,7 +253,7 @@ pub takes_one : (old next : RelayCore) (f g : FiringCounts) (x : Measurement) (f
     → ((w : World) → StandsFor old w → StandsFor next (after_sample x w))
     → ((w : World) → StandsFor old w → fire ≡ fire_at x w)
     → g ≡ with_firing x.which fire f → Takes old next f g (x ∷ [])
-unfolding after_samples metering_after
+unfolding after_samples sampling_after
 takes_one old next f g x fire goes fires is = record {
   world = goes;
   firings = λ w stands. is ∙ ap (λ (one : Fire). with_firing x.which one f) (fires w stands);
@@ -263,14 +271,16 @@ at_most_more n m firings more most = record {
 
 -- a sample that fires nothing
 pub measured-quiet : (x : Measurement) (w : World) (firings : FiringCounts) → fire_at x w ≡ Quiet
-    → metering_after x (metering_in w firings)
-    ≡ metering_in (with_metered x.which (with_sample w.moment x.value (metered_of x.which w)) w)
+    → sampling_after x (sampling_in w firings)
+    ≡ sampling_in (with_limiter_state x.which (with_sample w.moment x.value (limiter_state_of
+    x.which w)) w)
     firings
-unfolding metering_after after_sample after_fire with_firing
+unfolding sampling_after after_sample after_fire with_firing
 measured-quiet x w firings quiet =
-    let go : Fire → Metering = λ fire. record {
-      world = after_fire fire (metered_of x.which w).settings.actions
-          (with_metered x.which (with_sample w.moment x.value (metered_of x.which w)) w);
+    let go : Fire → SamplingState = λ fire. record {
+      world = after_fire fire (limiter_state_of x.which w).settings.actions
+          (with_limiter_state x.which (with_sample w.moment x.value (limiter_state_of x.which w))
+          w);
       firings = with_firing x.which fire firings;
     } in
     ap go quiet
@@ -278,8 +288,8 @@ measured-quiet x w firings quiet =
 -- import values that fire nothing
 pub quiet_values : (values : List ℕ) (w : World) (firings : FiringCounts)
     → IsQuiet (limits_at w.import.settings w.moment) values w.import.rows
-    → after_samples (imports values) (metering_in w firings)
-    ≡ metering_in (record w { import = metered_after w.moment values w.import }) firings
+    → after_samples (imports values) (sampling_in w firings)
+    ≡ sampling_in (record w { import = limiter_state_after w.moment values w.import }) firings
 unfolding after_samples fire_at
 quiet_values [] w firings quiet = refl
 quiet_values (value ∷ values) w firings quiet =
@@ -293,10 +303,10 @@ pub quiet_pairs : (values others : List ℕ) (w : World) (firings : FiringCounts
     ≡ length others
     → IsQuiet (limits_at w.import.settings w.moment) values w.import.rows
     → IsQuiet (limits_at w.export.settings w.moment) others w.export.rows
-    → after_samples (pairs values others) (metering_in w firings)
-    ≡ metering_in (record w {
-      import = metered_after w.moment values w.import;
-      export = metered_after w.moment others w.export;
+    → after_samples (pairs values others) (sampling_in w firings)
+    ≡ sampling_in (record w {
+      import = limiter_state_after w.moment values w.import;
+      export = limiter_state_after w.moment others w.export;
     }) firings
 unfolding after_samples fire_at
 quiet_pairs [] [] w firings even quiet other_quiet = refl
@@ -304,8 +314,8 @@ quiet_pairs [] (other ∷ others) w firings even quiet other_quiet = absurd (ome
 quiet_pairs (value ∷ values) [] w firings even quiet other_quiet = absurd (omega (arith, even))
 quiet_pairs (value ∷ values) (other ∷ others) w firings even quiet other_quiet =
     let between : World = record w { import = with_sample w.moment value w.import } in
-    ap (λ (m : Metering). after_samples (pairs values others)
-    (metering_after (record { which = Export; value = other }) m))
+    ap (λ (m : SamplingState). after_samples (pairs values others)
+    (sampling_after (record { which = Export; value = other }) m))
     (measured-quiet (record { which = Import; value = value }) w firings quiet.0)
     ∙ ap (after_samples (pairs values others))
     (measured-quiet (record { which = Export; value = other }) between firings other_quiet.0)
@@ -318,9 +328,9 @@ pub skipped_values : (old : RelayCore) (limiter : State) (values : List ℕ)
     (clock : old.export.moment ≡ limiter.moment) → 0 < length values
     → limiter.settings ≡ old.import.settings → limiter.moment ≡ old.import.moment → limiter.last
     ≡ get_or values (length values - 1) 0
-    → ((rows : List Row) → Keeps old.import rows
-    → Keeps limiter (rows_after (limits_of old.import) values rows))
-    → ((rows : List Row) → Keeps old.import rows → IsQuiet (limits_of old.import) values rows)
+    → ((rows : List Row) → CountsRows old.import rows
+    → CountsRows limiter (rows_after (limits_of old.import) values rows))
+    → ((rows : List Row) → CountsRows old.import rows → IsQuiet (limits_of old.import) values rows)
     → (firings : FiringCounts) → Takes old (record old {
       import = limiter;
       named = named;
@@ -329,18 +339,19 @@ pub skipped_values : (old : RelayCore) (limiter : State) (values : List ℕ)
 skipped_values old limiter values named clock some settings moment last keeps quiet firings =
     let new : RelayCore = record old { import = limiter; named = named; one_clock = clock } in
     let after : (w : World) → StandsFor old w
-    → after_samples (imports values) (metering_in w firings)
-    ≡ metering_in (record w { import = metered_after w.moment values w.import }) firings =
+    → after_samples (imports values) (sampling_in w firings)
+    ≡ sampling_in (record w { import = limiter_state_after w.moment values w.import }) firings =
     λ w stands.
     let P : Limits → Type 0 = λ limits. IsQuiet limits values w.import.rows in
     quiet_values values w firings (subst P (same_limits old.import w.moment w.import stands.import)
     (quiet w.import.rows stands.import.rows)) in
     record {
       world = λ w stands.
-          let import = metered_stands old.import limiter w.moment w.import values stands.import
+          let import = limiter_state_stands old.import limiter w.moment w.import values
+          stands.import
           settings moment some last (keeps w.import.rows stands.import.rows) in
           let stands_after : StandsFor new (record w
-          { import = metered_after w.moment values w.import }) = record {
+          { import = limiter_state_after w.moment values w.import }) = record {
             device = stands.device;
             control = stands.control;
             import = import;
@@ -348,8 +359,8 @@ skipped_values old limiter values named clock some settings moment last keeps qu
             scripts = stands.scripts;
             schedules = stands.schedules;
           } in
-          subst (λ (m : Metering). StandsFor new m.world) (sym (after w stands)) stands_after;
-      firings = λ w stands. ap (λ (m : Metering). m.firings) (sym (after w stands));
+          subst (λ (m : SamplingState). StandsFor new m.world) (sym (after w stands)) stands_after;
+      firings = λ w stands. ap (λ (m : SamplingState). m.firings) (sym (after w stands));
     }
 
 -- a core that took pairs that fire nothing
@@ -360,12 +371,12 @@ pub skipped_pairs : (old : RelayCore) (import export : State) (values others : L
     ≡ get_or values (length values - 1) 0
     → export.settings ≡ old.export.settings → export.moment ≡ old.export.moment → export.last
     ≡ get_or others (length others - 1) 0
-    → ((rows : List Row) → Keeps old.import rows
-    → Keeps import (rows_after (limits_of old.import) values rows))
-    → ((rows : List Row) → Keeps old.export rows
-    → Keeps export (rows_after (limits_of old.export) others rows))
-    → ((rows : List Row) → Keeps old.import rows → IsQuiet (limits_of old.import) values rows)
-    → ((rows : List Row) → Keeps old.export rows → IsQuiet (limits_of old.export) others rows)
+    → ((rows : List Row) → CountsRows old.import rows
+    → CountsRows import (rows_after (limits_of old.import) values rows))
+    → ((rows : List Row) → CountsRows old.export rows
+    → CountsRows export (rows_after (limits_of old.export) others rows))
+    → ((rows : List Row) → CountsRows old.import rows → IsQuiet (limits_of old.import) values rows)
+    → ((rows : List Row) → CountsRows old.export rows → IsQuiet (limits_of old.export) others rows)
     → (firings : FiringCounts) → Takes old (record old {
       import = import;
       export = export;
@@ -381,10 +392,10 @@ skipped_pairs old import export values others named clock some even settings mom
       one_clock = clock;
     } in
     let after : (w : World) → StandsFor old w
-    → after_samples (pairs values others) (metering_in w firings)
-    ≡ metering_in (record w {
-      import = metered_after w.moment values w.import;
-      export = metered_after w.moment others w.export;
+    → after_samples (pairs values others) (sampling_in w firings)
+    ≡ sampling_in (record w {
+      import = limiter_state_after w.moment values w.import;
+      export = limiter_state_after w.moment others w.export;
     }) firings =
     λ w stands.
     let P : Limits → Type 0 = λ limits. IsQuiet limits values w.import.rows in
@@ -398,19 +409,19 @@ skipped_pairs old import export values others named clock some even settings mom
       world = λ w stands.
           let stands_after : StandsFor new
           (record w {
-            import = metered_after w.moment values w.import;
-            export = metered_after w.moment others w.export;
+            import = limiter_state_after w.moment values w.import;
+            export = limiter_state_after w.moment others w.export;
           }) = record {
             device = stands.device;
             control = stands.control;
-            import = metered_stands old.import import w.moment w.import values stands.import
+            import = limiter_state_stands old.import import w.moment w.import values stands.import
                 settings moment some last (keeps w.import.rows stands.import.rows);
-            export = metered_stands old.export export w.moment w.export others stands.export
+            export = limiter_state_stands old.export export w.moment w.export others stands.export
                 other_settings other_moment (omega (arith, some, even)) other_last
                 (other_keeps w.export.rows stands.export.rows);
             scripts = stands.scripts;
             schedules = stands.schedules;
           } in
-          subst (λ (m : Metering). StandsFor new m.world) (sym (after w stands)) stands_after;
-      firings = λ w stands. ap (λ (m : Metering). m.firings) (sym (after w stands));
+          subst (λ (m : SamplingState). StandsFor new m.world) (sym (after w stands)) stands_after;
+      firings = λ w stands. ap (λ (m : SamplingState). m.firings) (sym (after w stands));
     }

@@ -22,7 +22,7 @@ use Rattle.relay_core.specs.declared.parts.Parts.TheVariants as part
 use Rattle.relay_core.specs.declared.parts.WrittenList.{WrittenList}
 use Rattle.relay_core.specs.declared.parts.WrittenList.TheVariants as written
 use Rattle.relay_core.specs.Access.{target_of}
-use Rattle.relay_core.specs.Limiters.{metered_of, with_metered, with_settings}
+use Rattle.relay_core.specs.Limiters.{limiter_state_of, with_limiter_state, with_settings}
 use Rattle.relay_core.specs.Schedules.{schedule_of, with_schedule}
 use Rattle.relay_core.specs.World.{World}
 use Rattle.script_steps.specs.declared.step.Script.{Script}
@@ -64,9 +64,9 @@ with_list (written.Entries which) (part.Entries schedule) w =
           (record (schedule_of which w.schedules) { entries = schedule.entries }) w.schedules;
     }
 with_list (written.Groups which) (part.Groups limiter) w =
-    with_metered which (with_settings
-    (record (metered_of which w).settings { groups = limiter.settings.groups })
-    (metered_of which w)) w
+    with_limiter_state which (with_settings
+    (record (limiter_state_of which w).settings { groups = limiter.settings.groups })
+    (limiter_state_of which w)) w
 with_list _ _ w = w
 
 -- the decoded list, or none if it was refused

@@ -7,7 +7,7 @@ use Rattle.limiter_core.specs.State.{State, IsFit}
 use Rattle.relay_core.specs.declared.opening.LimiterOpening.{LimiterOpening}
 use Rattle.relay_core.specs.declared.opening.Opening.{Opening}
 use Rattle.relay_core.specs.declared.relay.RelayCore.{RelayCore}
-use Rattle.relay_core.specs.World.{World, Metered}
+use Rattle.relay_core.specs.World.{World, LimiterState}
 
 -- the saved state of a limiter
 abbrev pub limiter_opening_of : State → LimiterOpening
@@ -34,7 +34,7 @@ opening_of core = record {
 
 -- the limiter that an opening gives; its rows are not the samples that its runs counted, but the
 -- same number of samples with its last value
-abbrev pub opened_limiter : LimiterOpening → Metered
+abbrev pub opened_limiter : LimiterOpening → LimiterState
 opened_limiter o = record {
   settings = o.settings;
   last = o.value;

@@ -19,7 +19,7 @@ use Rattle.disconnect_control.specs.Attributes.{attribute_numbered as control_at
 use Rattle.limiter_attributes.specs.Attributes.{attribute_numbered as limiter_attribute}
 use Rattle.limiter_attributes.specs.Writing.{data_at as limiter_data}
 use Rattle.relay_core.specs.Access.{target_of}
-use Rattle.relay_core.specs.Limiters.{metered_of}
+use Rattle.relay_core.specs.Limiters.{limiter_state_of}
 use Rattle.relay_core.specs.Registers.{attribute_numbered as register_attribute, data_at as register_data}
 use Rattle.relay_core.specs.Schedules.{schedule_of}
 use Rattle.relay_core.specs.World.{World}
@@ -31,18 +31,18 @@ result_of_attribute as_data None = Code ReadWriteDenied
 result_of_attribute as_data (Some attribute) = Value (as_data attribute)
 
 -- the result of reading an object whose only attribute besides the logical name is the second
-abbrev pub sole : ℕ → Data → GetResult
-sole number value = if number == 2 then Value value else Code ReadWriteDenied
+abbrev pub read_only_value : ℕ → Data → GetResult
+read_only_value number value = if number == 2 then Value value else Code ReadWriteDenied
 
 -- the result of reading an attribute other than the logical name, for a client of this level (IEC
 -- 62056-6-2, classes 1, 3, 9, 15, 22, 70 and 71)
 abbrev pub own_value_in : Level → Instance → ℕ → World → GetResult
-own_value_in level Association number w = sole number (object_list_of level)
-own_value_in level DeviceName number w = sole number (OctetString w.device)
+own_value_in level Association number w = read_only_value number (object_list_of level)
+own_value_in level DeviceName number w = read_only_value number (OctetString w.device)
 own_value_in level (Register which) number w =
-    result_of_attribute (λ attribute. register_data attribute (metered_of which w).last)
+    result_of_attribute (λ attribute. register_data attribute (limiter_state_of which w).last)
     (register_attribute number)
-own_value_in level ScriptTable number w = sole number (data_of w.scripts)
+own_value_in level ScriptTable number w = read_only_value number (data_of w.scripts)
 own_value_in level (Schedule which) number w =
     result_of_attribute (λ attribute. schedule_data attribute (schedule_of which w.schedules))
     (schedule_attribute number)
@@ -50,7 +50,7 @@ own_value_in level DisconnectControl number w =
     result_of_attribute (λ attribute. control_data attribute w.control) (control_attribute number)
 own_value_in level (Limiter which) number w =
     result_of_attribute (λ attribute. limiter_data which attribute
-    (metered_of which w).settings w.moment)
+    (limiter_state_of which w).settings w.moment)
     (limiter_attribute number)
 
 -- the result of reading an attribute of an object; attribute 1 is the logical name in every class

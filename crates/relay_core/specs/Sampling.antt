@@ -13,9 +13,9 @@ use Rattle.relay_events.specs.declared.reply.Reply.{Reply}
 use Rattle.relay_events.specs.declared.reply.Reply.TheVariants.{Sampled, SampledBoth}
 use Rattle.relay_core.specs.declared.sampling.FiringCounts.{FiringCounts}
 use Rattle.relay_core.specs.declared.scripts.Origin.TheVariants.{Local}
-use Rattle.relay_core.specs.Limiters.{metered_of, with_metered}
+use Rattle.relay_core.specs.Limiters.{limiter_state_of, with_limiter_state}
 use Rattle.relay_core.specs.Scripts.{at_script}
-use Rattle.relay_core.specs.World.{World, Metered, Stepped}
+use Rattle.relay_core.specs.World.{World, LimiterState, Stepped}
 use Rattle.script_steps.specs.Table.{running_steps}
 
 -- a sample of a limiter, in watts
@@ -43,13 +43,13 @@ abbrev pub measurements : Samples → List Measurement
 measurements samples = measurements_in samples.import samples.export
 
 -- a limiter with one more sample, at a moment of the clock
-abbrev pub with_sample : Option ℕ → ℕ → Metered → Metered
+abbrev pub with_sample : Option ℕ → ℕ → LimiterState → LimiterState
 with_sample moment value m =
     record m { last = value; rows = row_of (limits_at m.settings moment) value ∷ m.rows }
 
 -- which side a sample fires, if any
 unfoldable pub fire_at : Measurement → World → Fire
-fire_at x w = fire_of (with_sample w.moment x.value (metered_of x.which w)).rows
+fire_at x w = fire_of (with_sample w.moment x.value (limiter_state_of x.which w)).rows
 
 -- the world after a side has fired: the script of its action runs with the meter as its origin (IEC
 -- 62056-6-2, class 71, actions)
@@ -61,8 +61,8 @@ after_fire Under actions w = (at_script Local (running_steps actions.under w.scr
 -- the world after a sample
 unfoldable pub after_sample : Measurement → World → World
 after_sample x w =
-    after_fire (fire_at x w) (metered_of x.which w).settings.actions
-    (with_metered x.which (with_sample w.moment x.value (metered_of x.which w)) w)
+    after_fire (fire_at x w) (limiter_state_of x.which w).settings.actions
+    (with_limiter_state x.which (with_sample w.moment x.value (limiter_state_of x.which w)) w)
 
 -- the counts before the first sample: no side has fired
 abbrev pub no_firings : FiringCounts
@@ -77,20 +77,20 @@ with_firing Export Over firings = record firings { export_over = firings.export_
 with_firing Export Under firings = record firings { export_under = firings.export_under + 1 }
 
 -- The world during a block of samples, and how often each side has fired in that block.
-pub record Metering : Type 0 where
+pub record SamplingState : Type 0 where
   pub world : World
   pub firings : FiringCounts
 
--- the metering after one more sample, and below, after several
-unfoldable pub metering_after : Measurement → Metering → Metering
-metering_after x m = record {
+-- the state after one more sample, and below, after several
+unfoldable pub sampling_after : Measurement → SamplingState → SamplingState
+sampling_after x m = record {
   world = after_sample x m.world;
   firings = with_firing x.which (fire_at x m.world) m.firings;
 }
 
-unfoldable pub after_samples : List Measurement → Metering → Metering
+unfoldable pub after_samples : List Measurement → SamplingState → SamplingState
 after_samples [] m = m
-after_samples (x ∷ xs) m = after_samples xs (metering_after x m)
+after_samples (x ∷ xs) m = after_samples xs (sampling_after x m)
 
 -- the reply to a block: how often each side fired, for one limiter or for both
 abbrev pub reply_of_firings : Option (List ℕ) → FiringCounts → Reply

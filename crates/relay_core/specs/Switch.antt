@@ -6,10 +6,10 @@ use Rattle.disconnect_control.specs.declared.state.Trigger.{Trigger}
 use Rattle.disconnect_control.specs.Control.{Control, control_after}
 use Rattle.disconnect_control.specs.Transitions.{is_state, result_of}
 use Rattle.limiter_core.specs.Rows.{Entry}
-use Rattle.relay_core.specs.World.{World, Metered, Outcome}
+use Rattle.relay_core.specs.World.{World, LimiterState, Outcome}
 
 -- a limiter after an entry into Connected
-abbrev pub with_entry : Metered → Metered
+abbrev pub with_entry : LimiterState → LimiterState
 with_entry m = record m { rows = Entry ∷ m.rows }
 
 -- whether the switch has entered Connected from another state

@@ -2,13 +2,13 @@
 use Rattle.std.specs.Prelude.{◌≡◌, ℕ, ◌≤◌, List}
 use Rattle.relay_core.specs.declared.relay.RelayCore.{RelayCore}
 use Rattle.relay_core.specs.declared.sampling.FiringCounts.{FiringCounts}
-use Rattle.relay_core.specs.Sampling.{Measurement, Metering, after_samples}
+use Rattle.relay_core.specs.Sampling.{Measurement, SamplingState, after_samples}
 use Rattle.relay_core.specs.Stands.{StandsFor}
 use Rattle.relay_core.specs.World.{World}
 
--- the metering of a world and the firings so far
-abbrev pub metering_in : World → FiringCounts → Metering
-metering_in w firings = record { world = w; firings = firings }
+-- the sampling state of a world and the firings so far
+abbrev pub sampling_in : World → FiringCounts → SamplingState
+sampling_in w firings = record { world = w; firings = firings }
 
 -- A core took samples: for every world that it represented, it represents the world after the
 -- samples, and their firings were counted.
@@ -16,9 +16,9 @@ pub record Takes (old new : RelayCore) (before after : FiringCounts) (xs : List 
     0
   where
     pub world : (w : World) → StandsFor old w
-        → StandsFor new (after_samples xs (metering_in w before)).world
+        → StandsFor new (after_samples xs (sampling_in w before)).world
     pub firings : (w : World) → StandsFor old w → after
-        ≡ (after_samples xs (metering_in w before)).firings
+        ≡ (after_samples xs (sampling_in w before)).firings
 
 -- No side has fired more than `n` times.
 pub record AreAtMost (n : ℕ) (firings : FiringCounts) : Type 0 where

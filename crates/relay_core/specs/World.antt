@@ -14,7 +14,7 @@ use Rattle.script_steps.specs.declared.step.Script.{Script}
 
 -- A limiter: its settings, its last sample, and a row for every sample it ever took and for every
 -- entry into Connected, newest first.
-pub record Metered : Type 0 where
+pub record LimiterState : Type 0 where
   pub settings : Settings
   pub last : ℕ
   pub rows : List Row
@@ -25,8 +25,8 @@ pub record World : Type 0 where
   pub device : List ℕ
   pub control : Control
   pub moment : Option ℕ
-  pub import : Metered
-  pub export : Metered
+  pub import : LimiterState
+  pub export : LimiterState
   pub scripts : List Script
   pub schedules : Schedules
 
@@ -54,8 +54,8 @@ new_schedules = record {
 }
 
 -- a new limiter, which has taken no sample
-abbrev pub new_metered : Metered
-new_metered = record { settings = new_settings; last = 0; rows = [] }
+abbrev pub new_limiter_state : LimiterState
+new_limiter_state = record { settings = new_settings; last = 0; rows = [] }
 
 -- a new meter of this device name
 abbrev pub new_world : List ℕ → World
@@ -63,8 +63,8 @@ new_world device = record {
   device = device;
   control = record { state = Connected; mode = Mode0 };
   moment = None;
-  import = new_metered;
-  export = new_metered;
+  import = new_limiter_state;
+  export = new_limiter_state;
   scripts = [];
   schedules = new_schedules;
 }

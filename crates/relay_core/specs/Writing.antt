@@ -25,7 +25,7 @@ use Rattle.limiter_attributes.specs.Attributes.{attribute_numbered}
 use Rattle.limiter_attributes.specs.Reading.{setting_of}
 use Rattle.limiter_attributes.specs.Settings.{with_setting}
 use Rattle.relay_core.specs.Access.{target_of}
-use Rattle.relay_core.specs.Limiters.{metered_of, with_metered, with_settings}
+use Rattle.relay_core.specs.Limiters.{limiter_state_of, with_limiter_state, with_settings}
 use Rattle.relay_core.specs.declared.parts.Parts.{Parts}
 use Rattle.relay_core.specs.declared.parts.WrittenList.{WrittenList}
 use Rattle.relay_core.specs.Moving.{list_numbered, list_read, with_list}
@@ -55,8 +55,9 @@ at_control _ value w = outcome_of_refusal ReadWriteDenied w
 -- the effect of a setting of a limiter
 unfoldable pub at_setting : Which → Setting → World → Outcome
 at_setting which setting w = record {
-  world = with_metered which
-      (with_settings (with_setting setting (metered_of which w).settings) (metered_of which w)) w;
+  world = with_limiter_state which
+      (with_settings (with_setting setting (limiter_state_of which w).settings) (limiter_state_of
+      which w)) w;
   code = Success;
 }
 

@@ -9,11 +9,11 @@ ghost use Rattle.disconnect_control.specs.Control.{Control};
 ghost use Rattle.disconnect_control.specs.Transitions.{is_state};
 ghost use Rattle.relay_core.specs.Switch.{with_entries_since, at_trigger};
 
-use crate::access::target;
+use crate::access::method_target;
 use crate::relay::RelayCore;
 use crate::scripts::Origin;
 use cosem_axdr::Data;
-use cosem_names::{Instance, Level, MethodRef, ResultCode, may_execute};
+use cosem_names::{Instance, Level, MethodRef, ResultCode};
 use disconnect_control::Trigger;
 
 // Returns the trigger of a method of the switch, or `None` if the switch has no such method.
@@ -112,7 +112,7 @@ impl RelayCore {
         ensures code { (w : World) → StandsFor self.old w
             → result ≡ (at_execute level method.now parameter.now w).code }
     {
-        match target(method.name, method.class, may_execute(level, method), false) {
+        match method_target(level, method) {
             Ok(instance) => self.call(instance, method.number, parameter),
             Err(refusal) => refusal,
         }

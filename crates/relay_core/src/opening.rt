@@ -4,18 +4,18 @@ ghost use Rattle.relay_core.specs.Numbers.{fault_number};
 ghost use Rattle.limiter_core.specs.State.{IsFit};
 ghost use Rattle.relay_core.specs.Agreeing.{Agree, AreInRange, IsWorld};
 ghost use Rattle.relay_core.specs.Opening.{limiter_opening_of, opening_of, opened_limiter, world_of_opening, IsFitLimiterOpening, IsFitOpening};
-ghost use Rattle.relay_core.specs.Stands.{StandsFor, MeteredStands};
+ghost use Rattle.relay_core.specs.Stands.{StandsFor, LimiterStateStands};
 ghost use Rattle.relay_core.specs.World.{World};
 
 use crate::relay::RelayCore;
 use crate::schedules::Schedules;
-use byte_reading::and_keep;
 use cosem_axdr::Octets;
 use disconnect_control::{ControlMode, ControlState, DisconnectControl};
 use limiter_core::{Count, Limiter, MAX_GROUPS, Settings, are_fit};
 use script_steps::ScriptTable;
 use std::alloc::{AllocError, AllocFailed, Global};
 use thiserror::Error;
+use wire_bytes::and_keep;
 
 /// The largest length of the logical device name (IEC 62056-6-2) in this meter, in bytes.
 pub const MAX_DEVICE_NAME: usize = 16;
@@ -121,7 +121,7 @@ impl LimiterOpening {
         requires { IsFitLimiterOpening self.now }
         ensures same { IfOk result (λ limiter. limiter_opening_of limiter ≡ self.now) }
         ensures stands { IfOk result
-            (λ limiter. MeteredStands limiter moment (opened_limiter self.now)) }
+            (λ limiter. LimiterStateStands limiter moment (opened_limiter self.now)) }
     {
         let limiter = Limiter::from_parts(self.settings.try_clone(alloc)?, moment);
         let Some(limiter) = limiter.with_runs(self.value, self.over, self.under) else {
@@ -256,10 +256,10 @@ impl Opening {
         requires { IsFitOpening self.now }
         ensures import { IfOk result (λ both. limiter_opening_of both.0 ≡ self.now.import) }
         ensures import_stands { IfOk result (λ both.
-            MeteredStands both.0 self.now.moment (opened_limiter self.now.import)) }
+            LimiterStateStands both.0 self.now.moment (opened_limiter self.now.import)) }
         ensures export { IfOk result (λ both. limiter_opening_of both.1 ≡ self.now.export) }
         ensures export_stands { IfOk result (λ both.
-            MeteredStands both.1 self.now.moment (opened_limiter self.now.export)) }
+            LimiterStateStands both.1 self.now.moment (opened_limiter self.now.export)) }
     {
         let import = self.import.limiter(alloc, self.moment)?;
         and_keep(import, self.export.limiter(alloc, self.moment))

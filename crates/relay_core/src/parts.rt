@@ -8,13 +8,11 @@ ghost use Rattle.relay_core.specs.Memory.{writes_plainly, writes_plainly_in};
 ghost use Rattle.relay_core.specs.Moving.{scripts_part, entries_part, groups_part, list_numbered, list_read, parts_read, set_parts, parts_of};
 ghost use Rattle.script_steps.specs.Reading.{table_of};
 
-use crate::access::target;
+use crate::access::write_target;
 use crate::relay::RelayCore;
 use action_schedule::ActionSchedule;
 use cosem_axdr::Data;
-use cosem_names::{
-    AttrRef, Instance, Level, ResultCode, ScheduleNumber, Which, WriteFault, rights,
-};
+use cosem_names::{AttrRef, Instance, Level, ResultCode, ScheduleNumber, Which, WriteFault};
 use limiter_attributes::read_groups;
 use limiter_core::Limiter;
 use relay_events::Event;
@@ -144,7 +142,7 @@ fn read_set_parts(
     ensures parts { IfOk result (λ parts. parts ≡ set_parts level attr.now selected value.now) }
     ensures plain { IsTrue (writes_plainly level attr.now selected) → IsOk result }
 {
-    match target(attr.name, attr.class, rights(level, attr).write, selected) {
+    match write_target(level, attr, selected) {
         Ok(instance) => read_parts(alloc, instance, attr.number, value),
         Err(_refusal) => Ok(Parts::Plain),
     }

@@ -6,23 +6,23 @@ ghost use Rattle.relay_core.specs.Stands.{StandsFor};
 ghost use Rattle.disconnect_control.specs.Attributes.{attribute_numbered as control_attribute, data_at as control_data};
 ghost use Rattle.limiter_attributes.specs.Attributes.{attribute_numbered as limiter_attribute, is_plain as is_plain_limiter};
 ghost use Rattle.limiter_attributes.specs.Writing.{data_at as limiter_data};
-ghost use Rattle.relay_core.specs.Limiters.{metered_of};
+ghost use Rattle.relay_core.specs.Limiters.{limiter_state_of};
 ghost use Rattle.relay_core.specs.Memory.{is_plain_where, is_plain, reads_plainly};
 ghost use Rattle.relay_core.specs.Reading.{result_of_attribute, own_value_in, value_in, get_result, get_results};
 ghost use Rattle.relay_core.specs.Registers.{attribute_numbered as register_attribute, data_at as register_data, is_plain as is_plain_register};
 
-use crate::access::target;
+use crate::access::read_target;
 use crate::registers::{RegisterAttribute, read_register};
 use crate::relay::RelayCore;
 use crate::schedules::read_schedule;
 use cosem_axdr::{Data, Octets};
 use cosem_names::{
-    AttrRef, AttributeSelection, GetResult, Instance, Level, ResultCode, Which, object_list, rights,
+    AttrRef, AttributeSelection, GetResult, Instance, Level, ResultCode, Which, object_list,
 };
 use disconnect_control::ControlAttribute;
 use limiter_attributes::{LimiterAttribute, read_attribute};
-use listed::Listed;
 use std::alloc::{AllocError, Global};
+use wire_bytes::Listed;
 
 impl RelayCore {
     // Reads an attribute of the switch other than the logical name.
@@ -46,7 +46,7 @@ impl RelayCore {
     ) -> Result<GetResult, AllocError>
         ensures value { IfOk result (λ r. (w : World) → StandsFor self.now w
             → r ≡ result_of_attribute (λ attribute. register_data attribute
-            (metered_of which w).last)
+            (limiter_state_of which w).last)
             (register_attribute number)) }
         ensures plain { IsTrue (is_plain_where is_plain_register (register_attribute number))
             → IsOk result }
@@ -67,7 +67,7 @@ impl RelayCore {
     ) -> Result<GetResult, AllocError>
         ensures value { IfOk result (λ r. (w : World) → StandsFor self.now w
             → r ≡ result_of_attribute (λ attribute.
-            limiter_data which attribute (metered_of which w).settings w.moment)
+            limiter_data which attribute (limiter_state_of which w).settings w.moment)
             (limiter_attribute number)) }
         ensures plain { IsTrue (is_plain_where is_plain_limiter (limiter_attribute number))
             → IsOk result }
@@ -141,7 +141,7 @@ impl RelayCore {
             → r ≡ get_result level attr.now selected w) }
         ensures plain { IsTrue (reads_plainly level attr.now selected) → IsOk result }
     {
-        match target(attr.name, attr.class, rights(level, attr).read, selected) {
+        match read_target(level, attr, selected) {
             Ok(instance) => self.attribute_value(alloc, level, instance, attr),
             Err(refusal) => Ok(GetResult::Code(refusal)),
         }
@@ -157,7 +157,7 @@ impl RelayCore {
         ensures { IfOk result (λ rs. (w : World) → StandsFor self.now w
             → rs ≡ get_results level items.now w) }
     {
-        let mut results = Listed::new(alloc);
+        let mut results = Listed::from_vec(Vec::with_capacity(alloc, items.len())?);
         for item in items {
             results.push(self.get(alloc, level, &item.attr, item.selected)?)?;
         }

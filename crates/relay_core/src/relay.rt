@@ -30,9 +30,9 @@ impl RelayCore {
     ghost use Rattle.disconnect_control.specs.declared.state.ControlState.TheVariants.{Connected};
     ghost use Rattle.disconnect_control.specs.Transitions.{is_state};
     ghost use Rattle.limiter_core.specs.Settings.{active_threshold};
-    ghost use Rattle.relay_core.specs.Limiters.{metered_of};
+    ghost use Rattle.relay_core.specs.Limiters.{limiter_state_of};
     ghost use Rattle.relay_core.specs.World.{World, new_world};
-    ghost use Rattle.relay_core.specs.Stands.{StandsFor, MeteredStands};
+    ghost use Rattle.relay_core.specs.Stands.{StandsFor, LimiterStateStands};
 
     /// Makes a new meter. `device` is its logical device name, 1 to 16 bytes. The switch is
     /// connected, in mode 0; there are no scripts; no schedule is ever due; the limiters'
@@ -92,7 +92,7 @@ impl RelayCore {
     // Returns one of the limiters.
     pub(crate) fn limiter(&self, which: Which) -> &Limiter
         ensures { (w : World) → StandsFor self.now w
-            → MeteredStands result.now w.moment (metered_of which w) }
+            → LimiterStateStands result.now w.moment (limiter_state_of which w) }
     {
         match which {
             Which::Import => &self.import,
@@ -138,7 +138,7 @@ impl RelayCore {
 
     /// Returns the last sample of a limiter, in watts; 0 before the first.
     pub fn value_of(&self, which: Which) -> u32
-        ensures { (w : World) → StandsFor self.now w → result ≡ (metered_of which w).last }
+        ensures { (w : World) → StandsFor self.now w → result ≡ (limiter_state_of which w).last }
     {
         self.limiter(which).value()
     }
@@ -154,7 +154,7 @@ impl RelayCore {
     /// Returns the active threshold of a limiter, in watts.
     pub fn threshold_of(&self, which: Which) -> u32
         ensures { (w : World) → StandsFor self.now w
-            → result ≡ active_threshold (metered_of which w).settings w.moment }
+            → result ≡ active_threshold (limiter_state_of which w).settings w.moment }
     {
         self.limiter(which).threshold()
     }

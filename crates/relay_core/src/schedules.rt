@@ -17,10 +17,10 @@ ghost use Rattle.relay_core.specs.declared.parts.WrittenList.TheVariants as writ
 
 use crate::relay::RelayCore;
 use action_schedule::{ActionSchedule, ScheduleAttribute};
-use byte_reading::and_keep;
 use cosem_axdr::Data;
 use cosem_names::{GetResult, ResultCode, ScheduleNumber, WriteFault};
 use std::alloc::{AllocError, Global};
+use wire_bytes::and_keep;
 
 /// The four single action schedules, in the order in which they run.
 #[derive(Debug, Drop)]

@@ -34,7 +34,7 @@ fn equal_run(values: &[u32], threshold: u32, at: usize) -> usize
     requires { at ≤ length values.now }
     ensures within { at + result ≤ length values.now }
     ensures equal { (k : ℕ) → k < result → slice_index_or values.now (at + k) 0 ≡ threshold }
-    ensures some { at < length values.now → slice_index_or values.now at 0 ≡ threshold
+    ensures equal_at_start { at < length values.now → slice_index_or values.now at 0 ≡ threshold
         → 0 < result }
 {
     let mut end = at;

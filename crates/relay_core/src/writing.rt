@@ -9,11 +9,11 @@ ghost use Rattle.relay_core.specs.Stands.{StandsFor};
 ghost use Rattle.relay_core.specs.World.{World};
 ghost use Rattle.relay_core.specs.Writing.{at_mode, at_setting, at_limiter, at_control, at_plain, at_write, at_set};
 
-use crate::access::target;
+use crate::access::write_target;
 use crate::parts::{Parts, WrittenList, read_list};
 use crate::relay::RelayCore;
 use cosem_axdr::Data;
-use cosem_names::{AttrRef, Instance, Level, ResultCode, ScheduleNumber, Which, rights};
+use cosem_names::{AttrRef, Instance, Level, ResultCode, ScheduleNumber, Which};
 use disconnect_control::{ControlAttribute, ControlMode, read_mode};
 use limiter_attributes::{LimiterAttribute, Setting, read_setting};
 use std::alloc::{AllocError, Global};
@@ -205,7 +205,7 @@ impl RelayCore {
         ensures plain { IsTrue (writes_plainly level attr.now selected) → IsOk result }
         ensures err { OnErr result (self.new ≡ self.old) }
     {
-        match target(attr.name, attr.class, rights(level, attr).write, selected) {
+        match write_target(level, attr, selected) {
             Ok(instance) => self.write(alloc, instance, attr.number, value),
             Err(refusal) => Ok(refusal),
         }
@@ -225,7 +225,7 @@ impl RelayCore {
         ensures { (w : World) → StandsFor self.old w
             → StandsFor self.new (at_set level attr.now selected value.now w).world }
     {
-        if let Ok(instance) = target(attr.name, attr.class, rights(level, attr).write, selected) {
+        if let Ok(instance) = write_target(level, attr, selected) {
             self.write_by(instance, attr.number, value, parts);
         } else {
             drop(parts);

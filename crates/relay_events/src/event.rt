@@ -6,8 +6,8 @@ ghost use Rattle.relay_events.specs.Kinds.{is_read};
 use cosem_axdr::Data;
 use cosem_names::{AttrRef, AttributeSelection, Level, MethodRef};
 use lane_sampler::Block;
-use listed::Listed;
 use std::alloc::{AllocError, Global};
+use wire_bytes::Listed;
 
 /// An input of the meter: a client's request, a press of the button, a block of power samples or a
 /// moment of the clock. Each is one step of the core.

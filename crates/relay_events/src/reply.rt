@@ -2,7 +2,7 @@
 use cosem_axdr::Data;
 use cosem_names::{GetResult, ResultCode};
 use disconnect_control::ControlState;
-use listed::Listed;
+use wire_bytes::Listed;
 
 /// The core's reply to an event.
 #[derive(Debug, Drop)]

@@ -1,7 +1,7 @@
 -- The sources that return the items of a list.
 use Rattle.std.proofs.Common.{◌≡◌, ℕ, zero, suc, ◌-◌, ◌<◌, true, false, List, [], ◌∷◌, ◌++◌, length, drop, Option, Some, None, refl, sym, ap, arith}
 use Rattle.std.specs.Prelude.{option_to_list}
-use Rattle.meter_workers.specs.Sources.{Gives, Presses}
+use Rattle.shared_meter.specs.Sources.{Gives, Presses}
 
 -- the item taken from the front of a list is the next one that the source returns
 pub gives_front : {X : Type 0} (before after : List X) (given : Option X)

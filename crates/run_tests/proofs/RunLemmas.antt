@@ -1,12 +1,12 @@
 -- A run whose sources are lists is a run, with the declared items of the lists.
 use Rattle.std.proofs.Common.{ℕ, ◌+◌, List, Some, subst, arith, IfOk, Result, Ok, Err}
-use Rattle.kept_meter.specs.Calls.{IsLegal}
+use Rattle.shared_meter.specs.Calls.{IsLegal}
 use Rattle.meter_run.specs.Runs.{Given, IsRun}
 use Rattle.meter_server.specs.declared.serving_all.Served.{Served}
 use Rattle.relay_core.specs.declared.opening.Opening.{Opening}
 use Rattle.relay_recorder.specs.Recording.{Recording}
 use Rattle.run_tests.specs.ListedRuns.{Lists, IsListedRun}
-use Rattle.session_serving.specs.declared.fault.ServeFault.{ServeFault}
+use Rattle.session_io.specs.declared.fault.ServeFault.{ServeFault}
 
 -- the lists, as `IsRun` takes them
 abbrev given_by : Lists → Given

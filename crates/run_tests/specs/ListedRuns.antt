@@ -3,13 +3,13 @@
 --     AreListedCalls  the calls of such a run
 --     IsListedRun     the run, with the text of its trace
 use Rattle.std.specs.Prelude.{◌≡◌, ℕ, ◌+◌, ◌<◌, List, [], ◌∷◌, map, replicate}
-use Rattle.kept_meter.specs.Calls.{Calls, IsLegal, Stands}
-use Rattle.kept_meter.specs.KeptRecorder.{KeptRecorder}
+use Rattle.shared_meter.specs.Calls.{Calls, IsLegal, Stands}
+use Rattle.shared_meter.specs.KeptRecorder.{KeptRecorder}
 use Rattle.lane_sampler.specs.Samples.{Samples}
 use Rattle.meter_run.specs.Runs.{events_in}
 use Rattle.meter_server.specs.Sessions.{AreAsked}
-use Rattle.meter_serving.specs.Ending.{TellsRun}
-use Rattle.meter_workers.specs.Handed.{unread}
+use Rattle.trace_player.specs.RunTraces.{TellsRun}
+use Rattle.shared_meter.specs.Handed.{unread}
 use Rattle.relay_core.specs.Opening.{opening_of}
 use Rattle.relay_events.specs.declared.event.Event.TheVariants as event
 use Rattle.relay_recorder.specs.Recording.{Recording}

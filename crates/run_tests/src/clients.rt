@@ -68,7 +68,7 @@ impl Write for Answered {
 
 /// Counts the sessions whose input ended between two frames.
 impl Observer for Answered {
-    fn ended(&self, end: &Result<SessionEnd, ServeFault>) {
+    fn on_session_end(&self, end: &Result<SessionEnd, ServeFault>) {
         if *end == Ok(SessionEnd::Closed) {
             self.line.closed.fetch_add(1, Ordering::SeqCst);
         }

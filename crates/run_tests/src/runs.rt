@@ -2,7 +2,7 @@
 ghost use Rattle.std.specs.Prelude.{◌≡◌, ◌+◌, ◌<◌, [], IfOk, IsErrOf, IsTrue};
 ghost use Rattle.acse_ber.specs.Password.{IsPassword};
 ghost use Rattle.run_tests.specs.ListedRuns.{IsListedRun};
-ghost use Rattle.session_serving.specs.declared.fault.ServeFault.TheVariants.{Listen};
+ghost use Rattle.session_io.specs.declared.fault.ServeFault.TheVariants.{Listen};
 
 use crate::clients::{Client, Door, Line, client};
 use crate::sources::{ListedBlocks, ListedMoments, ListedPresses};

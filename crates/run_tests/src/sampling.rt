@@ -3,20 +3,18 @@
 ghost use Rattle.std.specs.Prelude.{◌≡◌, [], IfOk};
 
 use crate::runs::new_recorder;
-use call_fault::CallFault;
 use cosem_axdr::Data;
 use cosem_names::{AttrRef, ClassId, Level, Obis};
-use kept_meter::Kept;
 use lane_sampler::Block;
 use meter_server::BlockSource;
-use meter_workers::run_blocks;
 use relay_events::Event;
 use relay_recorder::Recorder;
+use shared_meter::{BlockEvents, Kept, run_source};
 use std::alloc::{AllocError, Global};
 use std::process::Abort;
 use std::sync::Wait;
 use std::test::Fail;
-use turn_lock::{Port, Shared, Turned};
+use turn_lock::{CallFault, Port, Shared, Turned};
 
 /// The thresholds of both limiters, in watts.
 #[derive(Clone, Copy, Debug, PartialEq, Eq)]
@@ -238,7 +236,7 @@ fn sample<W: Wait>(
                 port: own,
                 given: 0,
             };
-            let (port, _) = run_blocks(rt, alloc, source, port);
+            let (port, _) = run_source(rt, alloc, BlockEvents::new(source), port);
             found_behind(shared, port)
         }
         Err(_) => {

@@ -2,8 +2,8 @@
 use Rattle.std.proofs.Common.{◌≡◌, ℕ, ◌<◌, List, [], ◌∷◌, Option, Some, None, ok_or, Result, Ok, Err, refl, subst}
 use Rattle.std.specs.List.{cons_option}
 use Rattle.std.specs.Result.{result_ok}
-use Rattle.byte_reading.specs.Outcome.{◌>>=◌, ◌>>◌}
-use Rattle.byte_reading.proofs.OutcomeLemmas.{bind_ok, done, ok_is}
+use Rattle.wire_bytes.specs.Outcome.{◌>>=◌, ◌>>◌}
+use Rattle.wire_bytes.proofs.OutcomeLemmas.{bind_ok, done, ok_is}
 use Rattle.cosem_axdr.specs.Forms.{array_of}
 use Rattle.cosem_axdr.specs.declared.value.Data.{Data}
 use Rattle.script_steps.specs.Ranges.{IsStepInRange, AreStepsInRange, AreScriptsInRange}

@@ -3,8 +3,8 @@ use Rattle.std.proofs.Common.{◌≡◌, ℕ, ◌==◌, ◌≤◌, Bool, true, f
 use Rattle.std.proofs.lemmas.List.Elements.{All-head, All-tail}
 use Rattle.std.specs.List.{All, list_any, find, cons_option}
 use Rattle.std.specs.Result.{result_ok}
-use Rattle.byte_reading.specs.Outcome.{◌>>◌, guard}
-use Rattle.byte_reading.proofs.OutcomeLemmas.{bind_ok, guard_ok, done, ok_is}
+use Rattle.wire_bytes.specs.Outcome.{◌>>◌, guard}
+use Rattle.wire_bytes.proofs.OutcomeLemmas.{bind_ok, guard_ok, done, ok_is}
 use Rattle.cosem_axdr.specs.declared.value.Data.{Data}
 use Rattle.cosem_names.proofs.SeveralRead.{told_ok}
 use Rattle.script_steps.specs.Forms.{script_parts_of, identifier_of}

@@ -3,7 +3,7 @@
 -- this meter.
 use Rattle.std.specs.Prelude.{ℕ, Bool, true, not, ◌&&◌, ◌==◌, nat_le, List, [], ◌∷◌, length, ok_or, Result, Ok, Err}
 use Rattle.std.specs.List.{list_any}
-use Rattle.byte_reading.specs.Outcome.{◌>>=◌, ◌>>◌, guard}
+use Rattle.wire_bytes.specs.Outcome.{◌>>=◌, ◌>>◌, guard}
 use Rattle.cosem_axdr.specs.declared.value.Data.{Data}
 use Rattle.cosem_axdr.specs.declared.value.Data.TheVariants.{Null, Integer}
 use Rattle.cosem_axdr.specs.Forms.{array_of}

@@ -16,8 +16,8 @@ use cosem_axdr::Data;
 use cosem_names::{WriteFault, judge_each};
 use disconnect_control::read_mode;
 use limiter_attributes::{read_number, read_profile};
-use listed::Listed;
 use std::alloc::{AllocError, Global};
+use wire_bytes::Listed;
 
 // Reads the parameter of a method: null-data or an integer, else `Unmatched`.
 fn read_method_parameter(value: &Data) -> Result<(), WriteFault>

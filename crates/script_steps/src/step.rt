@@ -3,7 +3,7 @@
 use cosem_names::Which;
 use disconnect_control::ControlMode;
 use limiter_core::Profile;
-use listed::Listed;
+use wire_bytes::Listed;
 
 /// A step of a script: an attribute with the value to write, or a method to execute (IEC 62056-6-2,
 /// class 9, scripts).

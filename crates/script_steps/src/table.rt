@@ -11,9 +11,9 @@ use crate::step::{Script, Step};
 use crate::writing::write_scripts;
 use cosem_axdr::Data;
 use cosem_names::WriteFault;
-use listed::Listed;
 use std::alloc::{AllocError, Global};
 use std::marker::Model;
+use wire_bytes::Listed;
 
 /// The maximum number of scripts in a table.
 pub const MAX_SCRIPTS: usize = 16;

@@ -26,7 +26,11 @@ fn parameter(alloc: Global, step: &Step) -> Result<Data, AllocError>
 
 // Writes a step with this address and parameter: a structure of service_id, class_id, logical_name,
 // index and parameter.
-fn write_address(alloc: Global, address: Address, parameter: Data) -> Result<Data, AllocError>
+fn write_addressed_step(
+    alloc: Global,
+    address: Address,
+    parameter: Data,
+) -> Result<Data, AllocError>
     ensures { IfOk result (λ value. value ≡ addressed_step address parameter) }
 {
     let name = Octets::from_slice(alloc, &address.name.0)?;
@@ -45,7 +49,7 @@ fn write_step(alloc: Global, step: &Step) -> Result<Data, AllocError>
     ensures { IfOk result (λ value. value ≡ step_data step.now) }
 {
     let parameter = parameter(alloc, step)?;
-    write_address(alloc, step.action().address(), parameter)
+    write_addressed_step(alloc, step.action().address(), parameter)
 }
 
 // Writes the steps of a script.

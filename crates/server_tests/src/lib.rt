@@ -1,15 +1,13 @@
-//! Tests of `session_serving`: requests and sessions.
+//! Tests of `shared_meter` and `meter_server`: ports of one meter, and all threads that use it.
 //!
 //! Tests are in a crate of their own because a check of tests proves their whole crate again.
 #![tactic(auto)]
 
 #[cfg(test)]
-mod hexadecimal;
+mod kept;
 #[cfg(test)]
-mod repeated;
+mod ports;
 #[cfg(test)]
-mod requests;
+mod serving;
 #[cfg(test)]
-mod sessions;
-#[cfg(test)]
-mod transfers;
+mod talks;

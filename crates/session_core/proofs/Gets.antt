@@ -26,7 +26,7 @@ use Rattle.session_core.specs.declared.step.TurnStep.TheVariants as step
 use Rattle.session_core.specs.declared.task.SessionTask.TheVariants.{Listen, Await, Send}
 use Rattle.wrapper_frame.specs.Header.{head_of, header_size, src_of, dst_of}
 use Rattle.wrapper_frame.specs.Messages.{first_frame, after_first}
-use Rattle.wrapper_frame.specs.Stream.{GoesOn}
+use Rattle.wrapper_frame.specs.Stream.{KeepsFrames}
 use Rattle.wrapper_frame.specs.declared.header.Head.TheVariants as head
 use Rattle.xdlms_apdu.specs.Requests.{request_of}
 use Rattle.xdlms_apdu.specs.declared.invoke_id.InvokeId.{InvokeId}
@@ -113,7 +113,7 @@ pub asks_single : (s t : Session) (pending payload : List ℕ) (kept : State) (s
     (asked : Asked) (attr : AttrRef) → s.task ≡ Listen
     → head_of s.deframer ≡ head.Whole n → src ≡ src_of s.deframer → dst ≡ dst_of s.deframer → dst
     ≡ management_device → payload ≡ take n (drop header_size s.deframer)
-    → pending ≡ after_first n s.deframer → GoesOn s.deframer
+    → pending ≡ after_first n s.deframer → KeepsFrames s.deframer
     (Some (first_frame n s.deframer)) pending
     → HearsGet s.state (heard_frame src payload) asked attr kept
     → t ≡ record {

@@ -3,3 +3,4 @@ pub mod Meet
 pub mod Tasks
 pub mod Placed
 pub mod Gets
+pub mod Commands

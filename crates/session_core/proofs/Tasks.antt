@@ -48,7 +48,7 @@ use Rattle.session_core.specs.declared.task.SessionTask.{SessionTask}
 use Rattle.session_core.specs.declared.task.SessionTask.TheVariants.{Listen, Read, Await, Say, Send, Over}
 use Rattle.wrapper_frame.specs.Header.{head_of, header_size, src_of, dst_of}
 use Rattle.wrapper_frame.specs.Messages.{frames_of, rest_of, first_frame, after_first}
-use Rattle.wrapper_frame.specs.Stream.{IsPart, Fronts, GoesOn, Stops, StopsBy}
+use Rattle.wrapper_frame.specs.Stream.{IsPart, Fronts, KeepsFrames, Stops, StopsBy}
 use Rattle.wrapper_frame.specs.declared.fault.WrapperFault.{WrapperFault}
 use Rattle.wrapper_frame.specs.declared.fault.WrapperFault.TheVariants as fault
 use Rattle.wrapper_frame.specs.declared.header.Head.{Head}
@@ -444,7 +444,7 @@ ends_alike bytes others e = ap (λ (rest : List ℕ). end_by (head_of rest) rest
 
 -- a frame for the server is handled
 hears_steps : (password old new : List ℕ) (finished : Bool) (s t : State) (f : Frame)
-    (st : TurnStep) → GoesOn old (Some f) new → (f.dst == management_device) ≡ true
+    (st : TurnStep) → KeepsFrames old (Some f) new → (f.dst == management_device) ≡ true
     → ((fs : List Frame) → asks_on password (known_in s) (f ∷ fs)
     ≡ option_to_list (event_of (step_outcome st)) ++ asks_on password (known_in t) fs)
     → ((fs : List Frame) (replies : List Reply) → answers_on password s (f ∷ fs) replies
@@ -490,7 +490,7 @@ heard_by E password old new finished s t (step.Join joined) steps less = (steps,
 
 pub hears : (E : Type 0) (password old new : List ℕ) (finished : Bool) (s t : State) (f : Frame)
     (n : ℕ) (st : TurnStep)
-    → head_of old ≡ head.Whole n → new ≡ after_first n old → GoesOn old (Some f) new
+    → head_of old ≡ head.Whole n → new ≡ after_first n old → KeepsFrames old (Some f) new
     → (f.dst == management_device) ≡ true
     → step_outcome st ≡ outcome_at password s f → t ≡ state_after password s f None
     → WorksBy {E = E} (session password old finished s Listen) (Ok (next_by st))
@@ -505,7 +505,7 @@ hears E password old new finished s t f n st whole after goes_on here outcome st
 -- a frame for another port is dropped
 pub passes_frame : (E : Type 0) (password old new : List ℕ) (finished : Bool) (s : State)
     (f : Frame) (n : ℕ)
-    → head_of old ≡ head.Whole n → new ≡ after_first n old → GoesOn old (Some f) new
+    → head_of old ≡ head.Whole n → new ≡ after_first n old → KeepsFrames old (Some f) new
     → (f.dst == management_device) ≡ false
     → WorksBy {E = E} (session password old finished s Listen) (Ok None)
     (session password new finished s Listen)
@@ -797,7 +797,7 @@ pub hears_any : (E : Type 0) (s t : Session) (pending payload : List ℕ) (kept 
     (src dst n : ℕ) (st : TurnStep) (r : Option Next) → s.task ≡ Listen
     → head_of s.deframer ≡ head.Whole n → src ≡ src_of s.deframer → dst ≡ dst_of s.deframer → dst
     ≡ management_device → payload ≡ take n (drop header_size s.deframer)
-    → pending ≡ after_first n s.deframer → GoesOn s.deframer
+    → pending ≡ after_first n s.deframer → KeepsFrames s.deframer
     (Some (first_frame n s.deframer)) pending
     → step_outcome st ≡ outcome_at s.password s.state (heard_frame src payload) → kept
     ≡ state_after s.password s.state (heard_frame src payload) None
@@ -813,14 +813,14 @@ hears_any E s t pending payload kept src dst n st r listening whole src_is dst_i
     refl listening
     (hears E s.password s.deframer pending s.is_finished s.state kept (heard_frame src payload) n st
     whole left
-    (subst (λ (f : Frame). GoesOn s.deframer (Some f) pending)
+    (subst (λ (f : Frame). KeepsFrames s.deframer (Some f) pending)
     (front_frame s.deframer payload src dst n src_is dst_is payload_is here) goes_on)
     refl outcome state)))
 
 pub passes_any : (E : Type 0) (s : Session) (pending : List ℕ) (dst n : ℕ) → s.task ≡ Listen
     → head_of s.deframer ≡ head.Whole n
     → dst ≡ dst_of s.deframer → (dst == management_device) ≡ false → pending
-    ≡ after_first n s.deframer → GoesOn s.deframer (Some (first_frame n s.deframer)) pending
+    ≡ after_first n s.deframer → KeepsFrames s.deframer (Some (first_frame n s.deframer)) pending
     → WorksBy {E = E} s (Ok None) (session s.password pending s.is_finished s.state s.task)
 passes_any E s pending dst n listening whole dst_is elsewhere left goes_on =
     subst (λ (u : SessionTask). WorksBy {E = E}

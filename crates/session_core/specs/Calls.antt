@@ -3,18 +3,28 @@
 --     is_negotiated                   by its form, which must be known and negotiated
 --     call_of                         by the whole payload
 --     IsSingleGet                     the GET of one attribute, without selective access
+--     IsShortCommand                  a SET to an enum, or an ACTION with an integer
 use Rattle.std.specs.Prelude.{◌≡◌, ℕ, Bool, true, false, ◌||◌, ◌&&◌, ◌==◌, bit_and, find, Option, Some, None, if◌then◌else◌, List, [], ◌∷◌, Result, Ok, Err}
+use Rattle.std.specs.Int.{w8, cast_signed}
 use Rattle.acse_ber.specs.Reading.{is_release_text}
+use Rattle.cosem_axdr.specs.declared.value.Data.TheVariants.{Enum, Integer}
+use Rattle.cosem_names.specs.declared.level.Level.{Level}
 use Rattle.cosem_names.specs.declared.name.AttrRef.{AttrRef}
+use Rattle.relay_events.specs.declared.event.Event.{Event}
+use Rattle.relay_events.specs.declared.event.Event.TheVariants as event
 use Rattle.session_core.specs.Standard.{aarq_tag, rlrq_tag, request_forms, get_tag, set_tag, action_tag}
+use Rattle.session_core.specs.declared.asked.ReplyForm.{ReplyForm}
+use Rattle.session_core.specs.declared.asked.ReplyForm.TheVariants as form
 use Rattle.session_core.specs.declared.call.Call.{Call}
 use Rattle.session_core.specs.declared.call.Call.TheVariants.{Release, Service, Refused}
 use Rattle.session_core.specs.declared.conformance.RequestForm.{RequestForm}
+use Rattle.session_core.specs.declared.short_command.ShortCommand.{ShortCommand}
+use Rattle.session_core.specs.declared.short_command.ShortCommand.TheVariants as short
 use Rattle.xdlms_apdu.specs.Requests.{request_of}
 use Rattle.xdlms_apdu.specs.declared.fault.ApduFault.{ApduFault}
 use Rattle.xdlms_apdu.specs.declared.invoke_id.InvokeId.{InvokeId}
 use Rattle.xdlms_apdu.specs.declared.request.Request.{Request}
-use Rattle.xdlms_apdu.specs.declared.request.Request.TheVariants.{Get}
+use Rattle.xdlms_apdu.specs.declared.request.Request.TheVariants.{Get, Set, Action}
 use Rattle.xdlms_apdu.specs.declared.response.Exception.TheVariants.{Unknown, Unreadable}
 
 -- whether the payload begins with this tag
@@ -71,3 +81,28 @@ pub record IsSingleGet (conformance : ℕ) (payload : List ℕ) (id : InvokeId) 
   pub calls : is_call payload ≡ true
   pub call : call_of conformance payload
       ≡ Service (Get id (record { attr = attr; selected = false }))
+
+-- the request of a short command
+abbrev pub command_request : ShortCommand → Request
+command_request (short.Set id attr value) =
+    Set id (record { attr = attr; selected = false }) (Enum value)
+command_request (short.Action id method value) =
+    Action id method (Some (Integer (cast_signed w8 value)))
+
+-- its event, from a client of this level
+abbrev pub command_event : Level → ShortCommand → Event
+command_event level (short.Set id attr value) = event.Set level attr false (Enum value)
+command_event level (short.Action id method value) =
+    event.Execute level method (Some (Integer (cast_signed w8 value)))
+
+-- the form of its answer
+abbrev pub command_form : ShortCommand → ReplyForm
+command_form (short.Set id attr value) = form.Set id
+command_form (short.Action id method value) = form.Action id
+
+-- The payload is this short command, whole.
+pub record IsShortCommand (conformance : ℕ) (payload : List ℕ) (command : ShortCommand) : Type 0
+  where
+    pub opens : is_opening payload ≡ false
+    pub calls : is_call payload ≡ true
+    pub call : call_of conformance payload ≡ Service (command_request command)

@@ -17,7 +17,7 @@ use Rattle.session_core.specs.declared.answer.Answer.TheVariants.{Service}
 use Rattle.session_core.specs.declared.asked.ReplyForm.{ReplyForm}
 use Rattle.session_core.specs.declared.asked.ReplyForm.TheVariants as form
 use Rattle.session_core.specs.declared.incoming.Added.{Added}
-use Rattle.session_core.specs.declared.incoming.Added.TheVariants.{GoesOn, Refused, Whole}
+use Rattle.session_core.specs.declared.incoming.Added.TheVariants.{Continues, Refused, Whole}
 use Rattle.session_core.specs.declared.incoming.Incoming.{Incoming}
 use Rattle.session_core.specs.declared.joined.Joined.{Joined}
 use Rattle.session_core.specs.declared.incoming.LongService.{LongService}
@@ -169,18 +169,18 @@ later_after block (Some incoming) = block_after incoming.purpose block incoming.
 
 -- the outcome that the code's result means
 abbrev pub outcome_of_added : Added → Outcome
-outcome_of_added (GoesOn due) = says due.to due.answer
+outcome_of_added (Continues due) = says due.to due.answer
 outcome_of_added (Refused due) = says due.to due.answer
 outcome_of_added (Whole joined) = whole_outcome joined
 
 -- the transfer after the code has added a block
 abbrev pub after_adding : Added → Incoming → Option Incoming
-after_adding (GoesOn due) incoming = Some incoming
+after_adding (Continues due) incoming = Some incoming
 after_adding (Refused due) incoming = None
 after_adding (Whole joined) incoming = None
 
 -- whether the transfer has ended
 abbrev pub is_over : Added → Bool
-is_over (GoesOn due) = false
+is_over (Continues due) = false
 is_over (Refused due) = true
 is_over (Whole joined) = true

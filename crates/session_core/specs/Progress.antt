@@ -6,6 +6,7 @@
 --     Takes         a reply is the first of the coming replies
 --     AnswersBy     as in Takes, and then its answer is removed from the front
 --     AsksFor       the event removed from the front is the GET of an attribute
+--     AsksCommand   the event removed from the front is that of a SET or an ACTION
 --     Leaves        what the caller can rely on after each `Next`
 use Rattle.std.specs.Prelude.{◌≡◌, ◌⊎◌, ◌<◌, ℕ, true, false, Option, Some, None, List, [], ◌∷◌, ◌++◌, Result, Ok, Err}
 use Rattle.cosem_names.specs.declared.level.Level.{Level}
@@ -16,6 +17,7 @@ use Rattle.relay_events.specs.declared.reply.Reply.{Reply}
 use Rattle.session_core.specs.Backwards.{Asks, Answers, end_of}
 use Rattle.session_core.specs.Ends.{EndsWithInput}
 use Rattle.session_core.specs.Remaining.{still_asks, still_sends, still_ends, is_asking, is_asking_value, reported_end, is_finished, load}
+use Rattle.session_core.specs.Remaining.{is_asking_command}
 use Rattle.session_core.specs.declared.end.SessionEnd.{SessionEnd}
 use Rattle.session_core.specs.declared.next.Next.{Next}
 use Rattle.session_core.specs.declared.next.Next.TheVariants.{Ask, Send, Wait, End}
@@ -92,6 +94,13 @@ pub record AsksFor (old : Session) (level : Level) (attr : AttrRef) (new : Sessi
   pub steps : Steps old (Get level attr false ∷ []) [] new
   pub awaits : IsAwaiting new
   pub value : is_asking_value new ≡ true
+  pub less : load new < load old
+
+-- The session has asked the event of a SET or an ACTION, and awaits the reply.
+pub record AsksCommand (old : Session) (event : Event) (new : Session) : Type 0 where
+  pub steps : Steps old (event ∷ []) [] new
+  pub awaits : IsAwaiting new
+  pub command : is_asking_command new ≡ true
   pub less : load new < load old
 
 -- the events of a `Next`, and below, its texts

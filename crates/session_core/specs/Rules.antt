@@ -18,7 +18,7 @@ use Rattle.relay_events.specs.declared.event.Event.TheVariants as event
 use Rattle.relay_events.specs.declared.reply.Reply.{Reply}
 use Rattle.session_core.specs.Answers.{answer_text, due_text}
 use Rattle.session_core.specs.Association.{aare_by, opened_by}
-use Rattle.session_core.specs.Calls.{is_opening, is_call, call_of}
+use Rattle.session_core.specs.Calls.{is_opening, is_call, call_of, command_event, command_form}
 use Rattle.session_core.specs.Incoming.{no_blocks, block_outcome_of, block_after, transfer_of, later_outcome, later_after, whole_outcome}
 use Rattle.session_core.specs.Outcome.{Outcome, Turn, asks, says, settled, continues}
 use Rattle.session_core.specs.Outgoing.{transfer_after_next, continued_response, outgoing_by, reply_response}
@@ -35,6 +35,7 @@ use Rattle.session_core.specs.declared.incoming.Incoming.{Incoming}
 use Rattle.session_core.specs.declared.incoming.LongService.TheVariants as service
 use Rattle.session_core.specs.declared.incoming.Purpose.TheVariants as purpose
 use Rattle.session_core.specs.declared.link.Link.{Link}
+use Rattle.session_core.specs.declared.short_command.ShortCommand.{ShortCommand}
 use Rattle.session_core.specs.declared.state.State.{State}
 use Rattle.session_core.specs.declared.step.TurnStep.{TurnStep}
 use Rattle.session_core.specs.declared.step.TurnStep.TheVariants.{Ask, Say, Join}
@@ -81,6 +82,12 @@ is_closing link f = is_heard link f && is_release (call_in link f)
 abbrev pub asks_value : ReplyForm → Bool
 asks_value (form.Get id) = true
 asks_value _ = false
+
+-- whether an answer is to a SET that arrived whole, or to an ACTION
+abbrev pub asks_code : ReplyForm → Bool
+asks_code (form.Set id) = true
+asks_code (form.Action id) = true
+asks_code _ = false
 
 -- ---- the outcome of a frame
 
@@ -235,3 +242,11 @@ pub record HearsGet (old : State) (f : Frame) (asked : Asked) (attr : AttrRef) (
       → outcome_at password old f ≡ asks (event.Get asked.link.level attr false) asked
   pub after : (password : List ℕ) → new ≡ state_after password old f None
   pub form : asks_value asked.form ≡ true
+
+-- A frame is this short command and ends the transfers, whatever the password is.
+pub record HearsCommand (old : State) (f : Frame) (link : Link) (command : ShortCommand)
+    (new : State) : Type 0 where
+  pub outcome : (password : List ℕ)
+      → outcome_at password old f ≡ asks (command_event link.level command)
+      (record { link = link; form = command_form command })
+  pub after : (password : List ℕ) → new ≡ state_after password old f None

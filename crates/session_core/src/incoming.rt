@@ -111,7 +111,7 @@ pub(crate) struct Incoming {
 #[derive(Drop)]
 pub(crate) enum Added {
     // The transfer continues, with this answer.
-    GoesOn(Due),
+    Continues(Due),
     // The transfer has ended, with this answer.
     Refused(Due),
     // The block was the last, and the transfer is complete.
@@ -124,7 +124,7 @@ impl Added {
         ensures { result ≡ is_over self.now }
     {
         match self {
-            Added::GoesOn(_) => false,
+            Added::Continues(_) => false,
             Added::Refused(_) | Added::Whole(_) => true,
         }
     }
@@ -152,7 +152,7 @@ impl Incoming {
         {
             Ok(None) => {
                 let response = service.block_response(id, block.number);
-                Ok(Added::GoesOn(Due::response(link.source, response)))
+                Ok(Added::Continues(Due::response(link.source, response)))
             }
             Ok(Some(bytes)) => Ok(Added::Whole(Joined {
                 link,

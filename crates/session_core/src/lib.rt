@@ -19,6 +19,7 @@ mod password;
 mod prepared;
 mod replying;
 mod session;
+mod short_command;
 mod single_get;
 mod state;
 mod step;

@@ -3,13 +3,14 @@
 ghost use Rattle.std.specs.Prelude.{◌≡◌, ◌≤◌, ◌<◌, ◌*◌, ◌-◌, None, length, option_and_then, true, IfOk, IfErr, OnOk, OnErr};
 ghost use Rattle.session_core.specs.Answers.{answer_text, due_text, way_text, IsSmall};
 ghost use Rattle.session_core.specs.Outgoing.{transfer_after, unsent_by, can_go_in_blocks, long_response, long_text, response_in_blocks, text_in_blocks, block_response, code_response, reply_code, reply_response, answer_with_header, reply_in, outgoing_by};
-ghost use Rattle.session_core.specs.Rules.{asks_value, reply_text};
+ghost use Rattle.session_core.specs.Rules.{asks_value, asks_code, reply_text};
 ghost use Rattle.session_core.specs.Standard.{block_header};
 ghost use Rattle.session_core.specs.declared.answer.Answer.TheVariants.{Service};
+ghost use Rattle.wrapper_frame.specs.Header.{max_payload};
 ghost use Rattle.xdlms_blocks.specs.Limits.{max_blocks};
 ghost use Rattle.xdlms_blocks.specs.Sending.{next_piece, after_next};
 
-use crate::answer::Way;
+use crate::answer::{SERVER_PORT, Way};
 use crate::asked::{Asked, ReplyForm};
 use crate::due::Due;
 use crate::link::Link;
@@ -20,6 +21,9 @@ use cosem_axdr::{Data, Octets};
 use cosem_names::{GetResult, ResultCode};
 use relay_events::Reply;
 use std::alloc::{AllocError, Global};
+use wrapper_frame::{WrapperFault, frame};
+use xdlms_apdu::form::NORMAL;
+use xdlms_apdu::tag::{ACTION_RESPONSE, SET_RESPONSE};
 use xdlms_apdu::{InvokeId, Response};
 use xdlms_blocks::{BlockFault, GetBlocks};
 
@@ -27,6 +31,8 @@ use xdlms_blocks::{BlockFault, GetBlocks};
 const GET_HEADER: usize = 4;
 // The length of a Get-Response-With-List before the bytes of its results.
 const GET_LIST_HEADER: usize = 3;
+// The byte that says that the answer to an ACTION has no value.
+const NO_VALUE: u8 = 0;
 
 // The answer to a reply, and the long GET that is in progress after it.
 #[derive(Drop)]
@@ -104,6 +110,44 @@ pub(crate) fn answer_get(
         return Ok(text);
     };
     answer_value(alloc, asked.link, id, value, outgoing)
+}
+
+// Returns the frame with the answer to the reply to a SET or an ACTION, which begins no long GET.
+#[tactic(auto, unfolding(crate::specs::Outgoing::reply_response, crate::specs::Outgoing::begun_by, crate::specs::Answers::answer_text, xdlms_apdu::specs::Responses::response_text))]
+#[inline(always)]
+pub(crate) fn answer_command(
+    alloc: Global,
+    asked: Asked,
+    reply: &Reply,
+) -> Result<Octets, AllocError>
+    requires { asks_code asked.form ≡ true }
+    ensures text { IfOk result (λ text. text ≡ reply_text asked reply.now) }
+    ensures outgoing { outgoing_by asked reply.now ≡ None }
+{
+    let to = asked.link.source;
+    let code = reply_code(reply).code();
+    match asked.form {
+        ReplyForm::Set(id) => frame_of(alloc, to, &[SET_RESPONSE, NORMAL, id.0, code]),
+        ReplyForm::Action(id) => {
+            frame_of(alloc, to, &[ACTION_RESPONSE, NORMAL, id.0, code, NO_VALUE])
+        }
+        ReplyForm::Get(_) | ReplyForm::GetList(_) | ReplyForm::SetLastBlock(_, _) => {
+            unreachable!()
+        }
+    }
+}
+
+// Returns the frame that carries a short payload to a port.
+#[tactic(auto, unfolding(crate::specs::Answers::due_text))]
+fn frame_of(alloc: Global, to: u16, payload: &[u8]) -> Result<Octets, AllocError>
+    requires { length payload.now ≤ max_payload }
+    ensures { IfOk result (λ text. text ≡ due_text to payload.now) }
+{
+    match frame(alloc, SERVER_PORT, to, payload) {
+        Ok(text) => Ok(text),
+        Err(WrapperFault::Memory) => Err(AllocError),
+        Err(WrapperFault::Version | WrapperFault::TooLong) => unreachable!(),
+    }
 }
 
 // Returns the frame with the answer to a value.

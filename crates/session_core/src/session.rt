@@ -6,16 +6,17 @@ ghost use Rattle.wrapper_frame.specs.Header.{header_size, head_of};
 ghost use Rattle.wrapper_frame.specs.declared.header.Head.TheVariants.{Whole};
 
 use crate::answer::{SERVER_PORT, Way};
+use crate::asked::Asked;
 use crate::end::SessionEnd;
 use crate::next::Next;
 use crate::password::Password;
-use crate::replying::{Answered, answer_get, answer_reply};
+use crate::replying::{Answered, answer_command, answer_get, answer_reply};
 use crate::state::State;
 use crate::step::TurnStep;
 use crate::task::SessionTask;
 use cosem_axdr::Octets;
 use cosem_names::{AttrRef, Level};
-use relay_events::Reply;
+use relay_events::{Event, Reply};
 use std::alloc::{AllocError, Global};
 use std::fmt::{self, Debug, Formatter};
 use std::mem::replace;
@@ -44,7 +45,11 @@ impl Debug for Session {
 
 impl Session {
     ghost use Rattle.session_core.specs.Remaining.{is_asking, is_asking_value, reported_end, is_finished, is_idle, load};
-    ghost use Rattle.session_core.specs.Progress.{Owes, IsQuiet, Feeds, Finishes, StepsBy, Leaves, Takes, AnswersBy, AsksFor, WorksBy, task_by, next_by};
+    ghost use Rattle.session_core.specs.Remaining.{is_asking_command};
+    ghost use Rattle.session_core.specs.Progress.{Owes, IsQuiet, Feeds, Finishes, StepsBy};
+    ghost use Rattle.session_core.specs.Progress.{Leaves, Takes};
+    ghost use Rattle.session_core.specs.Progress.{AnswersBy, AsksFor, AsksCommand, WorksBy};
+    ghost use Rattle.session_core.specs.Progress.{task_by, next_by};
 
     /// Makes a session before its first byte. `password` is the management client's, 1 to 32 bytes.
     /// Fails if out of memory.
@@ -143,7 +148,7 @@ impl Session {
         requires { is_asking self.now ≡ true }
         ensures ok { OnOk result (Takes self.old reply self.new) }
         ensures err { OnErr result (self.new ≡ self.old) }
-        ensures back { IfErr result (λ failed. failed.1 ≡ reply) }
+        ensures returned { IfErr result (λ failed. failed.1 ≡ reply) }
     {
         let SessionTask::Await(asked) = self.task else {
             unreachable!()
@@ -174,7 +179,7 @@ impl Session {
             return None;
         }
         let payload = self.deframer.payload(size);
-        let (asked, attr) = self.state.hear_get(source, payload)?;
+        let (asked, attr) = self.state.receive_get(source, payload)?;
         let level = asked.link.level;
         self.deframer.pass(size);
         self.turn_to(SessionTask::Await(asked));
@@ -194,6 +199,53 @@ impl Session {
             unreachable!()
         };
         let text = answer_get(alloc, asked, reply, &mut self.state.outgoing)?;
+        self.turn_to(SessionTask::Listen);
+        Ok(text)
+    }
+
+    /// Takes the frame at the front if it is whole and is a short command from the client of the
+    /// association: a SET of one attribute to an enum, without selective access, or an ACTION with
+    /// an integer. The caller then asks the meter this event, and passes the reply to
+    /// `answer_command`. If it returns `None`, nothing has changed, and `next` says what the
+    /// session needs.
+    #[inline(always)]
+    pub fn next_command(&mut self) -> Option<Event>
+        ensures asks { IfSome result (λ event. AsksCommand self.old event self.new) }
+        ensures none { IfNone result (self.new ≡ self.old) }
+    {
+        let SessionTask::Listen = &self.task else {
+            return None;
+        };
+        let Head::Whole(size) = self.deframer.front() else {
+            return None;
+        };
+        let (source, destination) = self.deframer.ports();
+        if destination != SERVER_PORT {
+            return None;
+        }
+        let payload = self.deframer.payload(size);
+        let (link, command) = self.state.receive_command(source, payload)?;
+        let event = command.event(link.level);
+        let form = command.form();
+        self.deframer.pass(size);
+        self.turn_to(SessionTask::Await(Asked { link, form }));
+        Some(event)
+    }
+
+    /// Takes in the reply to the event of `next_command` and returns the frame with its answer, as
+    /// `answer` followed by `next` would. If out of memory, nothing has changed.
+    #[inline(always)]
+    #[tactic(auto, unfolding(crate::specs::Remaining::is_asking_command))]
+    pub fn answer_command(&mut self, alloc: Global, reply: &Reply) -> Result<Octets, AllocError>
+        requires { is_asking_command self.now ≡ true }
+        ensures ok { IfOk result (λ frame. AnswersBy self.old reply.now frame self.new) }
+        ensures err { OnErr result (self.new ≡ self.old) }
+    {
+        let SessionTask::Await(asked) = self.task else {
+            unreachable!()
+        };
+        let text = answer_command(alloc, asked, reply)?;
+        self.state.outgoing = None;
         self.turn_to(SessionTask::Listen);
         Ok(text)
     }
@@ -267,7 +319,7 @@ impl Session {
         ensures err { OnErr result (self.new ≡ self.old) }
     {
         match self.deframer.front() {
-            Head::Whole(size) => self.hear(alloc, size),
+            Head::Whole(size) => self.receive(alloc, size),
             Head::Part if !self.is_finished => Ok(Some(Next::Wait)),
             Head::Part if self.deframer.is_empty() => Ok(self.end(SessionEnd::Closed)),
             Head::Part => Ok(self.end(SessionEnd::Cut)),
@@ -279,7 +331,7 @@ impl Session {
     // Handles the frame at the front. `size` is the length of its payload in bytes. Drops a frame
     // for another port.
     #[tactic(auto, unfolding(crate::specs::Remaining::is_asking))]
-    fn hear(&mut self, alloc: Global, size: usize) -> Result<Option<Next>, AllocError>
+    fn receive(&mut self, alloc: Global, size: usize) -> Result<Option<Next>, AllocError>
         requires listening { self.now.task ≡ Listen }
         requires whole { head_of self.now.deframer ≡ Whole size }
         requires there { header_size + size ≤ length self.now.deframer }
@@ -293,7 +345,7 @@ impl Session {
             return Ok(None);
         }
         let payload = self.deframer.payload(size);
-        let step = self.state.hear(alloc, &self.password, src, payload)?;
+        let step = self.state.receive(alloc, &self.password, src, payload)?;
         self.deframer.pass(size);
         Ok(self.take(step))
     }

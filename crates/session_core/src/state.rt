@@ -16,6 +16,7 @@ use crate::incoming::{Incoming, LongService, Purpose, add_to};
 use crate::link::{Link, answer_to, link_from};
 use crate::outgoing::{Outgoing, continue_transfer};
 use crate::password::Password;
+use crate::short_command::{ShortCommand, read_short_command};
 use crate::single_get::read_single_get;
 use crate::step::TurnStep;
 use acse_ber::{AcseFault, judge, read_aarq};
@@ -37,6 +38,7 @@ pub(crate) struct State {
 
 impl State {
     ghost use Rattle.session_core.specs.Rules.{heard_frame, outcome_at, state_after, state_by_call, step_outcome, outcome_of_turn, call_turn, request_turn, HearsGet};
+    ghost use Rattle.session_core.specs.Rules.{HearsCommand};
     ghost use Rattle.session_core.specs.Outcome.{asks, says};
     ghost use Rattle.session_core.specs.Outgoing.{transfer_after_next, continued_response};
 
@@ -53,7 +55,7 @@ impl State {
 
     // Handles a frame for the server. If out of memory, nothing has changed.
     #[tactic(auto, unfolding(crate::specs::Rules::turn_of, crate::specs::Rules::link_after, crate::specs::Rules::incoming_after, crate::specs::Rules::outgoing_after))]
-    pub(crate) fn hear(
+    pub(crate) fn receive(
         &mut self,
         alloc: Global,
         password: &Password,
@@ -82,7 +84,7 @@ impl State {
     // association. Returns the attribute, and what its answer needs from the request. For any other
     // frame returns `None` and changes nothing.
     #[inline(always)]
-    pub(crate) fn hear_get(&mut self, src: u16, payload: &[u8]) -> Option<(Asked, AttrRef)>
+    pub(crate) fn receive_get(&mut self, src: u16, payload: &[u8]) -> Option<(Asked, AttrRef)>
         ensures heard { IfSome result
             (λ heard. HearsGet self.old (heard_frame src payload.now) heard.0 heard.1 self.new) }
         ensures none { IfNone result (self.new ≡ self.old) }
@@ -99,6 +101,30 @@ impl State {
             form: ReplyForm::Get(get.id),
         };
         Some((asked, get.attr))
+    }
+
+    // Handles a frame for the server that is a short command from the client of the association.
+    // Returns the association and the command. For any other frame returns `None` and changes
+    // nothing.
+    #[inline(always)]
+    pub(crate) fn receive_command(
+        &mut self,
+        src: u16,
+        payload: &[u8],
+    ) -> Option<(Link, ShortCommand)>
+        ensures heard { IfSome result
+            (λ heard. HearsCommand self.old (heard_frame src payload.now) heard.0 heard.1
+            self.new) }
+        ensures none { IfNone result (self.new ≡ self.old) }
+    {
+        let link = self.link?;
+        if src != link.source {
+            return None;
+        }
+        let command = read_short_command(link.conformance, payload)?;
+        self.incoming = None;
+        self.outgoing = None;
+        Some((link, command))
     }
 
     // Handles an AARQ: it ends the association, and opens another if it is accepted.

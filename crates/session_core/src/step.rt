@@ -26,7 +26,7 @@ impl From<Added> for TurnStep {
 
     fn from(added: Added) -> TurnStep {
         match added {
-            Added::GoesOn(due) | Added::Refused(due) => TurnStep::Say(due),
+            Added::Continues(due) | Added::Refused(due) => TurnStep::Say(due),
             Added::Whole(joined) => TurnStep::Join(joined),
         }
     }

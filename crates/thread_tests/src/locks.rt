@@ -1,12 +1,11 @@
 //! What no contract states: that calls succeed, and what threads see of one another's calls.
 ghost use Rattle.std.specs.Prelude.{◌≡◌, ◌<◌, ◌≤◌, IfOk, IfSome};
 ghost use Rattle.turn_lock.specs.History.{entry};
-ghost use Rattle.turn_lock.specs.Rule.{most_turns};
+ghost use Rattle.turn_lock.specs.Rule.{max_turns};
 ghost use Rattle.turn_lock.specs.Trials.{FollowsCall};
 
 pub(crate) mod counter;
 
-use call_fault::CallFault;
 use counter::{Bump, Counter, Gate, Gated, Moody, Wish};
 use std::alloc::{AllocError, Global};
 use std::sync::{Arc, Wait};
@@ -14,7 +13,7 @@ use std::test::Fail;
 use std::thread;
 use std::thread::{Threads, join};
 use std::time::{Clock, Duration, Instant};
-use turn_lock::{Busy, Port, Shared, Turned};
+use turn_lock::{Busy, CallFault, Port, Shared, Turned};
 
 // The result of a call on a test's value.
 type Answer = Result<u64, CallFault>;
@@ -24,7 +23,7 @@ pub(crate) fn start(
     alloc: Global,
     bound: u64,
 ) -> Result<(Shared<Counter>, Port<Counter>), AllocError>
-    requires { (0 < bound) × (bound ≤ most_turns) }
+    requires { (0 < bound) × (bound ≤ max_turns) }
     ensures { IfOk result (λ r. r.1.lock ≡ r.0) }
 {
     Shared::new(alloc, Counter::new(), bound).map_err(|_| AllocError)
@@ -225,7 +224,7 @@ fn close_while_busy<R: Threads + Wait + Sync>(
 ) -> (bool, Port<Gated>, Option<Refusal>)
     requires { (caller.lock ≡ shared) × (closer.lock ≡ shared) }
     ensures lock { result.1.lock ≡ shared }
-    ensures back { IfSome result.2 (λ r. (r.1 ≡ shared) × (r.2.lock ≡ shared)) }
+    ensures returned { IfSome result.2 (λ r. (r.1 ≡ shared) × (r.2.lock ≡ shared)) }
 {
     let ((called, caller), refusal) = join(
         rt,

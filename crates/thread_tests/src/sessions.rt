@@ -4,7 +4,7 @@ mod guests;
 
 use crate::locks::{close, start};
 use guests::{Closed, Door, Hall, NONE_CLOSED};
-use session_threads::{Accepted, serve_connections};
+use port_threads::{Accepted, serve_connections};
 use std::alloc::{AllocError, Global};
 use std::sync::{Arc, Wait};
 use std::test::Fail;

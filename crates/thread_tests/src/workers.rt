@@ -4,13 +4,12 @@ ghost use Rattle.turn_lock.specs.Shown.{IsSame};
 
 use crate::locks::counter::{Bump, Counter};
 use crate::locks::{close, start};
-use call_fault::CallFault;
-use session_threads::{Worker, join_worker, start_worker};
+use port_threads::{Worker, join_worker, start_worker};
 use std::alloc::Global;
 use std::sync::Wait;
 use std::test::Fail;
 use std::thread::Threads;
-use turn_lock::Port;
+use turn_lock::{CallFault, Port};
 
 /// A worker that makes this number of calls.
 #[derive(Drop)]

@@ -1,15 +1,11 @@
 -- Items of a line, each after a blank, written one after the other.
 use Rattle.std.proofs.Common.{◌≡◌, ℕ, suc, ◌+◌, ◌<◌, ◌≤◌, List, [], ◌∷◌, ◌++◌, length, drop, get_or, sym, ap, ◌∙◌, append_assoc, append-nil, add-one, arith, drop-cons, decimal}
-use Rattle.trace_words.specs.Writing.{words_after_blanks}
-use Rattle.trace_lines.specs.Writing.{pairs_words, selection_words}
+use Rattle.trace_words.specs.Writing.{words_after_blanks, all_words}
+use Rattle.trace_lines.specs.Parts.{pairs_words}
 use Rattle.trace_lines.specs.Replies.{result_words}
-use Rattle.cosem_names.specs.declared.service.AttributeSelection.{AttributeSelection}
 use Rattle.cosem_names.specs.declared.service.GetResult.{GetResult}
 use Rattle.cosem_names.specs.declared.service.GetResult.TheVariants as result
 use Rattle.trace_words.proofs.Blanks.{Stands, blanked-append, behind_all}
-
-pub selection_stands : Stands AttributeSelection selection_words
-selection_stands item words = blanked-append (selection_words item []) words
 
 pub result_stands : Stands GetResult result_words
 result_stands (result.Value value) words = blanked-append
@@ -25,7 +21,7 @@ pub pair_more : (xs ys : List ℕ) (i : ℕ) (out middle new total : List ℕ) �
     ≡ length ys
     → middle ≡ out ++ 32 ∷ decimal (get_or xs i 0) → new ≡ middle ++ 32 ∷ decimal (get_or ys i 0)
     → LeftPairs xs ys i out total → LeftPairs xs ys (i + 1) new total
-unfolding pairs_words
+unfolding all_words
 pair_more xs ys i out middle new total lt even first second left =
     let ly : i < length ys = omega arith in
     let rest = words_after_blanks (pairs_words (drop (suc i) xs) (drop (suc i) ys)) in
@@ -44,7 +40,7 @@ pair_more xs ys i out middle new total lt even first second left =
 
 pub all_pairs_written : (xs ys : List ℕ) (i : ℕ) (out total : List ℕ) → length xs ≤ i
     → length ys ≤ i → LeftPairs xs ys i out total → out ≡ total
-unfolding pairs_words
+unfolding all_words
 all_pairs_written xs ys i out total lx ly left =
     sym (append-nil out)
     ∙ ap (λ (zs : List ℕ). out ++ words_after_blanks (pairs_words zs [])) (sym (behind_all xs i lx))

@@ -1,7 +1,5 @@
 pub mod EventLaws
-pub mod EventRows
-pub mod EventsBack
 pub mod ItemsWritten
-pub mod SampleSteps
+pub mod PartLaws
 pub mod Ranges
-pub mod ShortEvents
+pub mod SampleSteps

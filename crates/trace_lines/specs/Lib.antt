@@ -1,6 +1,6 @@
 pub mod Events
+pub mod Parts
 pub mod Reading
 pub mod Replies
 pub mod Traced
-pub mod Verbs
 pub mod Writing

@@ -1,14 +1,14 @@
 //! Reads and writes the line that announces the number of events of a trace.
 ghost use Rattle.std.specs.Prelude.{◌≡◌, ◌≤◌, ◌++◌, ◌∷◌, [], codes, IfOk, OnOk};
-ghost use Rattle.byte_reading.specs.Outcome.{Gives};
-ghost use Rattle.trace_text.specs.Lines.{rows_text};
+ghost use Rattle.wire_bytes.specs.Outcome.{Gives};
+ghost use Rattle.text_lines.specs.Lines.{rows_text};
 ghost use Rattle.trace_words.specs.Labels.{number_row};
 ghost use Rattle.trace_words.specs.Places.{ReadsLines, line_as};
 ghost use Rattle.trace_words.specs.declared.fault.RowFault.TheVariants.{Memory};
 ghost use Rattle.trace_lines.specs.Events.{events_from};
 
 use std::alloc::AllocError;
-use trace_text::Words;
+use text_lines::Words;
 use trace_words::{RowFault, TraceFault, TraceLines, number_in, read_labelled, write_number_line};
 
 /// The maximum number of events of a trace.

@@ -1,40 +1,45 @@
-//! Reads an event from the words of a line, by the kind that its first word names.
+//! Reads an event from the words of a line, by its first word.
 ghost use Rattle.std.specs.Prelude.{◌≡◌, IfOk, map};
-ghost use Rattle.byte_reading.specs.Outcome.{Gives};
-ghost use Rattle.trace_text.specs.Words.{words_of};
-ghost use Rattle.trace_lines.specs.Events.{get_from, get_list_from, set_from, execute_from, samples_from, pairs_from, moment_from, event_from, event_of};
-ghost use Rattle.trace_lines.specs.Reading.{level_in, parameter_in};
-ghost use Rattle.trace_words.specs.Reading.{next_as, number_in};
-ghost use Rattle.trace_words.specs.Rows.{Reads, if_last};
+ghost use Rattle.wire_bytes.specs.Choice.{keyed_read};
+ghost use Rattle.wire_bytes.specs.Format.{◌&◌};
+ghost use Rattle.wire_bytes.specs.Outcome.{Gives};
+ghost use Rattle.wire_bytes.specs.Reading.{read_as};
+ghost use Rattle.lane_sampler.specs.Samples.{values_alone, pairs_of};
+ghost use Rattle.relay_events.specs.declared.event.Event.TheVariants as event;
+ghost use Rattle.text_lines.specs.Words.{words_of};
+ghost use Rattle.trace_lines.specs.Events.{event_forms, later_forms, event_of, max_items};
+ghost use Rattle.trace_lines.specs.Parts.{level_part, method_part, selection_part, parameter_part, sample_part, pair_part};
+ghost use Rattle.trace_lines.specs.Reading.{parameter_in};
+ghost use Rattle.trace_words.specs.Parts.{number_part, data_part, counted_items, items_to_end, same_word};
+ghost use Rattle.trace_words.specs.Rows.{Reads};
 ghost use Rattle.trace_words.specs.declared.fault.RowFault.TheVariants.{Memory};
 
-use crate::items::{MAX_ITEMS, next_method, next_selection, selections};
+use crate::items::{next_method, next_selection, selections};
 use crate::samples::{pairs, values};
-use crate::verb::{EventWord, verb_of};
 use crate::words::level;
 use cosem_axdr::Data;
 use cosem_names::Level;
 use lane_sampler::{Block, BlockMade};
-use listed::Listed;
 use relay_events::Event;
 use std::alloc::{AllocError, Global};
-use trace_text::Words;
-use trace_words::{RowFault, Version, data_in, expect_end, last_word, next_word, number_in};
+use text_lines::Words;
+use trace_words::{RowFault, Version, data_in, expect_end, next_word, number_in};
+use wire_bytes::Listed;
 
 // Reads the next word as the port of a client.
 fn next_level(words: &mut Words) -> Result<Level, RowFault>
-    ensures { Reads (λ level. level) result words.new (next_as level_in words.old) }
+    ensures { Reads (λ level. level) result words.new (level_part.read words.old) }
 {
     level(next_word(words)?)
 }
 
-#[tactic(auto, unfolding(crate::specs::Events::get_from))]
 fn get(alloc: Global, words: &mut Words) -> Result<Event, RowFault>
-    ensures { Gives Memory (λ event. event) result (get_from words.old) }
+    ensures { Reads (λ event. event) result words.new
+        (read_as (λ p. event.Get p.0 p.1.attr p.1.selected)
+        ((level_part & selection_part).read words.old)) }
 {
     let level = next_level(words)?;
     let item = next_selection(alloc, words)?;
-    expect_end(words)?;
     Ok(Event::Get {
         level,
         attr: item.attr,
@@ -42,29 +47,27 @@ fn get(alloc: Global, words: &mut Words) -> Result<Event, RowFault>
     })
 }
 
-#[tactic(auto, unfolding(crate::specs::Events::get_list_from))]
 fn get_list(alloc: Global, words: &mut Words) -> Result<Event, RowFault>
-    ensures { Gives Memory (λ event. event) result (get_list_from words.old) }
+    ensures { Reads (λ event. event) result words.new
+        (read_as (λ p. event.GetList p.0 p.1)
+        ((level_part & counted_items max_items selection_part).read words.old)) }
 {
     let level = next_level(words)?;
-    let count = number_in(next_word(words)?, MAX_ITEMS as u32)? as usize;
     let items = selections(alloc, words)?;
-    if items.len() != count {
-        return Err(RowFault::Wrong);
-    }
     Ok(Event::GetList {
         level,
         items: Listed::from_vec(items),
     })
 }
 
-#[tactic(auto, unfolding(crate::specs::Events::set_from))]
 fn set(alloc: Global, words: &mut Words) -> Result<Event, RowFault>
-    ensures { Gives Memory (λ event. event) result (set_from words.old) }
+    ensures { Reads (λ event. event) result words.new
+        (read_as (λ p. event.Set p.0 p.1.0.attr p.1.0.selected p.1.1)
+        ((level_part & selection_part & data_part).read words.old)) }
 {
     let level = next_level(words)?;
     let item = next_selection(alloc, words)?;
-    let value = data_in(alloc, last_word(words)?)?;
+    let value = data_in(alloc, next_word(words)?)?;
     Ok(Event::Set {
         level,
         attr: item.attr,
@@ -83,13 +86,14 @@ fn parameter(alloc: Global, word: &[u8]) -> Result<Option<Data>, RowFault>
     Ok(Some(data_in(alloc, word)?))
 }
 
-#[tactic(auto, unfolding(crate::specs::Events::execute_from))]
 fn execute(alloc: Global, words: &mut Words) -> Result<Event, RowFault>
-    ensures { Gives Memory (λ event. event) result (execute_from words.old) }
+    ensures { Reads (λ event. event) result words.new
+        (read_as (λ p. event.Execute p.0 p.1.0 p.1.1)
+        ((level_part & method_part & parameter_part).read words.old)) }
 {
     let level = next_level(words)?;
     let method = next_method(alloc, words)?;
-    let parameter = parameter(alloc, last_word(words)?)?;
+    let parameter = parameter(alloc, next_word(words)?)?;
     Ok(Event::Execute {
         level,
         method,
@@ -97,9 +101,10 @@ fn execute(alloc: Global, words: &mut Words) -> Result<Event, RowFault>
     })
 }
 
-#[tactic(auto, unfolding(crate::specs::Events::samples_from))]
 fn samples(alloc: Global, words: &mut Words) -> Result<Event, RowFault>
-    ensures { Gives Memory (λ event. event) result (samples_from words.old) }
+    ensures { Reads (λ event. event) result words.new
+        (read_as (λ values. event.Samples (values_alone values))
+        ((items_to_end 256 sample_part).read words.old)) }
 {
     let values = values(alloc, words)?;
     match Block::from_slice(alloc, values.as_slice()) {
@@ -122,9 +127,11 @@ fn export_values(alloc: Global, pairs: &[(u32, u32)]) -> Result<Vec<u32>, AllocE
     pairs.iter().map(|pair| pair.1).collect(alloc)
 }
 
-#[tactic(auto, unfolding(crate::specs::Events::pairs_from))]
 fn sample_pairs(alloc: Global, words: &mut Words) -> Result<Event, RowFault>
-    ensures { Gives Memory (λ event. event) result (pairs_from words.old) }
+    ensures { Reads (λ event. event) result words.new
+        (read_as (λ pairs. event.Samples
+        (pairs_of (map (λ pair. pair.0) pairs) (map (λ pair. pair.1) pairs)))
+        ((items_to_end 256 pair_part).read words.old)) }
 {
     let pairs = pairs(alloc, words)?;
     let import = import_values(alloc, pairs.as_slice())?;
@@ -135,38 +142,61 @@ fn sample_pairs(alloc: Global, words: &mut Words) -> Result<Event, RowFault>
     }
 }
 
-#[tactic(auto, unfolding(crate::specs::Events::moment_from))]
 fn moment(words: &mut Words) -> Result<Event, RowFault>
-    ensures { Gives Memory (λ event. event) result (moment_from words.old) }
+    ensures { Reads (λ event. event) result words.new
+        (read_as event.Moment ((number_part 4294967295).read words.old)) }
 {
-    Ok(Event::Moment(number_in(last_word(words)?, u32::MAX)?))
+    Ok(Event::Moment(number_in(next_word(words)?, u32::MAX)?))
 }
 
-// Reads an event of this kind from the words after the first one.
-#[tactic(auto, unfolding(crate::specs::Events::event_from))]
+// Reads an event that version 1 does not have, by its first word.
+fn later_event(
+    alloc: Global,
+    version: Version,
+    first: &[u8],
+    words: &mut Words,
+) -> Result<Event, RowFault>
+    ensures { Reads (λ event. event) result words.new
+        (keyed_read same_word (later_forms version) first.now words.old) }
+{
+    match version {
+        Version::One => Err(RowFault::Wrong),
+        Version::Two => {
+            if first == b"pairs".as_slice() {
+                sample_pairs(alloc, words)
+            } else {
+                Err(RowFault::Wrong)
+            }
+        }
+    }
+}
+
+// Reads an event from the words after the first one.
 fn event_from(
     alloc: Global,
     version: Version,
-    verb: EventWord,
+    first: &[u8],
     words: &mut Words,
 ) -> Result<Event, RowFault>
-    ensures { Gives Memory (λ event. event) result (event_from version verb words.old) }
+    ensures { Reads (λ event. event) result words.new
+        (keyed_read same_word (event_forms (later_forms version)) first.now words.old) }
 {
-    match verb {
-        EventWord::OfGet => get(alloc, words),
-        EventWord::OfGetList => get_list(alloc, words),
-        EventWord::OfSet => set(alloc, words),
-        EventWord::OfExecute => execute(alloc, words),
-        EventWord::OfButton => {
-            expect_end(words)?;
-            Ok(Event::Button)
-        }
-        EventWord::OfSamples => samples(alloc, words),
-        EventWord::OfPairs => match version {
-            Version::One => Err(RowFault::Wrong),
-            Version::Two => sample_pairs(alloc, words),
-        },
-        EventWord::OfMoment => moment(words),
+    if first == b"get".as_slice() {
+        get(alloc, words)
+    } else if first == b"getlist".as_slice() {
+        get_list(alloc, words)
+    } else if first == b"set".as_slice() {
+        set(alloc, words)
+    } else if first == b"execute".as_slice() {
+        execute(alloc, words)
+    } else if first == b"button".as_slice() {
+        Ok(Event::Button)
+    } else if first == b"moment".as_slice() {
+        moment(words)
+    } else if first == b"samples".as_slice() {
+        samples(alloc, words)
+    } else {
+        later_event(alloc, version, first, words)
     }
 }
 
@@ -175,8 +205,15 @@ fn event_from(
 pub(crate) fn event(alloc: Global, version: Version, words: &mut Words) -> Result<Event, RowFault>
     ensures { Gives Memory (λ event. event) result (event_of version words.old) }
 {
-    let verb = verb_of(next_word(words)?)?;
-    event_from(alloc, version, verb, words)
+    let first = next_word(words)?;
+    let event = event_from(alloc, version, first, words)?;
+    match expect_end(words) {
+        Ok(()) => Ok(event),
+        Err(fault) => {
+            drop(event);
+            Err(fault)
+        }
+    }
 }
 
 /// Reads the event of a line, which is passed without the byte 0A that ends it. Errors: `Wrong` if

@@ -1,8 +1,8 @@
 //! Laws of the lines of events. Each function is a law: its contract states it, and a call makes it
 //! known to the prover.
 ghost use Rattle.std.specs.Prelude.{◌≡◌, ℕ, ◌≤◌, suc, List, ◌∷◌, codes, IsTrue, Ok};
-ghost use Rattle.trace_text.specs.Lines.{is_row};
-ghost use Rattle.trace_text.specs.Words.{words_of, line_of};
+ghost use Rattle.text_lines.specs.Lines.{is_row};
+ghost use Rattle.text_lines.specs.Words.{words_of, line_of};
 ghost use Rattle.relay_events.specs.declared.event.Event.{Event};
 ghost use Rattle.trace_lines.specs.Events.{event_of, events_from};
 ghost use Rattle.trace_words.specs.Labels.{number_row};
@@ -15,7 +15,7 @@ ghost use Rattle.trace_words.specs.declared.version.Version.TheVariants.{Two};
 
 /// Proves that an event that is written is read back, from its words and from its line. Its words
 /// are words that a line can hold.
-#[tactic(auto, using(crate::proofs::EventLaws::event_again, crate::proofs::EventRows::line_again, crate::proofs::EventRows::event_is_row))]
+#[tactic(auto, using(crate::proofs::EventLaws::event_again, crate::proofs::EventLaws::event_line_again, crate::proofs::EventLaws::event_is_row))]
 pub fn written_event_is_read()
     ensures read_back { (event : Event) → IsTraced event → event_of Two (event_row event)
         ≡ Ok event }
@@ -26,7 +26,7 @@ pub fn written_event_is_read()
 
 /// Proves that an event that is read from a line, of either version, is written as that line. Each
 /// event therefore has exactly one line, in one spelling.
-#[tactic(auto, using(crate::proofs::EventsBack::event_back, crate::proofs::EventsBack::event_line_back))]
+#[tactic(auto, using(crate::proofs::EventLaws::event_back, crate::proofs::EventLaws::event_line_back))]
 pub fn read_event_is_written()
     ensures row { (version : Version) (row : Row) (event : Event) → event_of version row ≡ Ok event
         → event_row event ≡ row }
@@ -35,7 +35,7 @@ pub fn read_event_is_written()
 {}
 
 /// Proves that the line that a number of events is read from is the line that is written for it.
-#[tactic(auto, using(crate::proofs::EventsBack::event_count_back))]
+#[tactic(auto, using(crate::proofs::EventLaws::event_count_back))]
 pub fn read_event_count_is_written()
     ensures { (row : Row) (count : ℕ) → events_from row ≡ Ok count
         → number_row (codes "events") count ≡ row }
@@ -43,7 +43,7 @@ pub fn read_event_count_is_written()
 
 /// Proves that a number of events is read back from the line that is written for it, which is a
 /// line of words.
-#[tactic(auto, using(crate::proofs::EventLaws::event_count_again, crate::proofs::EventRows::event_count_is_row))]
+#[tactic(auto, using(crate::proofs::EventLaws::event_count_again, crate::proofs::EventLaws::event_count_is_row))]
 pub fn written_event_count_is_read()
     ensures read_back { (count number : ℕ) (rows : List Row) (unended : List ℕ) → count ≤ 65536
         → line_as events_from

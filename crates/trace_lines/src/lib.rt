@@ -22,7 +22,6 @@ mod laws;
 mod limits;
 mod reply_lines;
 mod samples;
-mod verb;
 mod words;
 mod writing;
 

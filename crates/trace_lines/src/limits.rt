@@ -1,7 +1,11 @@
 //! Which events fit a line. Each event that does is read back. These functions only look at an
 //! event, and do not allocate.
-ghost use Rattle.std.specs.Prelude.{◌≡◌, ◌↔◌, ◌≤◌, IfSome, IsTrue, length};
-ghost use Rattle.trace_lines.specs.Traced.{AreExports, AreNamed, AreSamples, FitsLine, IsNamed, IsTraced};
+ghost use Rattle.std.specs.Prelude.{◌↔◌, IfSome, IsTrue, ◌≡◌, ◌≤◌, length};
+ghost use Rattle.hex.specs.Hex.{IsBytes};
+ghost use Rattle.relay_events.specs.declared.event.Event.TheVariants as event;
+ghost use Rattle.trace_lines.specs.Parts.{attribute_part, method_part, selection_part, sample_part};
+ghost use Rattle.trace_lines.specs.Traced.{FitsLine, IsTraced};
+ghost use Rattle.trace_words.specs.Parts.{Each};
 ghost use Rattle.trace_words.specs.Writing.{IsHeld};
 
 use crate::items::MAX_ITEMS;
@@ -40,6 +44,7 @@ fn is_parameter_held(parameter: &Option<Data>) -> bool
 
 /// Makes known that the numbers of an event are in the ranges of their types, so an event that fits
 /// a line is read back from it.
+#[tactic(auto, unfolding(crate::specs::Traced::IsTraced))]
 pub fn event_is_traced(event: &Event)
     ensures { FitsLine event.now → IsTraced event.now }
 {
@@ -57,24 +62,24 @@ pub fn event_is_traced(event: &Event)
 // Makes known, by a read, that a borrowed number is in the range of its type.
 fn look_at(_number: u32) {}
 
-fn is_named(_class: u16, _name: [u8; 6], _number: u8)
-    ensures { IsNamed _class _name _number }
-{}
-
 fn attribute_is_named(attr: &AttrRef)
-    ensures { IsNamed attr.now.class.0 attr.now.name.0 attr.now.number }
+    ensures { attribute_part.Fits attr.now }
 {
     is_named(attr.class.0, attr.name.0, attr.number);
 }
 
 fn method_is_named(method: &MethodRef)
-    ensures { IsNamed method.now.class.0 method.now.name.0 method.now.number }
+    ensures { method_part.Fits method.now }
 {
     is_named(method.class.0, method.name.0, method.number);
 }
 
+fn is_named(_class: u16, _name: [u8; 6], _number: u8)
+    ensures { (_class ≤ 65535) × ((length _name ≡ 6) × IsBytes _name) × (_number ≤ 255) }
+{}
+
 fn attributes_are_named(items: &[AttributeSelection])
-    ensures { AreNamed items.now }
+    ensures { Each selection_part.Fits items.now }
 {
     'items: for item in items {
         attribute_is_named(&item.attr);
@@ -83,12 +88,12 @@ fn attributes_are_named(items: &[AttributeSelection])
 
 #[tactic(auto, using(crate::proofs::Ranges::samples_in_range))]
 fn are_samples(_values: &[u32])
-    ensures { AreSamples _values.now }
+    ensures { Each sample_part.Fits _values.now }
 {}
 
+#[tactic(auto, unfolding(crate::specs::Traced::IsTraced), using(crate::proofs::Ranges::pairs_fit))]
 fn block_is_traced(block: &Block)
-    ensures { (length block.now.import ≤ 256) × AreSamples block.now.import
-        × AreExports block.now.import block.now.export }
+    ensures { IsTraced (event.Samples block.now) }
 {
     are_samples(block.values());
     match block.export() {

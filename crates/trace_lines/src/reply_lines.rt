@@ -11,7 +11,7 @@ use cosem_names::{GetResult, ResultCode};
 use disconnect_control::ControlState;
 use relay_events::{Line, Reply};
 use std::alloc::{AllocError, Global};
-use trace_text::{add_number, add_word, write_number};
+use text_lines::{add_number, add_word, write_number};
 use trace_words::add_data;
 
 // Appends a word and a number.

@@ -1,15 +1,14 @@
 //! Reads power samples and pairs of samples from the words of a line, at most 256.
-ghost use Rattle.std.specs.Prelude.{◌≡◌};
-ghost use Rattle.byte_reading.specs.Outcome.{Gives};
+ghost use Rattle.std.specs.Prelude.{◌≡◌, ◌∷◌};
 ghost use Rattle.lane_sampler.specs.declared.samples.TheConstants.{MAX_VALUES};
-ghost use Rattle.trace_words.specs.Rows.{Reads, all_at};
+ghost use Rattle.trace_words.specs.Parts.{items_to_end};
+ghost use Rattle.trace_words.specs.Rows.{Reads};
 ghost use Rattle.trace_words.specs.Reading.{value_in};
-ghost use Rattle.trace_lines.specs.Reading.{value_from, pair_from};
-ghost use Rattle.trace_words.specs.declared.fault.RowFault.TheVariants.{Memory};
+ghost use Rattle.trace_lines.specs.Parts.{sample_part, pair_part};
 
 use lane_sampler::MAX_VALUES;
 use std::alloc::Global;
-use trace_text::Words;
+use text_lines::Words;
 use trace_words::{RowFault, next_word, number_in};
 
 // Reads a sample, in watts.
@@ -21,7 +20,7 @@ fn value(word: &[u8]) -> Result<u32, RowFault>
 
 // Reads a pair of samples: the import value (the word given), then the export value.
 fn pair_from(word: &[u8], words: &mut Words) -> Result<(u32, u32), RowFault>
-    ensures { Reads (λ pair. pair) result words.new (pair_from word.now words.old) }
+    ensures { Reads (λ pair. pair) result words.new (pair_part.read (word.now ∷ words.old)) }
 {
     let import = value(word)?;
     let export = value(next_word(words)?)?;
@@ -30,8 +29,8 @@ fn pair_from(word: &[u8], words: &mut Words) -> Result<(u32, u32), RowFault>
 
 // Reads samples up to the end of the line, at most 256.
 pub(crate) fn values(alloc: Global, words: &mut Words) -> Result<Vec<u32>, RowFault>
-    ensures { Gives Memory (λ values. values.items) result
-        (all_at value_from MAX_VALUES words.old) }
+    ensures { Reads (λ values. values.items) result words.new
+        ((items_to_end MAX_VALUES sample_part).read words.old) }
 {
     let mut values = Vec::with_capacity(alloc, MAX_VALUES)?;
     'items: while let Some(word) = words.next() {
@@ -45,7 +44,8 @@ pub(crate) fn values(alloc: Global, words: &mut Words) -> Result<Vec<u32>, RowFa
 
 // Reads pairs of samples up to the end of the line, at most 256.
 pub(crate) fn pairs(alloc: Global, words: &mut Words) -> Result<Vec<(u32, u32)>, RowFault>
-    ensures { Gives Memory (λ pairs. pairs.items) result (all_at pair_from MAX_VALUES words.old) }
+    ensures { Reads (λ pairs. pairs.items) result words.new
+        ((items_to_end MAX_VALUES pair_part).read words.old) }
 {
     let mut pairs = Vec::new(alloc);
     'items: while let Some(word) = words.next() {

@@ -1,6 +1,6 @@
 //! Reads single words of an event's line: a client's port, a logical name, a number of one byte.
 ghost use Rattle.std.specs.Prelude.{◌≡◌};
-ghost use Rattle.byte_reading.specs.Outcome.{Gives};
+ghost use Rattle.wire_bytes.specs.Outcome.{Gives};
 ghost use Rattle.trace_words.specs.Reading.{number_in, next_as};
 ghost use Rattle.trace_words.specs.Rows.{Reads};
 ghost use Rattle.trace_words.specs.declared.fault.RowFault.TheVariants.{Memory};
@@ -8,7 +8,7 @@ ghost use Rattle.trace_lines.specs.Reading.{level_in, name_in};
 
 use cosem_names::{Level, Obis};
 use std::alloc::Global;
-use trace_text::Words;
+use text_lines::Words;
 use trace_words::{RowFault, bytes_in, next_word, number_in};
 
 // Reads the access level of a client's port: 1 for the management client, 16 for the public one.

@@ -1,18 +1,19 @@
 //! Appends the words of an event's line: ports, attributes, methods, parameters and samples.
-ghost use Rattle.std.specs.Prelude.{◌≡◌, ◌++◌, ◌∷◌, [], OnOk, decimal, length};
-ghost use Rattle.trace_words.specs.Writing.{words_after_blanks, all_words, value_words};
-ghost use Rattle.trace_lines.specs.Writing.{attribute_words, method_words, selection_words, pairs_words, level_number, parameter_word};
+ghost use Rattle.std.specs.Prelude.{◌≡◌, ◌++◌, OnOk, length};
+ghost use Rattle.trace_words.specs.Parts.{before};
+ghost use Rattle.trace_words.specs.Writing.{words_after_blanks, all_words};
+ghost use Rattle.trace_lines.specs.Parts.{level_part, attribute_part, method_part, selection_part, parameter_part, sample_part, pairs_words};
 
 use cosem_axdr::Data;
 use cosem_names::{AttrRef, AttributeSelection, Level, MethodRef};
 use std::alloc::{AllocError, Global};
-use trace_text::{add_hex, add_number, add_word};
+use text_lines::{add_hex, add_number, add_word};
 use trace_words::{add_data, add_flag};
 
 // Appends the port of a client.
 pub(crate) fn add_level(out: &mut Vec<u8>, level: Level) -> Result<(), AllocError>
     ensures { OnOk result (out.new.items ≡ out.old.items
-        ++ words_after_blanks (decimal (level_number level) ∷ [])) }
+        ++ words_after_blanks (level_part.text level)) }
 {
     add_number(
         out,
@@ -30,7 +31,7 @@ pub(crate) fn add_attribute(
     attr: &AttrRef,
 ) -> Result<(), AllocError>
     ensures { OnOk result (out.new.items ≡ out.old.items
-        ++ words_after_blanks (attribute_words attr.now [])) }
+        ++ words_after_blanks (attribute_part.text attr.now)) }
 {
     add_number(out, u64::from(attr.class.0))?;
     add_hex(alloc, out, attr.name.0.as_slice())?;
@@ -44,7 +45,7 @@ pub(crate) fn add_method(
     method: &MethodRef,
 ) -> Result<(), AllocError>
     ensures { OnOk result (out.new.items ≡ out.old.items
-        ++ words_after_blanks (method_words method.now [])) }
+        ++ words_after_blanks (method_part.text method.now)) }
 {
     add_number(out, u64::from(method.class.0))?;
     add_hex(alloc, out, method.name.0.as_slice())?;
@@ -58,7 +59,7 @@ fn add_selection(
     item: &AttributeSelection,
 ) -> Result<(), AllocError>
     ensures { OnOk result (out.new.items ≡ out.old.items
-        ++ words_after_blanks (selection_words item.now [])) }
+        ++ words_after_blanks (selection_part.text item.now)) }
 {
     add_attribute(alloc, out, &item.attr)?;
     add_flag(out, item.selected)
@@ -71,7 +72,7 @@ pub(crate) fn add_selections(
     items: &[AttributeSelection],
 ) -> Result<(), AllocError>
     ensures { OnOk result (out.new.items ≡ out.old.items
-        ++ words_after_blanks (all_words selection_words items.now)) }
+        ++ words_after_blanks (all_words (before selection_part) items.now)) }
 {
     for item in items {
         add_selection(alloc, out, item)?;
@@ -86,7 +87,7 @@ pub(crate) fn add_parameter(
     parameter: &Option<Data>,
 ) -> Result<(), AllocError>
     ensures { OnOk result (out.new.items ≡ out.old.items
-        ++ words_after_blanks (parameter_word parameter.now ∷ [])) }
+        ++ words_after_blanks (parameter_part.text parameter.now)) }
 {
     match parameter {
         Some(value) => add_data(alloc, out, value),
@@ -97,7 +98,7 @@ pub(crate) fn add_parameter(
 // Appends samples.
 pub(crate) fn add_values(out: &mut Vec<u8>, values: &[u32]) -> Result<(), AllocError>
     ensures { OnOk result (out.new.items ≡ out.old.items
-        ++ words_after_blanks (all_words value_words values.now)) }
+        ++ words_after_blanks (all_words (before sample_part) values.now)) }
 {
     for value in values {
         add_number(out, u64::from(*value))?;

@@ -1,3 +1,4 @@
+pub mod LimiterLines
 pub mod LimitersBack
 pub mod OpeningBack
 pub mod OpeningDates

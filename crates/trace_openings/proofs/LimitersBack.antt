@@ -1,15 +1,16 @@
 -- The lines that a limiter is read from are the lines that are written for it.
 use Rattle.std.proofs.Common.{◌≡◌, refl, ℕ, [], ◌∷◌, Ok, subst, codes}
 use Rattle.limiter_core.specs.declared.settings.Settings.{Settings}
-use Rattle.byte_reading.proofs.OutcomeLemmas.{bind_ok}
+use Rattle.wire_bytes.proofs.OutcomeLemmas.{bind_ok}
 use Rattle.cosem_names.specs.declared.objects.Which.{Which}
 use Rattle.cosem_names.specs.declared.objects.Which.TheVariants.{Export}
 use Rattle.relay_core.specs.declared.opening.LimiterOpening.{LimiterOpening}
-use Rattle.trace_openings.proofs.OpeningFieldsBack.{profile_back, groups_back, actions_row, actions_back, over_back, under_back, value_back}
+use Rattle.trace_openings.proofs.LimiterLines.{profile_line, groups_line, actions_line, over_line, under_line}
+use Rattle.trace_openings.proofs.OpeningFieldsBack.{value_back}
 use Rattle.trace_openings.specs.OpeningFields.{label, profile_from, groups_from, actions_from, over_from, under_from}
 use Rattle.trace_words.specs.Labels.{number_row}
 use Rattle.trace_openings.specs.OpeningReading.{value_line, settings_from, limiter_from, export_from}
-use Rattle.trace_openings.specs.OpeningRows.{count_row, profile_row, groups_row, value_row, settings_rows, limiter_rows}
+use Rattle.trace_openings.specs.OpeningRows.{actions_row, count_row, profile_row, groups_row, value_row, settings_rows, limiter_rows}
 use Rattle.trace_words.specs.Places.{Place, line_as}
 use Rattle.trace_words.specs.declared.version.Version.TheVariants.{Two}
 use Rattle.trace_words.proofs.PlacesBack.{carried, Took, then, line_back}
@@ -47,11 +48,11 @@ settings_back which place settings behind e =
     (then _ _ over.0.1 under.0.1 actions.0.1 (value_back which (codes "minunder") over.0.1 under.0.0
     under.0.1 under.1)
     (then _ _ under.0.1 profile.0.1 actions.0.1
-    (line_back _ (profile_from which) (profile_row which) (profile_back which) under.0.1
+    (line_back _ (profile_from which) (profile_row which) (profile_line which).back under.0.1
     profile.0.0 profile.0.1 profile.1)
     (then _ _ profile.0.1 groups.0.1 actions.0.1 (line_back _ (groups_from which) (groups_row which)
-    (groups_back which) profile.0.1 groups.0.0 groups.0.1 groups.1)
-    (line_back _ (actions_from which) (actions_row which) (actions_back which) groups.0.1
+    (groups_line which).back profile.0.1 groups.0.0 groups.0.1 groups.1)
+    (line_back _ (actions_from which) (actions_row which) (actions_line which).back groups.0.1
     actions.0.0 actions.0.1 actions.1)))))))
 
 -- the lines after that of the last sample
@@ -75,9 +76,9 @@ limiter_back which last place o behind e =
           (settings_back which place settings.0.0 settings.0.1 settings.1)
           (then _ _ settings.0.1 over.0.1 under.0.1
           (line_back _ (over_from which last) (count_row (label which (codes "over")))
-          (over_back which last) settings.0.1 over.0.0 over.0.1 over.1)
+          (over_line which last).back settings.0.1 over.0.0 over.0.1 over.1)
           (line_back _ (under_from which last over.0.0) (count_row (label which (codes "under")))
-          (under_back which last over.0.0) over.0.1 under.0.0 under.0.1 under.1)),
+          (under_line which last over.0.0).back over.0.1 under.0.0 under.0.1 under.1)),
       refl,
     )
 

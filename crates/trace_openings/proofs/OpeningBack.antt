@@ -2,7 +2,7 @@
 -- Datas in them.
 use Rattle.std.proofs.Common.{◌≡◌, ℕ, ◌+◌, List, [], ◌∷◌, ◌++◌, Ok, refl, sym, ap, subst, ◌∙◌, codes}
 use Rattle.hex.specs.Hex.{encode_upper}
-use Rattle.byte_reading.proofs.OutcomeLemmas.{ok_is, bind_ok}
+use Rattle.wire_bytes.proofs.OutcomeLemmas.{ok_is, bind_ok}
 use Rattle.action_schedule.specs.Reading.{entries_of}
 use Rattle.action_schedule.specs.Schedule.{Schedule}
 use Rattle.cosem_axdr.specs.declared.value.Data.{Data}

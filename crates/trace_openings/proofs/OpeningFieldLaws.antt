@@ -1,9 +1,9 @@
 -- Each line of an opening that is written is read back.
-use Rattle.std.proofs.Common.{◌≡◌, ℕ, zero, suc, ◌≤◌, true, false, nat_eq, nat_le, ◌==◌, List, [], ◌∷◌, length, Option, Some, None, Ok, refl, arith, decimal, codes, eq-eqb}
+use Rattle.std.proofs.Common.{◌≡◌, ℕ, ◌≤◌, true, false, nat_eq, nat_le, ◌==◌, List, [], ◌∷◌, length, Option, Some, None, Ok, refl, arith, decimal, codes, eq-eqb}
 use Rattle.std.proofs.lemmas.Bool.Decides.{nat_tests}
 use Rattle.std.specs.List.{All}
 use Rattle.std.specs.Cmp.Lexicographic.{pointwise}
-use Rattle.std.specs.Prelude.{IfSome, ◌↔◌, IsTrue}
+use Rattle.std.specs.Prelude.{IfSome}
 use Rattle.hex.specs.Hex.{encode_upper, IsBytes}
 use Rattle.action_schedule.proofs.Again.{entries_written}
 use Rattle.action_schedule.specs.Kinds.{number_of, type_of_number}
@@ -12,10 +12,7 @@ use Rattle.action_schedule.specs.Schedule.{Schedule, AreEntries}
 use Rattle.action_schedule.specs.Writing.{entries_data}
 use Rattle.action_schedule.specs.declared.kind.ScheduleType.{ScheduleType}
 use Rattle.action_schedule.specs.declared.kind.ScheduleType.TheVariants.{Type1, Type2, Type3, Type4, Type5}
-use Rattle.cosem_datetime.proofs.Spelled.{date_time_again}
-use Rattle.cosem_datetime.specs.Fields.{DateTimeFields, IsDateTimeFields, date_time_bytes}
 use Rattle.cosem_datetime.specs.declared.entry.EntryPattern.{EntryPattern}
-use Rattle.cosem_names.specs.declared.objects.Which.{Which}
 use Rattle.disconnect_control.proofs.ModeLemmas.{mode_found}
 use Rattle.disconnect_control.specs.Control.{is_mode_fit}
 use Rattle.disconnect_control.specs.Transitions.{mode_number, state_number}
@@ -23,27 +20,21 @@ use Rattle.disconnect_control.specs.declared.state.ControlMode.{ControlMode}
 use Rattle.disconnect_control.specs.declared.state.ControlMode.TheVariants.{Mode0, Mode1, Mode2, Mode3, Mode4, Mode5, Mode6}
 use Rattle.disconnect_control.specs.declared.state.ControlState.{ControlState}
 use Rattle.disconnect_control.specs.declared.state.ControlState.TheVariants.{Disconnected, Connected, ReadyForReconnection}
-use Rattle.limiter_core.specs.Counting.{cap, no_run}
-use Rattle.limiter_core.specs.State.{IsFit, are_fit}
-use Rattle.limiter_core.specs.declared.count.Count.{Count}
-use Rattle.limiter_core.specs.declared.settings.Actions.{Actions}
-use Rattle.limiter_core.specs.declared.settings.Profile.{Profile}
 use Rattle.script_steps.proofs.Again.{table_again}
 use Rattle.script_steps.specs.Table.{IsTable}
 use Rattle.script_steps.specs.Writing.{data_of}
 use Rattle.script_steps.specs.declared.step.Script.{Script}
-use Rattle.trace_text.proofs.NumbersLemmas.{is_decimal-decimal}
-use Rattle.trace_text.specs.Numbers.{is_decimal}
-use Rattle.trace_words.proofs.WordLaws.{number_word_again, flag_again, bytes_word_again, data_word_again, behind_again, labelled_again}
-use Rattle.trace_openings.proofs.OpeningDates.{date_time_is_bytes, date_time_has_bytes}
+use Rattle.text_lines.proofs.NumbersLemmas.{is_decimal-decimal}
+use Rattle.text_lines.specs.Numbers.{is_decimal}
+use Rattle.trace_words.proofs.WordLaws.{number_word_again, bytes_word_again, data_word_again, behind_again, labelled_again}
 use Rattle.trace_openings.proofs.OpeningTables.{mode_small, entries_are_held, scripts_are_held}
 use Rattle.trace_words.specs.Labels.{labelled_value, number_row}
-use Rattle.trace_openings.specs.OpeningFields.{label, version_from, device_in, state_in, mode_in, moment_in, start_in, table_in, entries_in, type_in, id_from, profile_from, groups_from, actions_from, count_from, over_from, under_from, schedule_from}
-use Rattle.trace_openings.specs.OpeningRows.{moment_word, count_row, profile_row, groups_row, schedule_row}
-use Rattle.trace_openings.specs.OpeningTraced.{AreIds, IsTracedSchedule, IsTracedScript}
+use Rattle.trace_openings.specs.OpeningFields.{version_from, device_in, state_in, mode_in, moment_in, table_in, entries_in, type_in, schedule_from}
+use Rattle.trace_openings.specs.OpeningRows.{moment_word, schedule_row}
+use Rattle.trace_openings.specs.OpeningTraced.{IsTracedSchedule, IsTracedScript}
 use Rattle.trace_words.specs.Reading.{value_in}
-use Rattle.trace_words.specs.Rows.{Word, all_at}
-use Rattle.trace_words.specs.Writing.{IsHeld, all_words, value_words, data_word, flag_number}
+use Rattle.trace_words.specs.Rows.{Word}
+use Rattle.trace_words.specs.Writing.{IsHeld, data_word}
 use Rattle.trace_words.specs.declared.version.Version.TheVariants.{Two}
 
 -- ---- words
@@ -141,16 +132,7 @@ entries_word_again entries fits held =
     let found = entries_again entries fits in
     rw (read, found) refl
 
--- ---- lines of several words
-
-start_again : (p : DateTimeFields) → IsDateTimeFields p
-    → start_in (encode_upper (date_time_bytes p)) ≡ Ok p
-unfolding start_in
-start_again p fits =
-    let read = bytes_word_again (date_time_bytes p) (date_time_has_bytes p)
-    (date_time_is_bytes p fits) in
-    let found = date_time_again p fits in
-    rw (read, found) refl
+-- ---- lines of one value
 
 pub version_again : version_from (number_row (codes "RELAYTRACE") 2) ≡ Ok Two
 version_again =
@@ -192,92 +174,6 @@ pub table_line_again : (scripts : List Script) → IsTable scripts → All IsTra
     ≡ Ok scripts
 table_line_again scripts fits traced = labelled_again (codes "scripts")
     table_in (data_word (data_of scripts)) scripts (table_word_again scripts fits traced)
-
-pub profile_again : (which : Which) (profile : Profile) → profile.id ≤ 65535
-    → IsDateTimeFields profile.start → profile.duration ≤ 4294967295
-    → profile_from which (profile_row which profile) ≡ Ok profile
-unfolding profile_from
-profile_again which profile id_fits start_fits duration_fits =
-    let first = behind_again (label which (codes "profile")) (decimal profile.id
-    ∷ encode_upper (date_time_bytes profile.start) ∷ decimal profile.duration ∷ []) in
-    let id = number_word_again 65535 profile.id id_fits (omega arith) in
-    let start = start_again profile.start start_fits in
-    let duration = number_word_again 4294967295 profile.duration duration_fits (omega arith) in
-    rw (first, id, start, duration) refl
-
-ids_again : (ids : List ℕ) (room : ℕ) → length ids ≤ room → AreIds ids
-    → all_at id_from room (all_words value_words ids) ≡ Ok ids
-unfolding all_at all_words
-ids_again [] zero le are = refl
-ids_again [] (suc room) le are = refl
-ids_again (id ∷ ids) zero le are = absurd (omega arith)
-ids_again (id ∷ ids) (suc room) le are =
-    let first = number_word_again 65535 id are.0 (omega arith) in
-    let others = ids_again ids room (omega arith) are.1 in
-    rw (first, others) refl
-
-pub groups_again : (which : Which) (groups : List ℕ) → length groups ≤ 32 → AreIds groups
-    → groups_from which (groups_row which groups) ≡ Ok groups
-unfolding groups_from
-groups_again which groups few are =
-    let first = behind_again (label which (codes "groups")) (all_words value_words groups) in
-    let ids = ids_again groups 32 few are in
-    rw (first, ids) refl
-
-pub actions_again : (which : Which) (actions : Actions) → actions.over ≤ 65535
-    → actions.under ≤ 65535
-    → actions_from which (label which (codes "actions") ∷ decimal actions.over
-    ∷ decimal actions.under ∷ []) ≡ Ok actions
-unfolding actions_from
-actions_again which actions over_fits under_fits =
-    let first = behind_again (label which (codes "actions")) (decimal actions.over
-    ∷ decimal actions.under ∷ []) in
-    let over = number_word_again 65535 actions.over over_fits (omega arith) in
-    let under = number_word_again 65535 actions.under under_fits (omega arith) in
-    rw (first, over, under) refl
-
-count_again : (name : Word) (count : Count) → count.run ≤ cap
-    → count_from name (count_row name count) ≡ Ok count
-unfolding count_from
-count_again name count within =
-    let first = behind_again name (decimal count.run ∷ decimal (flag_number count.fired) ∷ []) in
-    let run = number_word_again cap count.run within (omega arith) in
-    let fired = flag_again count.fired in
-    rw (first, run, fired) refl
-
--- runs pass the test exactly if samples can give them
-abbrev pub FitRunsMean : Type 0
-FitRunsMean = (last : ℕ) (over under : Count) → IsTrue (are_fit last over under)
-    ↔ IsFit last over under
-
--- the run over the threshold fits the last value even without the run under it
-over_fits : (last : ℕ) (over under : Count) → IsFit last over under → IsFit last over no_run
-over_fits last over under fits = record {
-  over_fits = fits.over_fits;
-  under_fits = record { within = omega arith; none = λ z. refl; full = λ f. absurd (omega arith) };
-  one = λ some. refl;
-  above = fits.above;
-  below = λ some. absurd (omega arith);
-}
-
-pub over_again : FitRunsMean → (which : Which) (last : ℕ) (over under : Count)
-    → IsFit last over under → over_from which last (count_row (label which (codes "over")) over) ≡
-    Ok over
-unfolding over_from
-over_again mean which last over under fits =
-    let read = count_again (label which (codes "over")) over fits.over_fits.within in
-    let fit : are_fit last over no_run ≡ true =
-    (mean last over no_run).1 (over_fits last over under fits) in
-    rw (read, fit) refl
-
-pub under_again : FitRunsMean → (which : Which) (last : ℕ) (over under : Count)
-    → IsFit last over under
-    → under_from which last over (count_row (label which (codes "under")) under) ≡ Ok under
-unfolding under_from
-under_again mean which last over under fits =
-    let read = count_again (label which (codes "under")) under fits.under_fits.within in
-    let fit : are_fit last over under ≡ true = (mean last over under).1 fits in
-    rw (read, fit) refl
 
 pub schedule_again : (number : ℕ) (schedule : Schedule) → number ≤ 3 → IsTracedSchedule schedule
     → schedule_from number (schedule_row number schedule) ≡ Ok schedule

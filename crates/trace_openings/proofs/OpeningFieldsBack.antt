@@ -1,35 +1,29 @@
 -- Each line of an opening that is read is written back as that line, except for a Data in it.
-use Rattle.std.proofs.Common.{◌≡◌, ℕ, Bool, ◌==◌, List, [], ◌∷◌, Option, Ok, ap, subst, ◌∙◌, arith, decimal, codes}
+use Rattle.std.proofs.Common.{◌≡◌, ℕ, ◌==◌, List, [], ◌∷◌, Option, Ok, ap, subst, ◌∙◌, arith, decimal, codes}
 use Rattle.std.proofs.lemmas.Bool.{eqb-true}
-use Rattle.byte_reading.proofs.OutcomeLemmas.{ok_is, bind_ok, guard_ok}
+use Rattle.wire_bytes.proofs.OutcomeLemmas.{ok_is, bind_ok, guard_ok}
 use Rattle.hex.specs.Hex.{encode_upper}
 use Rattle.action_schedule.specs.Kinds.{number_of}
 use Rattle.action_schedule.specs.Reading.{entries_of}
 use Rattle.action_schedule.specs.Schedule.{Schedule}
 use Rattle.action_schedule.specs.declared.kind.ScheduleType.{ScheduleType}
 use Rattle.cosem_axdr.specs.declared.value.Data.{Data}
-use Rattle.cosem_datetime.specs.Fields.{DateTimeFields, date_time_bytes}
 use Rattle.cosem_datetime.specs.declared.entry.EntryPattern.{EntryPattern}
 use Rattle.cosem_names.specs.declared.objects.Which.{Which}
 use Rattle.disconnect_control.specs.Transitions.{mode_number, state_number}
 use Rattle.disconnect_control.specs.declared.state.ControlMode.{ControlMode}
 use Rattle.disconnect_control.specs.declared.state.ControlState.{ControlState}
-use Rattle.limiter_core.specs.Counting.{cap, no_run}
-use Rattle.limiter_core.specs.State.{are_fit}
-use Rattle.limiter_core.specs.declared.count.Count.{Count}
-use Rattle.limiter_core.specs.declared.settings.Actions.{Actions}
-use Rattle.limiter_core.specs.declared.settings.Profile.{Profile}
-use Rattle.trace_words.proofs.WordsBack.{number_back, flag_back, next_back, next_number_back, last_read, last_back, last_number_back, all_back}
+use Rattle.trace_words.proofs.WordsBack.{number_back, next_back, next_number_back, last_read}
 use Rattle.trace_words.specs.Labels.{behind, labelled_value, number_row}
-use Rattle.trace_openings.specs.OpeningFields.{label, version_in, device_in, state_in, mode_in, moment_in, start_in, entries_in, type_in, id_from, version_from, profile_from, groups_from, actions_from, count_from, over_from, under_from, schedule_from}
+use Rattle.trace_openings.specs.OpeningFields.{label, version_in, device_in, state_in, mode_in, moment_in, entries_in, type_in, version_from, schedule_from}
 use Rattle.trace_openings.specs.OpeningForms.{entries_row}
-use Rattle.trace_openings.specs.OpeningRows.{moment_word, count_row, profile_row, groups_row}
-use Rattle.trace_words.specs.Reading.{number_in, flag_in, value_in, next_as, last_as}
+use Rattle.trace_openings.specs.OpeningRows.{moment_word}
+use Rattle.trace_words.specs.Reading.{number_in, value_in, next_as, last_as}
 use Rattle.trace_words.specs.Rows.{Word, Row}
-use Rattle.trace_words.specs.Writing.{value_words, data_word, flag_number}
+use Rattle.trace_words.specs.Writing.{data_word}
 use Rattle.trace_words.specs.declared.fault.RowFault.TheVariants.{Wrong}
 use Rattle.trace_words.specs.declared.version.Version.{Version}
-use Rattle.trace_openings.proofs.OpeningWordsBack.{version_number, version_word_back, device_back, state_back, mode_back, moment_back, start_back, type_back, id_back, entries_read}
+use Rattle.trace_openings.proofs.OpeningWordsBack.{version_number, version_word_back, device_back, state_back, mode_back, moment_back, type_back, entries_read}
 use Rattle.trace_words.proofs.PlacesBack.{Took, line_back}
 use Rattle.trace_words.specs.Places.{Place, line_as}
 use Rattle.trace_words.proofs.LabelsBack.{behind_back, IsRowBack, labelled_back}
@@ -64,88 +58,6 @@ moment_line_back row moment e = labelled_back (Option ℕ) (codes "now") moment_
 pub value_line_back : (name : Word) → IsRowBack ℕ (labelled_value name value_in) (number_row name)
 value_line_back name row value e = labelled_back ℕ name value_in decimal
     (number_back 4294967295 (omega arith)) row value e
-
-pub profile_back : (which : Which) → IsRowBack Profile (profile_from which) (profile_row which)
-unfolding profile_from
-profile_back which row profile e =
-    let name = label which (codes "profile") in
-    let words = bind_ok (behind name row) _ profile e in
-    let id = bind_ok (next_as (number_in 65535) words.0.1) _ profile words.2 in
-    let start = bind_ok (next_as start_in id.0.1) _ profile id.2 in
-    let duration = bind_ok (last_as value_in start.0.1) _ profile start.2 in
-    behind_back name row words.0.0 words.0.1 words.1
-    ∙ ap (λ (ws : Row). name ∷ ws) (
-    next_number_back 65535 (omega arith) words.0.1 id.0.1 id.0.0 id.1
-    ∙ ap (λ (ws : Row). decimal id.0.0 ∷ ws) (
-    next_back DateTimeFields start_in (λ s. encode_upper (date_time_bytes s)) start_back id.0.1
-    start.0.1 start.0.0 start.1
-    ∙ ap (λ (ws : Row). encode_upper (date_time_bytes start.0.0)
-    ∷ ws) (last_number_back 4294967295 (omega arith) start.0.1 duration.0 duration.1)))
-    ∙ ap (profile_row which) (ok_is (record {
-      id = id.0.0;
-      start = start.0.0;
-      duration = duration.0;
-    }) profile duration.2)
-
-pub groups_back : (which : Which) → IsRowBack (List ℕ) (groups_from which) (groups_row which)
-unfolding groups_from
-groups_back which row groups e =
-    let name = label which (codes "groups") in
-    let words = bind_ok (behind name row) _ groups e in
-    behind_back name row words.0.0 words.0.1 words.1
-    ∙ ap (λ (ws : Row). name ∷ ws) (all_back ℕ id_from value_words id_back 32 words.0.1 groups
-    words.2)
-
--- the line of a limiter's actions
-abbrev pub actions_row : Which → Actions → Row
-actions_row which actions = label which (codes "actions") ∷ decimal actions.over
-    ∷ decimal actions.under ∷ []
-
-pub actions_back : (which : Which) → IsRowBack Actions (actions_from which) (actions_row which)
-unfolding actions_from
-actions_back which row actions e =
-    let name = label which (codes "actions") in
-    let words = bind_ok (behind name row) _ actions e in
-    let over = bind_ok (next_as (number_in 65535) words.0.1) _ actions words.2 in
-    let under = bind_ok (last_as (number_in 65535) over.0.1) _ actions over.2 in
-    behind_back name row words.0.0 words.0.1 words.1
-    ∙ ap (λ (ws : Row). name ∷ ws) (
-    next_number_back 65535 (omega arith) words.0.1 over.0.1 over.0.0 over.1
-    ∙ ap (λ (ws : Row). decimal over.0.0 ∷ ws)
-    (last_number_back 65535 (omega arith) over.0.1 under.0 under.1))
-    ∙ ap (actions_row which) (ok_is (record { over = over.0.0; under = under.0 }) actions under.2)
-
-count_back : (name : Word) → IsRowBack Count (count_from name) (count_row name)
-unfolding count_from
-count_back name row count e =
-    let words = bind_ok (behind name row) _ count e in
-    let run = bind_ok (next_as (number_in cap) words.0.1) _ count words.2 in
-    let fired = bind_ok (last_as flag_in run.0.1) _ count run.2 in
-    behind_back name row words.0.0 words.0.1 words.1
-    ∙ ap (λ (ws : Row). name ∷ ws) (
-    next_number_back cap (omega arith) words.0.1 run.0.1 run.0.0 run.1
-    ∙ ap (λ (ws : Row). decimal run.0.0 ∷ ws)
-    (last_back Bool flag_in (λ flag. decimal (flag_number flag)) flag_back run.0.1
-    fired.0 fired.1))
-    ∙ ap (count_row name) (ok_is (record { run = run.0.0; fired = fired.0 }) count fired.2)
-
-pub over_back : (which : Which) (last : ℕ) → IsRowBack Count (over_from which last)
-    (count_row (label which (codes "over")))
-unfolding over_from
-over_back which last row count e =
-    let read = bind_ok (count_from (label which (codes "over")) row) _ count e in
-    let fit = guard_ok (are_fit last read.0 no_run) Wrong _ count read.2 in
-    count_back (label which (codes "over")) row read.0 read.1
-    ∙ ap (count_row (label which (codes "over"))) (ok_is read.0 count fit.1)
-
-pub under_back : (which : Which) (last : ℕ) (over : Count)
-    → IsRowBack Count (under_from which last over) (count_row (label which (codes "under")))
-unfolding under_from
-under_back which last over row count e =
-    let read = bind_ok (count_from (label which (codes "under")) row) _ count e in
-    let fit = guard_ok (are_fit last over read.0) Wrong _ count read.2 in
-    count_back (label which (codes "under")) row read.0 read.1
-    ∙ ap (count_row (label which (codes "under"))) (ok_is read.0 count fit.1)
 
 -- the words of a schedule's line, one after the other
 schedule_line : (row a b c d : Row) (found number : ℕ) (word : Word) (selector : ℕ)

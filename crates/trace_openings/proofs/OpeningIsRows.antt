@@ -7,31 +7,27 @@ use Rattle.hex.specs.Hex.{encode_upper}
 use Rattle.action_schedule.specs.Kinds.{number_of}
 use Rattle.action_schedule.specs.Schedule.{Schedule}
 use Rattle.action_schedule.specs.Writing.{entries_data}
-use Rattle.cosem_datetime.specs.Fields.{date_time_bytes}
 use Rattle.cosem_names.specs.declared.objects.Which.{Which}
 use Rattle.cosem_names.specs.declared.objects.Which.TheVariants.{Import, Export}
 use Rattle.disconnect_control.specs.Transitions.{mode_number, state_number}
 use Rattle.disconnect_control.specs.declared.state.ControlState.{ControlState}
 use Rattle.disconnect_control.specs.declared.state.ControlState.TheVariants.{Disconnected, Connected, ReadyForReconnection}
-use Rattle.limiter_core.specs.Counting.{cap}
-use Rattle.limiter_core.specs.declared.count.Count.{Count}
 use Rattle.relay_core.specs.Opening.{IsFitLimiterOpening}
 use Rattle.relay_core.specs.declared.opening.LimiterOpening.{LimiterOpening}
 use Rattle.relay_core.specs.declared.opening.Opening.{Opening}
 use Rattle.relay_core.specs.declared.schedules.Schedules.{Schedules}
 use Rattle.script_steps.specs.Writing.{data_of}
-use Rattle.trace_text.proofs.HexadecimalLemmas.{hex_is_word}
-use Rattle.trace_text.specs.Lines.{is_row}
-use Rattle.trace_text.specs.Words.{is_word}
-use Rattle.trace_words.proofs.WordLaws.{AreWords, flag_is_word, data_is_word, more, number_is_word, number_is_row}
-use Rattle.trace_openings.proofs.OpeningDates.{date_time_is_bytes, date_time_has_bytes}
+use Rattle.text_lines.proofs.HexadecimalLemmas.{hex_is_word}
+use Rattle.text_lines.specs.Lines.{is_row}
+use Rattle.trace_words.proofs.WordLaws.{data_is_word, more, number_is_word, number_is_row}
+use Rattle.trace_openings.proofs.LimiterLines.{label_is_word, profile_line, groups_line, actions_line, count_line}
 use Rattle.trace_openings.proofs.OpeningFieldLaws.{type_small}
 use Rattle.trace_openings.proofs.OpeningTables.{mode_small, entries_are_held, scripts_are_held}
 use Rattle.trace_openings.specs.OpeningFields.{label}
-use Rattle.trace_openings.specs.OpeningRows.{moment_word, count_row, profile_row, groups_row, value_row, limiter_rows, schedule_row, schedule_rows, head_rows, opening_rows}
-use Rattle.trace_openings.specs.OpeningTraced.{AreIds, IsTracedLimiter, IsTracedSchedule, IsWritable}
-use Rattle.trace_words.specs.Rows.{Word, Row}
-use Rattle.trace_words.specs.Writing.{all_words, value_words, data_word, flag_number}
+use Rattle.trace_openings.specs.OpeningRows.{moment_word, value_row, limiter_rows, schedule_row, schedule_rows, head_rows, opening_rows}
+use Rattle.trace_openings.specs.OpeningTraced.{IsTracedLimiter, IsTracedSchedule, IsWritable}
+use Rattle.trace_words.specs.Rows.{Row}
+use Rattle.trace_words.specs.Writing.{data_word}
 
 -- each of the lines consists of words that a line can hold
 abbrev AreRows : List Row → Type 0
@@ -40,12 +36,6 @@ AreRows rows = list_all is_row rows ≡ true
 -- one more line
 more_rows : (row : Row) (rows : List Row) → is_row row ≡ true → AreRows rows → AreRows (row ∷ rows)
 more_rows row rows is are = rw is are
-
-label_is_word : (which : Which) (name : Word) → is_word name ≡ true
-    → is_word (label which name) ≡ true
-label_is_word Import name is = is
-label_is_word Export [] is = refl
-label_is_word Export (b ∷ bytes) is = is
 
 state_small : (state : ControlState) → state_number state ≤ 2
 state_small Disconnected = omega arith
@@ -59,51 +49,6 @@ moment_is_row (Some m) le = more (codes "now") (decimal m ∷ []) refl
     (more (decimal m) [] (number_is_word m (omega arith)) refl)
 
 -- ---- a limiter
-
-profile_is_row : (which : Which) (o : LimiterOpening) → IsTracedLimiter o
-    → is_row (profile_row which o.settings.profile) ≡ true
-profile_is_row which o traced =
-    let id : o.settings.profile.id ≤ 42949672950 = omega (arith, traced.profile_id) in
-    let duration : o.settings.profile.duration ≤ 42949672950 =
-    omega (arith, traced.profile_duration) in
-    let start = hex_is_word (date_time_bytes o.settings.profile.start)
-    (date_time_has_bytes o.settings.profile.start)
-    (date_time_is_bytes o.settings.profile.start traced.profile_start) in
-    more (label which (codes "profile")) (decimal o.settings.profile.id
-    ∷ encode_upper (date_time_bytes o.settings.profile.start)
-    ∷ decimal o.settings.profile.duration ∷ []) (label_is_word which (codes "profile") refl)
-    (more (decimal o.settings.profile.id) (encode_upper (date_time_bytes o.settings.profile.start)
-    ∷ decimal o.settings.profile.duration ∷ []) (number_is_word o.settings.profile.id id)
-    (more (encode_upper (date_time_bytes o.settings.profile.start))
-    (decimal o.settings.profile.duration ∷ []) start
-    (more (decimal o.settings.profile.duration) []
-    (number_is_word o.settings.profile.duration duration) refl)))
-
-ids_are_words : (ids : List ℕ) → AreIds ids → AreWords (all_words value_words ids)
-unfolding all_words
-ids_are_words [] are = refl
-ids_are_words (id ∷ ids) are = more (decimal id) (all_words value_words ids)
-    (number_is_word id (omega (arith, are.0))) (ids_are_words ids are.1)
-
-groups_is_row : (which : Which) (groups : List ℕ) → AreIds groups → is_row (groups_row which groups)
-    ≡ true
-groups_is_row which groups are = more (label which (codes "groups")) (all_words value_words groups)
-    (label_is_word which (codes "groups") refl) (ids_are_words groups are)
-
-two_numbers_are_row : (name : Word) (one other : ℕ) → is_word name ≡ true → one ≤ 42949672950
-    → other ≤ 42949672950 → is_row (name ∷ decimal one ∷ decimal other ∷ []) ≡ true
-two_numbers_are_row name one other is le less =
-    more name (decimal one ∷ decimal other ∷ []) is
-    (more (decimal one) (decimal other ∷ []) (number_is_word one le)
-    (more (decimal other) [] (number_is_word other less) refl))
-
-count_is_row : (name : Word) (count : Count) → is_word name ≡ true → count.run ≤ cap
-    → is_row (count_row name count) ≡ true
-count_is_row name count is within =
-    more name (decimal count.run ∷ decimal (flag_number count.fired) ∷ []) is
-    (more (decimal count.run) (decimal (flag_number count.fired)
-    ∷ []) (number_is_word count.run within)
-    (more (decimal (flag_number count.fired)) [] (flag_is_word count.fired) refl))
 
 limiter_are_rows : (which : Which) (o : LimiterOpening) (rows : List Row) → IsFitLimiterOpening o
     → IsTracedLimiter o → AreRows rows → AreRows (limiter_rows which o ++ rows)
@@ -119,15 +64,15 @@ limiter_are_rows which o rows fit traced are =
     let minunder = number_is_row (label which (codes "minunder"))
     o.settings.min_under_threshold_duration (label_is_word which (codes "minunder") refl)
     (omega (arith, traced.min_under_threshold_duration)) in
-    let profile = profile_is_row which o traced in
-    let groups = groups_is_row which o.settings.groups traced.groups in
-    let actions = two_numbers_are_row (label which (codes "actions")) o.settings.actions.over
-    o.settings.actions.under (label_is_word which (codes "actions") refl)
-    (omega (arith, traced.over_selector)) (omega (arith, traced.under_selector)) in
-    let over = count_is_row (label which (codes "over")) o.over
-    (label_is_word which (codes "over") refl) fit.runs.over_fits.within in
-    let under = count_is_row (label which (codes "under")) o.under
-    (label_is_word which (codes "under") refl) fit.runs.under_fits.within in
+    let profile = (profile_line which).are_words o.settings.profile
+    (traced.profile_id, (traced.profile_start, traced.profile_duration)) in
+    let groups = (groups_line which).are_words o.settings.groups (fit.groups, traced.groups) in
+    let actions = (actions_line which).are_words o.settings.actions
+    (traced.over_selector, traced.under_selector) in
+    let over = (count_line which (codes "over") refl (omega arith)).are_words o.over
+    (fit.runs.over_fits.within, tt) in
+    let under = (count_line which (codes "under") refl (omega arith)).are_words o.under
+    (fit.runs.under_fits.within, tt) in
     rw (normal, emergency, minover, minunder, profile, groups, actions, over, under) are
 
 value_is_row : (which : Which) (o : LimiterOpening) → IsTracedLimiter o → is_row (value_row which o)

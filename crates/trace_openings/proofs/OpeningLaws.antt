@@ -1,5 +1,5 @@
 -- An opening that is written is read back, line by line.
-use Rattle.std.proofs.Common.{◌≡◌, ℕ, suc, ◌≤◌, List, [], ◌∷◌, ◌++◌, Ok, refl, arith, decimal, codes}
+use Rattle.std.proofs.Common.{◌≡◌, ℕ, suc, ◌≤◌, List, [], ◌∷◌, ◌++◌, Ok, refl, arith, codes}
 use Rattle.hex.specs.Hex.{encode_upper}
 use Rattle.cosem_names.specs.declared.objects.Which.{Which}
 use Rattle.cosem_names.specs.declared.objects.Which.TheVariants.{Import, Export}
@@ -9,11 +9,12 @@ use Rattle.relay_core.specs.declared.opening.LimiterOpening.{LimiterOpening}
 use Rattle.relay_core.specs.declared.opening.Opening.{Opening}
 use Rattle.relay_core.specs.declared.schedules.Schedules.{Schedules}
 use Rattle.script_steps.specs.Writing.{data_of}
-use Rattle.trace_openings.proofs.OpeningFieldLaws.{version_again, device_line_again, state_line_again, mode_line_again, moment_line_again, value_line_again, table_line_again, profile_again, groups_again, actions_again, FitRunsMean, over_again, under_again, schedule_again}
+use Rattle.trace_openings.proofs.OpeningFieldLaws.{version_again, device_line_again, state_line_again, mode_line_again, moment_line_again, value_line_again, table_line_again, schedule_again}
+use Rattle.trace_openings.proofs.LimiterLines.{profile_line, groups_line, actions_line, over_line, under_line, FitRunsMean, over_passes, under_passes}
 use Rattle.trace_openings.specs.OpeningFields.{label, version_from, device_in, state_in, mode_in, moment_in, table_in, profile_from, groups_from, actions_from, over_from, under_from, schedule_from}
 use Rattle.trace_words.specs.Labels.{labelled_value, number_row}
 use Rattle.trace_openings.specs.OpeningReading.{settings_from, limiter_from, export_from, schedules_from, opening_with, opening_in, opening_from}
-use Rattle.trace_openings.specs.OpeningRows.{moment_word, count_row, profile_row, groups_row, value_row, limiter_rows, schedule_row, schedule_rows, opening_rows}
+use Rattle.trace_openings.specs.OpeningRows.{moment_word, actions_row, count_row, profile_row, groups_row, value_row, limiter_rows, schedule_row, schedule_rows, opening_rows}
 use Rattle.trace_openings.specs.OpeningTraced.{IsTracedLimiter, IsTracedSchedule, IsWritable}
 use Rattle.trace_words.specs.Places.{line_as}
 use Rattle.trace_words.specs.Reading.{value_in}
@@ -55,9 +56,8 @@ unfolding limiter_from settings_from
 limiter_again mean which o number rows unended fit traced =
     let under_row = count_row (label which (codes "under")) o.under in
     let from_over : List Row = count_row (label which (codes "over")) o.over ∷ under_row ∷ rows in
-    let actions_row : Row = label which (codes "actions") ∷ decimal o.settings.actions.over
-    ∷ decimal o.settings.actions.under ∷ [] in
-    let from_groups : List Row = groups_row which o.settings.groups ∷ actions_row ∷ from_over in
+    let from_actions : List Row = actions_row which o.settings.actions ∷ from_over in
+    let from_groups : List Row = groups_row which o.settings.groups ∷ from_actions in
     let from_profile : List Row = profile_row which o.settings.profile ∷ from_groups in
     let from_min_under : List Row = number_row (label which (codes "minunder"))
     o.settings.min_under_threshold_duration ∷ from_profile in
@@ -75,20 +75,23 @@ limiter_again mean which o number rows unended fit traced =
     traced.min_under_threshold_duration in
     let profile = line_again (profile_from which) (profile_row which o.settings.profile)
     o.settings.profile (four_on number) from_groups unended
-    (profile_again which o.settings.profile traced.profile_id traced.profile_start
-    traced.profile_duration) in
+    ((profile_line which).again o.settings.profile (
+      traced.profile_id,
+      (traced.profile_start, traced.profile_duration),
+    )) in
     let groups = line_again (groups_from which) (groups_row which o.settings.groups)
-    o.settings.groups (suc (four_on number)) (actions_row ∷ from_over) unended
-    (groups_again which o.settings.groups fit.groups traced.groups) in
-    let actions = line_again (actions_from which) actions_row o.settings.actions
-    (two_on (four_on number)) from_over unended
-    (actions_again which o.settings.actions traced.over_selector traced.under_selector) in
+    o.settings.groups (suc (four_on number)) from_actions unended
+    ((groups_line which).again o.settings.groups (fit.groups, traced.groups)) in
+    let actions = line_again (actions_from which) (actions_row which o.settings.actions)
+    o.settings.actions (two_on (four_on number)) from_over unended ((actions_line which).again
+    o.settings.actions (traced.over_selector, traced.under_selector)) in
     let over = line_again (over_from which o.value) (count_row (label which (codes "over")) o.over)
     o.over (three_on (four_on number)) (under_row ∷ rows) unended
-    (over_again mean which o.value o.over o.under fit.runs) in
+    ((over_line which o.value).again o.over (over_passes mean o.value o.over o.under fit.runs)) in
     let under = line_again (under_from which o.value o.over) under_row o.under
     (suc (three_on (four_on number))) rows unended
-    (under_again mean which o.value o.over o.under fit.runs) in
+    ((under_line which o.value o.over).again o.under
+    (under_passes mean o.value o.over o.under fit.runs)) in
     rw (normal, emergency, min_over, min_under, profile, groups, actions, over, under) refl
 
 export_again : FitRunsMean → (o : LimiterOpening) (number : ℕ) (rows : List Row) (unended : List ℕ)

@@ -1,9 +1,9 @@
 -- Facts about each line of an opening that is read.
 use Rattle.std.proofs.Common.{◌≡◌, ℕ, ◌≤◌, List, length, Result, Ok, Err, ap, arith, inr}
-use Rattle.byte_reading.specs.Outcome.{◌>>=◌, Fails}
-use Rattle.byte_reading.proofs.OutcomeLemmas.{done}
-use Rattle.trace_text.proofs.HexadecimalLemmas.{bytes_only}
-use Rattle.trace_text.specs.Hexadecimal.{bytes_of}
+use Rattle.wire_bytes.specs.Outcome.{◌>>=◌, Fails}
+use Rattle.wire_bytes.proofs.OutcomeLemmas.{done}
+use Rattle.text_lines.proofs.HexadecimalLemmas.{bytes_only}
+use Rattle.text_lines.specs.Hexadecimal.{bytes_of}
 use Rattle.trace_openings.specs.OpeningFields.{id_from}
 use Rattle.trace_words.specs.Reading.{bytes_in, number_in}
 use Rattle.trace_words.specs.Rows.{Word, Row}

@@ -1,6 +1,6 @@
 -- The number of lines that an opening has.
 use Rattle.std.proofs.Common.{◌≡◌, ℕ, ◌+◌, List, [], ◌∷◌, ◌++◌, Ok}
-use Rattle.byte_reading.proofs.OutcomeLemmas.{bind_ok}
+use Rattle.wire_bytes.proofs.OutcomeLemmas.{bind_ok}
 use Rattle.cosem_names.specs.declared.objects.Which.{Which}
 use Rattle.cosem_names.specs.declared.objects.Which.TheVariants.{Import, Export}
 use Rattle.relay_core.specs.declared.opening.Opening.{Opening}

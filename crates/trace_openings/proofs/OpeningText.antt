@@ -1,8 +1,8 @@
 -- Lines of words, written one after the other.
 use Rattle.std.proofs.Common.{◌≡◌, ℕ, List, [], ◌∷◌, ◌++◌, Result, Ok, Err, sym, ap, ◌∙◌, append_assoc}
 use Rattle.std.specs.Result.{OnOk}
-use Rattle.trace_text.proofs.LinesLemmas.{rows_text-append, rows_text-one}
-use Rattle.trace_text.specs.Lines.{rows_text}
+use Rattle.text_lines.proofs.LinesLemmas.{rows_text-append, rows_text-one}
+use Rattle.text_lines.specs.Lines.{rows_text}
 use Rattle.trace_words.specs.Rows.{Word, Row}
 use Rattle.trace_words.specs.Writing.{words_after_blanks}
 use Rattle.trace_words.proofs.Blanks.{line_of_first}

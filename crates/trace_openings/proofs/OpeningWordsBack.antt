@@ -1,12 +1,12 @@
 -- Each word of an opening that is read is written back as that word, except for a Data with several
 -- spellings.
-use Rattle.std.proofs.Common.{◌≡◌, ℕ, ◌≤◌, false, cond, nat_eq, nat_le, ◌==◌, List, ◌∷◌, length, Option, Some, None, Result, Ok, Err, refl, ap, ◌∙◌, arith, inl, inr, decimal, codes}
+use Rattle.std.proofs.Common.{◌≡◌, ℕ, ◌≤◌, false, cond, nat_eq, nat_le, ◌==◌, List, length, Option, Some, None, Result, Ok, Err, refl, ap, ◌∙◌, arith, inl, inr, decimal, codes}
 use Rattle.std.proofs.lemmas.Bool.{eqb-true}
 use Rattle.std.proofs.lemmas.Bool.Decides.{nat_tests}
 use Rattle.std.specs.Cmp.Lexicographic.{pointwise}
 use Rattle.std.specs.Result.{result_ok}
-use Rattle.byte_reading.specs.Outcome.{◌>>=◌}
-use Rattle.byte_reading.proofs.OutcomeLemmas.{done, ok_is, bind_ok, guard_ok, chosen}
+use Rattle.wire_bytes.specs.Outcome.{◌>>=◌}
+use Rattle.wire_bytes.proofs.OutcomeLemmas.{done, ok_is, bind_ok, guard_ok, chosen}
 use Rattle.hex.specs.Hex.{encode_upper}
 use Rattle.action_schedule.specs.Kinds.{number_of, type_of_number}
 use Rattle.action_schedule.specs.Reading.{entries_of}
@@ -25,12 +25,12 @@ use Rattle.disconnect_control.specs.declared.state.ControlState.{ControlState}
 use Rattle.disconnect_control.specs.declared.state.ControlState.TheVariants.{Disconnected, Connected, ReadyForReconnection}
 use Rattle.script_steps.specs.Reading.{table_of}
 use Rattle.script_steps.specs.declared.step.Script.{Script}
-use Rattle.trace_words.proofs.WordsBack.{wanted_is, IsWrittenBack, AreWrittenBack, number_back, number_limited, bytes_back, bytes_are, same_is, data_back}
-use Rattle.trace_openings.specs.OpeningFields.{version_in, device_in, state_in, mode_in, moment_in, start_in, table_in, entries_in, type_in, id_from}
+use Rattle.trace_words.proofs.WordsBack.{wanted_is, IsWrittenBack, number_back, number_limited, bytes_back, bytes_are, same_is, data_back}
+use Rattle.trace_openings.specs.OpeningFields.{version_in, device_in, state_in, mode_in, moment_in, start_in, table_in, entries_in, type_in}
 use Rattle.trace_openings.specs.OpeningRows.{moment_word}
 use Rattle.trace_words.specs.Reading.{number_in, bytes_in, data_in, value_in}
-use Rattle.trace_words.specs.Rows.{Word, Row, or_wrong}
-use Rattle.trace_words.specs.Writing.{value_words, data_word}
+use Rattle.trace_words.specs.Rows.{Word, or_wrong}
+use Rattle.trace_words.specs.Writing.{data_word}
 use Rattle.trace_words.specs.declared.fault.RowFault.{RowFault}
 use Rattle.trace_words.specs.declared.fault.RowFault.TheVariants.{Wrong}
 use Rattle.trace_words.specs.declared.version.Version.{Version}
@@ -159,12 +159,6 @@ type_back word kind e =
     let read = bind_ok (number_in 5 word) _ kind e in
     number_back 5 (omega arith) word read.0 read.1
     ∙ ap decimal (type_is read.0 kind (wanted_is (type_of_number read.0) kind read.2))
-
-pub id_back : AreWrittenBack ℕ id_from value_words
-id_back word words id rest e =
-    let read = bind_ok (number_in 65535 word) _ (id, rest) e in
-    ap (λ (w : Word). w ∷ words) (number_back 65535 (omega arith) word read.0 read.1)
-    ∙ ap (λ (p : ℕ × Row). value_words p.0 p.1) (ok_is (read.0, words) (id, rest) read.2)
 
 -- a Data that is read as these scripts, or as these entries
 pub table_read : (word : Word) (scripts : List Script) → table_in word ≡ Ok scripts → (table : Data)

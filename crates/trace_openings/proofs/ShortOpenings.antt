@@ -1,32 +1,28 @@
 -- Bounds on the length of the lines of an opening.
-use Rattle.std.proofs.Common.{◌≡◌, ℕ, suc, ◌+◌, ◌*◌, ◌<◌, ◌≤◌, List, [], ◌∷◌, ◌++◌, codes, decimal, length, Option, Some, None, IfSome, arith}
+use Rattle.std.proofs.Common.{ℕ, ◌+◌, ◌≤◌, List, [], ◌∷◌, ◌++◌, codes, decimal, length, refl, Option, Some, None, IfSome, arith}
 use Rattle.hex.specs.Hex.{encode_upper}
 use Rattle.action_schedule.specs.Kinds.{number_of}
 use Rattle.action_schedule.specs.Schedule.{Schedule}
 use Rattle.action_schedule.specs.Writing.{entries_data}
 use Rattle.action_schedule.specs.declared.kind.ScheduleType.{ScheduleType}
 use Rattle.action_schedule.specs.declared.kind.ScheduleType.TheVariants.{Type1, Type2, Type3, Type4, Type5}
-use Rattle.cosem_datetime.proofs.Lengths.{twelve_bytes}
-use Rattle.cosem_datetime.specs.Fields.{date_time_bytes}
 use Rattle.cosem_names.specs.declared.objects.Which.{Which}
 use Rattle.cosem_names.specs.declared.objects.Which.TheVariants.{Import, Export}
 use Rattle.disconnect_control.specs.Transitions.{state_number, mode_number}
 use Rattle.disconnect_control.specs.declared.state.ControlState.{ControlState}
 use Rattle.disconnect_control.specs.declared.state.ControlState.TheVariants.{Disconnected, Connected, ReadyForReconnection}
-use Rattle.limiter_core.specs.State.{IsFitCount}
-use Rattle.limiter_core.specs.declared.count.Count.{Count}
 use Rattle.relay_core.specs.Opening.{IsFitLimiterOpening}
 use Rattle.relay_core.specs.declared.opening.LimiterOpening.{LimiterOpening}
 use Rattle.relay_core.specs.declared.opening.Opening.{Opening}
 use Rattle.script_steps.specs.Writing.{data_of}
+use Rattle.trace_openings.proofs.LimiterLines.{named, profile_line, groups_line, actions_line, count_line}
 use Rattle.trace_openings.proofs.OpeningTables.{entries_are_held, mode_small, scripts_are_held}
 use Rattle.trace_openings.specs.OpeningFields.{label}
-use Rattle.trace_openings.specs.OpeningRows.{count_row, groups_row, head_rows, limiter_rows, moment_word, opening_rows, profile_row, schedule_row, schedule_rows, value_row}
-use Rattle.trace_openings.specs.OpeningTraced.{AreIds, IsTracedLimiter, IsTracedSchedule, IsWritable}
-use Rattle.trace_words.specs.Labels.{number_row}
+use Rattle.trace_openings.specs.OpeningRows.{head_rows, limiter_rows, moment_word, opening_rows, schedule_row, schedule_rows, value_row}
+use Rattle.trace_openings.specs.OpeningTraced.{IsTracedLimiter, IsTracedSchedule, IsWritable}
 use Rattle.trace_words.specs.Rows.{Word, Row}
-use Rattle.trace_words.specs.Writing.{all_words, data_word, flag_number, value_words}
-use Rattle.trace_words.proofs.ShortRows.{AreShort, HasWords, IsShort, both_short, bytes_short, data_short, flag_short, no_words, number_row_short, number_short, run_short, word_on, words_in}
+use Rattle.trace_words.specs.Writing.{data_word}
+use Rattle.trace_words.proofs.ShortRows.{AreShort, IsShort, both_short, bytes_short, data_short, no_words, number_row_short, number_short, word_on, words_in}
 
 -- ---- lines
 
@@ -38,45 +34,10 @@ word_row_short name word long short le most =
     ∷ []) (word_on 20 (1 + long + 0) name (word ∷ []) short
     (word_on long 0 word [] le no_words)) (omega (arith, most))
 
-count_row_short : (name : Word) (count : Count) → length name ≤ 20 → IsFitCount count
-    → IsShort (count_row name count)
-count_row_short name count long fit =
-    words_in (1 + 20 + (1 + 11 + (1 + 10 + 0))) 20000 (count_row name count)
-    (word_on 20 (1 + 11 + (1 + 10 + 0)) name (decimal count.run
-    ∷ decimal (flag_number count.fired) ∷ []) long
-    (word_on 11 (1 + 10 + 0) (decimal count.run) (decimal (flag_number count.fired)
-    ∷ []) (run_short count.run (omega (arith, fit.within)))
-    (word_on 10 0 (decimal (flag_number count.fired)) [] (flag_short count.fired) no_words)))
-    (omega arith)
-
--- group ids
-ids_short : (ids : List ℕ) → AreIds ids → HasWords (length ids * 11) (all_words value_words ids)
-unfolding all_words
-ids_short [] are = no_words
-ids_short (id ∷ ids) (one, others) =
-    let words = word_on 10 (length ids * 11) (decimal id) (all_words value_words ids)
-    (number_short id (omega (arith, one))) (ids_short ids others) in
-    let more : suc (length ids) * 11 ≡ 11 + length ids * 11 = omega arith in
-    words_in (1 + 10 + length ids * 11) (suc (length ids) * 11) (decimal id
-    ∷ all_words value_words ids) words (omega (arith, more))
-
--- ---- a limiter
-
--- the label of a limiter's line has at most one byte more than its name
-label_short : (which : Which) (name : Word) (long : ℕ) → length name ≤ long
-    → length (label which name) ≤ suc long
-label_short Import name long le = omega (arith, le)
-label_short Export name long le = omega (arith, le)
-
-named : (which : Which) (name : Word) → length name ≤ 19 → length (label which name) ≤ 20
-named which name le = label_short which name 19 le
-
 limiter_short : (which : Which) (o : LimiterOpening) → IsFitLimiterOpening o → IsTracedLimiter o
     → AreShort (limiter_rows which o)
 limiter_short which o fit traced =
-    let settings = o.settings in
-    let profile = settings.profile in
-    let start = date_time_bytes profile.start in (
+    let settings = o.settings in (
       number_row_short (label which (codes "normal")) settings.threshold_normal
           (named which (codes "normal") (omega arith)) traced.threshold_normal,
       (
@@ -89,41 +50,19 @@ limiter_short which o fit traced =
             number_row_short (label which (codes "minunder")) settings.min_under_threshold_duration
                 (named which (codes "minunder") (omega arith)) traced.min_under_threshold_duration,
             (
-              words_in (1 + 20 + (1 + 10 + (1 + 24 + (1 + 10 + 0)))) 20000
-                  (profile_row which profile)
-                  (word_on 20 (1 + 10 + (1 + 24 + (1 + 10 + 0))) (label which (codes "profile")) _
-                  (named which (codes "profile") (omega arith))
-                  (word_on 10 (1 + 24 + (1 + 10 + 0)) (decimal profile.id) _
-                  (number_short profile.id (omega (arith, traced.profile_id)))
-                  (word_on 24 (1 + 10 + 0) (encode_upper start) _
-                  (bytes_short start 12 (omega (arith, twelve_bytes profile.start)))
-                  (word_on 10 0 (decimal profile.duration) []
-                  (number_short profile.duration traced.profile_duration) no_words))))
-                  (omega arith),
+              (profile_line which).short settings.profile
+                  (traced.profile_id, (traced.profile_start, traced.profile_duration)),
               (
-                words_in (1 + 20 + length settings.groups * 11) 20000
-                    (groups_row which settings.groups)
-                    (word_on 20 (length settings.groups * 11) (label which (codes "groups"))
-                    (all_words value_words settings.groups)
-                    (named which (codes "groups") (omega arith))
-                    (ids_short settings.groups traced.groups))
-                    (omega (arith, fit.groups)),
+                (groups_line which).short settings.groups (fit.groups, traced.groups),
                 (
-                  words_in (1 + 20 + (1 + 10 + (1 + 10 + 0))) 20000 (label which (codes "actions")
-                      ∷ decimal settings.actions.over ∷ decimal settings.actions.under ∷ [])
-                      (word_on 20 (1 + 10 + (1 + 10 + 0)) (label which (codes "actions")) _
-                      (named which (codes "actions") (omega arith))
-                      (word_on 10 (1 + 10 + 0) (decimal settings.actions.over) _
-                      (number_short settings.actions.over (omega (arith, traced.over_selector)))
-                      (word_on 10 0 (decimal settings.actions.under) []
-                      (number_short settings.actions.under
-                      (omega (arith, traced.under_selector))) no_words))) (omega arith),
+                  (actions_line which).short settings.actions
+                      (traced.over_selector, traced.under_selector),
                   (
-                    count_row_short (label which (codes "over")) o.over
-                        (named which (codes "over") (omega arith)) fit.runs.over_fits,
+                    (count_line which (codes "over") refl (omega arith)).short o.over
+                        (fit.runs.over_fits.within, tt),
                     (
-                      count_row_short (label which (codes "under")) o.under
-                          (named which (codes "under") (omega arith)) fit.runs.under_fits,
+                      (count_line which (codes "under") refl (omega arith)).short o.under
+                          (fit.runs.under_fits.within, tt),
                       tt,
                     ),
                   ),

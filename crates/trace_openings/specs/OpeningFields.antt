@@ -6,12 +6,12 @@
 use Rattle.std.specs.Prelude.{ℕ, ◌==◌, nat_eq, nat_le, codes, List, ◌++◌, length, Option, Some, None, Result, Ok, Err, if◌then◌else◌}
 use Rattle.std.specs.Cmp.Lexicographic.{pointwise}
 use Rattle.std.specs.Result.{result_ok}
-use Rattle.byte_reading.specs.Outcome.{◌>>=◌, ◌>>◌, guard}
+use Rattle.wire_bytes.specs.Outcome.{◌>>=◌, ◌>>◌, guard}
 use Rattle.action_schedule.specs.Reading.{entries_of}
 use Rattle.action_schedule.specs.Kinds.{type_of_number}
 use Rattle.action_schedule.specs.Schedule.{Schedule}
 use Rattle.action_schedule.specs.declared.kind.ScheduleType.{ScheduleType}
-use Rattle.cosem_datetime.specs.Fields.{DateTimeFields}
+use Rattle.cosem_datetime.specs.Fields.{DateTimeFields, IsDateTimeFields, date_time_bytes}
 use Rattle.cosem_datetime.specs.Reading.{date_time_of}
 use Rattle.cosem_datetime.specs.declared.entry.EntryPattern.{EntryPattern}
 use Rattle.cosem_names.specs.declared.objects.Which.{Which}
@@ -28,13 +28,16 @@ use Rattle.limiter_core.specs.declared.settings.Actions.{Actions}
 use Rattle.limiter_core.specs.declared.settings.Profile.{Profile}
 use Rattle.script_steps.specs.Reading.{table_of}
 use Rattle.script_steps.specs.declared.step.Script.{Script}
-use Rattle.trace_words.specs.Reading.{number_in, flag_in, bytes_in, data_in, value_in, next_as, last_as}
-use Rattle.trace_words.specs.Rows.{Word, Row, Read, or_wrong, all_at}
+use Rattle.trace_words.specs.Reading.{number_in, bytes_in, data_in, value_in, next_as, last_as}
+use Rattle.trace_words.specs.Rows.{Word, Row, Read, or_wrong}
 use Rattle.trace_words.specs.declared.fault.RowFault.{RowFault}
 use Rattle.trace_words.specs.declared.fault.RowFault.TheVariants.{Wrong}
 use Rattle.trace_words.specs.declared.version.Version.{Version}
 use Rattle.trace_words.specs.declared.version.Version.TheVariants.{One, Two}
 use Rattle.trace_words.specs.Labels.{labelled_value, behind}
+use Rattle.trace_words.specs.Parts.{Part, word, number_part, flag_part, after_first, items_to_end, labelled_part, line_read}
+use Rattle.hex.specs.Hex.{encode_upper}
+use Rattle.wire_bytes.specs.Format.{iso, ◌&◌}
 
 -- ---- words
 
@@ -99,11 +102,35 @@ type_in word = do
   number ← number_in 5 word
   or_wrong (type_of_number number)
 
+-- ---- parts of a limiter's lines
+
+-- id, start and duration of an emergency profile
+abbrev pub start_part : Part DateTimeFields
+start_part = word start_in (λ start. encode_upper (date_time_bytes start)) IsDateTimeFields
+
+abbrev pub profile_part : Part Profile
+profile_part =
+    iso (λ p. record { id = p.0; start = p.1.0; duration = p.1.1 })
+    (λ p. (p.id, (p.start, p.duration)))
+    (number_part 65535 & start_part & number_part 4294967295)
+
+-- up to 32 group ids
+abbrev pub groups_part : Part (List ℕ)
+groups_part = items_to_end 32 (number_part 65535)
+
+-- the script selectors of the actions, over and under the threshold
+abbrev pub actions_part : Part Actions
+actions_part = iso (λ p. record { over = p.0; under = p.1 }) (λ a. (a.over, a.under))
+    (number_part 65535 & number_part 65535)
+
 -- one id in a list
 abbrev pub id_from : Word → Row → Read ℕ
-id_from word words = do
-  id ← number_in 65535 word
-  Ok (id, words)
+id_from = after_first (number_part 65535)
+
+-- the length of a run, and whether it has fired
+abbrev pub count_part : Part Count
+count_part = iso (λ p. record { run = p.0; fired = p.1 }) (λ c. (c.run, c.fired))
+    (number_part cap & flag_part)
 
 -- ---- lines
 
@@ -111,36 +138,17 @@ id_from word words = do
 abbrev pub version_from : Row → Result Version RowFault
 version_from row = labelled_value (codes "RELAYTRACE") version_in row
 
--- id, start and duration of an emergency profile
 unfoldable pub profile_from : Which → Row → Result Profile RowFault
-profile_from which row = do
-  words ← behind (label which (codes "profile")) row
-  id ← next_as (number_in 65535) words.1
-  start ← next_as start_in id.1
-  duration ← last_as value_in start.1
-  Ok (record { id = id.0; start = start.0; duration = duration })
+profile_from which row = line_read (labelled_part (label which (codes "profile")) profile_part) row
 
--- up to 32 group ids
 unfoldable pub groups_from : Which → Row → Result (List ℕ) RowFault
-groups_from which row = do
-  words ← behind (label which (codes "groups")) row
-  all_at id_from 32 words.1
+groups_from which row = line_read (labelled_part (label which (codes "groups")) groups_part) row
 
--- the script selectors of the actions, over and under the threshold
 unfoldable pub actions_from : Which → Row → Result Actions RowFault
-actions_from which row = do
-  words ← behind (label which (codes "actions")) row
-  over ← next_as (number_in 65535) words.1
-  under ← last_as (number_in 65535) over.1
-  Ok (record { over = over.0; under = under })
+actions_from which row = line_read (labelled_part (label which (codes "actions")) actions_part) row
 
--- the length of a run, and whether it has fired
 unfoldable pub count_from : Word → Row → Result Count RowFault
-count_from name row = do
-  words ← behind name row
-  run ← next_as (number_in cap) words.1
-  fired ← last_as flag_in run.1
-  Ok (record { run = run.0; fired = fired })
+count_from name row = line_read (labelled_part name count_part) row
 
 -- the run over the threshold, if the last value allows it
 unfoldable pub over_from : Which → ℕ → Row → Result Count RowFault

@@ -2,7 +2,7 @@
 --     settings_from, limiter_from, export_from   the lines of a limiter
 --     opening_from                               all lines from the version to the last schedule
 use Rattle.std.specs.Prelude.{◌≡◌, ◌≤◌, ℕ, List, Option, Ok, codes, length}
-use Rattle.byte_reading.specs.Outcome.{◌>>=◌}
+use Rattle.wire_bytes.specs.Outcome.{◌>>=◌}
 use Rattle.cosem_names.specs.declared.objects.Which.{Which}
 use Rattle.cosem_names.specs.declared.objects.Which.TheVariants.{Import, Export}
 use Rattle.disconnect_control.specs.declared.state.ControlMode.{ControlMode}

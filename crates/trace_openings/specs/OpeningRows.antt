@@ -4,7 +4,6 @@ use Rattle.hex.specs.Hex.{encode_upper}
 use Rattle.action_schedule.specs.Schedule.{Schedule}
 use Rattle.action_schedule.specs.Kinds.{number_of}
 use Rattle.action_schedule.specs.Writing.{entries_data}
-use Rattle.cosem_datetime.specs.Fields.{date_time_bytes}
 use Rattle.cosem_names.specs.declared.objects.Which.{Which}
 use Rattle.cosem_names.specs.declared.objects.Which.TheVariants.{Import, Export}
 use Rattle.disconnect_control.specs.Transitions.{state_number, mode_number}
@@ -15,9 +14,11 @@ use Rattle.relay_core.specs.declared.opening.LimiterOpening.{LimiterOpening}
 use Rattle.relay_core.specs.declared.opening.Opening.{Opening}
 use Rattle.relay_core.specs.declared.schedules.Schedules.{Schedules}
 use Rattle.script_steps.specs.Writing.{data_of}
-use Rattle.trace_openings.specs.OpeningFields.{label}
+use Rattle.trace_openings.specs.OpeningFields.{label, profile_part, groups_part, actions_part, count_part}
+use Rattle.trace_words.specs.Parts.{labelled_part}
+use Rattle.limiter_core.specs.declared.settings.Actions.{Actions}
 use Rattle.trace_words.specs.Rows.{Word, Row}
-use Rattle.trace_words.specs.Writing.{all_words, data_word, flag_number, value_words}
+use Rattle.trace_words.specs.Writing.{data_word}
 use Rattle.trace_words.specs.Labels.{number_row}
 
 abbrev pub moment_word : Option ℕ → Word
@@ -25,15 +26,16 @@ moment_word None = codes "-"
 moment_word (Some moment) = decimal moment
 
 abbrev pub count_row : Word → Count → Row
-count_row name count = name ∷ decimal count.run ∷ decimal (flag_number count.fired) ∷ []
+count_row name = (labelled_part name count_part).text
 
 abbrev pub profile_row : Which → Profile → Row
-profile_row which profile =
-    label which (codes "profile") ∷ decimal profile.id
-    ∷ encode_upper (date_time_bytes profile.start) ∷ decimal profile.duration ∷ []
+profile_row which = (labelled_part (label which (codes "profile")) profile_part).text
 
 abbrev pub groups_row : Which → List ℕ → Row
-groups_row which groups = label which (codes "groups") ∷ all_words value_words groups
+groups_row which = (labelled_part (label which (codes "groups")) groups_part).text
+
+abbrev pub actions_row : Which → Actions → Row
+actions_row which = (labelled_part (label which (codes "actions")) actions_part).text
 
 -- the line of a limiter's last sample
 abbrev pub value_row : Which → LimiterOpening → Row
@@ -48,8 +50,7 @@ settings_rows which settings =
     ∷ number_row (label which (codes "minunder")) settings.min_under_threshold_duration
     ∷ profile_row which settings.profile
     ∷ groups_row which settings.groups
-    ∷ (label which (codes "actions") ∷ decimal settings.actions.over
-    ∷ decimal settings.actions.under ∷ [])
+    ∷ actions_row which settings.actions
     ∷ []
 
 -- a limiter's lines after that of its last sample

@@ -4,7 +4,7 @@
 --     IsTracedSchedule     a schedule with numbers in their ranges
 --     IsTracedScript       a script with numbers in their ranges
 --     IsWritable           an opening of such parts that a core can have
-use Rattle.std.specs.Prelude.{ℕ, ◌≤◌, List, [], ◌∷◌, IfSome}
+use Rattle.std.specs.Prelude.{ℕ, ◌≤◌, List, IfSome}
 use Rattle.std.specs.List.{All}
 use Rattle.hex.specs.Hex.{IsBytes}
 use Rattle.action_schedule.specs.Schedule.{Schedule, AreEntries}
@@ -13,14 +13,14 @@ use Rattle.relay_core.specs.Opening.{IsFitOpening}
 use Rattle.relay_core.specs.declared.opening.LimiterOpening.{LimiterOpening}
 use Rattle.relay_core.specs.declared.opening.Opening.{Opening}
 use Rattle.script_steps.specs.Table.{IsTable}
+use Rattle.trace_words.specs.Parts.{Each}
 use Rattle.script_steps.specs.declared.step.Script.{Script}
 use Rattle.script_steps.specs.declared.step.Step.{Step}
 use Rattle.script_steps.specs.declared.step.Step.TheVariants.{WriteNormal, WriteEmergency, WriteProfile}
 
 -- group ids of 16 bits
 abbrev pub AreIds : List ℕ → Type 0
-AreIds [] = Unit {0}
-AreIds (id ∷ ids) = (id ≤ 65535) × AreIds ids
+AreIds ids = Each (λ id. id ≤ 65535) ids
 
 -- watts and seconds of 32 bits, ids and selectors of 16 bits, and a start with fields in their
 -- ranges

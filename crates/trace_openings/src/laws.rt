@@ -2,7 +2,7 @@
 //! makes it known to the prover.
 ghost use Rattle.std.specs.Prelude.{◌≡◌, ℕ, ◌+◌, List, ◌++◌, IsTrue, Ok};
 ghost use Rattle.std.specs.List.{list_all};
-ghost use Rattle.trace_text.specs.Lines.{is_row};
+ghost use Rattle.text_lines.specs.Lines.{is_row};
 ghost use Rattle.relay_core.specs.declared.opening.Opening.{Opening};
 ghost use Rattle.trace_openings.specs.OpeningForms.{Forms, AreFormsOf, written_forms, rows_with};
 ghost use Rattle.trace_openings.specs.OpeningReading.{opening_from};

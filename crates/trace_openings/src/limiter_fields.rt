@@ -2,7 +2,7 @@
 //! groups, actions and runs.
 ghost use Rattle.std.specs.Prelude.{◌≡◌, ◌≤◌, IfOk, nat_eq, length};
 ghost use Rattle.std.specs.Cmp.Lexicographic.{pointwise};
-ghost use Rattle.byte_reading.specs.Outcome.{Gives};
+ghost use Rattle.wire_bytes.specs.Outcome.{Gives};
 ghost use Rattle.limiter_core.specs.Counting.{cap};
 ghost use Rattle.limiter_core.specs.State.{IsFit};
 ghost use Rattle.limiter_core.specs.declared.settings.TheConstants.{MAX_GROUPS};
@@ -15,12 +15,12 @@ ghost use Rattle.trace_words.specs.declared.fault.RowFault.TheVariants.{Memory};
 use cosem_datetime::{DateTimeField, read_date_time};
 use cosem_names::Which;
 use limiter_core::{Actions, Count, MAX_GROUPS, Profile, RUN_LIMIT, are_fit};
-use listed::Listed;
 use std::alloc::Global;
-use trace_text::{Words, read_number};
+use text_lines::{Words, read_number};
 use trace_words::{
-    RowFault, bytes_in, flag_in, last_word, long_in, next_long, next_word, number_in,
+    RowFault, bytes_in, expect_end, flag_in, last_word, long_in, next_long, next_word, number_in,
 };
+use wire_bytes::Listed;
 
 // Returns whether `word` is the label `name` of one of the limiters. Labels of the export limiter
 // are preceded by an x.
@@ -77,7 +77,8 @@ pub(crate) fn profile(alloc: Global, which: Which, words: &mut Words) -> Result<
     behind_label(which, b"profile", words)?;
     let id = next_long(words)?;
     let start = start_in(alloc, next_word(words)?)?;
-    let duration = number_in(last_word(words)?, u32::MAX)?;
+    let duration = number_in(next_word(words)?, u32::MAX)?;
+    expect_end(words)?;
     Ok(Profile {
         id,
         start,
@@ -122,7 +123,8 @@ pub(crate) fn actions(which: Which, words: &mut Words) -> Result<Actions, RowFau
 {
     behind_label(which, b"actions", words)?;
     let over = next_long(words)?;
-    let under = long_in(last_word(words)?)?;
+    let under = next_long(words)?;
+    expect_end(words)?;
     Ok(Actions { over, under })
 }
 
@@ -140,7 +142,8 @@ fn count(which: Which, name: &[u8], words: &mut Words) -> Result<Count, RowFault
 {
     behind_label(which, name, words)?;
     let run = run_in(next_word(words)?)?;
-    let fired = flag_in(last_word(words)?)?;
+    let fired = flag_in(next_word(words)?)?;
+    expect_end(words)?;
     Ok(Count { run, fired })
 }
 

@@ -8,12 +8,12 @@ ghost use Rattle.trace_words.specs.Places.{ReadsLines, line_as};
 ghost use Rattle.trace_words.specs.Reading.{value_in};
 
 use crate::limiter_fields::{actions, groups, over, profile, under, value};
-use byte_reading::and_keep;
 use cosem_names::Which;
 use limiter_core::{Count, Settings};
 use relay_core::LimiterOpening;
 use std::alloc::Global;
 use trace_words::{TraceFault, TraceLines, Version};
+use wire_bytes::and_keep;
 
 // Reads the line of one value of a limiter, with the label `word`.
 fn read_value(which: Which, word: &[u8], lines: &mut TraceLines) -> Result<u32, TraceFault>

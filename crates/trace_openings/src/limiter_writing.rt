@@ -1,20 +1,20 @@
 //! Writes the lines of a limiter in a trace's opening.
-#![tactic(auto, unfolding(trace_text::specs::Lines::rows_text, trace_text::specs::Lines::text_of, trace_text::specs::Words::line_of))]
+#![tactic(auto, unfolding(text_lines::specs::Lines::rows_text, text_lines::specs::Lines::text_of, text_lines::specs::Words::line_of))]
 
 ghost use Rattle.std.specs.Prelude.{◌≡◌, ◌++◌, ◌∷◌, [], OnOk, codes, decimal};
-ghost use Rattle.trace_text.specs.Lines.{rows_text};
+ghost use Rattle.text_lines.specs.Lines.{rows_text};
 ghost use Rattle.trace_openings.specs.OpeningFields.{label};
 ghost use Rattle.trace_words.specs.Labels.{number_row};
-ghost use Rattle.trace_openings.specs.OpeningRows.{count_row, profile_row, groups_row, value_row, settings_rows, limiter_rows};
+ghost use Rattle.trace_openings.specs.OpeningRows.{actions_row, count_row, profile_row, groups_row, value_row, settings_rows, limiter_rows};
 ghost use Rattle.trace_words.specs.Writing.{words_after_blanks, all_words, value_words};
 
 use cosem_names::Which;
 use limiter_core::{Actions, Count, Profile, Settings};
-use listed::Listed;
 use relay_core::LimiterOpening;
 use std::alloc::{AllocError, Global};
-use trace_text::{add_hex, add_number, end_line};
+use text_lines::{add_hex, add_number, end_line};
 use trace_words::add_flag;
+use wire_bytes::Listed;
 
 // Appends the label of a line of a limiter. Labels of the export limiter begin with an x.
 fn write_label(out: &mut Vec<u8>, which: Which, name: &[u8]) -> Result<(), AllocError>
@@ -77,8 +77,7 @@ fn write_groups(out: &mut Vec<u8>, which: Which, groups: &Listed<u16>) -> Result
 // Appends the line of the actions: the script selectors over and under the threshold.
 fn write_actions(out: &mut Vec<u8>, which: Which, actions: &Actions) -> Result<(), AllocError>
     ensures { OnOk result (out.new.items ≡ out.old.items
-        ++ rows_text ((label which (codes "actions") ∷ decimal actions.now.over
-        ∷ decimal actions.now.under ∷ []) ∷ [])) }
+        ++ rows_text (actions_row which actions.now ∷ [])) }
 {
     write_label(out, which, b"actions")?;
     add_number(out, u64::from(actions.over))?;

@@ -1,7 +1,7 @@
 //! Reads the values of an opening from the words of each line: version, device, switch, clock,
 //! scripts and schedules.
 ghost use Rattle.std.specs.Prelude.{◌≡◌, ◌≤◌, IfOk, codes, length};
-ghost use Rattle.byte_reading.specs.Outcome.{Gives};
+ghost use Rattle.wire_bytes.specs.Outcome.{Gives};
 ghost use Rattle.disconnect_control.specs.declared.state.ControlMode.TheVariants.{Mode0};
 ghost use Rattle.disconnect_control.specs.declared.state.ControlState.TheVariants.{Connected};
 ghost use Rattle.trace_words.specs.Labels.{labelled_value};
@@ -14,7 +14,7 @@ use disconnect_control::{ControlMode, ControlState};
 use relay_core::MAX_DEVICE_NAME;
 use script_steps::{ScriptFault, ScriptTable};
 use std::alloc::Global;
-use trace_text::Words;
+use text_lines::Words;
 use trace_words::{
     RowFault, Version, behind, bytes_in, data_in, last_word, next_long, next_word, number_in,
     read_labelled,

@@ -8,13 +8,13 @@ ghost use Rattle.trace_words.specs.Places.{ReadsLines, line_as};
 use crate::limiter_lines::{read_export, read_last, read_limiter};
 use crate::opening_fields::{device, mode, moment, schedule, state, table, version};
 use action_schedule::ActionSchedule;
-use byte_reading::and_keep;
 use cosem_axdr::Octets;
 use cosem_names::Which;
 use disconnect_control::{ControlMode, ControlState};
 use relay_core::{LimiterOpening, Opening, Schedules};
 use std::alloc::Global;
 use trace_words::{TraceFault, TraceLines, Version};
+use wire_bytes::and_keep;
 
 // Reads the line of the schedule with this number, counted from 0.
 fn read_schedule(

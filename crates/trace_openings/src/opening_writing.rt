@@ -1,12 +1,12 @@
 //! Writes the opening of a trace, in version 2 of the format.
-#![tactic(auto, unfolding(trace_text::specs::Lines::rows_text, trace_text::specs::Lines::text_of, trace_text::specs::Words::line_of))]
+#![tactic(auto, unfolding(text_lines::specs::Lines::rows_text, text_lines::specs::Lines::text_of, text_lines::specs::Words::line_of))]
 
 ghost use Rattle.std.specs.Prelude.{◌≡◌, ◌++◌, ◌∷◌, [], OnOk, codes};
 ghost use Rattle.action_schedule.specs.Writing.{entries_data};
 ghost use Rattle.disconnect_control.specs.Transitions.{state_number, mode_number};
 ghost use Rattle.hex.specs.Hex.{encode_upper};
 ghost use Rattle.script_steps.specs.Writing.{data_of};
-ghost use Rattle.trace_text.specs.Lines.{rows_text};
+ghost use Rattle.text_lines.specs.Lines.{rows_text};
 ghost use Rattle.trace_words.specs.Labels.{number_row};
 ghost use Rattle.trace_openings.specs.OpeningRows.{moment_word, head_rows, schedule_row, schedule_rows, opening_rows};
 ghost use Rattle.trace_words.specs.Writing.{words_after_blanks, data_word};
@@ -19,7 +19,7 @@ use disconnect_control::{ControlMode, ControlState};
 use relay_core::{Opening, Schedules};
 use script_steps::ScriptTable;
 use std::alloc::{AllocError, Global};
-use trace_text::{add_hex, add_number, add_word, end_line};
+use text_lines::{add_hex, add_number, add_word, end_line};
 use trace_words::{add_data, write_number_line};
 
 // The version of the format that is written.

@@ -8,9 +8,9 @@ use Rattle.trace_openings.specs.OpeningRows.{opening_rows}
 use Rattle.trace_words.specs.Rows.{Row}
 use Rattle.trace_lines.specs.Writing.{event_row}
 use Rattle.trace_player.specs.Traces.{trace_text}
-use Rattle.trace_text.proofs.LinesLemmas.{rows_text-cons, rows_text-nil, rows_text-append}
-use Rattle.trace_text.specs.Lines.{rows_text}
-use Rattle.trace_text.specs.Words.{line_of}
+use Rattle.text_lines.proofs.LinesLemmas.{rows_text-cons, rows_text-nil, rows_text-append}
+use Rattle.text_lines.specs.Lines.{rows_text}
+use Rattle.text_lines.specs.Words.{line_of}
 
 -- what was written, joined with the lines of events that are still to be written from a place on
 pub record EventsLeft (events : List Event) (i : ℕ) (out total : List ℕ) : Type 0 where

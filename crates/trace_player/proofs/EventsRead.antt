@@ -1,7 +1,7 @@
 -- Events read one after the other from their lines by a loop.
 use Rattle.std.proofs.Common.{◌≡◌, ℕ, zero, suc, ◌+◌, ◌-◌, ◌<◌, ◌≤◌, List, [], ◌∷◌, ◌++◌, Ok, Err, refl, sym, subst, ap, ◌∙◌, append_assoc, append-nil, arith, inl, inr}
-use Rattle.byte_reading.specs.Outcome.{◌>>=◌, Fails}
-use Rattle.byte_reading.proofs.OutcomeLemmas.{done}
+use Rattle.wire_bytes.specs.Outcome.{◌>>=◌, Fails}
+use Rattle.wire_bytes.proofs.OutcomeLemmas.{done}
 use Rattle.relay_events.specs.declared.event.Event.{Event}
 use Rattle.trace_lines.specs.Events.{event_of}
 use Rattle.trace_words.specs.Places.{Place, ReadLines, line_as}

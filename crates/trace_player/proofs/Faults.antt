@@ -1,7 +1,7 @@
 -- A text is too long by its length alone: its lines never give that fault.
 use Rattle.std.proofs.Common.{◌≡◌, ℕ, zero, suc, if◌then◌else◌, ◌<◌, Bool, true, false, nat_lt, List, [], ◌∷◌, length, Result, Ok, Err, refl, arith}
 use Rattle.std.proofs.lemmas.Bool.Decides.{nat_tests}
-use Rattle.byte_reading.specs.Outcome.{◌>>=◌}
+use Rattle.wire_bytes.specs.Outcome.{◌>>=◌}
 use Rattle.cosem_names.specs.declared.objects.Which.{Which}
 use Rattle.cosem_names.specs.declared.objects.Which.TheVariants.{Import, Export}
 use Rattle.trace_openings.specs.OpeningReading.{settings_from, limiter_from, export_from, schedules_from, opening_with, opening_in, opening_from}
@@ -12,7 +12,7 @@ use Rattle.trace_words.specs.declared.fault.TraceFault.{TraceFault}
 use Rattle.trace_words.specs.declared.fault.TraceFault.TheVariants.{TooLong}
 use Rattle.trace_words.specs.declared.version.Version.{Version}
 use Rattle.trace_words.specs.declared.version.Version.TheVariants.{One, Two}
-use Rattle.trace_player.specs.Traces.{most_bytes, events_at, trace_from, trace_of}
+use Rattle.trace_player.specs.Traces.{max_bytes, events_at, trace_from, trace_of}
 
 -- a result other than that a text is too long
 abbrev IsOther : {X : Type 0} → Result X TraceFault → Type 0
@@ -129,13 +129,13 @@ trace_other place =
     (λ events. ended_other events.1 _)))
 
 -- the fault `TooLong` means that the text is too long
-told_long : (text : List ℕ) (long : Bool) → nat_lt most_bytes (length text) ≡ long
+told_long : (text : List ℕ) (long : Bool) → nat_lt max_bytes (length text) ≡ long
     → IsOther (trace_from (place_of text)) → (if long then Err TooLong else trace_from
-    (place_of text)) ≡ Err TooLong → most_bytes < length text
+    (place_of text)) ≡ Err TooLong → max_bytes < length text
 told_long text true is other e = grind (arith, nat_tests)
 told_long text false is other e = absurd (other e)
 
-pub told_too_long : (text : List ℕ) → trace_of text ≡ Err TooLong → most_bytes < length text
+pub told_too_long : (text : List ℕ) → trace_of text ≡ Err TooLong → max_bytes < length text
 unfolding trace_of
-told_too_long text e = told_long text (nat_lt most_bytes (length text)) refl
+told_too_long text e = told_long text (nat_lt max_bytes (length text)) refl
     (trace_other (place_of text)) e

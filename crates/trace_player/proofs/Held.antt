@@ -1,8 +1,8 @@
 -- The lines after an opening, in the text that contains them.
 use Rattle.std.proofs.Common.{◌≡◌, ℕ, ◌+◌, ◌-◌, ◌<◌, ◌≤◌, ◌^◌, List, [], ◌∷◌, ◌++◌, length, length-append, drop, Ok, refl, sym, ap, ◌∙◌, arith, inl, inr}
-use Rattle.byte_reading.specs.Outcome.{◌>>=◌, Fails}
+use Rattle.wire_bytes.specs.Outcome.{◌>>=◌, Fails}
 use Rattle.relay_core.specs.declared.opening.Opening.{Opening}
-use Rattle.trace_text.specs.Lines.{rows_text}
+use Rattle.text_lines.specs.Lines.{rows_text}
 use Rattle.trace_words.proofs.HeldLemmas.{behind_front, text_behind}
 use Rattle.trace_words.proofs.PlaceLemmas.{rows_are_few}
 use Rattle.trace_words.proofs.PlacesBack.{Took, then, line_read}
@@ -14,7 +14,7 @@ use Rattle.trace_words.specs.declared.version.Version.{Version}
 use Rattle.trace_openings.proofs.OpeningTakes.{opening_stands}
 use Rattle.trace_openings.specs.OpeningReading.{opening_from}
 use Rattle.trace_lines.specs.Events.{events_from}
-use Rattle.trace_player.specs.Traces.{most_bytes, trace_behind, trace_from}
+use Rattle.trace_player.specs.Traces.{max_bytes, trace_behind, trace_from}
 
 -- the events of a trace are in the last bytes of its text
 pub record IsHeld (text rest : List ℕ) (version : Version) (count : ℕ) (opening : Opening)
@@ -34,7 +34,7 @@ unfolding trace_from
 trace_is start middle behind version opening count opened counted = rw (opened, counted) refl
 
 pub held_behind : (text bytes rest : List ℕ) (version : Version) (opening : Opening)
-    (count number : ℕ) (start middle behind : Place) → length text ≤ most_bytes → start
+    (count number : ℕ) (start middle behind : Place) → length text ≤ max_bytes → start
     ≡ place_of bytes → bytes ≡ text
     → opening_from start ≡ Ok ((version, opening), middle) → line_as events_from middle
     ≡ Ok (count, behind) → number ≡ behind.number → place_at behind.number rest ≡ behind

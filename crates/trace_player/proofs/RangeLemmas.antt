@@ -7,7 +7,7 @@ use Rattle.relay_recorder.specs.declared.trace.Trace.{Trace}
 use Rattle.trace_lines.specs.Traced.{FitsLine, IsTraced}
 use Rattle.trace_openings.specs.OpeningTraced.{IsWritable}
 use Rattle.trace_player.proofs.ShortTraces.{few_are_short}
-use Rattle.trace_player.specs.Traces.{most_bytes, trace_text}
+use Rattle.trace_player.specs.Traces.{max_bytes, trace_text}
 use Rattle.trace_player.specs.Written.{AreTraced, FitsText, IsWritableTrace}
 
 abbrev ReadsAgain : Event → Type 0
@@ -23,7 +23,7 @@ are_traced (event ∷ events) again fit = (
 
 pub is_writable : (trace : Trace) → (IsFitOpening trace.opening → IsWritable trace.opening)
     → All (λ event. FitsLine event → IsTraced event) trace.events
-    → FitsText trace → length (trace_text trace) ≤ most_bytes → IsWritableTrace trace
+    → FitsText trace → length (trace_text trace) ≤ max_bytes → IsWritableTrace trace
 is_writable trace opening events fits short = record {
   opening = opening fits.fit;
   events = are_traced trace.events events fits.events;
@@ -33,6 +33,6 @@ is_writable trace opening events fits short = record {
 
 pub is_short : (trace : Trace) → (IsFitOpening trace.opening → IsWritable trace.opening)
     → All (λ event. FitsLine event → IsTraced event) trace.events
-    → FitsText trace → length trace.events ≤ 1024 → length (trace_text trace) ≤ most_bytes
+    → FitsText trace → length trace.events ≤ 1024 → length (trace_text trace) ≤ max_bytes
 is_short trace opening events fits few = few_are_short trace (opening fits.fit)
     (are_traced trace.events events fits.events) few

@@ -9,10 +9,10 @@ use Rattle.trace_openings.specs.OpeningTraced.{IsWritable}
 use Rattle.trace_words.specs.Labels.{number_row}
 use Rattle.trace_words.specs.Rows.{Row}
 use Rattle.relay_events.specs.declared.event.Event.{Event}
-use Rattle.trace_lines.proofs.ShortEvents.{event_short}
+use Rattle.trace_lines.proofs.EventLaws.{event_short}
 use Rattle.trace_openings.proofs.ShortOpenings.{opening_short}
 use Rattle.trace_words.proofs.ShortRows.{AreShort, both_short, number_row_short, text_short}
-use Rattle.trace_player.specs.Traces.{most_bytes, trace_rows, trace_text}
+use Rattle.trace_player.specs.Traces.{max_bytes, trace_rows, trace_text}
 use Rattle.trace_player.specs.Written.{AreTraced}
 
 events_short : (events : List Event) → AreTraced events → AreShort (map event_row events)
@@ -24,7 +24,7 @@ unfolding opening_rows
 thirty_rows o = refl
 
 pub few_are_short : (trace : Trace) → IsWritable trace.opening → AreTraced trace.events
-    → length trace.events ≤ 1024 → length (trace_text trace) ≤ most_bytes
+    → length trace.events ≤ 1024 → length (trace_text trace) ≤ max_bytes
 few_are_short trace opening events few =
     let count : Row = number_row (codes "events") (length trace.events) in
     let others : List Row = map event_row trace.events in

@@ -6,8 +6,8 @@ use Rattle.std.specs.List.{list_all}
 use Rattle.relay_events.specs.declared.event.Event.{Event}
 use Rattle.relay_core.specs.declared.opening.Opening.{Opening}
 use Rattle.relay_recorder.specs.declared.trace.Trace.{Trace}
-use Rattle.trace_lines.proofs.EventLaws.{event_again, event_count_again}
-use Rattle.trace_lines.proofs.EventRows.{event_is_row, event_count_is_row}
+use Rattle.trace_lines.proofs.EventLaws.{event_again, event_is_row, event_count_again}
+use Rattle.trace_lines.proofs.EventLaws.{event_count_is_row}
 use Rattle.trace_openings.specs.OpeningReading.{opening_from}
 use Rattle.trace_words.specs.Labels.{number_row}
 use Rattle.trace_openings.specs.OpeningRows.{opening_rows}
@@ -18,10 +18,10 @@ use Rattle.trace_lines.specs.Writing.{event_row}
 use Rattle.trace_words.specs.declared.fault.TraceFault.{TraceFault}
 use Rattle.trace_words.specs.declared.fault.TraceFault.TheVariants.{TooLong}
 use Rattle.trace_words.specs.declared.version.Version.TheVariants.{Two}
-use Rattle.trace_player.specs.Traces.{most_bytes, events_at, trace_from, trace_of, trace_rows, trace_text}
+use Rattle.trace_player.specs.Traces.{max_bytes, events_at, trace_from, trace_of, trace_rows, trace_text}
 use Rattle.trace_player.specs.Written.{AreTraced, IsWritableTrace}
-use Rattle.trace_text.proofs.Known.{rows_whole, rows_ended}
-use Rattle.trace_text.specs.Lines.{is_row}
+use Rattle.text_lines.proofs.Known.{rows_whole, rows_ended}
+use Rattle.text_lines.specs.Lines.{is_row}
 
 -- the lines of an opening are read back, whatever lines follow, and are lines of words
 abbrev pub OpensAgain : Type 0
@@ -98,7 +98,7 @@ place_is has trace is =
     ap₂ made (rows_whole (trace_rows trace) (rows_are has trace is))
     (rows_ended (trace_rows trace) (rows_are has trace is))
 
-short_enough : (n : ℕ) → n ≤ most_bytes → nat_lt most_bytes n ≡ false
+short_enough : (n : ℕ) → n ≤ max_bytes → nat_lt max_bytes n ≡ false
 short_enough n le = grind (arith, nat_tests)
 
 pub trace_again : OpensAgain → HasRows → (trace : Trace) → IsWritableTrace trace

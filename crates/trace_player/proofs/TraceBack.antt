@@ -1,11 +1,11 @@
 -- The text of version 2 that a trace is read from is the text that is written for it, except for
 -- the Datas in the lines of its opening.
 use Rattle.std.proofs.Common.{◌≡◌, ℕ, zero, suc, nat_lt, List, [], ◌∷◌, ◌++◌, length, map, Ok, refl, sym, ap, ap₂, subst, ◌∙◌, arith, append-nil, codes}
-use Rattle.byte_reading.proofs.OutcomeLemmas.{ok_is, bind_ok, refused_ok}
+use Rattle.wire_bytes.proofs.OutcomeLemmas.{ok_is, bind_ok, refused_ok}
 use Rattle.relay_events.specs.declared.event.Event.{Event}
 use Rattle.relay_core.specs.declared.opening.Opening.{Opening}
 use Rattle.relay_recorder.specs.declared.trace.Trace.{Trace}
-use Rattle.trace_lines.proofs.EventsBack.{event_back, events_back}
+use Rattle.trace_lines.proofs.EventLaws.{event_back, events_back}
 use Rattle.trace_openings.proofs.OpeningBack.{opening_back, opening_lines, written_rows}
 use Rattle.trace_openings.proofs.OpeningFieldLaws.{version_again}
 use Rattle.trace_words.proofs.PlacesBack.{Took, then, line_read, line_back}
@@ -20,10 +20,10 @@ use Rattle.trace_lines.specs.Writing.{event_row}
 use Rattle.trace_words.specs.declared.fault.TraceFault.TheVariants.{TooLong}
 use Rattle.trace_words.specs.declared.version.Version.{Version}
 use Rattle.trace_words.specs.declared.version.Version.TheVariants.{Two}
-use Rattle.trace_player.specs.Traces.{most_bytes, events_at, trace_from, trace_of, trace_text}
+use Rattle.trace_player.specs.Traces.{max_bytes, events_at, trace_from, trace_of, trace_text}
 use Rattle.trace_player.specs.Versions.{IsOfVersionTwo, text_with}
-use Rattle.trace_text.proofs.LinesLemmas.{rows_text-rows_of}
-use Rattle.trace_text.specs.Lines.{rows_of, rows_text, unended_of}
+use Rattle.text_lines.proofs.LinesLemmas.{rows_text-rows_of}
+use Rattle.text_lines.specs.Lines.{rows_of, rows_text, unended_of}
 
 -- ---- events
 
@@ -110,7 +110,7 @@ pub trace_back : (text : List ℕ) (trace : Trace) → IsOfVersionTwo text → t
     → (forms : Forms) × AreFormsOf trace.opening forms × (text ≡ text_with trace forms)
 unfolding trace_of trace_from
 trace_back text trace two e =
-    let short = refused_ok (nat_lt most_bytes (length text)) TooLong
+    let short = refused_ok (nat_lt max_bytes (length text)) TooLong
     (trace_from (place_of text)) trace e in
     let opening = bind_ok (opening_from (place_of text)) _ trace short.1 in
     let count = bind_ok (line_as events_from opening.0.1) _ trace opening.2 in

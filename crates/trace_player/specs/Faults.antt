@@ -1,6 +1,6 @@
 -- The fault of a player whose input could not be read to its end.
-use Rattle.byte_streams.specs.declared.fault.InputFault.{InputFault}
-use Rattle.byte_streams.specs.declared.fault.InputFault.TheVariants as input_fault
+use Rattle.counted_io.specs.declared.fault.InputFault.{InputFault}
+use Rattle.counted_io.specs.declared.fault.InputFault.TheVariants as input_fault
 use Rattle.trace_player.specs.declared.fault.PlayFault.{PlayFault}
 use Rattle.trace_player.specs.declared.fault.PlayFault.TheVariants as play_fault
 

@@ -1,8 +1,10 @@
 pub mod Exported
 pub mod Faults
+pub mod Numbers
 pub mod Playing
 pub mod Plays
+pub mod Resuming
+pub mod RunTraces
 pub mod Traces
 pub mod Versions
 pub mod Written
-pub mod Numbers

@@ -8,7 +8,7 @@ use Rattle.std.specs.Io.KnownBytes.{Appends, Consumes, IsAtEnd}
 use Rattle.relay_recorder.specs.declared.trace.Trace.{Trace}
 use Rattle.trace_words.specs.declared.fault.TraceFault.TheVariants as trace_fault
 use Rattle.trace_player.specs.Playing.{PlaysTrace, output_of_trace}
-use Rattle.trace_player.specs.Traces.{most_bytes, trace_of}
+use Rattle.trace_player.specs.Traces.{max_bytes, trace_of}
 use Rattle.trace_player.specs.declared.fault.PlayFault.{PlayFault}
 use Rattle.trace_player.specs.declared.fault.PlayFault.TheVariants as fault
 use Rattle.trace_player.specs.declared.output.PlayedLines.{PlayedLines}
@@ -19,8 +19,8 @@ Gave bytes failed (Ok output) left' failed' =
     PlaysTrace (trace_of bytes) output.lines.items output.count × IsAtEnd left'
 Gave bytes failed (Err (fault.Line number)) left' failed' =
     (trace_of bytes ≡ Err (trace_fault.Line number)) × IsAtEnd left'
-Gave bytes failed (Err fault.TooLong) left' failed' = most_bytes < length bytes
-Gave bytes failed (Err fault.Read) left' failed' = (length bytes ≤ most_bytes) × (failed < failed')
+Gave bytes failed (Err fault.TooLong) left' failed' = max_bytes < length bytes
+Gave bytes failed (Err fault.Read) left' failed' = (length bytes ≤ max_bytes) × (failed < failed')
 Gave bytes failed (Err fault.Write) left' failed' = ⊥
 Gave bytes failed (Err fault.Memory) left' failed' = ⊤
 
@@ -44,9 +44,9 @@ module _ {R W : Type 0}
       (trace_of bytes ≡ Err (trace_fault.Line number)) × IsAtEnd (remaining r')
       × Appends (contents w) (contents w') []
   Played bytes r w (Err fault.TooLong) r' w' =
-      (most_bytes < length bytes) × Appends (contents w) (contents w') []
+      (max_bytes < length bytes) × Appends (contents w) (contents w') []
   Played bytes r w (Err fault.Read) r' w' =
-      (length bytes ≤ most_bytes) × (read_failures r < read_failures r')
+      (length bytes ≤ max_bytes) × (read_failures r < read_failures r')
       × Appends (contents w) (contents w') []
   Played bytes r w (Err fault.Write) r' w' =
       (trace : Trace) × (trace_of bytes ≡ Ok trace) × IsAtEnd (remaining r')

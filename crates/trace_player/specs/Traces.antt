@@ -4,7 +4,7 @@
 --     trace_of         the trace of a text, or its fault
 --     trace_text       the text that is written for a trace, in version 2
 use Rattle.std.specs.Prelude.{ℕ, zero, suc, nat_lt, if◌then◌else◌, codes, List, [], ◌∷◌, ◌++◌, length, map, Result, Ok, Err}
-use Rattle.byte_reading.specs.Outcome.{◌>>=◌}
+use Rattle.wire_bytes.specs.Outcome.{◌>>=◌}
 use Rattle.relay_events.specs.declared.event.Event.{Event}
 use Rattle.relay_core.specs.declared.opening.Opening.{Opening}
 use Rattle.relay_recorder.specs.declared.trace.Trace.{Trace}
@@ -18,11 +18,11 @@ use Rattle.trace_lines.specs.Writing.{event_row}
 use Rattle.trace_words.specs.declared.fault.TraceFault.{TraceFault}
 use Rattle.trace_words.specs.declared.fault.TraceFault.TheVariants.{TooLong}
 use Rattle.trace_words.specs.declared.version.Version.{Version}
-use Rattle.trace_text.specs.Lines.{rows_text}
+use Rattle.text_lines.specs.Lines.{rows_text}
 
 -- the maximum length of a text, in bytes
-abbrev pub most_bytes : ℕ
-most_bytes = 33554432
+abbrev pub max_bytes : ℕ
+max_bytes = 33554432
 
 -- the events of the next lines, this number of them
 unfoldable pub events_at : Version → ℕ → Place → ReadLines (List Event)
@@ -48,7 +48,7 @@ trace_from place = do
 
 -- the trace of a text
 unfoldable pub trace_of : List ℕ → Result Trace TraceFault
-trace_of text = if nat_lt most_bytes (length text) then Err TooLong else trace_from (place_of text)
+trace_of text = if nat_lt max_bytes (length text) then Err TooLong else trace_from (place_of text)
 
 -- the lines of a trace
 abbrev pub trace_rows : Trace → List Row

@@ -5,7 +5,7 @@ use Rattle.trace_openings.specs.OpeningForms.{Forms, rows_with}
 use Rattle.trace_words.specs.Labels.{number_row}
 use Rattle.trace_words.specs.Rows.{Row}
 use Rattle.trace_lines.specs.Writing.{event_row}
-use Rattle.trace_text.specs.Lines.{rows_of, rows_text}
+use Rattle.text_lines.specs.Lines.{rows_of, rows_text}
 
 -- the first line of a text has version 2
 abbrev pub IsOfVersionTwo : List ℕ → Type 0

@@ -9,7 +9,7 @@ use Rattle.relay_recorder.specs.declared.trace.Trace.{Trace}
 use Rattle.trace_lines.specs.Events.{max_events}
 use Rattle.trace_openings.specs.OpeningTraced.{IsWritable}
 use Rattle.trace_lines.specs.Traced.{FitsLine, IsTraced}
-use Rattle.trace_player.specs.Traces.{most_bytes, trace_text}
+use Rattle.trace_player.specs.Traces.{max_bytes, trace_text}
 
 -- events whose lines are read back
 abbrev pub AreTraced : List Event → Type 0
@@ -22,7 +22,7 @@ pub record IsWritableTrace (trace : Trace) : Type 0 where
   pub opening : IsWritable trace.opening
   pub events : AreTraced trace.events
   pub few : length trace.events ≤ max_events
-  pub short : length (trace_text trace) ≤ most_bytes
+  pub short : length (trace_text trace) ≤ max_bytes
 
 -- an opening that a core can have, and events that fit their lines, at most the maximum number of
 -- them

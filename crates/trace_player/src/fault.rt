@@ -5,7 +5,7 @@ ghost use Rattle.trace_player.specs.Numbers.{fault_number};
 ghost use Rattle.trace_player.specs.Faults.{fault_of};
 ghost use Rattle.trace_player.specs.declared.fault.PlayFault.TheVariants as play_fault;
 
-use byte_streams::InputFault;
+use counted_io::InputFault;
 use std::alloc::AllocError;
 use thiserror::Error;
 
@@ -26,7 +26,7 @@ pub enum PlayFault {
     #[error("a write failed")]
     Write,
     /// Out of memory.
-    #[error("no memory")]
+    #[error("out of memory")]
     Memory,
 }
 

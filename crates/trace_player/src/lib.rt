@@ -5,6 +5,7 @@
 //! its events on a meter in the state of the opening, and writes a line for each.
 #![tactic(auto)]
 
+mod exporting;
 mod fault;
 mod laws;
 mod output;
@@ -12,12 +13,15 @@ mod player;
 mod playing;
 mod ranges;
 mod reading;
+mod resuming;
 mod writing;
 
+pub use exporting::recorder_trace;
 pub use fault::PlayFault;
 pub use laws::{exported_run_is_played, read_trace_is_written, written_trace_is_read};
 pub use player::play;
 pub use reading::{MAX_BYTES, read_trace};
 pub use relay_recorder::Trace;
+pub use resuming::resumed_recorder;
 pub use trace_words::TraceFault;
 pub use writing::write_trace;

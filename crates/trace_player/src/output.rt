@@ -1,11 +1,11 @@
 //! Plays the text of a trace and collects the output before any of it is written.
 ghost use Rattle.std.specs.Prelude.{◌+◌, ◌-◌, ◌<◌, ◌≤◌, ◌^◌, drop, length, IfErr, IfOk, IsErrOf};
 ghost use Rattle.trace_words.specs.Places.{place_at, place_of};
-ghost use Rattle.byte_reading.specs.Outcome.{Fails};
+ghost use Rattle.wire_bytes.specs.Outcome.{Fails};
 ghost use Rattle.relay_core.specs.Opening.{IsFitOpening};
 ghost use Rattle.trace_words.specs.declared.fault.TraceFault.TheVariants as trace_fault;
 ghost use Rattle.trace_player.specs.Playing.{PlaysTrace};
-ghost use Rattle.trace_player.specs.Traces.{most_bytes, trace_behind, trace_from, trace_of};
+ghost use Rattle.trace_player.specs.Traces.{max_bytes, trace_behind, trace_from, trace_of};
 
 use crate::playing::play_events;
 use crate::reading::MAX_BYTES;
@@ -84,7 +84,7 @@ fn play_held(
 // Plays the trace of a text.
 #[tactic(auto, unfolding(crate::specs::Traces::trace_from))]
 fn play_lines(alloc: Global, text: Vec<u8>) -> Result<PlayedLines, TraceFault>
-    requires { length text.items ≤ most_bytes }
+    requires { length text.items ≤ max_bytes }
     ensures ok { IfOk result
         (λ output. PlaysTrace (trace_from (place_of text.items)) output.lines.items output.count) }
     ensures err { IfErr result
@@ -112,7 +112,7 @@ pub(crate) fn play_text(alloc: Global, text: Vec<u8>) -> Result<PlayedLines, Tra
     ensures ok { IfOk result
         (λ output. PlaysTrace (trace_of text.items) output.lines.items output.count) }
     ensures err { IfErr result (λ fault. Fails trace_fault.Memory fault (trace_of text.items)) }
-    ensures long { IsErrOf result trace_fault.TooLong → most_bytes < length text.items }
+    ensures long { IsErrOf result trace_fault.TooLong → max_bytes < length text.items }
 {
     if text.len() > MAX_BYTES {
         drop(text);

@@ -4,7 +4,7 @@ ghost use Rattle.trace_player.specs.Plays.{Plays, TakesTrace};
 use crate::fault::PlayFault;
 use crate::output::{PlayedLines, play_text};
 use crate::reading::MAX_BYTES;
-use byte_streams::{Reader, Writer, read_to_end_within};
+use counted_io::{Reader, Writer, read_to_end_within};
 use std::alloc::Global;
 use trace_words::TraceFault;
 

@@ -1,7 +1,7 @@
 //! Applies the events of a trace to a core, each as soon as its line is read, and collects the
 //! lines of the replies.
 ghost use Rattle.std.specs.Prelude.{◌≡◌, ◌++◌, ◌∷◌, [], IfErr, IfOk, OnOk};
-ghost use Rattle.byte_reading.specs.Outcome.{Fails};
+ghost use Rattle.wire_bytes.specs.Outcome.{Fails};
 ghost use Rattle.relay_core.specs.Machine.{at_event};
 ghost use Rattle.relay_core.specs.Runs.{line_at};
 ghost use Rattle.relay_core.specs.Stands.{StandsFor};
@@ -16,8 +16,8 @@ ghost use Rattle.trace_player.specs.Traces.{events_at};
 use relay_core::{RelayCore, line_after};
 use relay_events::{Event, Line};
 use std::alloc::{AllocError, Global};
+use text_lines::end_line;
 use trace_lines::{next_held_event, write_line};
-use trace_text::end_line;
 use trace_words::{HeldLines, TraceFault, Version};
 
 // Appends the line of a reply, with the byte 0A that ends it.

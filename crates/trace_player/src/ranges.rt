@@ -3,7 +3,7 @@
 ghost use Rattle.std.specs.Prelude.{◌≡◌, ◌≤◌, length, Ok};
 ghost use Rattle.std.specs.List.{All};
 ghost use Rattle.trace_lines.specs.Traced.{FitsLine, IsTraced};
-ghost use Rattle.trace_player.specs.Traces.{most_bytes, trace_of, trace_text};
+ghost use Rattle.trace_player.specs.Traces.{max_bytes, trace_of, trace_text};
 ghost use Rattle.trace_player.specs.Written.{FitsText};
 
 use crate::laws::written_trace_is_read;
@@ -25,10 +25,10 @@ fn events_are_traced(events: &[Event])
 // 33,554,432 bytes, as the text of at most 1,024 events has.
 #[tactic(auto, using(crate::proofs::RangeLemmas::is_writable, crate::proofs::RangeLemmas::is_short))]
 pub(crate) fn trace_is_read_again(trace: &Trace)
-    ensures read_back { FitsText trace.now → length (trace_text trace.now) ≤ most_bytes
+    ensures read_back { FitsText trace.now → length (trace_text trace.now) ≤ max_bytes
         → trace_of (trace_text trace.now) ≡ Ok trace.now }
     ensures short { FitsText trace.now → length trace.now.events ≤ 1024
-        → length (trace_text trace.now) ≤ most_bytes }
+        → length (trace_text trace.now) ≤ max_bytes }
 {
     opening_is_writable(&trace.opening);
     events_are_traced(trace.events.as_slice());

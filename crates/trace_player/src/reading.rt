@@ -1,10 +1,10 @@
 //! Reads a whole trace from its text: the opening, the number of events, and the events.
 ghost use Rattle.std.specs.Prelude.{◌≡◌, ◌<◌, ◌↔◌, length, IfOk, IsErrOf};
-ghost use Rattle.byte_reading.specs.Outcome.{Gives};
+ghost use Rattle.wire_bytes.specs.Outcome.{Gives};
 ghost use Rattle.relay_core.specs.Opening.{IsFitOpening};
 ghost use Rattle.trace_words.specs.Places.{ReadsLines, ended_at};
 ghost use Rattle.trace_words.specs.declared.fault.TraceFault.TheVariants as trace_fault;
-ghost use Rattle.trace_player.specs.Traces.{most_bytes, events_at, trace_from, trace_of};
+ghost use Rattle.trace_player.specs.Traces.{max_bytes, events_at, trace_from, trace_of};
 
 use relay_events::Events;
 use relay_recorder::Trace;
@@ -73,7 +73,7 @@ fn read_lines(alloc: Global, lines: &mut TraceLines) -> Result<Trace, TraceFault
 pub fn read_trace(alloc: Global, text: &[u8]) -> Result<Trace, TraceFault>
     ensures exact { Gives trace_fault.Memory (λ trace. trace) result (trace_of text.now) }
     ensures fit { IfOk result (λ trace. IsFitOpening trace.opening) }
-    ensures long { IsErrOf result trace_fault.TooLong ↔ (most_bytes < length text.now) }
+    ensures long { IsErrOf result trace_fault.TooLong ↔ (max_bytes < length text.now) }
 {
     if text.len() > MAX_BYTES {
         return Err(TraceFault::TooLong);

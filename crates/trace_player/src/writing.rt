@@ -1,19 +1,19 @@
 //! Writes a whole trace as text, which `read_trace` reads back.
 ghost use Rattle.std.specs.Prelude.{◌≡◌, ◌≤◌, ◌++◌, ◌∷◌, [], length, map, Ok, IfOk, OnOk};
 ghost use Rattle.trace_lines.specs.Writing.{event_row};
-ghost use Rattle.trace_player.specs.Traces.{most_bytes, trace_of, trace_text};
+ghost use Rattle.trace_player.specs.Traces.{max_bytes, trace_of, trace_text};
 ghost use Rattle.trace_player.specs.Written.{FitsText};
-ghost use Rattle.trace_text.specs.Lines.{rows_text};
-ghost use Rattle.trace_text.specs.Words.{line_of};
+ghost use Rattle.text_lines.specs.Lines.{rows_text};
+ghost use Rattle.text_lines.specs.Words.{line_of};
 
 use crate::ranges::trace_is_read_again;
 use cosem_axdr::Octets;
 use relay_events::Event;
 use relay_recorder::Trace;
 use std::alloc::{AllocError, Global};
+use text_lines::end_line;
 use trace_lines::{write_event, write_event_count};
 use trace_openings::write_opening;
-use trace_text::end_line;
 
 // Appends the line of an event, with the byte 0A that ends it.
 fn add_event(alloc: Global, out: &mut Vec<u8>, event: &Event) -> Result<(), AllocError>
@@ -54,10 +54,10 @@ fn write_lines(alloc: Global, trace: &Trace) -> Result<Octets, AllocError>
 /// never longer.
 pub fn write_trace(alloc: Global, trace: &Trace) -> Result<Octets, AllocError>
     ensures text { IfOk result (λ text. text ≡ trace_text trace.now) }
-    ensures read_back { IfOk result (λ text. FitsText trace.now → length text ≤ most_bytes
+    ensures read_back { IfOk result (λ text. FitsText trace.now → length text ≤ max_bytes
         → trace_of text ≡ Ok trace.now) }
     ensures short { IfOk result (λ text. FitsText trace.now → length trace.now.events ≤ 1024
-        → length text ≤ most_bytes) }
+        → length text ≤ max_bytes) }
 {
     trace_is_read_again(trace);
     write_lines(alloc, trace)

@@ -1,6 +1,6 @@
 -- The program's fault for each reason why a trace was not played.
-use Rattle.program_fault.specs.declared.Fault.{Fault}
-use Rattle.program_fault.specs.declared.Fault.TheVariants as program
+use Rattle.program.specs.declared.fault.Fault.{Fault}
+use Rattle.program.specs.declared.fault.Fault.TheVariants as program
 use Rattle.trace_player.specs.declared.fault.PlayFault.{PlayFault}
 use Rattle.trace_player.specs.declared.fault.PlayFault.TheVariants as fault
 

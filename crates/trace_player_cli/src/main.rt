@@ -1,45 +1,36 @@
-//! The program `trace_player`: reads a trace on standard input and prints its run.
+//! The program `trace_player`: reads a trace and prints its run.
 //!
-//! `trace_player::play` makes the run; this crate has the command line, the standard streams and
-//! the exit status.
+//! `trace_player::play` makes the run, and `trace_views` what the options ask for; this crate has
+//! the command line, the file or standard input, standard output and the exit status.
 #![tactic(auto)]
 
 ghost use Rattle.std.specs.Prelude.{◌≡◌};
 ghost use Rattle.trace_player_cli.specs.Faults.{fault_of};
 
+mod arguments;
+mod opening;
+mod options;
 mod telling;
 
+use crate::arguments::command_line;
+use crate::opening::not_opened;
+use crate::options::{Options, is_in_order, options_of};
 use crate::telling::tell;
-use byte_streams::{Counted, read_to_end_within};
-use clap::{Arg, ArgAction, Command};
-use program_fault::Fault;
-use program_start::{exit_code, without_work, words};
-use std::alloc::{AllocError, Global};
+use clap::error::ErrorKind;
+use counted_io::{Counted, read_to_end_within};
+use program::{Fault, exit_code, without_work, words};
+use std::fs;
+use std::io::Read;
 use std::process::ExitCode;
 use trace_player::{MAX_BYTES, PlayFault, play};
+use trace_views::{play_front, play_view};
 
-// The last lines of `--help`.
-const LIMITS_AND_STATUSES: &str = "\
-Limits: a trace has at most 33,554,432 bytes and 65,536 events.
-A fault is the line `fault: WORD` on standard error. \
-With --verbose, a line before it says what was expected and what was found.
-Exit status: 0 success; 2 the command line or the input is wrong; \
-3 reading or writing failed; 4 out of memory.
-Example: trace_player < run.trace";
+// The name of standard input in messages.
+const STANDARD_INPUT: &str = "standard input";
 
-// Returns the command line with its help.
-fn command_line<'a>(alloc: Global) -> Result<Command<'a>, AllocError> {
-    let verbose = Arg::new(alloc, "verbose")
-        .long("verbose")
-        .help("On a fault, report what was expected and what was found on standard error")
-        .action(ArgAction::SetTrue);
-    Command::new(alloc, "trace_player")
-        .bin_name("trace_player")?
-        .version("0.1.0")
-        .about("Plays the trace on standard input and prints a line for each of its events")
-        .after_help(LIMITS_AND_STATUSES)
-        .arg(verbose)
-}
+// The message about an upper bound that is below the lower one.
+const OUT_OF_ORDER: &str =
+    "invalid value for '--to <N>': it must not be less than the value of '--from <N>'";
 
 // Returns the program's fault for a trace that was not played.
 fn fault_of(fault: PlayFault) -> Fault
@@ -53,9 +44,9 @@ fn fault_of(fault: PlayFault) -> Fault
     }
 }
 
-// Plays the trace of standard input.
-fn play_input(rt: &HostRuntime) -> Result<(), Fault> {
-    let mut reader = Counted::new(rt.stdin());
+// Plays the trace of a stream, each event as soon as its line is read.
+fn play_stream<T: Read + Drop>(rt: &HostRuntime, stream: T) -> Result<(), Fault> {
+    let mut reader = Counted::new(stream);
     let mut writer = Counted::new(rt.stdout());
     match play(rt.alloc(), &mut reader, &mut writer) {
         Ok(_) => Ok(()),
@@ -63,46 +54,91 @@ fn play_input(rt: &HostRuntime) -> Result<(), Fault> {
     }
 }
 
-// Plays the trace of standard input. On a fault, writes to standard error what was expected and
-// what was found, for which it holds the whole text in memory.
-fn play_and_tell(rt: &HostRuntime) -> Result<(), Fault> {
-    let mut input = Counted::new(rt.stdin());
-    let text = match read_to_end_within(rt.alloc(), &mut input, MAX_BYTES) {
-        Ok(text) => text,
-        Err(fault) => {
-            tell(rt, &[], PlayFault::from(fault));
-            return Err(fault_of(PlayFault::from(fault)));
-        }
-    };
-    let mut reader = Counted::new(text.as_slice());
+// Returns the program's fault for a trace that was not played. If the options ask for it, reports
+// on standard error what was expected and what was found in `text`, which was read from `name`.
+fn report(
+    rt: &HostRuntime,
+    name: &str,
+    text: &[u8],
+    fault: PlayFault,
+    options: &Options<'_>,
+) -> Fault
+    ensures { result ≡ fault_of fault }
+{
+    if options.describes_faults() {
+        tell(rt, name, text, fault);
+    }
+    fault_of(fault)
+}
+
+// Plays a trace that was read from `name`, and prints what the options ask for.
+fn play_text(
+    rt: &HostRuntime,
+    name: &str,
+    text: &[u8],
+    options: &Options<'_>,
+) -> Result<(), Fault> {
     let mut writer = Counted::new(rt.stdout());
-    match play(rt.alloc(), &mut reader, &mut writer) {
-        Ok(_) => Ok(()),
-        Err(fault) => {
-            tell(rt, text.as_slice(), fault);
-            Err(fault_of(fault))
-        }
+    let played = if options.is_partial {
+        play_front(rt.alloc(), text, &options.view, &mut writer)
+    } else {
+        play_view(rt.alloc(), text, &options.view, &mut writer)
+    };
+    match played {
+        Ok(()) => Ok(()),
+        Err(fault) => Err(report(rt, name, text, fault, options)),
+    }
+}
+
+// Plays the trace of a stream, which is called `name` in messages, and prints what the options ask
+// for. For any option it holds the whole text in memory.
+fn play_input<T: Read + Drop>(
+    rt: &HostRuntime,
+    name: &str,
+    stream: T,
+    options: &Options<'_>,
+) -> Result<(), Fault> {
+    if options.is_plain() {
+        return play_stream(rt, stream);
+    }
+    let mut input = Counted::new(stream);
+    match read_to_end_within(rt.alloc(), &mut input, MAX_BYTES) {
+        Ok(text) => play_text(rt, name, text.as_slice(), options),
+        Err(fault) => Err(report(rt, name, &[], PlayFault::from(fault), options)),
+    }
+}
+
+// Plays the trace of the file, or of standard input if there is none.
+fn play_file(rt: &HostRuntime, options: &Options<'_>) -> Result<(), Fault> {
+    let Some(path) = options.file else {
+        return play_input(rt, STANDARD_INPUT, rt.stdin(), options);
+    };
+    match fs::open(rt, path) {
+        Ok(stream) => play_input(rt, path, stream, options),
+        Err(error) => Err(not_opened(rt, path, error.kind(), options.describes_faults())),
     }
 }
 
 // Reads the command line and runs its command. Returns the exit status: 0, or 2 if the command line
 // is wrong.
 fn run(rt: &HostRuntime) -> Result<u8, Fault> {
-    let alloc = rt.alloc();
     let words = words(rt)?;
-    let command = command_line(alloc).map_err(|_| Fault::Memory)?;
-    match command.try_get_matches_from(words.as_slice()) {
+    let mut command = command_line(rt.alloc()).map_err(|_| Fault::Memory)?;
+    let options = match command.try_get_matches_from_mut(words.as_slice()) {
         Ok(matches) => {
-            let is_verbose = matches.get_flag("verbose");
+            let options = options_of(&matches);
             drop(matches);
-            if is_verbose {
-                play_and_tell(rt)?;
-            } else {
-                play_input(rt)?;
-            }
-            Ok(0)
+            options
         }
-        Err(error) => without_work(rt, &error),
+        Err(error) => return without_work(rt, &error),
+    };
+    if is_in_order(&options.view) {
+        play_file(rt, &options)?;
+        return Ok(0);
+    }
+    match command.error(ErrorKind::ValueValidation, OUT_OF_ORDER) {
+        Ok(error) => without_work(rt, &error),
+        Err(_) => Err(Fault::Memory),
     }
 }
 

@@ -1,7 +1,7 @@
 //! The message that `--verbose` writes if a text is not a trace.
+use text_lines::{TextLines, Words, read_number};
 use thiserror::Error;
 use trace_player::{MAX_BYTES, PlayFault};
-use trace_text::{TextLines, Words, read_number};
 
 // The lines of an opening of version 2 in their order, each as its first word and the names of the
 // others. Version 1 does not have those that begin with `x`.
@@ -96,8 +96,8 @@ enum Why {
 }
 
 // Writes to standard error, in one line, why a trace was not played. `text` is the trace as far as
-// it was read.
-pub(crate) fn tell(rt: &HostRuntime, text: &[u8], fault: PlayFault) {
+// it was read, and `name` what it was read from.
+pub(crate) fn tell(rt: &HostRuntime, name: &str, text: &[u8], fault: PlayFault) {
     let _ = match fault {
         PlayFault::Line(number) => return tell_line(rt, text, number),
         PlayFault::TooLong => {
@@ -106,7 +106,7 @@ pub(crate) fn tell(rt: &HostRuntime, text: &[u8], fault: PlayFault) {
                 MAX_BYTES + 1
             )
         }
-        PlayFault::Read => eprintln!(rt; "standard input: a read failed"),
+        PlayFault::Read => eprintln!(rt; "{name}: a read failed"),
         PlayFault::Write => eprintln!(rt; "standard output: a write failed"),
         PlayFault::Memory => eprintln!(rt; "out of memory"),
     };

@@ -1,15 +1,15 @@
 //! Traces that a recorder exports, written as text and played.
-use byte_streams::Counted;
 use cosem_axdr::Octets;
+use counted_io::Counted;
 use relay_core::{Event, Opening, RelayCore, Reply};
 use relay_recorder::Recorder;
 use std::alloc::{AllocError, Global};
 use std::process::Abort;
 use std::test::Fail;
+use text_lines::TextLines;
 use trace_lines::{read_event, write_event};
 use trace_openings::write_opening;
 use trace_player::{play, write_trace};
-use trace_text::TextLines;
 use trace_words::Version;
 
 // Script 1 writes a threshold of 9,000 watts. It runs after 4 seconds over the threshold of 5,000,

@@ -14,4 +14,6 @@ mod openings;
 #[cfg(test)]
 mod plays;
 #[cfg(test)]
+mod views;
+#[cfg(test)]
 mod writing;

@@ -5,13 +5,13 @@ use cosem_names::{
 };
 use disconnect_control::ControlState;
 use lane_sampler::Block;
-use listed::Listed;
 use relay_core::{Event, Line, Reply};
 use std::alloc::{AllocError, Global};
 use std::test::Fail;
+use text_lines::TextLines;
 use trace_lines::{read_event, write_event, write_line};
-use trace_text::TextLines;
 use trace_words::{RowFault, Version};
+use wire_bytes::Listed;
 
 // 0.0.96.3.10.255, the disconnect control.
 const CONTROL: Obis = Obis([0, 0, 0x60, 3, 0x0A, 0xFF]);

@@ -5,9 +5,9 @@ use limiter_core::Count;
 use relay_core::{LimiterOpening, Opening};
 use std::alloc::{AllocError, Global};
 use std::test::Fail;
+use text_lines::TextLines;
 use trace_lines::{next_event, read_event_count};
 use trace_openings::read_opening;
-use trace_text::TextLines;
 use trace_words::{TraceFault, TraceLines, Version};
 
 // A new meter, in version 1.

@@ -1,15 +1,15 @@
 //! Traces and what they print.
-use byte_streams::Counted;
 use cosem_axdr::Octets;
+use counted_io::Counted;
 use std::alloc::{AllocError, Global};
 use std::io;
 use std::io::{ErrorKind, Read, Write};
+use text_lines::{TextLines, end_line};
 use trace_player::{PlayFault, TraceFault, play, read_trace, write_trace};
-use trace_text::{TextLines, end_line};
 
 // A switch that is cut and reconnected remotely, the button pressed between, a read, samples and
 // moments.
-const TRACE: &[u8] = b"RELAYTRACE 1
+pub(crate) const TRACE: &[u8] = b"RELAYTRACE 1
 device 52454C415931
 state 1
 mode 0

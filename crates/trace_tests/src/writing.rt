@@ -3,11 +3,11 @@ use action_schedule::{ActionSchedule, ScheduleType};
 use cosem_axdr::Octets;
 use disconnect_control::{ControlMode, ControlState};
 use limiter_core::{Actions, Count};
-use listed::Listed;
 use relay_core::{LimiterOpening, Opening, RelayCore};
 use std::alloc::{AllocError, Global};
 use trace_lines::write_event_count;
 use trace_openings::write_opening;
+use wire_bytes::Listed;
 
 // The lines of a new meter with the name RELAY1.
 const NEW: &[u8] = b"RELAYTRACE 2\n\

@@ -1,8 +1,8 @@
 -- Words, each after a blank, written one after the other.
 use Rattle.std.proofs.Common.{◌≡◌, ℕ, zero, suc, ◌+◌, ◌<◌, ◌≤◌, List, [], ◌∷◌, ◌++◌, length, drop, get_or, refl, sym, ap, ◌∙◌, append_assoc, append-nil, add-one, arith, drop-cons}
-use Rattle.trace_text.specs.Words.{line_of}
+use Rattle.text_lines.specs.Words.{line_of}
 use Rattle.trace_words.specs.Rows.{Word, Row}
-use Rattle.trace_words.specs.Writing.{words_after_blanks, all_words, value_words}
+use Rattle.trace_words.specs.Writing.{words_after_blanks, row_text, all_words, value_words}
 
 -- a line is its first word, followed by each other word after a blank
 pub line_of_first : (word : Word) (words : Row) → line_of (word ∷ words) ≡ word
@@ -11,6 +11,11 @@ unfolding line_of
 line_of_first word [] = sym (append-nil word)
 line_of_first word (next ∷ words) = ap (λ (rest : List ℕ). word ++ 32 ∷ rest)
     (line_of_first next words)
+
+pub row_is_text : (row : Row) → line_of row ≡ row_text row
+unfolding line_of
+row_is_text [] = refl
+row_is_text (word ∷ words) = line_of_first word words
 
 -- words followed by others
 pub blanked-append : (words others : Row) → words_after_blanks (words ++ others)

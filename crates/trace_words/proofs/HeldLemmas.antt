@@ -2,10 +2,10 @@
 use Rattle.std.proofs.Common.{◌≡◌, ℕ, ◌+◌, ◌-◌, ◌≤◌, List, [], ◌∷◌, ◌++◌, length, drop, take, Result, Ok, Err, refl, sym, ap, ap₂, ◌∙◌, arith, length-append, length-drop, take_all, append_assoc, add-one}
 use Rattle.std.proofs.Math.Seq.{drop-append_seam}
 use Rattle.std.proofs.lemmas.List.{take-append-drop}
-use Rattle.byte_reading.specs.Outcome.{Gives}
-use Rattle.trace_text.specs.Lines.{rows_of, rows_text, unended_of, lines_of}
-use Rattle.trace_text.specs.Words.{words_of}
-use Rattle.trace_text.proofs.LinesLemmas.{rows_text-append, rows_text-rows_of, rows_of-taken, rows_of-none}
+use Rattle.wire_bytes.specs.Outcome.{Gives}
+use Rattle.text_lines.specs.Lines.{rows_of, rows_text, unended_of, lines_of}
+use Rattle.text_lines.specs.Words.{words_of}
+use Rattle.text_lines.proofs.LinesLemmas.{rows_text-append, rows_text-rows_of, rows_of-taken, rows_of-none}
 use Rattle.trace_words.proofs.PlaceLemmas.{words_read}
 use Rattle.trace_words.proofs.PlacesBack.{Took}
 use Rattle.trace_words.specs.Places.{Place, ReadsLines, first_as, line_as, at_line, place_at}

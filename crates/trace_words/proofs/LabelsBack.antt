@@ -1,7 +1,7 @@
 -- A line with a fixed first word that was read is written back as that line.
 use Rattle.std.proofs.Common.{◌≡◌, nat_eq, [], ◌∷◌, Result, Ok, ap, ◌∙◌}
 use Rattle.std.specs.Cmp.Lexicographic.{pointwise}
-use Rattle.byte_reading.proofs.OutcomeLemmas.{ok_is, bind_ok, guard_ok}
+use Rattle.wire_bytes.proofs.OutcomeLemmas.{ok_is, bind_ok, guard_ok}
 use Rattle.trace_words.proofs.WordsBack.{IsWrittenBack, same_is, last_read}
 use Rattle.trace_words.specs.Labels.{behind, labelled_value}
 use Rattle.trace_words.specs.Rows.{Word, Row}

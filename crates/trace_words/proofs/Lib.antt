@@ -1,7 +1,9 @@
 pub mod Blanks
 pub mod HeldLemmas
 pub mod LabelsBack
+pub mod LineLaws
 pub mod LinesTaken
+pub mod PartLaws
 pub mod PlaceLemmas
 pub mod PlacesBack
 pub mod Steps

@@ -1,7 +1,7 @@
 -- The number of lines that a value is read from.
 use Rattle.std.proofs.Common.{◌≡◌, ℕ, ◌+◌, List, [], ◌∷◌, ◌++◌, length, length-append, Result, Ok, refl, arith}
-use Rattle.byte_reading.specs.Outcome.{◌>>=◌}
-use Rattle.byte_reading.proofs.OutcomeLemmas.{bind_ok}
+use Rattle.wire_bytes.specs.Outcome.{◌>>=◌}
+use Rattle.wire_bytes.proofs.OutcomeLemmas.{bind_ok}
 use Rattle.trace_words.proofs.PlacesBack.{Took, then, carried, line_read}
 use Rattle.trace_words.specs.Places.{Place, ReadLines, line_as}
 use Rattle.trace_words.specs.Rows.{Row}

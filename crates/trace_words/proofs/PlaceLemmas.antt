@@ -1,14 +1,14 @@
 -- The lines of a text, read one after the other.
 use Rattle.std.proofs.Common.{◌≡◌, ℕ, suc, ◌+◌, ◌<◌, ◌≤◌, ◌^◌, List, [], ◌∷◌, ◌++◌, length, Result, Ok, Err, refl, sym, ap, ◌∙◌, arith, length-append, inl, inr}
 use Rattle.std.specs.Prelude.{IfOk}
-use Rattle.byte_reading.proofs.OutcomeLemmas.{ok_is}
-use Rattle.byte_reading.specs.Outcome.{Fails, Gives}
+use Rattle.wire_bytes.proofs.OutcomeLemmas.{ok_is}
+use Rattle.wire_bytes.specs.Outcome.{Fails, Gives}
 use Rattle.trace_words.specs.declared.fault.RowFault.{RowFault}
 use Rattle.trace_words.specs.declared.fault.RowFault.TheVariants as row_fault
 use Rattle.trace_words.specs.declared.fault.RowFault.TheVariants.{Wrong}
-use Rattle.trace_text.specs.Lines.{rows_of, rows_text, unended_of, lines_of}
-use Rattle.trace_text.specs.Words.{line_of, words_of}
-use Rattle.trace_text.proofs.LinesLemmas.{rows_text-cons, rows_text-nil, rows_text-rows_of, rows_of-taken, rows_of-none, lines_of-nil, unended_of-nil}
+use Rattle.text_lines.specs.Lines.{rows_of, rows_text, unended_of, lines_of}
+use Rattle.text_lines.specs.Words.{line_of, words_of}
+use Rattle.text_lines.proofs.LinesLemmas.{rows_text-cons, rows_text-nil, rows_text-rows_of, rows_of-taken, rows_of-none, lines_of-nil, unended_of-nil}
 use Rattle.trace_words.specs.Places.{Place, ReadsLines, line_result, first_as, line_as, at_line, value_at_end, ended_at, place_at}
 use Rattle.trace_words.specs.Rows.{Row}
 use Rattle.trace_words.specs.declared.fault.TraceFault.{TraceFault}

@@ -1,6 +1,6 @@
 -- Lines that were read one after the other are the lines of the text.
 use Rattle.std.proofs.Common.{◌≡◌, ℕ, suc, ◌+◌, List, [], ◌∷◌, ◌++◌, length, Result, Ok, Err, sym, ap, subst, ◌∙◌, arith, length-append, append_assoc}
-use Rattle.byte_reading.proofs.OutcomeLemmas.{done, ok_is}
+use Rattle.wire_bytes.proofs.OutcomeLemmas.{done, ok_is}
 use Rattle.trace_words.proofs.LabelsBack.{IsRowBack}
 use Rattle.trace_words.specs.Places.{Place, line_result, first_as, line_as}
 use Rattle.trace_words.specs.Rows.{Row}

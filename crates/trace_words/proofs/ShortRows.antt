@@ -1,13 +1,13 @@
 -- Bounds on the length of words and of lines.
-use Rattle.std.proofs.Common.{◌≡◌, ℕ, ◌+◌, ◌*◌, ◌<◌, ◌≤◌, ◌^◌, Bool, true, false, List, [], ◌∷◌, ◌++◌, decimal, length, map, refl, ap, ◌∙◌, arith, length-append}
+use Rattle.std.proofs.Common.{◌≡◌, ℕ, ◌+◌, ◌*◌, ◌≤◌, Bool, true, false, List, [], ◌∷◌, ◌++◌, decimal, length, map, ap, arith, length-append}
 use Rattle.std.proofs.lemmas.Fmt.{length-decimal-le}
 use Rattle.hex.proofs.HexLemmas.{length-encode_with}
 use Rattle.hex.specs.Hex.{encode_upper, upper_digits}
 use Rattle.cosem_axdr.specs.Spelling.{text}
 use Rattle.cosem_axdr.specs.View.{tree_of}
 use Rattle.cosem_axdr.specs.declared.value.Data.{Data}
-use Rattle.trace_text.specs.Lines.{rows_text, text_of}
-use Rattle.trace_text.specs.Words.{line_of}
+use Rattle.text_lines.specs.Lines.{rows_text, text_of}
+use Rattle.text_lines.specs.Words.{line_of}
 use Rattle.trace_words.proofs.Blanks.{line_of_first}
 use Rattle.trace_words.specs.Labels.{number_row}
 use Rattle.trace_words.specs.Rows.{Word, Row}

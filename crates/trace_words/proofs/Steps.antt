@@ -1,7 +1,8 @@
 -- Values read one after the other up to the end of a line by a loop.
 use Rattle.std.proofs.Common.{◌≡◌, ℕ, zero, suc, ◌-◌, ◌+◌, ◌≤◌, ◌<◌, List, [], ◌∷◌, ◌++◌, length, Result, Ok, Err, refl, sym, ap, ◌∙◌, append_assoc, append-nil, length-append, arith, inl, inr}
-use Rattle.byte_reading.specs.Outcome.{◌>>=◌, Fails}
-use Rattle.byte_reading.proofs.OutcomeLemmas.{done}
+use Rattle.wire_bytes.specs.Outcome.{◌>>=◌, Fails}
+use Rattle.wire_bytes.proofs.OutcomeLemmas.{done, Fails-then}
+use Rattle.trace_words.specs.Parts.{Part, after_first, items_to_end}
 use Rattle.trace_words.specs.Rows.{Word, Row, Read, all_at}
 use Rattle.trace_words.specs.declared.fault.RowFault.{RowFault}
 use Rattle.trace_words.specs.declared.fault.RowFault.TheVariants.{Wrong, Memory}
@@ -89,3 +90,38 @@ is_done {X} item_from max front old total is so_far =
     at_end : (room : ℕ) → with_front front (all_at item_from room []) ≡ Ok front
     at_end zero = ap (done RowFault) (append-nil front)
     at_end (suc room) = ap (done RowFault) (append-nil front)
+
+-- ---- items up to the end of a line
+
+-- the items that a loop has read, and those that are left
+abbrev pub ItemsSoFar : {A : Type 0} → Part A → ℕ → List A → Row → Row → Type 0
+ItemsSoFar {A = A} item max front words start =
+    SoFar A (after_first item) max front words (all_at (after_first item) max start)
+
+-- one word more than the maximum number of items
+pub items_too_many : {A : Type 0} (item : Part A) (max : ℕ) (front : List A) (old : Row)
+    (word : Word) (words start : Row) → old ≡ word ∷ words → length front ≡ max
+    → ItemsSoFar item max front old start → Fails Memory Wrong ((items_to_end max item).read start)
+items_too_many item max front old word words start is full so_far =
+    Fails-then Memory Wrong (all_at (after_first item) max start) (λ items. Ok (items, []))
+    (inr (too_many (after_first item) max front old word words
+    (all_at (after_first item) max start) is full so_far))
+
+-- an item that is refused
+pub items_refused : {A : Type 0} (item : Part A) (max : ℕ) (fault : RowFault) (front : List A)
+    (old : Row) (word : Word) (words start : Row) → old ≡ word ∷ words → (length front ≡ max → ⊥)
+    → Fails Memory fault (after_first item word words) → ItemsSoFar item max front old start
+    → Fails Memory fault ((items_to_end max item).read start)
+items_refused item max fault front old word words start is more fails so_far =
+    Fails-then Memory fault (all_at (after_first item) max start) (λ items. Ok (items, []))
+    (refused (after_first item) max fault front old word words
+    (all_at (after_first item) max start) is more fails so_far)
+
+-- no word is left
+pub items_done : {A : Type 0} (item : Part A) (max : ℕ) (front : List A) (old start : Row)
+    → old ≡ [] → ItemsSoFar item max front old start
+    → (items_to_end max item).read start ≡ Ok (front, [])
+items_done item max front old start is so_far =
+    let read = is_done (after_first item) max front old (all_at (after_first item) max start) is
+    so_far in
+    rw read refl

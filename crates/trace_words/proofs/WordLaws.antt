@@ -7,16 +7,16 @@ use Rattle.cosem_axdr.specs.Reading.{first_data}
 use Rattle.cosem_axdr.specs.Spelling.{text}
 use Rattle.cosem_axdr.specs.View.{tree_of}
 use Rattle.cosem_axdr.specs.declared.value.Data.{Data}
-use Rattle.trace_text.proofs.HexadecimalLemmas.{bytes_again, hex_is_word}
-use Rattle.trace_text.proofs.NumbersLemmas.{number_again}
+use Rattle.text_lines.proofs.HexadecimalLemmas.{bytes_again, hex_is_word}
+use Rattle.text_lines.proofs.NumbersLemmas.{number_again}
 use Rattle.trace_words.proofs.TextBytes.{text_is_bytes}
 use Rattle.trace_words.specs.Reading.{number_in, flag_in, bytes_in, data_in}
 use Rattle.trace_words.specs.Rows.{Row, or_wrong, Word}
 use Rattle.trace_words.specs.Writing.{IsHeld, flag_number, data_word}
 use Rattle.std.specs.List.{list_all}
-use Rattle.trace_text.specs.Lines.{is_row}
-use Rattle.trace_text.specs.Words.{is_word}
-use Rattle.trace_text.proofs.WordsLemmas.{decimal_is_word}
+use Rattle.text_lines.specs.Lines.{is_row}
+use Rattle.text_lines.specs.Words.{is_word}
+use Rattle.text_lines.proofs.WordsLemmas.{decimal_is_word}
 use Rattle.trace_words.specs.Labels.{behind, labelled_value, number_row}
 use Rattle.trace_words.specs.declared.fault.RowFault.{RowFault}
 

@@ -4,16 +4,16 @@ use Rattle.std.proofs.lemmas.Bool.Decides.{nat_tests, Decides-eqb}
 use Rattle.std.proofs.lemmas.Slice.Eq.{slice_eq-Decides}
 use Rattle.std.specs.Cmp.Lexicographic.{pointwise}
 use Rattle.std.specs.Result.{result_ok}
-use Rattle.byte_reading.proofs.OutcomeLemmas.{done, ok_is, bind_ok, guard_ok}
+use Rattle.wire_bytes.proofs.OutcomeLemmas.{done, ok_is, bind_ok, guard_ok}
 use Rattle.hex.specs.Hex.{encode_upper, IsBytes}
 use Rattle.cosem_axdr.specs.Reading.{first_data}
 use Rattle.cosem_axdr.specs.Spelling.{text}
 use Rattle.cosem_axdr.specs.View.{tree_of}
 use Rattle.cosem_axdr.specs.declared.value.Data.{Data}
-use Rattle.trace_text.specs.Hexadecimal.{bytes_of}
-use Rattle.trace_text.specs.Numbers.{number_of}
-use Rattle.trace_text.proofs.HexadecimalLemmas.{bytes_only}
-use Rattle.trace_text.proofs.NumbersLemmas.{number_only}
+use Rattle.text_lines.specs.Hexadecimal.{bytes_of}
+use Rattle.text_lines.specs.Numbers.{number_of}
+use Rattle.text_lines.proofs.HexadecimalLemmas.{bytes_only}
+use Rattle.text_lines.proofs.NumbersLemmas.{number_only}
 use Rattle.trace_words.specs.Reading.{number_in, flag_in, bytes_in, data_in, next_as, last_as}
 use Rattle.trace_words.specs.Rows.{Word, Row, Read, or_wrong, if_last, all_at}
 use Rattle.trace_words.specs.Writing.{flag_number, data_word, all_words}

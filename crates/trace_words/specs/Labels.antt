@@ -7,7 +7,7 @@ use Rattle.std.specs.Prelude.{ℕ, nat_eq, decimal, [], ◌∷◌, Result, Ok}
 use Rattle.std.specs.Cmp.Lexicographic.{pointwise}
 use Rattle.std.specs.Fn.{Once, FnOnceReturnsAt}
 use denote.Ref.{Bor}
-use Rattle.byte_reading.specs.Outcome.{◌>>=◌, ◌>>◌, guard, Gives}
+use Rattle.wire_bytes.specs.Outcome.{◌>>=◌, ◌>>◌, guard, Gives}
 use Rattle.trace_words.specs.Reading.{last_as}
 use Rattle.trace_words.specs.Rows.{Word, Row, Read, word_at}
 use Rattle.trace_words.specs.declared.fault.RowFault.{RowFault}

@@ -1,4 +1,5 @@
 pub mod Labels
+pub mod Parts
 pub mod Places
 pub mod Reading
 pub mod Rows

@@ -12,9 +12,9 @@
 use Rattle.std.specs.Prelude.{◌≡◌, ℕ, suc, List, [], ◌∷◌, Result, Ok, Err}
 use Rattle.std.specs.Fn.{Once, FnOnceReturnsAt, FnOnceReturnsAtMut}
 use denote.Ref.{Bor, MutBor}
-use Rattle.byte_reading.specs.Outcome.{Fails, Gives}
-use Rattle.trace_text.specs.Lines.{rows_of, unended_of}
-use Rattle.trace_text.specs.Words.{words_of}
+use Rattle.wire_bytes.specs.Outcome.{Fails, Gives}
+use Rattle.text_lines.specs.Lines.{rows_of, unended_of}
+use Rattle.text_lines.specs.Words.{words_of}
 use Rattle.trace_words.specs.Rows.{Row}
 use Rattle.trace_words.specs.declared.fault.RowFault.{RowFault}
 use Rattle.trace_words.specs.declared.fault.RowFault.TheVariants as row_fault

@@ -4,13 +4,13 @@
 use Rattle.std.specs.Prelude.{ℕ, Bool, ◌==◌, nat_eq, List, Result, Ok}
 use Rattle.std.specs.Cmp.Lexicographic.{pointwise}
 use Rattle.std.specs.Result.{result_ok}
-use Rattle.byte_reading.specs.Outcome.{◌>>=◌, ◌>>◌, guard}
+use Rattle.wire_bytes.specs.Outcome.{◌>>=◌, ◌>>◌, guard}
 use Rattle.cosem_axdr.specs.Reading.{first_data}
 use Rattle.cosem_axdr.specs.Spelling.{text}
 use Rattle.cosem_axdr.specs.View.{tree_of}
 use Rattle.cosem_axdr.specs.declared.value.Data.{Data}
-use Rattle.trace_text.specs.Hexadecimal.{bytes_of}
-use Rattle.trace_text.specs.Numbers.{number_of}
+use Rattle.text_lines.specs.Hexadecimal.{bytes_of}
+use Rattle.text_lines.specs.Numbers.{number_of}
 use Rattle.trace_words.specs.Rows.{Word, Row, Read, or_wrong, word_at, last_word}
 use Rattle.trace_words.specs.declared.fault.RowFault.{RowFault}
 use Rattle.trace_words.specs.declared.fault.RowFault.TheVariants.{Wrong}

@@ -6,7 +6,7 @@
 --     last_word        the next word, which must be the last
 --     all_at           values up to the end of the line, with an upper bound on their number
 use Rattle.std.specs.Prelude.{◌≡◌, ℕ, zero, suc, List, [], ◌∷◌, Option, Some, None, Result, Ok, Err}
-use Rattle.byte_reading.specs.Outcome.{◌>>=◌, Fails}
+use Rattle.wire_bytes.specs.Outcome.{◌>>=◌, Fails}
 use Rattle.trace_words.specs.declared.fault.RowFault.{RowFault}
 use Rattle.trace_words.specs.declared.fault.RowFault.TheVariants.{Wrong, Memory}
 

@@ -1,5 +1,6 @@
 -- The words that are written for values.
 --     words_after_blanks        words, each after a blank
+--     row_text                  the words of a line as its text
 --     flag_number, data_word    values as words
 --     all_words                 several values, one after the other
 --     IsHeld                    a Data within the limits of its text
@@ -14,6 +15,11 @@ use Rattle.trace_words.specs.Rows.{Word, Row}
 abbrev pub words_after_blanks : Row → List ℕ
 words_after_blanks [] = []
 words_after_blanks (word ∷ words) = 32 ∷ word ++ words_after_blanks words
+
+-- the text of a line: its first word, and each other word after a blank
+abbrev pub row_text : Row → List ℕ
+row_text [] = []
+row_text (first ∷ words) = first ++ words_after_blanks words
 
 -- 1 for true, 0 for false
 abbrev pub flag_number : Bool → ℕ

@@ -7,7 +7,7 @@ ghost use Rattle.trace_words.specs.declared.fault.RowFault.{RowFault};
 use crate::fault::{RowFault, TraceFault};
 use crate::place::{TraceLines, at_line};
 use std::marker::Model;
-use trace_text::split_line;
+use text_lines::split_line;
 
 /// The lines of a trace that are still to be read, with their text; text that has been read is
 /// dropped. Contracts see the same as for `TraceLines`.
@@ -21,7 +21,7 @@ pub struct HeldLines {
 
 impl Model for HeldLines {
     ghost use Rattle.std.specs.Prelude.{◌+◌, ◌<◌, ◌≤◌, ◌^◌, drop, length};
-    ghost use Rattle.trace_text.specs.Lines.{rows_of};
+    ghost use Rattle.text_lines.specs.Lines.{rows_of};
     ghost use Rattle.trace_words.specs.Places.{Place, place_at};
 
     ghost Value = { Place };

@@ -1,7 +1,7 @@
 //! Reads a line that begins with an expected label, such as `device`.
 ghost use Rattle.std.specs.Prelude.{Result, Ok, IfOk};
 ghost use Rattle.std.specs.Fn.{FnOnceReturnsAt};
-ghost use Rattle.byte_reading.specs.Outcome.{Gives};
+ghost use Rattle.wire_bytes.specs.Outcome.{Gives};
 ghost use Rattle.trace_words.specs.Labels.{IsWordReader, behind, labelled_value};
 ghost use Rattle.trace_words.specs.Rows.{Word, Reads};
 ghost use Rattle.trace_words.specs.declared.fault.RowFault.{RowFault};
@@ -9,7 +9,7 @@ ghost use Rattle.trace_words.specs.declared.fault.RowFault.TheVariants.{Memory};
 
 use crate::fault::RowFault;
 use crate::words::{last_word, next_word};
-use trace_text::Words;
+use text_lines::Words;
 
 /// Reads the next word, which must be `label`. Errors: `Wrong` if it is missing or another word.
 #[tactic(auto, unfolding(crate::specs::Labels::behind))]

@@ -7,7 +7,7 @@ ghost use Rattle.trace_words.specs.declared.fault.RowFault.{RowFault};
 
 use crate::fault::{RowFault, TraceFault};
 use std::marker::Model;
-use trace_text::{TextLines, Words};
+use text_lines::{TextLines, Words};
 
 /// The lines of a trace that are still to be read. Contracts see the words of each line, the number
 /// of the first, and the text after the last byte 0A.
@@ -19,7 +19,7 @@ pub struct TraceLines<'a> {
 
 impl<'a> Model for TraceLines<'a> {
     ghost use Rattle.std.specs.Prelude.{◌+◌, ◌<◌, ◌^◌, length};
-    ghost use Rattle.trace_text.specs.Lines.{rows_of, unended_of};
+    ghost use Rattle.text_lines.specs.Lines.{rows_of, unended_of};
     ghost use Rattle.trace_words.specs.Places.{Place};
 
     ghost Value = { Place };

@@ -1,6 +1,6 @@
 //! Reads a Data from a word of hexadecimal digits, which must be its encoding in the shortest form.
 ghost use Rattle.std.specs.Prelude.{◌≡◌};
-ghost use Rattle.byte_reading.specs.Outcome.{Gives};
+ghost use Rattle.wire_bytes.specs.Outcome.{Gives};
 ghost use Rattle.std.specs.Cmp.Lexicographic.{pointwise};
 ghost use Rattle.std.specs.Prelude.{nat_eq, IfOk};
 ghost use Rattle.cosem_axdr.specs.Spelling.{text};

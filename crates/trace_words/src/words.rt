@@ -1,6 +1,6 @@
 //! Reads words of a line as numbers, flags and bytes, and checks that no word is left.
 ghost use Rattle.std.specs.Prelude.{◌≡◌, ◌≤◌, IfOk};
-ghost use Rattle.byte_reading.specs.Outcome.{Gives};
+ghost use Rattle.wire_bytes.specs.Outcome.{Gives};
 ghost use Rattle.trace_words.specs.Rows.{Reads, if_last, word_at, last_word};
 ghost use Rattle.trace_words.specs.Reading.{number_in, flag_in, bytes_in, next_as};
 ghost use Rattle.trace_words.specs.declared.fault.RowFault.TheVariants.{Memory, Wrong};
@@ -8,7 +8,7 @@ ghost use Rattle.trace_words.specs.declared.fault.RowFault.TheVariants.{Memory, 
 use crate::fault::RowFault;
 use cosem_axdr::Octets;
 use std::alloc::Global;
-use trace_text::{Words, read_hex, read_number};
+use text_lines::{Words, read_hex, read_number};
 
 /// Returns the next word. Errors: `Wrong` if no word is left.
 pub fn next_word<'a>(words: &mut Words<'a>) -> Result<&'a [u8], RowFault>

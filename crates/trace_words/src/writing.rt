@@ -1,12 +1,12 @@
 //! Appends a flag or a Data as a word, or a line of a label and a number.
 ghost use Rattle.std.specs.Prelude.{◌≡◌, ◌++◌, ◌∷◌, [], OnOk, decimal};
-ghost use Rattle.trace_text.specs.Lines.{rows_text};
+ghost use Rattle.text_lines.specs.Lines.{rows_text};
 ghost use Rattle.trace_words.specs.Labels.{number_row};
 ghost use Rattle.trace_words.specs.Writing.{words_after_blanks, data_word, flag_number};
 
 use cosem_axdr::{Data, Octets, write};
 use std::alloc::{AllocError, Global};
-use trace_text::{add_hex, add_number, end_line};
+use text_lines::{add_hex, add_number, end_line};
 
 /// Appends the word `1` for true, `0` for false.
 pub fn add_flag(out: &mut Vec<u8>, flag: bool) -> Result<(), AllocError>
@@ -28,7 +28,7 @@ pub fn add_data(alloc: Global, out: &mut Vec<u8>, value: &Data) -> Result<(), Al
 
 /// Appends a line of a first word and a number, with the byte 0A that ends it. On an error a part
 /// of it may have been appended.
-#[tactic(auto, unfolding(trace_text::specs::Lines::rows_text, trace_text::specs::Lines::text_of, trace_text::specs::Words::line_of))]
+#[tactic(auto, unfolding(text_lines::specs::Lines::rows_text, text_lines::specs::Lines::text_of, text_lines::specs::Words::line_of))]
 pub fn write_number_line(out: &mut Vec<u8>, name: &[u8], number: u64) -> Result<(), AllocError>
     ensures { OnOk result (out.new.items ≡ out.old.items
         ++ rows_text (number_row name.now number ∷ [])) }

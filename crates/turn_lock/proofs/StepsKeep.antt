@@ -17,7 +17,7 @@ use Rattle.turn_lock.specs.declared.known.Stage.{Stage}
 use Rattle.turn_lock.specs.declared.known.Stage.TheVariants.{New, Young, Idle, Waiting, Turn, SawServing, Met}
 use Rattle.turn_lock.specs.declared.board.Slot.{Slot}
 use Rattle.turn_lock.specs.History.{StartsWith, calls_by}
-use Rattle.turn_lock.specs.Rule.{most_turns, LastCall, first_view, full_slot, IsOwn, Moment, HoldsTurn, HoldsSlot, HasMet, IsHome, FitsStage, IsPort, Fits, Facts, Keeps}
+use Rattle.turn_lock.specs.Rule.{max_turns, LastCall, first_view, full_slot, IsOwn, Moment, HoldsTurn, HoldsSlot, HasMet, IsHome, FitsStage, IsPort, Fits, Facts, IsLockState}
 use Rattle.turn_lock.specs.Calls.{Watches}
 use Rattle.turn_lock.specs.Seats.{Carried, new_entries, with_stage, spent_view, parent_view, child_view, note_view, view_with_served, view_after_turn, view_with, joined_with, seat_with, seat_state}
 use Rattle.turn_lock.specs.Plays.{play, Settles, Draws, SeesServing, MovesTo, Looks, AddsCall, Ends, KnowsBoth, Merges, TakesValue, TakesTurn, Reaches, Closes}
@@ -112,7 +112,7 @@ module _ {T E R O : Type 0} (origin : T → O) (stands : T → List (Entry E R) 
   Mo = Moment T E R O
 
   abbrev Rule : St → Type 0
-  Rule = Keeps origin stands legal first
+  Rule = IsLockState origin stands legal first
 
   abbrev F : Mo → List V → Type 0
   F = Facts origin stands legal first
@@ -151,7 +151,7 @@ module _ {T E R O : Type 0} (origin : T → O) (stands : T → List (Entry E R) 
 
   -- a step of seat i that leads from one moment to another
   moves : (m m' : Mo) (vs : List V) (i : ℕ) (w : V) → F m vs → m'.serving ≤ m'.ticket
-      → m'.ticket ≤ most_turns + m'.closed → m'.closed ≤ 1 → legal m'.start m'.history
+      → m'.ticket ≤ max_turns + m'.closed → m'.closed ≤ 1 → legal m'.start m'.history
       → length m'.history ≤ m'.serving
       → IsHome origin stands m' ⊎ (m'.serving < m'.ticket) → Fit m' i w
       → ((j : ℕ) (d : V) → j ≢ i → Fit m j d → Fit m' j d) → F m' (set vs i w)
@@ -368,7 +368,7 @@ module _ {T E R O : Type 0} (origin : T → O) (stands : T → List (Entry E R) 
   sees slots id me = loads slots id me 1 (play SeesServing (step slots 1 0 0 none) me)
       (λ m vs f fit.
       let a : m.serving ≤ m.ticket = f.range in
-      let b : m.ticket ≤ most_turns + m.closed = f.within_most in
+      let b : m.ticket ≤ max_turns + m.closed = f.within_most in
       let c : m.closed ≤ 1 = f.closed_once in
       let d : length m.history ≤ m.serving = f.counted in
       let e : length me.0.known.seen ≤ length m.history =
@@ -456,7 +456,7 @@ module _ {T E R O : Type 0} (origin : T → O) (stands : T → List (Entry E R) 
   at_home m held e = ⊎_elim (λ h. h) (λ l. absurd (omega arith)) held
 
   draws_at : (id : ℕ) (me : M) (old new : ℕ) (m : Mo) (vs : List V) → F m vs → Fit m id me.0 → new
-      ≡ old + 1 → old < most_turns → m.ticket ≡ old
+      ≡ old + 1 → old < max_turns → m.ticket ≡ old
       → F (after_draw m id new) (set vs id (with_stage me.0 (Waiting m.ticket)))
   draws_at id me old new m vs f fit up few hit =
       let low : m.serving ≤ m.ticket = f.range in
@@ -472,7 +472,7 @@ module _ {T E R O : Type 0} (origin : T → O) (stands : T → List (Entry E R) 
       ))
       (λ j d _ x. draw_fit m id new j d more x)
 
-  pub draws : (slots id : ℕ) (me : M) (old new : ℕ) → new ≡ old + 1 → old < most_turns
+  pub draws : (slots id : ℕ) (me : M) (old new : ℕ) → new ≡ old + 1 → old < max_turns
       → Allows Rule slots id me 0 (λ n. either (eqb n old) new n)
       (play Draws (step slots 0 old new none) me)
   draws slots id me old new up few = by_moment
@@ -786,7 +786,7 @@ module _ {T E R O : Type 0} (origin : T → O) (stands : T → List (Entry E R) 
         (λ m vs f _ at _. let t = ends_at id n v x l m vs f (f.fits id v at) port is begun stood
         in let w : V = view_after_turn v l in
         let a : m.serving ≤ m.ticket = f.range in
-        let b : m.ticket ≤ most_turns + m.closed = f.within_most in
+        let b : m.ticket ≤ max_turns + m.closed = f.within_most in
         let c : m.closed ≤ 1 = f.closed_once in
         let small : m.serving + 1 < 2 ^ 64 = omega arith in (
           w,
@@ -896,7 +896,7 @@ module _ {T E R O : Type 0} (origin : T → O) (stands : T → List (Entry E R) 
   closes_at : (id : ℕ) (v : V) (m : Mo) (vs : List V) → F m vs → Fit m id v → m.ticket ≡ m.serving
       → m.closed ≡ 0 → F (after_close m) (set vs id (informed_view m v Idle))
   closes_at id v m vs f fit ended fresh =
-      let few : m.ticket ≤ most_turns + m.closed = f.within_most in
+      let few : m.ticket ≤ max_turns + m.closed = f.within_most in
       let more : m.ticket ≤ m.ticket + 1 = omega arith in
       let w : V = informed_view m v Idle in
       moves m (after_close m) vs id w f (omega arith) (omega arith) (omega arith) f.lawful f.counted
@@ -1120,7 +1120,7 @@ module _ {T E R O : Type 0} (origin : T → O) (stands : T → List (Entry E R) 
       → Fit m' i v → Fit m' (length (set vs i v)) w
       → ((j : ℕ) (d : V) → j ≢ i → Fit m j d → Fit m' j d) → F m' (set vs i v ++ w ∷ [])
   comes m m' vs i v w f serving ticket end start whole home mine theirs others =
-      let few : m.ticket ≤ most_turns + m.closed = f.within_most in
+      let few : m.ticket ≤ max_turns + m.closed = f.within_most in
       let range : m.serving ≤ m.ticket = f.range in
       let once : m.closed ≤ 1 = f.closed_once in
       record {

@@ -1,10 +1,11 @@
 -- What the public calls promise about a port's knowledge, before and after the call.
-use Rattle.std.specs.Prelude.{◌≡◌, ℕ, ◌+◌, ◌<◌, ◌≤◌, List, [], ◌∷◌, ◌++◌, length, Option, Some, Result, Ok, Err}
+use Rattle.std.specs.Prelude.{◌≡◌, ℕ, ◌+◌, ◌<◌, ◌≤◌, List, [], ◌∷◌, ◌++◌, length, Option, Some}
+use Rattle.std.specs.Prelude.{Result, Ok, Err}
 use Rattle.turn_lock.specs.declared.turned.Entry.{Entry}
 use Rattle.turn_lock.specs.declared.known.Known.{Known}
 use Rattle.turn_lock.specs.declared.faults.Busy.{Busy}
-use Rattle.call_fault.specs.declared.fault.CallFault.{CallFault}
-use Rattle.call_fault.specs.declared.fault.CallFault.TheVariants.{Memory, Exhausted}
+use Rattle.turn_lock.specs.declared.call_fault.CallFault.{CallFault}
+use Rattle.turn_lock.specs.declared.call_fault.CallFault.TheVariants.{Memory, Exhausted, Journal}
 use Rattle.turn_lock.specs.History.{StartsWith, IsAmong, entry, calls_by}
 use Rattle.turn_lock.specs.Rule.{fresh_known, IsOwn}
 
@@ -53,11 +54,12 @@ pub record Called {E R O : Type 0} (legal : O → List (Entry E R) → Type 0) (
   pub joined_calls : (q : List ℕ) → IsAmong q before.joined
       → calls_by q after.seen ≡ calls_by q before.seen
 
--- The cause of a refusal: `Memory` only if the event may allocate, `Exhausted` only if the port has
--- read that at least `bound` turns were drawn.
+-- The cause of a refusal by a lock: `Memory` only if the event may allocate, `Exhausted` only if the
+-- port has read that at least `bound` turns were drawn. A lock has no journal.
 abbrev pub IsCause : {E R O : Type 0} → (E → Type 0) → E → ℕ → Known E R O → CallFault → Type 0
 IsCause sure event bound after Memory = ¬ sure event
 IsCause sure event bound after Exhausted = bound ≤ after.drawn
+IsCause sure event bound after Journal = ⊥
 
 -- A call that returns a reply or `Memory` ends a turn of its own, drawn after the last turn that
 -- the port had read of.
@@ -65,6 +67,7 @@ abbrev pub EndsTurn : {E R O : Type 0} → Known E R O → Known E R O → Resul
 EndsTurn before after (Ok reply) = before.drawn < after.drawn
 EndsTurn before after (Err Memory) = before.drawn < after.drawn
 EndsTurn before after (Err Exhausted) = Unit {0}
+EndsTurn before after (Err Journal) = ⊥
 
 -- Why a lock was not closed: the port read that `served` turns had ended, at least one for each
 -- call it had seen, and then that more had been drawn.

@@ -1,7 +1,8 @@
-pub mod History
-pub mod Rule
 pub mod Calls
-pub mod Seats
+pub mod History
+pub mod Numbers
 pub mod Plays
+pub mod Rule
+pub mod Seats
 pub mod Shown
 pub mod Trials

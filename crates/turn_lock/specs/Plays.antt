@@ -11,7 +11,7 @@ use Rattle.turn_lock.specs.declared.known.Stage.{Stage}
 use Rattle.turn_lock.specs.declared.known.Stage.TheVariants.{Young, Idle, Waiting, Turn, Met}
 use Rattle.turn_lock.specs.declared.board.Slot.{Slot}
 use Rattle.turn_lock.specs.History.{StartsWith, IsAmong, calls_by}
-use Rattle.turn_lock.specs.Rule.{most_turns, LastCall, full_slot, IsOwn, HasNoCalls}
+use Rattle.turn_lock.specs.Rule.{max_turns, LastCall, full_slot, IsOwn, HasNoCalls}
 use Rattle.turn_lock.specs.Calls.{IsLegal, Sees, Watches}
 use Rattle.turn_lock.specs.Seats.{SeatState, last_call, new_entries, view_with_served, view_after_turn, joined_with, seat_state, at_stage}
 
@@ -53,7 +53,7 @@ module _ {T E R O : Type 0} where
     pub carried : move.after.carried ≡ move.before.carried
     pub no_less : move.before.view.known.served ≤ move.found
     pub counted : length move.before.view.known.seen ≤ move.found
-    pub within : move.found ≤ most_turns + 1
+    pub within : move.found ≤ max_turns + 1
 
 module _ {E R O : Type 0} (legal : O → List (Entry E R) → Type 0) where
   -- A turn has ended: its call, if it made one, is the only further entry that the port has seen.

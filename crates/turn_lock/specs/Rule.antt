@@ -3,7 +3,7 @@
 --     Moment  the table at one moment
 --     Fits    a seat's view agrees with the moment
 --     Facts   all that holds at a moment
---     Keeps   the invariant
+--     IsLockState   the invariant
 use Rattle.std.specs.Prelude.{◌≡◌, ◌≢◌, ◌⊎◌, ℕ, ◌+◌, ◌^◌, ◌<◌, ◌≤◌, Bool, true, List, [], ◌∷◌, length, Option, Some, None}
 use mathlib.Core.Option.{some, none}
 use mathlib.Core.Option as maybe
@@ -19,8 +19,8 @@ use Rattle.turn_lock.specs.declared.board.Slot.{Slot}
 use Rattle.turn_lock.specs.History.{StartsWith, IsAmong, IsFuture, calls_by}
 
 -- the largest bound that a lock may be made with
-abbrev pub most_turns : ℕ
-most_turns = 2 ^ 62
+abbrev pub max_turns : ℕ
+max_turns = 2 ^ 62
 
 -- the knowledge of a seat with this origin and number that has seen this history and has read no
 -- count
@@ -157,7 +157,7 @@ pub record Facts {T E R O : Type 0} (origin : T → O) (stands : T → List (Ent
     (legal : O → List (Entry E R) → Type 0) (first : T) (now : Moment T E R O)
     (views : List (View E R O)) : Type 0 where
   pub range : now.serving ≤ now.ticket
-  pub within_most : now.ticket ≤ most_turns + now.closed
+  pub within_most : now.ticket ≤ max_turns + now.closed
   pub closed_once : now.closed ≤ 1
   pub lawful : legal now.start now.history
   pub counted : length now.history ≤ now.serving
@@ -166,7 +166,7 @@ pub record Facts {T E R O : Type 0} (origin : T → O) (stands : T → List (Ent
       → Fits origin stands first now seat view
 
 -- The invariant: the words and the slot are those of a moment, at which these facts hold.
-pub record Keeps {T E R O : Type 0} (origin : T → O) (stands : T → List (Entry E R) → Type 0)
+pub record IsLockState {T E R O : Type 0} (origin : T → O) (stands : T → List (Entry E R) → Type 0)
     (legal : O → List (Entry E R) → Type 0) (first : T) (s : State (Slot T E R) (View E R O))
     : Type 0 where
   pub now : Moment T E R O

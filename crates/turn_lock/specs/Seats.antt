@@ -10,7 +10,7 @@ use Rattle.turn_lock.specs.declared.known.Stage.{Stage}
 use Rattle.turn_lock.specs.declared.known.Stage.TheVariants.{Young, Idle, SawServing, Met}
 use Rattle.turn_lock.specs.declared.board.Slot.{Slot}
 use Rattle.turn_lock.specs.History.{entry}
-use Rattle.turn_lock.specs.Rule.{most_turns, LastCall, fresh_known}
+use Rattle.turn_lock.specs.Rule.{max_turns, LastCall, fresh_known}
 use Rattle.turn_lock.specs.Calls.{IsLegal, parent_after_split, child_after_split}
 
 -- a table of two words and one slot
@@ -139,7 +139,7 @@ module _ {T E R O : Type 0} where
     pub sized : IsSized seat.table_id
     pub ready : IsReady seat Idle []
     pub lawful : IsLegal legal (known_of seat)
-    pub within_most : bound ≤ most_turns
+    pub within_most : bound ≤ max_turns
 
   -- What always holds of a note: its seat carries no slot and is no port's, and the history that it
   -- has seen is legal.

@@ -20,7 +20,7 @@ pub(crate) const SERVING: usize = 1;
 pub(crate) const HOME: usize = 0;
 
 /// The largest bound on turns that a lock may be made with: 2^62.
-pub const MOST_TURNS: u64 = 1 << 62;
+pub const MAX_TURNS: u64 = 1 << 62;
 
 /// The slot's content. `last` is the event and the reply of the last turn, as snapshots without
 /// bytes (only the tag takes space): from it the step that ends a turn knows which entry to add to
@@ -41,9 +41,9 @@ impl<T: Turned> TableRule<
     View<T::Event, T::Reply, T::Origin>,
     Snapshot<T>,
 > for Turns<T> {
-    ghost use Rattle.turn_lock.specs.Rule.{Keeps, first_view};
+    ghost use Rattle.turn_lock.specs.Rule.{IsLockState, first_view};
 
-    ghost holds = { λ key. Keeps T.origin T.stands T.legal key.value };
+    ghost holds = { λ key. IsLockState T.origin T.stands T.legal key.value };
 
     ghost first = { λ key. first_view (T.origin key.value) };
 }

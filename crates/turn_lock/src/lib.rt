@@ -2,6 +2,7 @@
 #![tactic(auto)]
 
 mod board;
+mod call_fault;
 mod faults;
 mod known;
 mod lock;
@@ -11,10 +12,10 @@ mod port;
 mod steps;
 mod turned;
 
-pub use board::MOST_TURNS;
+pub use board::MAX_TURNS;
 pub use call_fault::CallFault;
 pub use faults::Busy;
 pub use known::Known;
 pub use lock::Shared;
 pub use port::{Note, Port};
-pub use turned::{Entry, Turned};
+pub use turned::{Entry, Inspected, Turned};

@@ -2,7 +2,7 @@
 ghost use Rattle.std.specs.Prelude.{◌≡◌, ◌<◌, ◌≤◌, [], ◌∷◌, Some, None, IfOk, IfErr};
 ghost use Rattle.std.specs.Arc.{arc_value};
 ghost use Rattle.turn_lock.specs.declared.known.Stage.TheVariants.{New};
-ghost use Rattle.turn_lock.specs.Rule.{most_turns, first_known, first_view};
+ghost use Rattle.turn_lock.specs.Rule.{max_turns, first_known, first_view};
 ghost use Rattle.turn_lock.specs.Calls.{Watches, Yields, IsBusy};
 ghost use Rattle.turn_lock.specs.Seats.{IsSized, seat_with, state_of, view_of};
 
@@ -81,7 +81,7 @@ impl<T: Turned> Shared<T> {
     /// Makes a lock around the value, for `bound` turns (1 to 2^62), and its first port. If out of
     /// memory, returns the value.
     pub fn new(alloc: Global, value: T, bound: u64) -> Result<(Shared<T>, Port<T>), (AllocError, T)>
-        requires bound { (0 < bound) × (bound ≤ most_turns) }
+        requires bound { (0 < bound) × (bound ≤ max_turns) }
         requires empty { T.stands value [] }
         ensures ok { IfOk result (λ r. (r.0 ≡ r.1.lock) × (r.1.bound ≡ bound)
             × (r.1.known ≡ first_known (T.origin value))) }
@@ -116,7 +116,7 @@ impl<T: Turned> Shared<T> {
         ensures ok { IfOk result (λ x. Yields T.origin T.stands T.legal port.known x) }
         ensures err { IfErr result (λ e. IsBusy port.known e.2.known e.0
             × Watches T.legal port.known e.2.known) }
-        ensures back { IfErr result (λ e. (e.1 ≡ self) × (e.2.lock ≡ port.lock)
+        ensures returned { IfErr result (λ e. (e.1 ≡ self) × (e.2.lock ≡ port.lock)
             × (e.2.bound ≡ port.bound)) }
     {
         let Port {

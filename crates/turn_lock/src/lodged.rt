@@ -3,7 +3,7 @@ ghost use Rattle.std.specs.Prelude.{◌≡◌, ℕ, List, [], ◌∷◌, ◌++�
 ghost use Rattle.turn_lock.specs.declared.turned.Entry.{Entry};
 ghost use Rattle.turn_lock.specs.History.{entry};
 
-use crate::turned::Turned;
+use crate::turned::{Inspected, Turned};
 use std::alloc::{AllocError, AllocFailed, Global};
 use std::marker::Model;
 
@@ -48,5 +48,18 @@ impl<T: Turned> Lodged<T> {
         ensures unsure { IfErr result (λ _. ¬ T.sure event) }
     {
         self.inner.turn(alloc, event)
+    }
+}
+
+impl<T: Inspected> Lodged<T> {
+    // Asks the value a question, as [`Inspected::inspect`] does.
+    pub(crate) fn inspect(&mut self, alloc: Global, question: T::Question) -> T::Finding
+        ensures same { T.origin self.new ≡ T.origin self.old }
+        ensures stays { (h : List (Entry T.Event T.Reply)) → T.stands self.old h
+            → T.stands self.new h }
+        ensures finds { (h : List (Entry T.Event T.Reply)) → T.stands self.old h
+            → T.finds h question result }
+    {
+        self.inner.inspect(alloc, question)
     }
 }

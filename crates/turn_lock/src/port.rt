@@ -1,12 +1,14 @@
 //! Ports, through which threads call the value, and the notes that one port writes for another.
-ghost use Rattle.std.specs.Prelude.{◌≡◌, ◌≤◌, ◌++◌, [], ◌∷◌, length, IfOk, IfErr, OnOk, OnErr};
+ghost use Rattle.std.specs.Prelude.{◌≡◌, ◌≤◌, ◌++◌, [], ◌∷◌, length, IfOk, IfErr, IfSome, IfNone};
+ghost use Rattle.std.specs.Prelude.{OnOk, OnSome, OnErr};
 ghost use Rattle.turn_lock.specs.Rule.{HasNoCalls};
-ghost use Rattle.turn_lock.specs.Calls.{IsLegal, Called, Watches, IsCause, EndsTurn, parent_after_split, child_after_split, Meets, Joins};
+ghost use Rattle.turn_lock.specs.Calls.{IsLegal, Called, Watches, IsCause, EndsTurn};
+ghost use Rattle.turn_lock.specs.Calls.{parent_after_split, child_after_split, Meets, Joins};
 
 use crate::board::{Board, Place};
-use crate::steps::{call_at, divide, take_in, write_note};
-use crate::turned::Turned;
-use call_fault::CallFault;
+use crate::call_fault::CallFault;
+use crate::steps::{call_at, divide, inspect_at, take_in, write_note};
+use crate::turned::{Inspected, Turned};
 use std::alloc::{AllocError, Global};
 use std::marker::Model;
 use std::sync::{Arc, Wait};
@@ -151,5 +153,35 @@ impl<T: Turned> Port<T> {
             bound: _,
         } = port;
         take_in(&table.shared, &mut self.place, other);
+    }
+}
+
+impl<T: Inspected> Port<T> {
+    /// Waits for a turn and asks the value a question, which no history records.
+    ///
+    /// The finding is right for the history that the port has then seen; the port has made no
+    /// further call. Returns `None` if the port has read that all turns of the lock's bound were
+    /// drawn.
+    pub fn inspect<W: Wait>(
+        &mut self,
+        rt: &W,
+        alloc: Global,
+        question: T::Question,
+    ) -> Option<T::Finding>
+        ensures lock { (self.new.lock ≡ self.old.lock) × (self.new.bound ≡ self.old.bound) }
+        ensures watches { Watches T.legal self.old.known self.new.known }
+        ensures finds { IfSome result (T.finds self.new.known.seen question) }
+        ensures within { OnSome result (length self.new.known.seen ≤ self.old.bound) }
+        ensures exhausted { IfNone result (self.old.bound ≤ self.new.known.drawn) }
+    {
+        let table = &self.table;
+        inspect_at(
+            &table.shared,
+            &mut self.place,
+            rt,
+            alloc,
+            self.bound,
+            question,
+        )
     }
 }

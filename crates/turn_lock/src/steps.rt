@@ -1,18 +1,21 @@
 //! The operations that the calls of a port consist of. Each is one or two steps on the table.
-ghost use Rattle.std.specs.Prelude.{◌≡◌, ℕ, ◌+◌, ◌<◌, ◌≤◌, [], ◌∷◌, ◌++◌, Some, None, length, IfOk, IfErr, OnOk, IfSome, IfNone, IsTrue, IsFalse, Option};
+ghost use Rattle.std.specs.Prelude.{◌≡◌, ℕ, ◌+◌, ◌<◌, ◌≤◌, [], ◌∷◌, ◌++◌, Some, None, length, IfOk};
+ghost use Rattle.std.specs.Prelude.{IfErr, OnOk, IfSome, IfNone, OnSome, IsTrue, IsFalse, Option};
 ghost use Rattle.std.specs.declared.snapshot.Snapshot.{Snapshot};
 ghost use Rattle.turn_lock.specs.declared.known.Stage.TheVariants.{Young, Idle, Waiting, Turn};
-ghost use Rattle.turn_lock.specs.Rule.{most_turns, LastCall, full_slot, HasNoCalls};
+ghost use Rattle.turn_lock.specs.Rule.{max_turns, LastCall, full_slot, HasNoCalls};
 ghost use Rattle.turn_lock.specs.Calls.{IsLegal, Watches, Called, IsCause, EndsTurn, IsBusy};
-ghost use Rattle.turn_lock.specs.Seats.{IsSized, IsReady, empty_slot, with_stage, new_entries, parent_view, child_view, note_view, seat_with, at_stage, state_of, view_of, known_of, carried_by};
+ghost use Rattle.turn_lock.specs.Seats.{IsSized, IsReady, empty_slot, with_stage, new_entries};
+ghost use Rattle.turn_lock.specs.Seats.{parent_view, child_view, note_view, seat_with, at_stage};
+ghost use Rattle.turn_lock.specs.Seats.{state_of, view_of, known_of, carried_by};
 ghost use Rattle.turn_lock.specs.Plays.{AddsCall, KnowsBoth, TakesTurn};
 
 use crate::board::{HOME, Place, SERVING, Slot, TICKET, Top};
+use crate::call_fault::CallFault;
 use crate::faults::Busy;
 use crate::lodged::Lodged;
 use crate::plays::{Close, Cut, Draw, End, Look, Merge, Reach, SeeServing, Settle, TakeIn, Tell};
-use crate::turned::Turned;
-use call_fault::CallFault;
+use crate::turned::{Inspected, Turned};
 use crossbeam_utils::Backoff;
 use std::alloc::Global;
 use std::snapshot::Snapshot;
@@ -46,7 +49,7 @@ fn look<T: Turned>(top: &Top<T>, place: &mut Place<T>) -> u64
 // Draws turn number `turn`, unless it has been drawn already. Returns whether it did.
 fn try_draw<T: Turned>(top: &Top<T>, place: &mut Place<T>, turn: u64) -> bool
     requires table { (place.old.table_id ≡ top.now.table_id) × IsSized top.now.table_id }
-    requires bound { turn < most_turns }
+    requires bound { turn < max_turns }
     ensures seat { place.new.table_id ≡ place.old.table_id }
     ensures yes { IsTrue result
         → state_of place.new ≡ at_stage (state_of place.old) (Waiting turn) }
@@ -81,7 +84,7 @@ pub(crate) fn draw<T: Turned, W: Wait>(
     bound: u64,
 ) -> Option<u64>
     requires table { (place.old.table_id ≡ top.now.table_id) × IsSized top.now.table_id }
-    requires bound { bound ≤ most_turns }
+    requires bound { bound ≤ max_turns }
     requires ready { IsReady place.old Idle [] × IsLegal T.legal (known_of place.old) }
     ensures seat { place.new.table_id ≡ place.old.table_id }
     ensures watches { Watches T.legal (known_of place.old) (known_of place.new) }
@@ -205,7 +208,7 @@ pub(crate) fn call_at<T: Turned, W: Wait>(
     event: T::Event,
 ) -> Result<T::Reply, CallFault>
     requires table { (place.old.table_id ≡ top.now.table_id) × IsSized top.now.table_id }
-    requires bound { bound ≤ most_turns }
+    requires bound { bound ≤ max_turns }
     requires ready { IsReady place.old Idle [] × IsLegal T.legal (known_of place.old) }
     ensures seat { (place.new.table_id ≡ place.old.table_id) × IsReady place.new Idle [] }
     ensures lawful { IsLegal T.legal (known_of place.new) }
@@ -232,6 +235,33 @@ pub(crate) fn call_at<T: Turned, W: Wait>(
             Err(CallFault::Memory)
         }
     }
+}
+
+// Asks one question: draws a turn, waits for it, asks the value, and ends the turn without a call.
+pub(crate) fn inspect_at<T: Inspected, W: Wait>(
+    top: &Top<T>,
+    place: &mut Place<T>,
+    rt: &W,
+    alloc: Global,
+    bound: u64,
+    question: T::Question,
+) -> Option<T::Finding>
+    requires table { (place.old.table_id ≡ top.now.table_id) × IsSized top.now.table_id }
+    requires bound { bound ≤ max_turns }
+    requires ready { IsReady place.old Idle [] × IsLegal T.legal (known_of place.old) }
+    ensures seat { (place.new.table_id ≡ place.old.table_id) × IsReady place.new Idle [] }
+    ensures watches { Watches T.legal (known_of place.old) (known_of place.new) }
+    ensures finds { IfSome result (T.finds (known_of place.new).seen question) }
+    ensures within { OnSome result (length (known_of place.new).seen ≤ bound) }
+    ensures exhausted { IfNone result (bound ≤ (known_of place.new).drawn) }
+{
+    let Some(turn) = draw(top, place, rt, bound) else {
+        return None;
+    };
+    let mut value = reach(top, place, rt, turn);
+    let finding = value.inspect(alloc, question);
+    end_turn(top, place, turn, value, None);
+    Some(finding)
 }
 
 // Splits off a port's seat.

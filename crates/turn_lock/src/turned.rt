@@ -1,4 +1,5 @@
-//! The trait of values that a lock can hold: they take one event at a time and reply to each.
+//! The traits of values that a lock can hold: they take one event at a time and reply to each, and
+//! some also answer a question that no history records.
 ghost use Rattle.std.specs.Prelude.{◌≡◌, ℕ, List, [], ◌∷◌, ◌++◌, IfOk, IfErr};
 ghost use Rattle.turn_lock.specs.declared.turned.Entry.{Entry};
 ghost use Rattle.turn_lock.specs.History.{entry};
@@ -48,4 +49,23 @@ pub trait Turned: Drop {
 
     ghost is_legal: { (x : Self) (h : List (Entry Self.Event Self.Reply)) → stands x h
         → legal (origin x) h };
+}
+
+/// A value that also answers questions about its history. No history records a question.
+pub trait Inspected: Turned {
+    type Question: Drop;
+
+    type Finding: Drop;
+
+    /// Ghost relation: the finding is right for a value that results from this history.
+    ghost finds: { List (Entry Self.Event Self.Reply) → Self.Question → Self.Finding → Type 0 };
+
+    /// Answers a question. The value may change what it has besides its history: it then still
+    /// results from the histories it resulted from before.
+    fn inspect(&mut self, alloc: Global, question: Self::Question) -> Self::Finding
+        ensures same { Self.origin self.new ≡ Self.origin self.old }
+        ensures stays { (h : List (Entry Self.Event Self.Reply)) → Self.stands self.old h
+            → Self.stands self.new h }
+        ensures finds { (h : List (Entry Self.Event Self.Reply)) → Self.stands self.old h
+            → finds h question result };
 }

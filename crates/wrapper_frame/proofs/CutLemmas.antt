@@ -6,7 +6,7 @@ use Rattle.wrapper_frame.specs.declared.header.Head.{Head}
 use Rattle.wrapper_frame.specs.declared.header.Head.TheVariants.{Part, BadVersion, TooLong, Whole}
 use Rattle.wrapper_frame.specs.Header.{header_size, head_of}
 use Rattle.wrapper_frame.specs.Messages.{Cut, first_frame, after_first, cut_after, cut_by, cut_in, frames_of, rest_of}
-use Rattle.wrapper_frame.specs.Stream.{IsFirst, IsPart, GoesOn, Stops, Fronts}
+use Rattle.wrapper_frame.specs.Stream.{IsFirst, IsPart, KeepsFrames, Stops, Fronts}
 use Rattle.wrapper_frame.proofs.FrontLemmas.{whole_parts, field_more, whole_more, version_more, long_more, part_few}
 
 -- bytes that do not begin with a frame
@@ -115,7 +115,7 @@ payload_length bytes n h = length-take-le n (drop header_size bytes)
 
 -- the frame taken if a whole frame is at the front
 pub goes_on : (bytes : List ℕ) (n : ℕ) → head_of bytes ≡ Whole n
-    → GoesOn bytes (Some (first_frame n bytes)) (after_first n bytes)
+    → KeepsFrames bytes (Some (first_frame n bytes)) (after_first n bytes)
 unfolding frames_of rest_of
 goes_on bytes n h = record {
   frames = λ more. ap (λ (cut : Cut). cut.frames) (cut_first_more bytes more n h);
@@ -124,15 +124,16 @@ goes_on bytes n h = record {
 
 -- the frame taken, by the parts of a first frame
 pub first_on : (old : List ℕ) (frame : Frame) (new : List ℕ) → IsFirst old frame new
-    → GoesOn old (Some frame) new
+    → KeepsFrames old (Some frame) new
 first_on old frame new is =
-    subst (λ (rest : List ℕ). GoesOn old (Some frame) rest) (sym is.after)
-    (subst (λ (first : Frame). GoesOn old (Some first) (after_first (length frame.payload) old))
+    subst (λ (rest : List ℕ). KeepsFrames old (Some frame) rest) (sym is.after)
+    (subst (λ (first : Frame). KeepsFrames old (Some first) (after_first (length frame.payload)
+    old))
     (sym is.frame_is)
     (goes_on old (length frame.payload) is.front))
 
 -- if the front is part of a frame, nothing changes
-pub stays : (bytes : List ℕ) → GoesOn bytes None bytes
+pub stays : (bytes : List ℕ) → KeepsFrames bytes None bytes
 stays bytes = record { frames = λ more. refl; rest = λ more. refl }
 
 -- part of a frame contains no frames
@@ -173,8 +174,9 @@ whole_there bytes n h = (whole_parts bytes n h).there
 
 -- the bytes left after a first frame
 pub goes_on_as : (bytes : List ℕ) (n : ℕ) (new : List ℕ) → head_of bytes ≡ Whole n → new
-    ≡ after_first n bytes → GoesOn bytes (Some (first_frame n bytes)) new
-goes_on_as bytes n new h e = subst (λ (rest : List ℕ). GoesOn bytes (Some (first_frame n bytes))
+    ≡ after_first n bytes → KeepsFrames bytes (Some (first_frame n bytes)) new
+goes_on_as bytes n new h e = subst (λ (rest : List ℕ). KeepsFrames bytes (Some (first_frame n
+    bytes))
     rest) (sym e) (goes_on bytes n h)
 
 -- what a front means

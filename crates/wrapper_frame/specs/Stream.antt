@@ -28,7 +28,7 @@ TakesFirst old (Some frame) new = IsFirst old frame new
 TakesFirst old None new = IsPart old × (new ≡ old)
 
 -- whatever bytes follow, all frames are the one taken, followed by those of the bytes kept
-pub record GoesOn (old : List ℕ) (taken : Option Frame) (new : List ℕ) : Type 0 where
+pub record KeepsFrames (old : List ℕ) (taken : Option Frame) (new : List ℕ) : Type 0 where
   pub frames : (more : List ℕ)
       → frames_of (old ++ more) ≡ option_to_list taken ++ frames_of (new ++ more)
   pub rest : (more : List ℕ) → rest_of (old ++ more) ≡ rest_of (new ++ more)

@@ -3,7 +3,7 @@
 ghost use Rattle.std.specs.Prelude.{◌≡◌, ◌≤◌, ◌+◌, ◌↔◌, [], ◌++◌, length, take, drop, Some, IsTrue, IfOk, IfErr, OnOk, OnErr, IsErrOf};
 ghost use Rattle.wrapper_frame.specs.Header.{header_size, src_of, dst_of, head_of};
 ghost use Rattle.wrapper_frame.specs.Messages.{first_frame, after_first};
-ghost use Rattle.wrapper_frame.specs.Stream.{Fronts, TakesFirst, GoesOn, StopsBy};
+ghost use Rattle.wrapper_frame.specs.Stream.{Fronts, TakesFirst, KeepsFrames, StopsBy};
 ghost use Rattle.wrapper_frame.specs.declared.header.Head.TheVariants.{BadVersion, TooLong, Whole};
 
 use crate::fault::WrapperFault;
@@ -11,9 +11,9 @@ use crate::header::{DST_AT, HEADER_SIZE, Head, SRC_AT, judge};
 use crate::parts::Frame;
 use byteorder::{BigEndian, ByteOrder};
 use bytes::BytesMut;
-use octets::Octets;
 use std::alloc::{AllocError, Global};
 use std::marker::Model;
+use wire_bytes::Octets;
 
 /// A buffer of the bytes of a stream that were fed and not yet removed as frames. Contracts refer
 /// to it as the list of these bytes.
@@ -23,23 +23,30 @@ use std::marker::Model;
 #[derive(Debug, Drop)]
 pub struct Deframer {
     pending: BytesMut,
+    // What `judge` says of the pending bytes.
+    front: Head,
 }
 
 impl Model for Deframer {
-    ghost use Rattle.std.specs.Prelude.{List, ℕ};
+    ghost use Rattle.std.specs.Prelude.{◌≡◌, List, ℕ};
+    ghost use Rattle.wrapper_frame.specs.Header.{head_of};
 
     ghost Value = { List ℕ };
 
     ghost view = { λ deframer. deframer.pending.items };
+
+    ghost invariant = { λ deframer. deframer.front ≡ head_of deframer.pending.items };
 }
 
 impl Deframer {
     /// Creates an empty deframer. Does not allocate.
+    #[tactic(auto, unfolding(crate::specs::Header::head_of))]
     pub fn new(alloc: Global) -> Self
         ensures { result ≡ [] }
     {
         Deframer {
             pending: BytesMut::new(alloc),
+            front: Head::Part,
         }
     }
 
@@ -49,7 +56,10 @@ impl Deframer {
     {
         let mut pending = BytesMut::new(alloc);
         pending.extend_from_slice(self.pending.as_slice())?;
-        Ok(Deframer { pending })
+        Ok(Deframer {
+            pending,
+            front: self.front,
+        })
     }
 
     /// Returns whether no bytes are pending.
@@ -71,23 +81,25 @@ impl Deframer {
         ensures too_long { IsErrOf result WrapperFault.TooLong ↔ (head_of self.old ≡ TooLong) }
         ensures stops { IfErr result (λ fault. StopsBy fault self.old) }
     {
-        match judge(self.pending.as_slice()) {
+        match self.front {
             Head::BadVersion => return Err(WrapperFault::Version),
             Head::TooLong => return Err(WrapperFault::TooLong),
             Head::Part | Head::Whole(_) => {}
         }
         self.pending.extend_from_slice(bytes)?;
+        let pending = self.pending.as_slice();
+        self.front = judge(pending);
         Ok(())
     }
 
-    /// Judges the front of the pending bytes.
+    /// Returns the judgement of the front of the pending bytes. They are judged when they come, and
+    /// again when a frame is removed.
     #[tactic(auto, using(crate::proofs::CutLemmas::fronts))]
     pub fn front(&self) -> Head
         ensures head { result ≡ head_of self.now }
         ensures means { Fronts self.now result }
     {
-        let pending = self.pending.as_slice();
-        judge(pending)
+        self.front
     }
 
     /// Returns the ports in the header at the front: source and destination.
@@ -116,9 +128,10 @@ impl Deframer {
     pub fn pass(&mut self, size: usize)
         requires { head_of self.old ≡ Whole size }
         ensures after { self.new ≡ after_first size self.old }
-        ensures goes_on { GoesOn self.old (Some (first_frame size self.old)) self.new }
+        ensures goes_on { KeepsFrames self.old (Some (first_frame size self.old)) self.new }
     {
         self.pending.advance(HEADER_SIZE + size);
+        self.front = judge(self.pending.as_slice());
     }
 
     /// Removes and returns the first frame, or returns `None` if only part of one is pending. After
@@ -126,7 +139,7 @@ impl Deframer {
     #[tactic(auto, using(crate::proofs::CutLemmas::is_part, crate::proofs::CutLemmas::stops_version, crate::proofs::CutLemmas::stops_long))]
     pub fn take(&mut self, alloc: Global) -> Result<Option<Frame>, WrapperFault>
         ensures taken { IfOk result (λ taken. TakesFirst self.old taken self.new) }
-        ensures goes_on { IfOk result (λ taken. GoesOn self.old taken self.new) }
+        ensures goes_on { IfOk result (λ taken. KeepsFrames self.old taken self.new) }
         ensures err { OnErr result (self.new ≡ self.old) }
 
         // A wrong header at the front is reported again by each call.
@@ -134,12 +147,12 @@ impl Deframer {
         ensures too_long { IsErrOf result WrapperFault.TooLong ↔ (head_of self.old ≡ TooLong) }
         ensures stops { IfErr result (λ fault. StopsBy fault self.old) }
     {
-        let bytes = self.pending.as_slice();
-        match judge(bytes) {
+        match self.front() {
             Head::Part => Ok(None),
             Head::BadVersion => Err(WrapperFault::Version),
             Head::TooLong => Err(WrapperFault::TooLong),
             Head::Whole(size) => {
+                let bytes = self.pending.as_slice();
                 let frame = Frame {
                     src: BigEndian::read_u16(&bytes[SRC_AT..]),
                     dst: BigEndian::read_u16(&bytes[DST_AT..]),

@@ -1,5 +1,5 @@
 //! `Frame`: the source port, the destination port and the payload (IEC 62056-4-7).
-use octets::Octets;
+use wire_bytes::Octets;
 
 /// A frame of the wrapper: its ports and its payload.
 #[derive(Debug, Drop)]

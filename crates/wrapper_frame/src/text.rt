@@ -7,8 +7,8 @@ ghost use Rattle.wrapper_frame.specs.Text.{header_text, frame_text};
 use crate::fault::WrapperFault;
 use crate::header::{DST_AT, HEADER_SIZE, LENGTH_AT, MAX_PAYLOAD, SRC_AT, VERSION};
 use byteorder::{BigEndian, ByteOrder};
-use octets::Octets;
 use std::alloc::Global;
+use wire_bytes::Octets;
 
 /// Returns the bytes of a frame: its header, followed by its payload of at most 1,024 bytes.
 #[tactic(auto, unfolding(crate::specs::Text::frame_text))]

@@ -1,10 +1,10 @@
 -- What the laws of requests and responses need of their parts.
 use Rattle.std.proofs.Common.{◌≡◌, ◌⊎◌, ℕ, Bool, true, false, Option, Some, None, List, is_some}
 use Rattle.std.proofs.Common.{refl, inl, inr, arith}
-use Rattle.byte_reading.specs.ByteFormats.{IsByte, one_of}
-use Rattle.byte_reading.specs.Choice.{Parts, value_of}
-use Rattle.byte_reading.proofs.ByteLaws.{one_of_lawful, byte_formats}
-use Rattle.byte_reading.proofs.Lawful.{IsLawful}
+use Rattle.wire_bytes.specs.ByteFormats.{IsByte, one_of}
+use Rattle.wire_bytes.specs.Choice.{Parts, value_of}
+use Rattle.wire_bytes.proofs.ByteLaws.{one_of_lawful, byte_formats}
+use Rattle.wire_bytes.proofs.Lawful.{IsLawful}
 use Rattle.cosem_axdr.specs.Spelling.{IsFit}
 use Rattle.cosem_axdr.specs.View.{tree_of}
 use Rattle.cosem_axdr.specs.declared.value.Data.TheVariants.{Null}

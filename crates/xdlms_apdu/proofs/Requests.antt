@@ -1,9 +1,9 @@
 -- The laws of requests, by those of their format.
 use Rattle.std.proofs.Common.{◌≡◌, ℕ, List, ◌++◌, [], Ok, refl, inl, inr}
-use Rattle.byte_reading.specs.ByteFormats.{IsByte}
-use Rattle.byte_reading.specs.Choice.{Parts, value_of}
-use Rattle.byte_reading.proofs.ByteLaws.{one_of_lawful, bytes_all}
-use Rattle.byte_reading.proofs.Lawful.{IsLawful, found, read_again, text_again, only_one}
+use Rattle.wire_bytes.specs.ByteFormats.{IsByte}
+use Rattle.wire_bytes.specs.Choice.{Parts, value_of}
+use Rattle.wire_bytes.proofs.ByteLaws.{one_of_lawful, bytes_all}
+use Rattle.wire_bytes.proofs.Lawful.{IsLawful, found, read_again, text_again, only_one}
 use Rattle.cosem_axdr.specs.Spelling.{IsBytes}
 use Rattle.xdlms_apdu.proofs.PartLaws.{part_laws}
 use Rattle.xdlms_apdu.specs.Requests.{request_forms, request_parts, request_format, request_of}

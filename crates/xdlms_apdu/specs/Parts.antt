@@ -7,10 +7,10 @@ use Rattle.std.specs.Prelude.{◌≡◌, ℕ, Bool, true, false, ◌⊎◌, Opti
 use Rattle.std.specs.Prelude.{Result, Ok, Err}
 use Rattle.std.proofs.Common.{inl, inr}
 use Rattle.std.specs.Int.{w16, w32}
-use Rattle.byte_reading.specs.ByteFormats.{same_byte, byte, octets, number, flag, optional, one_of}
-use Rattle.byte_reading.specs.Choice.{Choice, on, under, otherwise, Parts}
-use Rattle.byte_reading.specs.Format.{Format, iso, empty, ◌&◌, exactly, placeholder}
-use Rattle.byte_reading.specs.Outcome.{Fails}
+use Rattle.wire_bytes.specs.ByteFormats.{same_byte, byte, octets, number, flag, optional, one_of}
+use Rattle.wire_bytes.specs.Choice.{Choice, on, under, otherwise, Parts}
+use Rattle.wire_bytes.specs.Format.{Format, iso, empty, ◌&◌, exactly, placeholder}
+use Rattle.wire_bytes.specs.Outcome.{Fails}
 use Rattle.cosem_axdr.specs.Formats.{raw, list, axdr_data}
 use Rattle.cosem_axdr.specs.declared.value.Data.{Data}
 use Rattle.cosem_axdr.specs.declared.value.Data.TheVariants.{Null}

@@ -5,10 +5,10 @@
 --     IsFitRequest, SpellsRequest           which requests fit, and which bytes spell which request
 use Rattle.std.specs.Prelude.{ℕ, List, Result}
 use Rattle.std.proofs.Common.{inl, inr}
-use Rattle.byte_reading.specs.ByteFormats.{one_of}
-use Rattle.byte_reading.specs.Choice.{Choice, on, under, otherwise, Parts}
-use Rattle.byte_reading.specs.Format.{◌&◌}
-use Rattle.byte_reading.specs.Reading.{whole_or}
+use Rattle.wire_bytes.specs.ByteFormats.{one_of}
+use Rattle.wire_bytes.specs.Choice.{Choice, on, under, otherwise, Parts}
+use Rattle.wire_bytes.specs.Format.{◌&◌}
+use Rattle.wire_bytes.specs.Reading.{whole_or}
 use Rattle.xdlms_apdu.specs.Parts.{Part, number_part, data_part, list_part, invoke_id_part}
 use Rattle.xdlms_apdu.specs.Parts.{method_part, target_part, parameter_part, block_part}
 use Rattle.xdlms_apdu.specs.declared.fault.ApduFault.{ApduFault}

@@ -5,10 +5,10 @@
 --     IsFitResponse, SpellsResponse            which responses fit, and which bytes spell which
 use Rattle.std.specs.Prelude.{ℕ, Bool, ◌⊎◌, List, Result}
 use Rattle.std.proofs.Common.{inl, inr}
-use Rattle.byte_reading.specs.ByteFormats.{one_of}
-use Rattle.byte_reading.specs.Choice.{Choice, on, under, otherwise, Parts}
-use Rattle.byte_reading.specs.Format.{◌&◌}
-use Rattle.byte_reading.specs.Reading.{whole_or}
+use Rattle.wire_bytes.specs.ByteFormats.{one_of}
+use Rattle.wire_bytes.specs.Choice.{Choice, on, under, otherwise, Parts}
+use Rattle.wire_bytes.specs.Format.{◌&◌}
+use Rattle.wire_bytes.specs.Reading.{whole_or}
 use Rattle.cosem_names.specs.declared.result_code.ResultCode.{ResultCode}
 use Rattle.xdlms_apdu.specs.Parts.{Part, number_part, list_part, invoke_id_part, code_part}
 use Rattle.xdlms_apdu.specs.Parts.{nothing_part, exception_part, result_part, get_block_part}

@@ -1,8 +1,9 @@
 //! Readers of numbers, of lengths and of the parts of the services.
 ghost use Rattle.std.specs.Prelude.{◌≡◌};
+ghost use Rattle.wire_bytes.specs.Format.{◌&◌};
 ghost use Rattle.cosem_axdr.specs.Formats.{count_read};
 ghost use Rattle.xdlms_apdu.specs.Parts.{Reads, flag_part, number_part, raw_part, data_part};
-ghost use Rattle.xdlms_apdu.specs.Parts.{invoke_id_part, code_part, class_part, name_part};
+ghost use Rattle.xdlms_apdu.specs.Parts.{byte_part, invoke_id_part, code_part, class_part, name_part};
 ghost use Rattle.xdlms_apdu.specs.Parts.{attribute_part, method_part, selection_part, target_part};
 ghost use Rattle.xdlms_apdu.specs.Parts.{parameter_part, block_part, result_part};
 
@@ -10,11 +11,11 @@ use crate::block::DataBlock;
 use crate::choice;
 use crate::fault::ApduFault;
 use crate::invoke_id::InvokeId;
-use byte_reading::Cursor;
 use byteorder::{BigEndian, ByteOrder};
 use cosem_axdr::{Data, DataFault, Octets, number_of};
 use cosem_names::{AttrRef, AttributeSelection, ClassId, GetResult, MethodRef, Obis, ResultCode};
 use std::alloc::Global;
+use wire_bytes::Cursor;
 
 // Reads a byte as a boolean: false for 0, true for any other value.
 pub(crate) fn read_flag(reader: &mut Cursor) -> Result<bool, ApduFault>
@@ -93,14 +94,25 @@ fn read_name(reader: &mut Cursor) -> Result<Obis, ApduFault>
     Ok(Obis(reader.array(ApduFault::Unreadable)?))
 }
 
+// Reads an invoke-id-and-priority and the number of a block.
+pub(crate) fn read_id_and_number(reader: &mut Cursor) -> Result<(InvokeId, u32), ApduFault>
+    ensures { Reads (λ pair. pair) result reader.new
+        ((invoke_id_part & number_part).read reader.old) }
+{
+    let id = read_invoke_id(reader)?;
+    let number = read_block_number(reader)?;
+    Ok((id, number))
+}
+
 // Reads a Cosem-Attribute-Descriptor.
 pub(crate) fn read_attribute(reader: &mut Cursor) -> Result<AttrRef, ApduFault>
     ensures { Reads (λ attribute. attribute) result reader.new (attribute_part.read reader.old) }
 {
+    let (class, name, number) = read_descriptor(reader)?;
     Ok(AttrRef {
-        class: read_class(reader)?,
-        name: read_name(reader)?,
-        number: reader.byte(ApduFault::Unreadable)?,
+        class,
+        name,
+        number,
     })
 }
 
@@ -108,11 +120,23 @@ pub(crate) fn read_attribute(reader: &mut Cursor) -> Result<AttrRef, ApduFault>
 pub(crate) fn read_method(reader: &mut Cursor) -> Result<MethodRef, ApduFault>
     ensures { Reads (λ method. method) result reader.new (method_part.read reader.old) }
 {
+    let (class, name, number) = read_descriptor(reader)?;
     Ok(MethodRef {
-        class: read_class(reader)?,
-        name: read_name(reader)?,
-        number: reader.byte(ApduFault::Unreadable)?,
+        class,
+        name,
+        number,
     })
+}
+
+// Reads a class, a logical name and the number of an attribute or a method.
+fn read_descriptor(reader: &mut Cursor) -> Result<(ClassId, Obis, u8), ApduFault>
+    ensures { Reads (λ d. (d.0, (d.1, d.2))) result reader.new
+        ((class_part & name_part & byte_part).read reader.old) }
+{
+    let class = read_class(reader)?;
+    let name = read_name(reader)?;
+    let number = reader.byte(ApduFault::Unreadable)?;
+    Ok((class, name, number))
 }
 
 // Reads an optional Selective-Access-Descriptor and returns whether it is present. Its selector

@@ -1,7 +1,7 @@
 //! Writers of the parts of the services.
-ghost use Rattle.std.specs.Prelude.{◌≡◌, [], ◌∷◌, ◌++◌, OnOk, OnErr};
+ghost use Rattle.std.specs.Prelude.{◌≡◌, ◌++◌, OnOk, OnErr};
 ghost use Rattle.cosem_axdr.specs.Appending.{Extends};
-ghost use Rattle.byte_reading.specs.Format.{◌&◌};
+ghost use Rattle.wire_bytes.specs.Format.{◌&◌};
 ghost use Rattle.xdlms_apdu.specs.Parts.{byte_part, flag_part, number_part, raw_part, class_part};
 ghost use Rattle.xdlms_apdu.specs.Parts.{name_part, attribute_part, method_part, selection_part};
 ghost use Rattle.xdlms_apdu.specs.Parts.{target_part, parameter_part, block_part, result_part};
@@ -9,22 +9,13 @@ ghost use Rattle.xdlms_apdu.specs.Parts.{target_part, parameter_part, block_part
 use crate::block::DataBlock;
 use crate::choice;
 use crate::field_value::{ABSENT, PRESENT};
-use crate::invoke_id::InvokeId;
 use byteorder::{BigEndian, ByteOrder};
 use cosem_axdr::{Data, Octets, append_length};
 use cosem_names::{AttrRef, AttributeSelection, ClassId, GetResult, MethodRef, Obis};
 use std::alloc::AllocError;
 
-// Appends the first bytes of an APDU: its tag, its form and the invoke-id-and-priority.
-pub(crate) fn put_head(tag: u8, form: u8, id: InvokeId, out: &mut Octets) -> Result<(), AllocError>
-    ensures ok { OnOk result (out.new ≡ out.old ++ tag ∷ form ∷ id.0 ∷ []) }
-    ensures unchanged_on_error { OnErr result (out.new ≡ out.old) }
-{
-    out.extend_from_slice(&[tag, form, id.0])
-}
-
 // Appends a flag: 01 for true, 00 for false.
-pub(crate) fn put_flag(flag: bool, out: &mut Octets) -> Result<(), AllocError>
+fn put_flag(flag: bool, out: &mut Octets) -> Result<(), AllocError>
     ensures ok { OnOk result (out.new ≡ out.old ++ flag_part.text flag) }
     ensures unchanged_on_error { OnErr result (out.new ≡ out.old) }
 {

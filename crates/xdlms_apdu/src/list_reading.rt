@@ -1,14 +1,17 @@
 //! Readers of lists of parts of the services.
 ghost use Rattle.std.specs.Prelude.{◌≡◌};
-ghost use Rattle.byte_reading.specs.Format.{items_read};
+ghost use Rattle.wire_bytes.specs.Format.{items_read};
 ghost use Rattle.xdlms_apdu.specs.Parts.{Reads, target_part, result_part, list_part};
 
 use crate::fault::ApduFault;
 use crate::field_reading::{read_length, read_result, read_target};
-use byte_reading::Cursor;
 use cosem_names::{AttributeSelection, GetResult};
-use listed::Listed;
 use std::alloc::Global;
+use wire_bytes::{Cursor, Listed};
+
+// The least number of bytes of an attribute in a list: its class, name and number, and no access
+// selection. Memory is allocated at once for the attributes that the bytes have room for.
+const MIN_TARGET: usize = 10;
 
 // Reads a count and that number of attributes.
 pub(crate) fn read_targets(
@@ -23,7 +26,7 @@ pub(crate) fn read_targets(
 }
 
 // Reads `count` attributes.
-#[tactic(auto, using(byte_reading::proofs::Items::item_loops))]
+#[tactic(auto, using(wire_bytes::proofs::Items::item_loops))]
 fn read_target_items(
     alloc: Global,
     count: usize,
@@ -32,7 +35,8 @@ fn read_target_items(
     ensures { Reads (λ items. items.items) result reader.new
         (items_read target_part.read count reader.old) }
 {
-    let mut items = Vec::new(alloc);
+    let most = reader.rest().len() / MIN_TARGET;
+    let mut items = Vec::with_capacity(alloc, count.min(most))?;
     'items: for _ in 0..count {
         items.push(read_target(alloc, reader)?)?;
     }
@@ -52,7 +56,7 @@ pub(crate) fn read_results(
 }
 
 // Reads `count` results.
-#[tactic(auto, using(byte_reading::proofs::Items::item_loops))]
+#[tactic(auto, using(wire_bytes::proofs::Items::item_loops))]
 fn read_result_items(
     alloc: Global,
     count: usize,

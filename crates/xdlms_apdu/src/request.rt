@@ -3,7 +3,7 @@ use crate::block::DataBlock;
 use crate::invoke_id::InvokeId;
 use cosem_axdr::Data;
 use cosem_names::{AttributeSelection, MethodRef};
-use listed::Listed;
+use wire_bytes::Listed;
 
 /// A client's request: GET, SET or ACTION (IEC 62056-5-3).
 #[derive(Debug, Drop)]

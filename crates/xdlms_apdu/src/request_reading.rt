@@ -1,9 +1,9 @@
 //! Reads a GET, SET or ACTION request from its bytes (IEC 62056-5-3).
 ghost use Rattle.std.specs.Prelude.{◌≡◌, IfOk, MatchResult};
-ghost use Rattle.byte_reading.specs.Outcome.{Gives};
-ghost use Rattle.byte_reading.specs.ByteFormats.{read_one_of};
-ghost use Rattle.byte_reading.specs.Format.{◌&◌};
-ghost use Rattle.byte_reading.specs.Reading.{read_as};
+ghost use Rattle.wire_bytes.specs.Outcome.{Gives};
+ghost use Rattle.wire_bytes.specs.ByteFormats.{read_one_of};
+ghost use Rattle.wire_bytes.specs.Format.{◌&◌};
+ghost use Rattle.wire_bytes.specs.Reading.{read_as};
 ghost use Rattle.xdlms_apdu.specs.Parts.{Reads, number_part, data_part, list_part, invoke_id_part};
 ghost use Rattle.xdlms_apdu.specs.Parts.{method_part, target_part, parameter_part, block_part};
 ghost use Rattle.xdlms_apdu.specs.Requests.{get_forms, set_forms, action_forms, request_format};
@@ -12,14 +12,14 @@ ghost use Rattle.xdlms_apdu.specs.declared.request.Request.{Request};
 
 use crate::fault::ApduFault;
 use crate::field_reading::{
-    read_block, read_block_number, read_data, read_invoke_id, read_method, read_parameter,
+    read_block, read_data, read_id_and_number, read_invoke_id, read_method, read_parameter,
     read_target,
 };
 use crate::list_reading::read_targets;
 use crate::request::Request;
 use crate::{form, tag};
-use byte_reading::Cursor;
 use std::alloc::Global;
+use wire_bytes::Cursor;
 
 /// Reads a request: the tag of a GET, SET or ACTION, the form, and its contents, which must end at
 /// the last byte.
@@ -91,8 +91,7 @@ fn read_get_next(reader: &mut Cursor) -> Result<Request, ApduFault>
     ensures { Reads (λ request. request) result reader.new
         (read_as (λ p. Request.GetNext p.0 p.1) ((invoke_id_part & number_part).read reader.old)) }
 {
-    let id = read_invoke_id(reader)?;
-    let number = read_block_number(reader)?;
+    let (id, number) = read_id_and_number(reader)?;
     Ok(Request::GetNext { id, number })
 }
 

@@ -2,7 +2,7 @@
 use crate::block::DataBlock;
 use crate::invoke_id::InvokeId;
 use cosem_names::{GetResult, ResultCode};
-use listed::Listed;
+use wire_bytes::Listed;
 
 /// The state-error and service-error of an ExceptionResponse: why a request gets no response of its
 /// service (IEC 62056-5-3).

@@ -1,10 +1,10 @@
 //! Reads a response to a GET, SET or ACTION, or an ExceptionResponse, from its bytes (IEC
 //! 62056-5-3).
 ghost use Rattle.std.specs.Prelude.{◌≡◌, IfOk, MatchResult};
-ghost use Rattle.byte_reading.specs.Outcome.{Gives};
-ghost use Rattle.byte_reading.specs.ByteFormats.{read_one_of};
-ghost use Rattle.byte_reading.specs.Format.{◌&◌};
-ghost use Rattle.byte_reading.specs.Reading.{read_as};
+ghost use Rattle.wire_bytes.specs.Outcome.{Gives};
+ghost use Rattle.wire_bytes.specs.ByteFormats.{read_one_of};
+ghost use Rattle.wire_bytes.specs.Format.{◌&◌};
+ghost use Rattle.wire_bytes.specs.Reading.{read_as};
 ghost use Rattle.xdlms_apdu.specs.Parts.{Reads, number_part, raw_part, list_part, invoke_id_part};
 ghost use Rattle.xdlms_apdu.specs.Parts.{code_part, result_part, nothing_part, exception_part, get_block_part};
 ghost use Rattle.xdlms_apdu.specs.Responses.{block_response, get_response_forms};
@@ -16,15 +16,16 @@ ghost use Rattle.xdlms_apdu.specs.declared.response.Response.{Response};
 use crate::block::DataBlock;
 use crate::fault::ApduFault;
 use crate::field_reading::{
-    read_block_number, read_code, read_flag, read_invoke_id, read_raw, read_result,
+    read_block_number, read_code, read_flag, read_id_and_number, read_invoke_id, read_raw,
+    read_result,
 };
 use crate::field_value::{ABSENT, service_error, state_error};
 use crate::invoke_id::InvokeId;
 use crate::list_reading::read_results;
 use crate::response::{Exception, Response};
 use crate::{choice, form, tag};
-use byte_reading::Cursor;
 use std::alloc::Global;
+use wire_bytes::Cursor;
 
 /// Reads a response: the tag of a GET, SET or ACTION response, the form, and its contents, which
 /// must end at the last byte; or an ExceptionResponse.
@@ -186,8 +187,7 @@ fn read_set_block(reader: &mut Cursor) -> Result<Response, ApduFault>
         (read_as (λ p. Response.SetBlock p.0 p.1)
         ((invoke_id_part & number_part).read reader.old)) }
 {
-    let id = read_invoke_id(reader)?;
-    let number = read_block_number(reader)?;
+    let (id, number) = read_id_and_number(reader)?;
     Ok(Response::SetBlock { id, number })
 }
 
@@ -233,8 +233,7 @@ fn read_action_block(reader: &mut Cursor) -> Result<Response, ApduFault>
         (read_as (λ p. Response.ActionBlock p.0 p.1)
         ((invoke_id_part & number_part).read reader.old)) }
 {
-    let id = read_invoke_id(reader)?;
-    let number = read_block_number(reader)?;
+    let (id, number) = read_id_and_number(reader)?;
     Ok(Response::ActionBlock { id, number })
 }
 

@@ -1,20 +1,22 @@
 //! Writes a response to a GET, SET or ACTION, or an ExceptionResponse, as its bytes (IEC
 //! 62056-5-3).
-ghost use Rattle.std.specs.Prelude.{◌≡◌, ◌++◌, IfOk, OnOk, OnErr};
+ghost use Rattle.std.specs.Prelude.{◌≡◌, ◌∷◌, ◌++◌, take, drop, IfOk, OnOk, OnErr};
 ghost use Rattle.std.proofs.Common.{inl, inr};
 ghost use Rattle.cosem_axdr.specs.Appending.{Extends};
-ghost use Rattle.byte_reading.specs.Format.{◌&◌};
-ghost use Rattle.xdlms_apdu.specs.Parts.{number_part, code_part, nothing_part, exception_part, get_block_part};
+ghost use Rattle.wire_bytes.specs.Format.{◌&◌};
+ghost use Rattle.xdlms_apdu.specs.Parts.{byte_part, flag_part, number_part, code_part, nothing_part};
+ghost use Rattle.xdlms_apdu.specs.Parts.{exception_part, get_block_part};
 ghost use Rattle.xdlms_apdu.specs.Responses.{response_text};
 
 use crate::block::DataBlock;
 use crate::field_value::{ABSENT, service_error, state_error};
-use crate::field_writing::{put_flag, put_head, put_number, put_raw, put_result};
+use crate::field_writing::{put_number, put_raw, put_result};
 use crate::form::{action_response, get_response, set_response};
 use crate::list_writing::put_results;
 use crate::response::{Exception, Response};
 use crate::tag::{ACTION_RESPONSE, EXCEPTION_RESPONSE, GET_RESPONSE, SET_RESPONSE};
 use crate::{choice, form};
+use byteorder::{BigEndian, ByteOrder};
 use cosem_axdr::Octets;
 use cosem_names::ResultCode;
 use std::alloc::{AllocError, Global};
@@ -45,62 +47,63 @@ pub fn append_response(response: &Response, out: &mut Octets) -> Result<(), Allo
     done
 }
 
-// Appends a response: tag, form, invoke-id-and-priority and the rest; of an exception the tag and
-// the rest.
-#[tactic(auto, unfolding(crate::specs::Responses::response_text), using(cosem_axdr::proofs::Appending::extends_same, cosem_axdr::proofs::Appending::extends_more))]
+// Appends the first bytes of a response, followed by the rest.
+#[tactic(auto, using(cosem_axdr::proofs::Appending::extends_same, cosem_axdr::proofs::Appending::extends_more))]
 fn put_response(response: &Response, out: &mut Octets) -> Result<(), AllocError>
     ensures ok { OnOk result (out.new ≡ out.old ++ response_text response.now) }
     ensures extends { OnErr result (Extends out.old out.new) }
 {
+    out.extend_from_slice(&head_of(response))?;
+    put_rest(response, out)
+}
+
+// Returns the first bytes of a response: tag, form and invoke-id-and-priority; of an exception all
+// bytes, its tag and its errors.
+#[tactic(auto, unfolding(crate::specs::Responses::response_text))]
+fn head_of(response: &Response) -> [u8; 3]
+    ensures { result ≡ take 3 (response_text response.now) }
+{
+    match response {
+        Response::Get { id, .. } => [GET_RESPONSE, form::NORMAL, id.0],
+        Response::GetBlock { id, .. } | Response::GetBlockRefused { id, .. } => {
+            [GET_RESPONSE, get_response::WITH_DATABLOCK, id.0]
+        }
+        Response::GetList { id, .. } => [GET_RESPONSE, get_response::WITH_LIST, id.0],
+        Response::Set { id, .. } => [SET_RESPONSE, form::NORMAL, id.0],
+        Response::SetBlock { id, .. } => [SET_RESPONSE, set_response::DATABLOCK, id.0],
+        Response::SetLastBlock { id, .. } => [SET_RESPONSE, set_response::LAST_DATABLOCK, id.0],
+        Response::Action { id, .. } => [ACTION_RESPONSE, form::NORMAL, id.0],
+        Response::ActionBlock { id, .. } => [ACTION_RESPONSE, action_response::NEXT_PBLOCK, id.0],
+        Response::Exception(exception) => exception_text(*exception),
+    }
+}
+
+// Appends the rest of a response, after its first bytes.
+#[tactic(auto, unfolding(crate::specs::Responses::response_text), using(cosem_axdr::proofs::Appending::extends_same, cosem_axdr::proofs::Appending::extends_more))]
+fn put_rest(response: &Response, out: &mut Octets) -> Result<(), AllocError>
+    ensures ok { OnOk result (out.new ≡ out.old ++ drop 3 (response_text response.now)) }
+    ensures extends { OnErr result (Extends out.old out.new) }
+{
     match response {
         Response::Get {
-            id,
             result: outcome,
-        } => {
-            put_head(GET_RESPONSE, form::NORMAL, *id, out)?;
-            put_result(outcome, out)
-        }
-        Response::GetBlock { id, block } => {
-            put_head(GET_RESPONSE, get_response::WITH_DATABLOCK, *id, out)?;
-            put_get_block(block, out)
-        }
+            ..
+        } => put_result(outcome, out),
+        Response::GetBlock { block, .. } => put_get_block(block, out),
         Response::GetBlockRefused {
-            id,
             last,
             number,
             code,
-        } => {
-            put_head(GET_RESPONSE, get_response::WITH_DATABLOCK, *id, out)?;
-            put_refusal(*last, *number, *code, out)
-        }
-        Response::GetList { id, results } => {
-            put_head(GET_RESPONSE, get_response::WITH_LIST, *id, out)?;
-            put_results(results.as_slice(), out)
-        }
-        Response::Set { id, code } => {
-            put_head(SET_RESPONSE, form::NORMAL, *id, out)?;
-            put_code(*code, out)
-        }
-        Response::SetBlock { id, number } => {
-            put_head(SET_RESPONSE, set_response::DATABLOCK, *id, out)?;
+            ..
+        } => put_refusal(*last, *number, *code, out),
+        Response::GetList { results, .. } => put_results(results.as_slice(), out),
+        Response::Set { code, .. } => put_code(*code, out),
+        Response::SetBlock { number, .. } | Response::ActionBlock { number, .. } => {
             put_number(*number, out)
         }
-        Response::SetLastBlock { id, code, number } => {
-            put_head(SET_RESPONSE, set_response::LAST_DATABLOCK, *id, out)?;
-            put_last(*code, *number, out)
-        }
-        Response::Action { id, code } => {
-            put_head(ACTION_RESPONSE, form::NORMAL, *id, out)?;
-            put_action(*code, out)
-        }
-        Response::ActionBlock { id, number } => {
-            put_head(ACTION_RESPONSE, action_response::NEXT_PBLOCK, *id, out)?;
-            put_number(*number, out)
-        }
-        Response::Exception(exception) => {
-            out.push(EXCEPTION_RESPONSE)?;
-            put_exception(*exception, out)
-        }
+        Response::SetLastBlock { code, number, .. } => put_last(*code, *number, out),
+        Response::Action { code, .. } => put_action(*code, out),
+        Response::Exception(_) => Ok(()),
     }
 }
 
@@ -111,9 +114,7 @@ fn put_get_block(block: &DataBlock, out: &mut Octets) -> Result<(), AllocError>
         ++ get_block_part.text (block.now.last, (block.now.number, inl block.now.raw))) }
     ensures extends { OnErr result (Extends out.old out.new) }
 {
-    put_flag(block.last, out)?;
-    put_number(block.number, out)?;
-    out.push(choice::DATA)?;
+    put_block_head(block.last, block.number, choice::DATA, out)?;
     put_raw(&block.raw, out)
 }
 
@@ -129,31 +130,39 @@ fn put_refusal(
         ++ get_block_part.text (last, (number, inr code))) }
     ensures extends { OnErr result (Extends out.old out.new) }
 {
-    put_flag(last, out)?;
-    put_number(number, out)?;
-    out.push(choice::RESULT)?;
+    put_block_head(last, number, choice::RESULT, out)?;
     put_code(code, out)
 }
 
+// Appends the first bytes of a DataBlock-G: whether it is the last, its number and the tag of the
+// choice.
+fn put_block_head(last: bool, number: u32, tag: u8, out: &mut Octets) -> Result<(), AllocError>
+    ensures ok { OnOk result (out.new ≡ out.old
+        ++ (flag_part & number_part & byte_part).text (last, (number, tag))) }
+    ensures unchanged_on_error { OnErr result (out.new ≡ out.old) }
+{
+    let mut text = [u8::from(last), 0, 0, 0, 0, tag];
+    BigEndian::write_u32(&mut text[1..5], number);
+    out.extend_from_slice(&text)
+}
+
 // Appends the result of a SET by block transfer and the number of its last block.
-#[tactic(auto, using(cosem_axdr::proofs::Appending::extends_same, cosem_axdr::proofs::Appending::extends_more))]
 fn put_last(code: ResultCode, number: u32, out: &mut Octets) -> Result<(), AllocError>
     ensures ok { OnOk result (out.new ≡ out.old
         ++ (code_part & number_part).text (code, number)) }
-    ensures extends { OnErr result (Extends out.old out.new) }
+    ensures unchanged_on_error { OnErr result (out.new ≡ out.old) }
 {
-    put_code(code, out)?;
-    put_number(number, out)
+    let mut text = [code.code(), 0, 0, 0, 0];
+    BigEndian::write_u32(&mut text[1..], number);
+    out.extend_from_slice(&text)
 }
 
 // Appends the result of an ACTION without return parameters.
-#[tactic(auto, using(cosem_axdr::proofs::Appending::extends_same, cosem_axdr::proofs::Appending::extends_more))]
 fn put_action(code: ResultCode, out: &mut Octets) -> Result<(), AllocError>
     ensures ok { OnOk result (out.new ≡ out.old ++ (code_part & nothing_part).text (code, tt)) }
-    ensures extends { OnErr result (Extends out.old out.new) }
+    ensures unchanged_on_error { OnErr result (out.new ≡ out.old) }
 {
-    put_code(code, out)?;
-    out.push(ABSENT)
+    out.extend_from_slice(&[code.code(), ABSENT])
 }
 
 // Appends a Data-Access-Result or an Action-Result.
@@ -164,10 +173,9 @@ fn put_code(code: ResultCode, out: &mut Octets) -> Result<(), AllocError>
     out.push(code.code())
 }
 
-// Appends the state-error and the service-error of an ExceptionResponse.
-fn put_exception(exception: Exception, out: &mut Octets) -> Result<(), AllocError>
-    ensures ok { OnOk result (out.new ≡ out.old ++ exception_part.text exception) }
-    ensures unchanged_on_error { OnErr result (out.new ≡ out.old) }
+// Returns the tag, the state-error and the service-error of an ExceptionResponse.
+fn exception_text(exception: Exception) -> [u8; 3]
+    ensures { result ≡ 0xD8 ∷ exception_part.text exception }
 {
     let (state, service) = match exception {
         Exception::NotAllowed => (
@@ -183,5 +191,5 @@ fn put_exception(exception: Exception, out: &mut Octets) -> Result<(), AllocErro
             service_error::OTHER_REASON,
         ),
     };
-    out.extend_from_slice(&[state, service])
+    [EXCEPTION_RESPONSE, state, service]
 }

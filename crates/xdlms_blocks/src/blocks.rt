@@ -1,5 +1,5 @@
 //! One block of a long text (IEC 62056-5-3, DataBlock), and the limits of a transfer.
-use octets::Octets;
+use wire_bytes::Octets;
 
 // The maximum number of blocks of a text.
 pub(crate) const MAX_BLOCKS: usize = 4_294_967_295;

@@ -11,7 +11,7 @@ use thiserror::Error;
 #[derive(Clone, Copy, Debug, PartialEq, Eq, Error)]
 pub enum BlockFault {
     /// The transfer has ended.
-    #[error("no transfer goes on")]
+    #[error("no transfer is in progress")]
     NoTransfer = 1,
     /// The block number is not the expected one.
     #[error("the number of another block")]

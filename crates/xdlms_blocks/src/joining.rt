@@ -5,9 +5,9 @@ ghost use Rattle.xdlms_blocks.specs.Limits.{max_joined};
 
 use crate::blocks::MAX_JOINED;
 use crate::fault::BlockFault;
-use octets::Octets;
 use std::alloc::Global;
 use std::marker::Model;
+use wire_bytes::Octets;
 
 /// A long text that arrives in blocks. Contracts see the number of the block last added, the bytes
 /// so far, and whether the transfer is open.

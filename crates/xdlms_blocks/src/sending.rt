@@ -6,9 +6,9 @@ ghost use Rattle.xdlms_blocks.specs.Sending.{next_piece, after_next, sending_by}
 
 use crate::blocks::{MAX_BLOCKS, Piece};
 use crate::fault::BlockFault;
-use octets::Octets;
 use std::alloc::Global;
 use std::marker::Model;
+use wire_bytes::Octets;
 
 /// A long text that is sent in blocks, each requested by the number of the block before it.
 /// Contracts see the text, the number of the block last returned, the number of raw bytes of a

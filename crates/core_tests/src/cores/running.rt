@@ -1,7 +1,7 @@
 //! Runs of events: each line has the reply and the switch after it, and a list is read in one step.
 use super::*;
 use cosem_names::{AttributeSelection, GetResult, ResultCode};
-use listed::Listed;
+use wire_bytes::Listed;
 
 /// Appends an event.
 fn push(events: &mut Events, event: Event) -> Result<(), AllocError> {

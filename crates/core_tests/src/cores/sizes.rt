@@ -2,9 +2,9 @@
 use super::{DISCONNECT_CONTROL, Scenario, attribute_at, is_done};
 use cosem_axdr::{Data, Octets};
 use cosem_names::{AttributeSelection, GetResult, Level};
-use listed::Listed;
 use relay_core::{Event, RelayCore, Reply};
 use std::alloc::{AllocError, Global};
+use wire_bytes::Listed;
 
 const NAME: &[u8] = b"ABCDEFGHIJKLMNOP";
 

@@ -1,6 +1,6 @@
 //! Connections and a listener in memory.
 use crate::locks::counter::{Bump, Counter};
-use session_threads::{Arrival, ConnectionSource, ListenFault, PortConnection};
+use port_threads::{Arrival, ConnectionSource, ListenFault, PortConnection};
 use std::alloc::Global;
 use std::sync::atomic::{AtomicBool, AtomicU64, Ordering};
 use std::sync::{Arc, Wait};

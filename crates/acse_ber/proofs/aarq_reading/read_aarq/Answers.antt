@@ -1,4 +1,4 @@
-use Rattle.byte_reading.proofs.OutcomeLemmas.{gives_found, gives_only}
+use Rattle.wire_bytes.proofs.OutcomeLemmas.{gives_found, gives_only}
 use Rattle.acse_ber.specs.Reading.{aarq_of}
 use Rattle.acse_ber.specs.Spelling.{SpellsAarq}
 use Rattle.acse_ber.specs.declared.aarq.Aarq.{Aarq}

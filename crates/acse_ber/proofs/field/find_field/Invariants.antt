@@ -1,3 +1,4 @@
+-- The fields still to read decide the result, together with the field found so far.
 use Rattle.std.proofs.Common.{None, length, option_map}
 use Rattle.acse_ber.specs.Reading.{fields_of}
 use Rattle.acse_ber.proofs.Steps.{Remaining, still}

@@ -1,4 +1,4 @@
-use Rattle.acse_ber.proofs.Fitting.{length_is_short}
+use Rattle.acse_ber.proofs.Lengths.{length_is_short}
 use Rattle.acse_ber.proofs.laws.written_length_is_shortest.Goals as goal
 
 pub returns : goal.returns

@@ -1,4 +1,4 @@
-use Rattle.byte_reading.proofs.OutcomeLemmas.{gives_found}
+use Rattle.wire_bytes.proofs.OutcomeLemmas.{gives_found}
 use Rattle.cosem_axdr.specs.Reading.{first_data}
 use Rattle.cosem_axdr.specs.declared.fault.DataFault.TheVariants.{Memory}
 use Rattle.cosem_axdr.proofs.Values.{IsFound, data_found, read_only}

@@ -1,5 +1,5 @@
 use Rattle.std.proofs.Common.{length}
-use Rattle.trace_text.specs.Lines.{lines_of}
+use Rattle.text_lines.specs.Lines.{lines_of}
 use Rattle.head_end.proofs.ReadingLemmas.{Left}
 use Rattle.head_end.proofs.jobs.read_lines.Given as goal
 

@@ -1,7 +1,7 @@
 use denote.Param.Send.{sendable}
 use Rattle.std.proofs.Crossing.{crosses}
-use Rattle.kept_meter.proofs.Sent.{kept_send}
-use Rattle.session_serving.proofs.Sent.{event_send, reply_send}
+use Rattle.shared_meter.proofs.Sent.{kept_send}
+use Rattle.session_io.proofs.Sent.{event_send, reply_send}
 use Rattle.meter_server.proofs.serving_all.serve_clients.Goals as goal
 
 pub serve_connections-requires-send-T : goal.serve_connections-requires-send-T

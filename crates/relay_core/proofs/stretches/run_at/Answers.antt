@@ -41,6 +41,6 @@ returns-clause-non_zero c =
     c.requires.right.over (sym c.requires.right.len) in
     let under = c.run_from-under.ensures.passing (is_under c.args.scan.now.threshold)
     c.args.values.now c.requires.right.under (sym c.requires.right.len) in
-    c.equal_run.ensures.some c.requires.within
+    c.equal_run.ensures.equal_at_start c.requires.within
     (neither_is_equal c.args.values.now c.args.at c.args.scan.now.threshold c.requires.within
     (omega (arith, over, c.if-over-gt0.false)) (omega (arith, under, c.if-under-gt0.false)))

@@ -1,27 +1,26 @@
-use Rattle.std.proofs.Common.{◌≡◌, ◌≢◌, ◌∷◌, length, inr, rules, arith}
+use Rattle.std.proofs.Common.{◌≡◌, ◌≢◌, ◌∷◌, length, refl, rules, arith}
 use Rattle.std.proofs.lemmas.Result.{err_from_is_err_and}
 use Rattle.lane_sampler.specs.declared.samples.TheConstants.{MAX_VALUES}
-use Rattle.trace_lines.specs.Reading.{pair_from}
+use Rattle.trace_words.proofs.Steps.{goes_on, items_too_many, items_refused, items_done}
+use Rattle.trace_words.specs.Parts.{after_first}
 use Rattle.trace_words.specs.Rows.{all_at}
-use Rattle.trace_words.proofs.Steps.{goes_on, refused, too_many, is_done}
+use Rattle.trace_lines.specs.Parts.{pair_part}
 use Rattle.trace_lines.proofs.samples.pairs.Goals as goal
 
 pub returns-then-len-eq-MAX_VALUES : goal.returns-then-len-eq-MAX_VALUES
 returns-then-len-eq-MAX_VALUES c =
     let is : c.items.words ≡ c.in-Some.word.now ∷ c.next.new.self = search rules in
     let full : length c.items.pairs.items ≡ MAX_VALUES = omega arith in
-    inr (too_many pair_from MAX_VALUES c.items.pairs.items c.items.words c.in-Some.word.now
-    c.next.new.self (all_at pair_from MAX_VALUES c.args.words.now) is full
-    c.items.invariant.so_far)
+    items_too_many pair_part MAX_VALUES c.items.pairs.items c.items.words c.in-Some.word.now
+    c.next.new.self c.args.words.now is full c.items.invariant.so_far
 
 pub returns-in_err-pair_from : goal.returns-in_err-pair_from
 returns-in_err-pair_from c =
     let is : c.items.words ≡ c.in-Some.word.now ∷ c.next.new.self = search rules in
     let more : length c.items.pairs.items ≢ MAX_VALUES = omega arith in
     let p = err_from_is_err_and c.from_residual.result c.from_residual.ensures.1 in
-    rw (p.1, p.2) (refused pair_from MAX_VALUES c.in_err-pair_from.field-0.0 c.items.pairs.items
-    c.items.words c.in-Some.word.now c.next.new.self
-    (all_at pair_from MAX_VALUES c.args.words.now) is more
+    rw (p.1, p.2) (items_refused pair_part MAX_VALUES c.in_err-pair_from.field-0.0
+    c.items.pairs.items c.items.words c.in-Some.word.now c.next.new.self c.args.words.now is more
     c.in_err-pair_from.ensures c.items.invariant.so_far)
 
 pub items-preserved : goal.items-preserved
@@ -30,13 +29,16 @@ items-preserved c =
     let more : length c.items.pairs.items ≢ MAX_VALUES = omega arith in
     record {
       terms = (tt, tt);
-      so_far = rw c.in_ok-push.ensures.items (goes_on pair_from MAX_VALUES c.items.pairs.items
-          c.items.words c.in-Some.word.now c.next.new.self c.in_ok-pair_from.field-0
-          c.pair_from.new.words (all_at pair_from MAX_VALUES c.args.words.now) is more
-          c.in_ok-pair_from.ensures c.items.invariant.so_far);
+      so_far = rw c.in_ok-push.ensures.items (goes_on (after_first pair_part) MAX_VALUES
+          c.items.pairs.items c.items.words c.in-Some.word.now c.next.new.self
+          c.in_ok-pair_from.field-0 c.pair_from.new.words
+          (all_at (after_first pair_part) MAX_VALUES c.args.words.now) is more
+          c.in_ok-pair_from.ensures
+          c.items.invariant.so_far);
     }
 
 pub returns : goal.returns
-returns c = is_done pair_from MAX_VALUES c.items.pairs.items c.items.words
-    (all_at pair_from MAX_VALUES c.args.words.now) c.in_default.ensures.steps.0
-    c.items.invariant.so_far
+returns c =
+    let read = items_done pair_part MAX_VALUES c.items.pairs.items c.items.words c.args.words.now
+    c.in_default.ensures.steps.0 c.items.invariant.so_far in
+    rw (read, c.in_default.ensures.steps.1) refl

@@ -1,9 +1,10 @@
-use Rattle.std.proofs.Common.{◌≡◌, ◌≢◌, ◌∷◌, length, inr, sym, ◌∙◌, rules, arith}
+use Rattle.std.proofs.Common.{◌≡◌, ◌≢◌, ◌∷◌, length, refl, sym, ◌∙◌, rules, arith}
 use Rattle.std.proofs.lemmas.Result.{err_from_is_err_and}
 use Rattle.lane_sampler.specs.declared.samples.TheConstants.{MAX_VALUES}
-use Rattle.trace_lines.specs.Reading.{value_from}
+use Rattle.trace_words.proofs.Steps.{goes_on, items_too_many, items_refused, items_done}
+use Rattle.trace_words.specs.Parts.{after_first}
 use Rattle.trace_words.specs.Rows.{all_at}
-use Rattle.trace_words.proofs.Steps.{goes_on, refused, too_many, is_done}
+use Rattle.trace_lines.specs.Parts.{sample_part}
 use Rattle.trace_lines.proofs.SampleSteps.{value_is, value_fails}
 use Rattle.trace_lines.proofs.samples.values.Goals as goal
 
@@ -11,9 +12,8 @@ pub returns-then-len-eq-MAX_VALUES : goal.returns-then-len-eq-MAX_VALUES
 returns-then-len-eq-MAX_VALUES c =
     let is : c.items.words ≡ c.in-Some.word.now ∷ c.next.new.self = search rules in
     let full : length c.items.values.items ≡ MAX_VALUES = omega arith in
-    inr (too_many value_from MAX_VALUES c.items.values.items c.items.words c.in-Some.word.now
-    c.next.new.self (all_at value_from MAX_VALUES c.args.words.now) is full
-    c.items.invariant.so_far)
+    items_too_many sample_part MAX_VALUES c.items.values.items c.items.words c.in-Some.word.now
+    c.next.new.self c.args.words.now is full c.items.invariant.so_far
 
 pub returns-in_err-value : goal.returns-in_err-value
 returns-in_err-value c =
@@ -21,9 +21,8 @@ returns-in_err-value c =
     let more : length c.items.values.items ≢ MAX_VALUES = omega arith in
     let p = err_from_is_err_and c.from_residual-in_err-value.result
     c.from_residual-in_err-value.ensures.1 in
-    rw (p.1, p.2) (refused value_from MAX_VALUES c.in_err-value.field-0.0 c.items.values.items
-    c.items.words c.in-Some.word.now c.next.new.self
-    (all_at value_from MAX_VALUES c.args.words.now) is more
+    rw (p.1, p.2) (items_refused sample_part MAX_VALUES c.in_err-value.field-0.0
+    c.items.values.items c.items.words c.in-Some.word.now c.next.new.self c.args.words.now is more
     (value_fails c.in-Some.word.now c.next.new.self c.in_err-value.field-0.0
     (sym c.value.ensures ∙ c.in_err-value.was)) c.items.invariant.so_far)
 
@@ -33,14 +32,17 @@ items-preserved c =
     let more : length c.items.values.items ≢ MAX_VALUES = omega arith in
     record {
       terms = (tt, tt);
-      so_far = rw c.in_ok-push.ensures.items (goes_on value_from MAX_VALUES c.items.values.items
-          c.items.words c.in-Some.word.now c.next.new.self c.in_ok-value.field-0 c.next.new.self
-          (all_at value_from MAX_VALUES c.args.words.now) is more
+      so_far = rw c.in_ok-push.ensures.items (goes_on (after_first sample_part) MAX_VALUES
+          c.items.values.items c.items.words c.in-Some.word.now c.next.new.self
+          c.in_ok-value.field-0 c.next.new.self
+          (all_at (after_first sample_part) MAX_VALUES c.args.words.now) is more
           (value_is c.in-Some.word.now c.next.new.self c.in_ok-value.field-0
-          (sym c.value.ensures ∙ c.in_ok-value.was)) c.items.invariant.so_far);
+          (sym c.value.ensures ∙ c.in_ok-value.was))
+          c.items.invariant.so_far);
     }
 
 pub returns : goal.returns
-returns c = is_done value_from MAX_VALUES c.items.values.items c.items.words
-    (all_at value_from MAX_VALUES c.args.words.now) c.in_default.ensures.steps.0
-    c.items.invariant.so_far
+returns c =
+    let read = items_done sample_part MAX_VALUES c.items.values.items c.items.words c.args.words.now
+    c.in_default.ensures.steps.0 c.items.invariant.so_far in
+    rw (read, c.in_default.ensures.steps.1) refl

@@ -1,6 +1,6 @@
 use Rattle.std.proofs.Common.{◌≤◌, ◌++◌, ◌∷◌, ℕ, length, decimal, ap, ◌∙◌, arith}
 use Rattle.trace_words.specs.Writing.{words_after_blanks}
-use Rattle.trace_lines.specs.Writing.{pairs_words}
+use Rattle.trace_lines.specs.Parts.{pairs_words}
 use Rattle.trace_lines.proofs.ItemsWritten.{pair_more, all_pairs_written}
 use Rattle.trace_lines.proofs.writing.add_pairs.Goals as goal
 

@@ -1,6 +1,6 @@
 use Rattle.std.proofs.Common.{◌++◌}
 use Rattle.trace_words.specs.Writing.{words_after_blanks}
-use Rattle.trace_lines.specs.Writing.{pairs_words}
+use Rattle.trace_lines.specs.Parts.{pairs_words}
 use Rattle.trace_lines.proofs.ItemsWritten.{LeftPairs}
 use Rattle.trace_lines.proofs.writing.add_pairs.Given as goal
 

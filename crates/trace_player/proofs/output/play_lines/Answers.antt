@@ -1,6 +1,6 @@
 use Rattle.std.proofs.Common.{subst}
 use Rattle.std.specs.Prelude.{IfErr, IfOk}
-use Rattle.byte_reading.specs.Outcome.{Fails}
+use Rattle.wire_bytes.specs.Outcome.{Fails}
 use Rattle.trace_words.specs.declared.fault.TraceFault.TheVariants as trace_fault
 use Rattle.trace_player.specs.Playing.{PlaysTrace}
 use Rattle.trace_player.proofs.Held.{held_behind, count_fails}

@@ -2,7 +2,7 @@ use Rattle.std.proofs.Common.{◌++◌, map}
 use Rattle.trace_lines.specs.Writing.{event_row}
 use Rattle.trace_player.proofs.EventsLeft.{event_more, events_written}
 use Rattle.trace_player.proofs.writing.add_events.Goals as goal
-use Rattle.trace_text.specs.Lines.{rows_text}
+use Rattle.text_lines.specs.Lines.{rows_text}
 
 pub events-preserved : goal.events-preserved
 events-preserved c =

@@ -1,6 +1,6 @@
 use Rattle.std.proofs.lemmas.Result.{err_from_is_err_and}
-use Rattle.byte_reading.specs.Format.{items_read}
-use Rattle.byte_reading.proofs.Items.{ends}
+use Rattle.wire_bytes.specs.Format.{items_read}
+use Rattle.wire_bytes.proofs.Items.{ends}
 use Rattle.xdlms_apdu.specs.Parts.{result_part}
 use Rattle.xdlms_apdu.specs.declared.fault.ApduFault.TheVariants.{Memory}
 use Rattle.xdlms_apdu.proofs.list_reading.read_result_items.Goals as goal

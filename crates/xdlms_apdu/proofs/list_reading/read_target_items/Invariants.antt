@@ -1,6 +1,6 @@
 use Rattle.std.proofs.Common.{◌≡◌, ◌-◌}
-use Rattle.byte_reading.specs.Format.{items_read}
-use Rattle.byte_reading.proofs.Items.{with_front}
+use Rattle.wire_bytes.specs.Format.{items_read}
+use Rattle.wire_bytes.proofs.Items.{with_front}
 use Rattle.xdlms_apdu.specs.Parts.{target_part}
 use Rattle.xdlms_apdu.proofs.list_reading.read_target_items.Given as goal
 

@@ -1,4 +1,4 @@
-use Rattle.byte_reading.proofs.OutcomeLemmas.{gives_found, gives_only}
+use Rattle.wire_bytes.proofs.OutcomeLemmas.{gives_found, gives_only}
 use Rattle.xdlms_apdu.specs.Responses.{response_of, SpellsResponse}
 use Rattle.xdlms_apdu.specs.declared.fault.ApduFault.TheVariants.{Memory}
 use Rattle.xdlms_apdu.specs.declared.response.Response.{Response}

@@ -1,5 +1,5 @@
 use Rattle.std.proofs.Common.{ℕ}
-use Rattle.byte_reading.proofs.OutcomeLemmas.{done}
+use Rattle.wire_bytes.proofs.OutcomeLemmas.{done}
 use Rattle.cosem_axdr.specs.declared.value.Data.TheVariants.{Enum}
 use Rattle.action_schedule.specs.declared.attribute.ScheduleAttribute.TheVariants.{ExecutedScript, Kind, ExecutionTime}
 use Rattle.action_schedule.proofs.Again.{selector_written, kind_written, entries_written, reads_back}

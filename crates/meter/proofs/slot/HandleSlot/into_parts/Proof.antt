@@ -27,7 +27,7 @@ use denote.Triple.Walked.{says, Stays, stay_dropped, walk_of, ends_at, Goes-drop
 use Rattle.std_alloc.proofs.BoxSteps.Form.{D, B, word, box_typed}
 use Rattle.std_alloc.proofs.BoxSteps.Steps.{box_out, box_in}
 use Rattle.meter.proofs.AsBox.{E, FromSlot}
-use Rattle.supply_meter.specs.contracts.supply_meter.SupplyMeter as Held
+use Rattle.embedded_meter.specs.contracts.supply_meter.SupplyMeter as Held
 use Rattle.meter.specs.contracts.slot.HandleSlot as Own
 use Rattle.meter.specs.contracts.slot.HandleSlot.into_parts as F
 use Rattle.meter.specs.contracts.slot.HandleSlot.into_parts.Key.{name as #self}

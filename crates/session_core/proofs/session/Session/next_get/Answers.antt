@@ -5,7 +5,7 @@ use Rattle.session_core.proofs.session.Session.next_get.Goals as goal
 pub returns-clause-asks : goal.returns-clause-asks
 returns-clause-asks c =
     asks_single c.args.self.now c.turn_to.new.self c.pass.new.self c.payload-payload.result.now
-    c.hear_get.new.self c.ports-source.result.0 c.ports-source.result.1 c.in-Whole.size
+    c.receive_get.new.self c.ports-source.result.0 c.ports-source.result.1 c.in-Whole.size
     c.in_ok-asked.asked c.in_ok-asked.attr
     c.in-Listen.is (sym c.front.ensures.head ∙ c.in-Whole.is) c.ports-source.ensures.src
     c.ports-source.ensures.dst c.if-destination-ne-SERVER_PORT.false

@@ -1,6 +1,6 @@
 use Rattle.std.proofs.Common.{◌≡◌, ◌+◌, ◌<◌, ◌^◌, [], ◌∷◌, length, drop, List, refl, sym, ap, ◌∙◌, arith, inr}
-use Rattle.trace_text.specs.Lines.{lines_of, unended_of}
-use Rattle.trace_text.proofs.LinesLemmas.{rows_of-taken}
+use Rattle.text_lines.specs.Lines.{lines_of, unended_of}
+use Rattle.text_lines.proofs.LinesLemmas.{rows_of-taken}
 use Rattle.trace_words.proofs.HeldLemmas.{slice_is, line_behind, held_read, none_held}
 use Rattle.trace_words.proofs.PlaceLemmas.{number_goes_on}
 use Rattle.trace_words.specs.Places.{line_as, place_at}

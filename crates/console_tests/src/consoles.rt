@@ -1,0 +1,347 @@
+//! What no contract states: with enough memory there is a result.
+ghost use Rattle.std.specs.Prelude.{◌≡◌, [], Some};
+ghost use Rattle.server_io.specs.Ends.{EndsSo};
+ghost use Rattle.relay_core.specs.Opening.{IsFitOpening};
+
+use counted_io::Monitored;
+use meter_server::{BlockSource, ButtonSource, MomentSource};
+use program::Fault;
+use relay_core::{Event, Reply};
+use relay_recorder::{Recorder, Trace};
+use server_commands::read_head;
+use server_io::{
+    Console, ConsoleEnd, ConsoleSources, Ended, EventSink, LineBuffer, Reading, console_event,
+    run_console, start,
+};
+use std::alloc::{AllocError, Global};
+use std::io;
+use std::io::{BufReader, ErrorKind, Read};
+use std::sync::Wait;
+use std::test::Fail;
+use trace_player::resumed_recorder;
+
+// A remote disconnection, samples and a moment; and one more line after them.
+const TRACE: &[u8] = b"RELAYTRACE 1
+device 52454C415931
+state 1
+mode 0
+value 0
+now -
+normal 4294967295
+emergency 4294967295
+minover 0
+minunder 0
+profile 0 FFFFFFFFFFFFFFFFFF8000FF 0
+groups
+actions 0 0
+over 0 0
+under 0 0
+scripts 0100
+schedule 0 0 5 0100
+schedule 1 0 5 0100
+schedule 2 0 5 0100
+schedule 3 0 5 0100
+events 4
+set 1 70 000060030AFF 4 0 1601
+execute 1 70 000060030AFF 1 0F00
+samples 10 20
+moment 5
+moment 4
+";
+
+/// Returns the letter of an event.
+fn letter(event: &Event) -> char {
+    match event {
+        Event::Button => 'b',
+        Event::Moment(5) => 'm',
+        Event::Samples(_) => 's',
+        _ => '?',
+    }
+}
+
+/// Returns the letter of the event of a line, or a blank if it has none.
+fn brought(alloc: Global, line: &[u8]) -> Result<char, AllocError> {
+    match console_event(alloc, line)? {
+        Some(event) => {
+            let letter = letter(&event);
+            drop(event);
+            Ok(letter)
+        }
+        None => Ok(' '),
+    }
+}
+
+/// A line, and the letter of its event.
+const LINES: [(&[u8], char); 7] = [
+    (b"button", 'b'),
+    (b"moment 5", 'm'),
+    (b"samples 1 2", 's'),
+    (b"pairs 1 2", 's'),
+    (b"get 16 70 000060030AFF 3 0", ' '),
+    (b"moment 5\r", ' '),
+    (b"", ' '),
+];
+
+#[test]
+fn lines_bring_events(rt: HostRuntime) -> Result<(), Fail> {
+    for (line, letter) in &LINES {
+        assert!(rt; brought(rt.alloc(), line)? == *letter, "{line:?}");
+    }
+    Ok(())
+}
+
+/// A sink that lists its events.
+#[derive(Drop)]
+struct Listing<R> {
+    rt: R,
+    events: Vec<Event>,
+}
+
+impl<R: Wait> EventSink for Listing<R> {
+    ghost use Rattle.std.specs.Prelude.{Some};
+
+    ghost taken = { λ listing. Some listing.events.items };
+
+    fn take(&mut self, event: Event) {
+        // (out of memory: the test ends)
+        if self.events.push(event).is_err() {
+            for _ in self.rt.forever() {}
+        }
+    }
+}
+
+impl<R> Listing<R> {
+    fn new(rt: R, alloc: Global) -> Listing<R>
+        ensures { result.events.items ≡ [] }
+    {
+        Listing {
+            rt,
+            events: Vec::new(alloc),
+        }
+    }
+
+    /// Returns whether the events have these letters.
+    fn has(&self, letters: &str) -> bool {
+        let mut wanted = letters.chars();
+        for event in &self.events {
+            if wanted.next() != Some(letter(event)) {
+                return false;
+            }
+        }
+        wanted.next().is_none()
+    }
+}
+
+/// Passes the events of a text to a sink that lists them: each event in order, if no line is lost.
+fn handed<R: Wait + Eprint + Copy>(
+    alloc: Global,
+    text: &[u8],
+    buffer: LineBuffer,
+    sink: &mut Listing<R>,
+) -> ConsoleEnd
+    ensures { EndsSo text.now sink.old.events.items result (Some sink.new.events.items) }
+{
+    let mut input = text;
+    let errors = sink.rt;
+    run_console(alloc, &mut input, buffer, sink, &errors)
+}
+
+/// A text, and the letters of the events that are passed on.
+const TEXTS: [(&[u8], &str); 5] = [
+    (b"button\nsamples 1 2\nmoment 5\npairs 1 2\n", "bsms"),
+    (b"get 16 70 000060030AFF 3 0\nbuton\n\nbutton\n", "b"),
+    (b"moment 5\r\nsamples\nbutton \nbutton\n", "sb"),
+    (b"button\nmoment 5", "b"),
+    (b"", ""),
+];
+
+#[test]
+fn a_console_hands_on_the_events_of_its_lines(rt: HostRuntime) -> Result<(), Fail> {
+    for (text, letters) in &TEXTS {
+        let mut sink = Listing::new(rt, rt.alloc());
+        let end = handed(rt.alloc(), text, LineBuffer::new(rt.alloc())?, &mut sink);
+        assert!(rt; sink.has(letters), "{letters}");
+        assert!(rt; !end.has_failed() && end.lost() == 0);
+    }
+    Ok(())
+}
+
+/// Returns whether a line with this many bytes before its end is skipped as a whole, and the line
+/// after it is read.
+fn is_skipped<R: Wait + Eprint + Copy + Drop>(
+    rt: R,
+    alloc: Global,
+    count: usize,
+) -> Result<bool, AllocError> {
+    let mut text = Vec::new(alloc);
+    text.resize(count, b'x')?;
+    text.extend_from_slice(b"button\nmoment 5\n")?;
+    let mut sink = Listing::new(rt, alloc);
+    let end = handed(alloc, text.as_slice(), LineBuffer::new(alloc)?, &mut sink);
+    Ok(sink.has("m") && !end.has_failed())
+}
+
+#[test]
+fn a_long_line_is_skipped_whole(rt: HostRuntime) -> Result<(), Fail> {
+    // (with `button` and its end: 8,191, 8,192 and 8,193 bytes; and one whose 8,193rd byte begins
+    // the word)
+    for count in [8_184, 8_185, 8_186, 8_192, 100_000] {
+        assert!(rt; is_skipped(rt, rt.alloc(), count)?, "{count}");
+    }
+    Ok(())
+}
+
+/// Returns bytes, and then fails; every second read is interrupted by a signal.
+#[derive(Drop)]
+struct Failing {
+    rest: &'static [u8],
+    is_interrupted: bool,
+}
+
+impl Read for Failing {
+    fn read(&mut self, buffer: &mut [u8]) -> io::Result<usize> {
+        self.is_interrupted = !self.is_interrupted;
+        if self.is_interrupted {
+            return Err(io::Error::from(ErrorKind::Interrupted));
+        }
+        if self.rest.is_empty() {
+            return Err(io::Error::from(ErrorKind::Other));
+        }
+        self.rest.read(buffer)
+    }
+}
+
+#[test]
+fn a_failed_read_ends_the_console(rt: HostRuntime) -> Result<(), Fail> {
+    let failing = Failing {
+        rest: b"button\nmoment 5\nbut",
+        is_interrupted: false,
+    };
+    let mut input = BufReader::new(rt.alloc(), failing)?;
+    let mut sink = Listing::new(rt, rt.alloc());
+    let buffer = LineBuffer::new(rt.alloc())?;
+    let end = run_console(rt.alloc(), &mut input, buffer, &mut sink, &rt);
+    assert!(rt; sink.has("bm"));
+    assert!(rt; end.has_failed() && end.lost() == 0);
+    Ok(())
+}
+
+/// Does nothing at the end of the console.
+#[derive(Drop)]
+struct Silent;
+
+impl Ended for Silent {
+    fn on_console_end(&self, _end: ConsoleEnd) {}
+}
+
+/// Returns whether each source gives what the three lines contain, and ends.
+fn are_right<R: Wait + Drop + Send>(sources: ConsoleSources<R>) -> bool {
+    let ConsoleSources {
+        mut blocks,
+        mut moments,
+        mut presses,
+    } = sources;
+    let block = match blocks.next_block() {
+        Some(block) => block.values() == [10, 20].as_slice(),
+        None => false,
+    };
+    block
+        && blocks.next_block().is_none()
+        && moments.next_moment() == Some(5)
+        && moments.next_moment().is_none()
+        && presses.pressed()
+        && !presses.pressed()
+}
+
+#[test]
+fn each_worker_gets_its_own_events(rt: HostRuntime) -> Result<(), Fail> {
+    let (console, sources) = Console::new(&rt, rt.alloc())?;
+    let reading = Reading {
+        input: b"moment 5\nsamples 10 20\nbutton\n".as_slice(),
+        console,
+        errors: rt,
+        ended: Silent,
+    };
+    let thread = start(&rt, rt.alloc(), reading).ok_or("no thread")?;
+    assert!(rt; are_right(sources));
+    let end = thread.join(&rt);
+    assert!(rt; !end.has_failed() && end.lost() == 0);
+    Ok(())
+}
+
+/// The number of events that a meter keeps, and the last moment that its reply to an earlier one
+/// gives.
+#[derive(Clone, Copy, Drop)]
+struct Seen {
+    kept: u16,
+    last: u32,
+}
+
+/// Returns the last moment that a reply to an earlier one gives, or 0 for any other reply.
+fn last(reply: &Reply) -> u32 {
+    match reply {
+        Reply::Stale { last } => *last,
+        _ => 0,
+    }
+}
+
+/// Applies the moment 4 to a meter.
+fn told_of_4(alloc: Global, recorder: &mut Recorder) -> Result<Seen, AllocError> {
+    let kept = recorder.count();
+    let reply = recorder.apply(alloc, Event::Moment(4))?;
+    let last = last(&reply);
+    drop(reply);
+    Ok(Seen { kept, last })
+}
+
+/// Applies the moment 4 to a meter that resumes from a trace.
+fn resumed_from(alloc: Global, trace: &Trace) -> Result<Seen, AllocError>
+    requires { IsFitOpening trace.now.opening }
+{
+    let mut recorder = resumed_recorder(alloc, trace, 1)?;
+    let seen = told_of_4(alloc, &mut recorder);
+    drop(recorder);
+    seen
+}
+
+/// An input in memory, of the type of the console's.
+type Input<'a> = BufReader<Monitored<&'a [u8]>>;
+
+/// Returns the input of these bytes.
+fn input_of(alloc: Global, bytes: &[u8]) -> io::Result<Input<'_>> {
+    BufReader::new(alloc, Monitored::new(bytes))
+}
+
+/// Applies the moment 4 to a meter that resumes from the trace at the head of an input.
+fn resumed(alloc: Global, input: &mut Input) -> Result<Seen, Fault> {
+    let trace = read_head(alloc, input)?;
+    let seen = resumed_from(alloc, &trace);
+    drop(trace);
+    match seen {
+        Ok(seen) => Ok(seen),
+        Err(_) => Err(Fault::Memory),
+    }
+}
+
+#[test]
+fn a_meter_goes_on_from_a_trace(rt: HostRuntime) -> Result<(), Fail> {
+    let mut input = input_of(rt.alloc(), TRACE)?;
+    let seen = resumed(rt.alloc(), &mut input).map_err(|_| "no meter")?;
+    assert!(rt; input.buffer() == b"moment 4\n".as_slice());
+    assert!(rt; seen.kept == 0 && seen.last == 5);
+    Ok(())
+}
+
+#[test]
+fn another_head_is_wrong(rt: HostRuntime) -> Result<(), Fail> {
+    for bytes in [
+        b"".as_slice(),
+        b"button\n",
+        b"RELAYTRACE 1\nbutton\n",
+        &TRACE[..300],
+    ] {
+        let mut input = input_of(rt.alloc(), bytes)?;
+        assert!(rt; matches!(resumed(rt.alloc(), &mut input), Err(Fault::Input)));
+    }
+    Ok(())
+}

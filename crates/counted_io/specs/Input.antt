@@ -1,0 +1,21 @@
+-- Reading bytes to their end, up to a limit.
+--     FailsToRead     what a fault says about the bytes that were read before it
+--     StopsReading    the bytes were not read to their end
+use Rattle.std.specs.Prelude.{◌<◌, ◌≤◌, ℕ, Option, List, length, ⊤}
+use Rattle.std.specs.Io.KnownBytes.{Consumes}
+use Rattle.counted_io.specs.declared.fault.InputFault.{InputFault}
+use Rattle.counted_io.specs.declared.fault.InputFault.TheVariants as fault
+
+-- what a fault says: `bytes` were read before it, `failed` reads had failed before the call and
+-- `failed'` have failed after it
+abbrev pub FailsToRead : ℕ → List ℕ → ℕ → InputFault → ℕ → Type 0
+FailsToRead limit bytes failed fault.TooLong failed' = limit < length bytes
+FailsToRead limit bytes failed fault.Read failed' = (length bytes ≤ limit) × (failed < failed')
+FailsToRead limit bytes failed fault.Memory failed' = ⊤
+
+-- The bytes were not read to their end.
+pub record StopsReading (limit : ℕ) (left : Option (List ℕ)) (failed : ℕ) (f : InputFault)
+    (left' : Option (List ℕ)) (failed' : ℕ) : Type 0 where
+  pub bytes : List ℕ
+  pub read : Consumes left left' bytes
+  pub cause : FailsToRead limit bytes failed f failed'

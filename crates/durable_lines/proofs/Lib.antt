@@ -1,0 +1,9 @@
+pub mod AppendLemmas
+pub mod LineLemmas
+pub mod Moments
+pub mod PastLemmas
+pub mod RecoveryLemmas
+pub mod StateLemmas
+pub mod SyncLemmas
+pub mod TextLaws
+pub mod TornLemmas

@@ -1,0 +1,69 @@
+-- What a crash may leave of a file.
+--
+-- A crash is the end of the process or of the machine at any moment. The file system keeps a file's
+-- length and its bytes. A sync (fdatasync) waits until both are on the disk. An append that was not
+-- synced leaves, from the old end on, a front of its bytes in which some bytes may be 0: the new
+-- length may reach the disk before the bytes, and a block that was never written reads as 0. A cut
+-- that was not synced leaves a length between the new and the old one. Bytes that were synced stay.
+-- A rename over an existing name is whole: until the folder is synced, a crash leaves the old file
+-- or the new one under that name.
+--
+-- Covered: a killed process, whose file has a front of the append; a crash of the machine on ext4
+-- with data=ordered or data=journal, on XFS and on btrfs, as they are documented: they never show
+-- stale bytes after the old end of a file.
+-- Not covered: ext4 with data=writeback and FAT, which may show stale bytes there; a disk that
+-- damages bytes already written while it writes others, or that reports a sync before its cache is
+-- written.
+--
+--     IsTorn          what an append may leave of its bytes
+--     TornAppend      a file, and what a crash leaves of it after an append
+--     TornCut         a file, and what a crash leaves of it after a cut
+--     Follows         each new outcome is an old outcome after a step
+--     Narrows         each new outcome is an old one
+--     Only            the one possible outcome
+--     Elapses         the outcomes since each earlier moment, from before a call to after it
+--     LeavesOnly      a fact of each outcome since a moment
+use Rattle.std.specs.Prelude.{◌≡◌, ◌⊎◌, ◌≤◌, ℕ, List, [], ◌∷◌, ◌++◌, take, ⊤}
+
+-- What an append may leave of its bytes: each byte is itself, or 0, or is missing with all bytes
+-- after it.
+abbrev pub IsTorn : List ℕ → List ℕ → Type 0
+IsTorn bytes [] = ⊤
+IsTorn [] (left ∷ rest) = ⊥
+IsTorn (byte ∷ bytes) (left ∷ rest) = ((left ≡ byte) ⊎ (left ≡ 0)) × IsTorn bytes rest
+
+-- what a crash leaves after an append to `old`
+abbrev pub TornAppend : List ℕ → List ℕ → List ℕ → Type 0
+TornAppend bytes old new = (left : List ℕ) × IsTorn bytes left × (new ≡ old ++ left)
+
+-- what a crash leaves after a cut of `old` to a length: a front of it that is no shorter
+abbrev pub TornCut : ℕ → List ℕ → List ℕ → Type 0
+TornCut len old new = (kept : ℕ) × (len ≤ kept) × (new ≡ take kept old)
+
+-- each new outcome is an old outcome after a step
+abbrev pub Follows : (List ℕ → List ℕ → Type 0) → (List ℕ → Type 0) → (List ℕ → Type 0) → Type 0
+Follows step old new = (c : List ℕ) → new c → (from : List ℕ) × old from × step from c
+
+-- each new outcome is an old one
+abbrev pub Narrows : (List ℕ → Type 0) → (List ℕ → Type 0) → Type 0
+Narrows old new = (c : List ℕ) → new c → old c
+
+-- a crash leaves these bytes and no others
+abbrev pub Only : List ℕ → (List ℕ → Type 0) → Type 0
+Only bytes outcomes = (c : List ℕ) → outcomes c → c ≡ bytes
+
+-- A call takes the file from one moment to another. What a crash since an earlier moment may have
+-- left is what it may have left before the call, or what it may leave now.
+pub record Elapses (before now : ℕ) (past since : ℕ → List ℕ → Type 0)
+    (may_leave : List ℕ → Type 0) : Type 0 where
+  pub later : before ≤ now
+  pub nothing_else : (t : ℕ) (c : List ℕ) → t ≤ before → since t c → past t c ⊎ may_leave c
+  pub keeps : (t : ℕ) (c : List ℕ) → t ≤ before → past t c → since t c
+
+-- A crash at any moment from `old` to `new` leaves bytes for which P holds; so does one since an
+-- earlier moment, unless it was before `old`.
+pub record LeavesOnly {F : Type 0} (moment : F → ℕ) (left_since : F → ℕ → List ℕ → Type 0)
+    (old new : F) (P : List ℕ → Type 0) : Type 0 where
+  pub later : moment old ≤ moment new
+  pub each : (c : List ℕ) → left_since new (moment old) c → P c
+  pub before : (t : ℕ) (c : List ℕ) → t ≤ moment old → left_since new t c → left_since old t c ⊎ P c

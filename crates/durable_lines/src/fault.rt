@@ -1,0 +1,39 @@
+//! Why a call on a durable file fails, or a file is not locked.
+ghost use Rattle.std.specs.Prelude.{◌≡◌};
+ghost use Rattle.durable_lines.specs.declared.fault.FileFault.TheVariants as file_fault;
+
+use std::alloc::AllocError;
+use thiserror::Error;
+
+/// Why a call on a durable file failed.
+#[derive(Clone, Copy, Debug, PartialEq, Eq, Error)]
+pub enum FileFault {
+    /// A call on the file failed, now or earlier. Every later call fails, too.
+    #[error("the file failed")]
+    Failed = 1,
+    /// The file has more bytes than its limit, or would have.
+    #[error("more bytes than the limit")]
+    TooLong = 2,
+    /// Out of memory.
+    #[error("out of memory")]
+    Memory = 3,
+}
+
+/// Why a file was not locked.
+#[derive(Clone, Copy, Debug, PartialEq, Eq, Error)]
+pub enum LockFault {
+    /// Another process has locked the file.
+    #[error("another process has locked the file")]
+    Held = 1,
+    /// The file can't be locked or synced.
+    #[error("the file can't be locked or synced")]
+    Failed = 2,
+}
+
+impl From<AllocError> for FileFault {
+    ghost from_gives = { λ _ fault. fault ≡ file_fault.Memory };
+
+    fn from(_error: AllocError) -> FileFault {
+        FileFault::Memory
+    }
+}

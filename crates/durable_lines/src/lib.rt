@@ -1,0 +1,35 @@
+//! Lines in a file that survive a crash.
+//!
+//! [`append_lines`] appends whole lines to a [`DurableFile`] and returns once they are on the disk.
+//! [`recover`] reads the lines that a crash has left and cuts what follows them. [`replace`]
+//! replaces the file of a [`Place`] as a whole.
+#![tactic(auto)]
+
+mod append;
+mod byte_fate;
+mod durable_file;
+mod fault;
+mod file_state;
+mod laws;
+mod memory_file;
+mod memory_place;
+mod place;
+mod recovery;
+mod replacement;
+mod scan;
+mod stored_file;
+mod stored_place;
+
+pub use append::append_lines;
+pub use byte_fate::ByteFate;
+pub use durable_file::DurableFile;
+pub use fault::{FileFault, LockFault};
+pub use laws::{examples_of_lines, text_of_lines_is_read, texts_are_appended};
+pub use memory_file::MemoryFile;
+pub use memory_place::MemoryPlace;
+pub use place::Place;
+pub use recovery::{Recovered, recover};
+pub use replacement::replace;
+pub use scan::is_text;
+pub use stored_file::StoredFile;
+pub use stored_place::StoredPlace;

@@ -1,0 +1,56 @@
+-- A session with what is pending between it and the meter.
+--     Dialogue       the two
+--     asks_ahead     the events still to be applied, for every rest of the input
+--     sends_ahead    the frames still to be sent, for every rest of the input and all replies
+--     ends_ahead     how the session will end, for every rest of the input
+--     IsDialogue     the session awaits a reply exactly if an event or its reply is pending
+use Rattle.std.specs.Prelude.{◌≡◌, ℕ, Bool, true, false, List, ◌∷◌}
+use Rattle.relay_events.specs.declared.event.Event.{Event}
+use Rattle.relay_events.specs.declared.reply.Reply.{Reply}
+use Rattle.session_core.specs.Remaining.{still_asks, still_sends, still_ends, is_asking}
+use Rattle.session_core.specs.declared.end.SessionEnd.{SessionEnd}
+use Rattle.session_core.specs.declared.session.Session.{Session}
+use Rattle.embedded_meter.specs.declared.under_way.UnderWay.{UnderWay}
+use Rattle.embedded_meter.specs.declared.under_way.UnderWay.TheVariants.{Nothing, Asked, Answered, Due}
+
+-- a session, and what is pending
+pub record Dialogue : Type 0 where
+  pub session : Session
+  pub under_way : UnderWay
+
+-- the pending event comes before those of the session
+abbrev pub asks_first : UnderWay → List Event → List Event
+asks_first Nothing events = events
+asks_first (Asked event) events = event ∷ events
+asks_first (Answered reply) events = events
+asks_first (Due frame) events = events
+
+-- the pending reply comes before later ones; the pending frame is sent before those of the session
+abbrev pub sends_first : UnderWay → (List Reply → List (List ℕ)) → List Reply → List (List ℕ)
+sends_first Nothing sends replies = sends replies
+sends_first (Asked event) sends replies = sends replies
+sends_first (Answered reply) sends replies = sends (reply ∷ replies)
+sends_first (Due frame) sends replies = frame ∷ sends replies
+
+-- the events that are still to be applied
+abbrev pub asks_ahead : Dialogue → List ℕ → List Event
+asks_ahead d more = asks_first d.under_way (still_asks d.session more)
+
+-- the frames that are still to be sent
+abbrev pub sends_ahead : Dialogue → List ℕ → List Reply → List (List ℕ)
+sends_ahead d more = sends_first d.under_way (still_sends d.session more)
+
+-- how the session will end
+abbrev pub ends_ahead : Dialogue → List ℕ → SessionEnd
+ends_ahead d more = still_ends d.session more
+
+-- whether the session awaits a reply
+abbrev pub awaits_reply : UnderWay → Bool
+awaits_reply Nothing = false
+awaits_reply (Asked event) = true
+awaits_reply (Answered reply) = true
+awaits_reply (Due frame) = false
+
+-- the invariant of every dialogue
+pub record IsDialogue (d : Dialogue) : Type 0 where
+  pub agrees : is_asking d.session ≡ awaits_reply d.under_way

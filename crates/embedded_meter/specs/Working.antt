@@ -1,0 +1,103 @@
+-- The steps of `next`.
+--     SameAhead                      what the session will still do is unchanged
+--     IsAsked, IsAnswered, IsDue     an event, a reply or a frame is pending
+--     weight                         the amount of work that is left
+--     Leaves                         the state in which no step is left
+use Rattle.std.specs.Prelude.{◌≡◌, ◌+◌, ◌<◌, ◌++◌, ℕ, List, [], length, drop, Option, Some, None, Result, Ok, Err}
+use Rattle.relay_events.specs.declared.event.Event.{Event}
+use Rattle.relay_events.specs.declared.reply.Reply.{Reply}
+use Rattle.relay_recorder.specs.Recording.{Recording}
+use Rattle.session_core.specs.Remaining.{load}
+use Rattle.embedded_meter.specs.Dialogues.{Dialogue, asks_ahead, sends_ahead, ends_ahead}
+use Rattle.embedded_meter.specs.Progress.{Advances, IsIdle, IsOver, KeepsFrame}
+use Rattle.embedded_meter.specs.declared.connection.Rest.{Rest}
+use Rattle.embedded_meter.specs.declared.connection.Rest.TheVariants as rest
+use Rattle.embedded_meter.specs.declared.given.Given.{Given}
+use Rattle.embedded_meter.specs.declared.given.Given.TheVariants as given
+use Rattle.embedded_meter.specs.declared.under_way.UnderWay.{UnderWay}
+use Rattle.embedded_meter.specs.declared.under_way.UnderWay.TheVariants.{Nothing, Asked, Answered, Due}
+
+-- the session will still do the same
+pub record SameAhead (old new : Dialogue) : Type 0 where
+  pub asks : (more : List ℕ) → asks_ahead old more ≡ asks_ahead new more
+  pub sends : (more : List ℕ) (replies : List Reply)
+      → sends_ahead old more replies ≡ sends_ahead new more replies
+  pub ends : (more : List ℕ) → ends_ahead old more ≡ ends_ahead new more
+
+-- an event is pending
+pub record IsAsked (d : Dialogue) : Type 0 where
+  pub event : Event
+  pub is : d.under_way ≡ Asked event
+
+-- a reply is pending
+pub record IsAnswered (d : Dialogue) : Type 0 where
+  pub reply : Reply
+  pub is : d.under_way ≡ Answered reply
+
+-- a frame is pending
+pub record IsDue (d : Dialogue) : Type 0 where
+  pub frame : List ℕ
+  pub is : d.under_way ≡ Due frame
+
+-- 1 if an event is pending, which is one step from its reply, otherwise 0
+abbrev pub steps_in : UnderWay → ℕ
+steps_in Nothing = 0
+steps_in (Asked event) = 1
+steps_in (Answered reply) = 0
+steps_in (Due frame) = 0
+
+abbrev pub weight : Dialogue → ℕ
+weight d = load d.session + load d.session + steps_in d.under_way
+
+-- the state in which no step is left
+abbrev pub Leaves : Rest → Dialogue → Type 0
+Leaves rest.Due d = IsDue d
+Leaves rest.Wait d = IsIdle d
+Leaves (rest.End end) d = IsOver end d
+
+-- the session was asked for its next event, frame or end
+abbrev pub AsksBy : {E : Type 0} → Dialogue → Result (Option Rest) E → Dialogue → Type 0
+AsksBy old (Ok None) new = SameAhead old new × (weight new < weight old)
+AsksBy old (Ok (Some rest)) new = SameAhead old new × Leaves rest new
+AsksBy old (Err error) new = SameAhead old new
+
+-- the meter applied the event, or out of memory
+abbrev pub AppliesBy : {E : Type 0} → Dialogue → Recording → Result Unit E → Dialogue → Recording
+    → Type 0
+AppliesBy old r (Ok done) new r' = Advances old r [] new r' × (weight new < weight old)
+AppliesBy old r (Err error) new r' = (new ≡ old) × (r' ≡ r)
+
+-- the session received the reply
+abbrev pub AnswersBy : {E : Type 0} → Dialogue → Result Unit E → Dialogue → Type 0
+AnswersBy old (Ok done) new = SameAhead old new × (weight new < weight old)
+AnswersBy old (Err error) new = new ≡ old
+
+-- one step
+abbrev pub WorksBy : {E : Type 0} → Dialogue → Recording → Result (Option Rest) E → Dialogue
+    → Recording → Type 0
+WorksBy old r (Ok None) new r' = Advances old r [] new r' × (weight new < weight old)
+WorksBy old r (Ok (Some rest)) new r' = Advances old r [] new r' × Leaves rest new
+WorksBy old r (Err error) new r' = Advances old r [] new r'
+
+-- all steps
+abbrev pub RestsBy : {E : Type 0} → Dialogue → Recording → Result Rest E → Dialogue → Recording
+    → Type 0
+RestsBy old r (Ok rest) new r' = Advances old r [] new r' × Leaves rest new
+RestsBy old r (Err error) new r' = Advances old r [] new r'
+
+-- the pending frame was copied to the buffer, and is not pending any more
+pub record TakesFrame (old : Dialogue) (buffer : List ℕ) (count : ℕ) (new : Dialogue)
+    (buffer' : List ℕ) : Type 0 where
+  pub frame : List ℕ
+  pub due : old.under_way ≡ Due frame
+  pub now : new ≡ record old { under_way = Nothing }
+  pub counted : count ≡ length frame
+  pub written : buffer' ≡ frame ++ drop count buffer
+
+-- the frame was copied, or stays pending
+abbrev pub GivesDue : Dialogue → List ℕ → Given → Dialogue → List ℕ → Type 0
+GivesDue old buffer (given.Frame count) new buffer' = TakesFrame old buffer count new buffer'
+GivesDue old buffer (given.NoRoom count) new buffer' = (new ≡ old) × KeepsFrame count buffer new
+    × (buffer' ≡ buffer)
+GivesDue old buffer given.Wait new buffer' = ⊥
+GivesDue old buffer (given.End end) new buffer' = ⊥

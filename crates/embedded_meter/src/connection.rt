@@ -1,0 +1,202 @@
+//! A client's session at a meter without threads: it keeps its pending event, reply or frame if out
+//! of memory.
+ghost use Rattle.std.specs.Prelude.{◌≡◌, IfOk, OnOk, OnErr};
+ghost use Rattle.acse_ber.specs.Password.{IsPassword};
+ghost use Rattle.embedded_meter.specs.declared.under_way.UnderWay.TheVariants.{Nothing};
+
+use crate::given::Given;
+use crate::under_way::UnderWay;
+use cosem_axdr::Octets;
+use relay_recorder::Recorder;
+use session_core::{Next, Session, SessionEnd};
+use std::alloc::{AllocError, Global};
+use std::marker::Model;
+use std::mem::replace;
+
+// What a session needs from its caller after the meter has applied its requests.
+#[derive(Clone, Copy)]
+pub(crate) enum Rest {
+    // A frame must be sent.
+    Due,
+    // The session needs more input.
+    Wait,
+    // The session is over and needs nothing.
+    End(SessionEnd),
+}
+
+// A session of a client, with its pending event, reply or frame.
+#[derive(Drop)]
+pub(crate) struct ClientSession {
+    session: Session,
+    under_way: UnderWay,
+}
+
+// Replaces the pending item, and drops the old one.
+fn put(under_way: &mut UnderWay, next: UnderWay)
+    ensures { under_way.new ≡ next }
+{
+    *under_way = next;
+}
+
+impl Model for ClientSession {
+    ghost use Rattle.std.specs.Coded.{codes};
+    ghost use Rattle.session_core.specs.contracts.session.Session as session_row;
+    ghost use Rattle.embedded_meter.specs.contracts.under_way.UnderWay as under_way_row;
+    ghost use Rattle.embedded_meter.specs.Dialogues.{Dialogue, IsDialogue};
+
+    ghost Value = { Dialogue };
+
+    ghost coded = { Prim.hlevel (codes, session_row.the_row.coded, under_way_row.the_row.coded) };
+
+    ghost view = { λ c. record { session = c.session; under_way = c.under_way } };
+
+    ghost invariant = { λ c. IsDialogue (record { session = c.session; under_way = c.under_way }) };
+}
+
+impl ClientSession {
+    ghost use Rattle.embedded_meter.specs.Progress.{Owes, Feeds, Finishes, GivesNextBy};
+    ghost use Rattle.embedded_meter.specs.Working.{AsksBy, WorksBy, RestsBy, AppliesBy, AnswersBy, IsAsked, IsAnswered, IsDue, GivesDue};
+
+    // Returns a new session that has received no byte. `password`, 1 to 32 bytes, is that of the
+    // management client.
+    pub(crate) fn new(alloc: Global, password: &Octets) -> Result<ClientSession, AllocError>
+        requires { IsPassword password.now }
+        ensures { IfOk result (Owes password.now) }
+    {
+        Ok(ClientSession {
+            session: Session::new(alloc, password)?,
+            under_way: UnderWay::Nothing,
+        })
+    }
+
+    // Passes the next bytes to the session, split at any place. A session that is over, or whose
+    // input has ended, ignores them.
+    pub(crate) fn feed(&mut self, bytes: &[u8]) -> Result<(), AllocError>
+        ensures ok { OnOk result (Feeds self.old bytes.now self.new) }
+        ensures err { OnErr result (self.new ≡ self.old) }
+    {
+        self.session.feed(bytes)
+    }
+
+    // Ends the input of the session.
+    pub(crate) fn finish(&mut self)
+        ensures { Finishes self.old self.new }
+    {
+        self.session.finish();
+    }
+
+    // Applies the requests of the session to the meter, up to the next frame, and copies the frame
+    // to the buffer.
+    pub(crate) fn next(
+        &mut self,
+        alloc: Global,
+        recorder: &mut Recorder,
+        buffer: &mut [u8],
+    ) -> Result<Given, AllocError>
+        ensures { GivesNextBy self.old recorder.old buffer.old result self.new recorder.new
+            buffer.new }
+    {
+        match self.settle(alloc, recorder)? {
+            Rest::Due => Ok(self.give(buffer)),
+            Rest::Wait => Ok(Given::Wait),
+            Rest::End(end) => Ok(Given::End(end)),
+        }
+    }
+
+    // Applies the requests of the session to the meter, up to the next frame.
+    fn settle(&mut self, alloc: Global, recorder: &mut Recorder) -> Result<Rest, AllocError>
+        ensures { RestsBy self.old recorder.old result self.new recorder.new }
+    {
+        'work: loop {
+            if let Some(rest) = self.work(alloc, recorder)? {
+                return Ok(rest);
+            }
+        }
+    }
+
+    // Does one step: from the session to the meter, from the meter to the session, or to a frame.
+    fn work(&mut self, alloc: Global, recorder: &mut Recorder) -> Result<Option<Rest>, AllocError>
+        ensures { WorksBy self.old recorder.old result self.new recorder.new }
+    {
+        match &self.under_way {
+            UnderWay::Nothing => self.ask(alloc),
+            UnderWay::Asked(_) => {
+                self.apply(alloc, recorder)?;
+                Ok(None)
+            }
+            UnderWay::Answered(_) => {
+                self.answer(alloc)?;
+                Ok(None)
+            }
+            UnderWay::Due(_) => Ok(Some(Rest::Due)),
+        }
+    }
+
+    // Asks the session for its next event, frame or end.
+    fn ask(&mut self, alloc: Global) -> Result<Option<Rest>, AllocError>
+        requires { self.now.under_way ≡ Nothing }
+        ensures { AsksBy self.old result self.new }
+    {
+        match self.session.next(alloc)? {
+            Next::Ask(event) => {
+                put(&mut self.under_way, UnderWay::Asked(event));
+                Ok(None)
+            }
+            Next::Send(frame) => {
+                put(&mut self.under_way, UnderWay::Due(frame));
+                Ok(Some(Rest::Due))
+            }
+            Next::Wait => Ok(Some(Rest::Wait)),
+            Next::End(end) => Ok(Some(Rest::End(end))),
+        }
+    }
+
+    // Applies the pending event to the meter. On an error the event stays pending.
+    fn apply(&mut self, alloc: Global, recorder: &mut Recorder) -> Result<(), AllocError>
+        requires { IsAsked self.now }
+        ensures { AppliesBy self.old recorder.old result self.new recorder.new }
+    {
+        let UnderWay::Asked(event) = &self.under_way else {
+            unreachable!()
+        };
+        let event = event.try_copy(alloc)?;
+        let reply = recorder.apply(alloc, event)?;
+        let asked = replace(&mut self.under_way, UnderWay::Answered(reply));
+        drop(asked);
+        Ok(())
+    }
+
+    // Passes the pending reply to the session. On an error the reply stays pending.
+    fn answer(&mut self, alloc: Global) -> Result<(), AllocError>
+        requires { IsAnswered self.now }
+        ensures { AnswersBy self.old result self.new }
+    {
+        let UnderWay::Answered(reply) = replace(&mut self.under_way, UnderWay::Nothing) else {
+            unreachable!()
+        };
+        match self.session.answer(alloc, reply) {
+            Ok(()) => Ok(()),
+            Err((fault, reply)) => {
+                put(&mut self.under_way, UnderWay::Answered(reply));
+                Err(fault)
+            }
+        }
+    }
+
+    // Copies the pending frame to the buffer if it fits. Otherwise it stays pending.
+    fn give(&mut self, buffer: &mut [u8]) -> Given
+        requires { IsDue self.now }
+        ensures { GivesDue self.old buffer.old result self.new buffer.new }
+    {
+        let UnderWay::Due(frame) = &self.under_way else {
+            unreachable!()
+        };
+        let count = frame.len();
+        if buffer.len() < count {
+            return Given::NoRoom(count);
+        }
+        buffer[..count].copy_from_slice(frame.as_slice());
+        put(&mut self.under_way, UnderWay::Nothing);
+        Given::Frame(count)
+    }
+}

@@ -1,0 +1,767 @@
+//! Sessions of clients with a meter, frame by frame.
+ghost use Rattle.std.specs.Prelude.{◌≡◌, true};
+ghost use Rattle.session_core.specs.Remaining.{is_asking};
+
+use cosem_axdr::Octets;
+use relay_core::{Event, OpeningFault, RelayCore, Reply};
+use session_core::{Next, Session, SessionEnd};
+use std::alloc::{AllocError, Global};
+use std::test::Fail;
+
+/// An AARQ of the public client, and the AARE.
+const PUBLIC: (&str, &str) = (
+    "000100100001001F601DA109060760857405080101BE10040E01000000065F1F0400007E1F04B0",
+    "000100010010002B6129A109060760857405080101A203020100A305A103020100BE10040E0800065F1F0400001E1904000007",
+);
+
+/// An AARQ of the management client with the password 12345678, and the AARE.
+const MANAGEMENT: (&str, &str) = (
+    "00010001000100386036A1090607608574050801018A0207808B0760857405080201AC0A80083132333435363738BE10040E01000000065F1F0400001C190400",
+    "000100010001002B6129A109060760857405080101A203020100A305A103020100BE10040E0800065F1F0400001C1904000007",
+);
+
+/// The next need of a session after its last one was met.
+#[derive(Clone, Copy)]
+enum Left {
+    /// Something else than input.
+    More,
+    /// More input.
+    Input,
+    /// Nothing: it is over.
+    Nothing(SessionEnd),
+}
+
+/// Passes a reply to the session.
+fn give(alloc: Global, session: &mut Session, reply: Reply) -> Result<Left, AllocError>
+    requires { is_asking session.old ≡ true }
+{
+    match session.answer(alloc, reply) {
+        Ok(()) => Ok(Left::More),
+        Err(failed) => {
+            drop(failed);
+            Err(AllocError)
+        }
+    }
+}
+
+/// Passes the meter's reply to an event to the session.
+fn answer(
+    alloc: Global,
+    core: &mut RelayCore,
+    session: &mut Session,
+    event: &Event,
+) -> Result<Left, AllocError>
+    requires { is_asking session.old ≡ true }
+{
+    match core.step(alloc, event) {
+        Ok(reply) => give(alloc, session, reply),
+        Err(_) => Err(AllocError),
+    }
+}
+
+/// Appends a frame to those that were sent.
+fn put(sent: &mut Octets, frame: &[u8]) -> Result<Left, AllocError> {
+    sent.extend_from_slice(frame)?;
+    Ok(Left::More)
+}
+
+/// Does what the session needs next.
+fn take_next(
+    alloc: Global,
+    core: &mut RelayCore,
+    session: &mut Session,
+    sent: &mut Octets,
+) -> Result<Left, AllocError> {
+    match session.next(alloc)? {
+        Next::Ask(event) => {
+            let answered = answer(alloc, core, session, &event);
+            drop(event);
+            answered
+        }
+        Next::Send(frame) => {
+            let put = put(sent, frame.as_slice());
+            drop(frame);
+            put
+        }
+        Next::Wait => Ok(Left::Input),
+        Next::End(end) => Ok(Left::Nothing(end)),
+    }
+}
+
+/// Does what the session needs until it needs more input or is over. `More` if it never does.
+fn settle(
+    alloc: Global,
+    core: &mut RelayCore,
+    session: &mut Session,
+    sent: &mut Octets,
+) -> Result<Left, AllocError> {
+    for _ in 0..100 {
+        let left = take_next(alloc, core, session, sent)?;
+        if !matches!(left, Left::More) {
+            return Ok(left);
+        }
+    }
+    Ok(Left::More)
+}
+
+/// Feeds a session an input in pieces of this size, ends the input, and returns how the session
+/// ends.
+fn drive(
+    alloc: Global,
+    core: &mut RelayCore,
+    session: &mut Session,
+    input: &[u8],
+    size: usize,
+    sent: &mut Octets,
+) -> Result<Left, AllocError> {
+    if size == 0 {
+        return Ok(Left::More);
+    }
+    for piece in input.chunks(size) {
+        session.feed(piece)?;
+        let left = settle(alloc, core, session, sent)?;
+        if matches!(left, Left::More) {
+            return Ok(left);
+        }
+    }
+    session.finish();
+    settle(alloc, core, session, sent)
+}
+
+fn new_session(alloc: Global) -> Result<Session, AllocError> {
+    let password = Octets::from_slice(alloc, b"12345678")?;
+    let session = Session::new(alloc, &password);
+    drop(password);
+    session
+}
+
+fn new_core(alloc: Global) -> Result<RelayCore, AllocError> {
+    let device = Octets::from_slice(alloc, b"RELAY1")?;
+    let core = RelayCore::new(alloc, &device);
+    drop(device);
+    core
+}
+
+/// Returns how a new session with a meter ends, for an input in pieces of this size, and appends
+/// what it sends.
+fn run_with(
+    alloc: Global,
+    core: &mut RelayCore,
+    input: &[u8],
+    size: usize,
+    sent: &mut Octets,
+) -> Result<Left, AllocError> {
+    let mut session = new_session(alloc)?;
+    let left = drive(alloc, core, &mut session, input, size, sent);
+    drop(session);
+    left
+}
+
+/// Runs a new session with a new meter.
+fn run(alloc: Global, input: &[u8], size: usize, sent: &mut Octets) -> Result<Left, AllocError> {
+    let mut core = new_core(alloc)?;
+    let left = run_with(alloc, &mut core, input, size, sent);
+    drop(core);
+    left
+}
+
+/// Returns whether an input in pieces of this size has these answers and this end.
+fn is_answered(
+    alloc: Global,
+    input: &[u8],
+    size: usize,
+    expected: &[u8],
+    end: SessionEnd,
+) -> Result<bool, AllocError> {
+    let mut sent = Octets::new(alloc);
+    let left = run(alloc, input, size, &mut sent);
+    let same = sent.as_slice() == expected;
+    drop(sent);
+    match left? {
+        Left::Nothing(ended) => Ok(same && ended == end),
+        _ => Ok(false),
+    }
+}
+
+/// Returns whether an input has these answers and this end, in one piece and byte by byte.
+fn is_answered_so(
+    alloc: Global,
+    input: &[u8],
+    expected: &[u8],
+    end: SessionEnd,
+) -> Result<bool, AllocError> {
+    Ok(
+        is_answered(alloc, input, 4096, expected, end)?
+            && is_answered(alloc, input, 1, expected, end)?,
+    )
+}
+
+/// Appends the bytes of a text in hexadecimal.
+fn add_hex(alloc: Global, bytes: &mut Octets, text: &str) -> Result<(), AllocError> {
+    match hex::decode(alloc, text) {
+        Ok(more) => {
+            let added = bytes.extend_from_slice(more.as_slice());
+            drop(more);
+            added
+        }
+        Err(_) => Err(AllocError),
+    }
+}
+
+/// Frames of a client, each with its answer.
+type Frames = &'static [(&'static str, &'static str)];
+
+fn add_frames(
+    alloc: Global,
+    frames: Frames,
+    input: &mut Octets,
+    expected: &mut Octets,
+) -> Result<(), AllocError> {
+    for (request, answer) in frames {
+        add_hex(alloc, input, request)?;
+        add_hex(alloc, expected, answer)?;
+    }
+    Ok(())
+}
+
+/// Returns whether these frames have these answers and this end, in one piece and byte by byte.
+fn are_answered(alloc: Global, frames: Frames, end: SessionEnd) -> Result<bool, AllocError> {
+    let mut input = Octets::new(alloc);
+    let mut expected = Octets::new(alloc);
+    let added = add_frames(alloc, frames, &mut input, &mut expected);
+    let answered = is_answered_so(alloc, input.as_slice(), expected.as_slice(), end);
+    drop(input);
+    drop(expected);
+    added?;
+    answered
+}
+
+const STATE_READ: Frames = &[
+    PUBLIC,
+    (
+        "000100100001000DC001C10046000060030AFF0300",
+        "0001000100100006C401C1001601",
+    ),
+    (
+        "000100100001000FC101C10046000060030AFF04001602",
+        "0001000100100004C501C103",
+    ),
+];
+
+#[test]
+fn a_public_client_reads_the_state(rt: HostRuntime) {
+    assert!(rt;
+        matches!(
+            are_answered(rt.alloc(), STATE_READ, SessionEnd::Closed),
+            Ok(true)
+        )
+    );
+}
+
+const NO_ASSOCIATION: Frames = &[(
+    "000100100001000DC001C10046000060030AFF0300",
+    "0001000100100003D80101",
+)];
+
+#[test]
+fn no_call_is_allowed_before_an_association(rt: HostRuntime) {
+    assert!(rt;
+        matches!(
+            are_answered(rt.alloc(), NO_ASSOCIATION, SessionEnd::Closed),
+            Ok(true)
+        )
+    );
+}
+
+const OTHER_CLIENT: Frames = &[
+    PUBLIC,
+    (
+        "000100010001000DC001C10046000060030AFF0300",
+        "0001000100010003D80101",
+    ),
+    ("0001001000020001C0", ""),
+    ("0001001000010001CA", "0001000100100003D80202"),
+    ("0001001000010000", "0001000100100003D80202"),
+    (
+        "000100100001000DC001C10046000060030AFF0300",
+        "0001000100100006C401C1001601",
+    ),
+];
+
+#[test]
+fn another_client_and_another_port_are_not_heard(rt: HostRuntime) {
+    assert!(rt;
+        matches!(
+            are_answered(rt.alloc(), OTHER_CLIENT, SessionEnd::Closed),
+            Ok(true)
+        )
+    );
+}
+
+/// Requests from the ports 65534 and 32768.
+const HIGH_PORTS: Frames = &[
+    (
+        "0001FFFE0001000DC001C10046000060030AFF0300",
+        "00010001FFFE0003D80101",
+    ),
+    ("0001800000010001CA", "0001000180000003D80202"),
+];
+
+#[test]
+fn answers_go_to_ports_above_32767(rt: HostRuntime) {
+    assert!(rt;
+        matches!(
+            are_answered(rt.alloc(), HIGH_PORTS, SessionEnd::Closed),
+            Ok(true)
+        )
+    );
+}
+
+/// Appends a public client's AARQ of 537 bytes. Its calling AP title is an OCTET STRING of 496
+/// bytes.
+fn add_long_opening(alloc: Global, input: &mut Octets) -> Result<(), AllocError> {
+    add_hex(
+        alloc,
+        input,
+        "000100100001021960820215A109060760857405080101A68201F4048201F0",
+    )?;
+    input.extend_from_slice(&[0; 496])?;
+    add_hex(alloc, input, "BE10040E01000000065F1F0400007E1F04B0")
+}
+
+/// Returns whether a long AARQ has the usual AARE, and a read of the state after it is answered.
+fn is_long_opening_answered(alloc: Global) -> Result<bool, AllocError> {
+    let mut input = Octets::new(alloc);
+    let mut expected = Octets::new(alloc);
+    let opened = add_long_opening(alloc, &mut input);
+    let asked = add_hex(alloc, &mut input, STATE_READ[1].0);
+    let answered = add_hex(alloc, &mut expected, PUBLIC.1);
+    let read = add_hex(alloc, &mut expected, STATE_READ[1].1);
+    let is_so = is_answered_so(
+        alloc,
+        input.as_slice(),
+        expected.as_slice(),
+        SessionEnd::Closed,
+    );
+    drop(input);
+    drop(expected);
+    opened?;
+    asked?;
+    answered?;
+    read?;
+    is_so
+}
+
+#[test]
+fn an_opening_of_537_bytes_is_answered(rt: HostRuntime) {
+    assert!(rt; matches!(is_long_opening_answered(rt.alloc()), Ok(true)));
+}
+
+const WRONG_PASSWORD: Frames = &[
+    (
+        "00010001000100386036A1090607608574050801018A0207808B0760857405080201AC0A80083132333435363739BE10040E01000000065F1F0400001C190400",
+        "00010001000100196117A109060760857405080101A203020101A305A10302010D",
+    ),
+    (
+        "000100010001001F601DA109060760857405080101BE10040E01000000065F1F0400007E1F04B0",
+        "00010001000100196117A109060760857405080101A203020101A305A10302010E",
+    ),
+];
+
+#[test]
+fn a_wrong_password_is_refused(rt: HostRuntime) {
+    assert!(rt;
+        matches!(
+            are_answered(rt.alloc(), WRONG_PASSWORD, SessionEnd::Closed),
+            Ok(true)
+        )
+    );
+}
+
+const RELEASED: Frames = &[
+    MANAGEMENT,
+    ("00010001000100056203800100", "00010001000100056303800100"),
+    (
+        "000100010001000DC001C10046000060030AFF0300",
+        "0001000100010003D80101",
+    ),
+];
+
+#[test]
+fn a_release_ends_the_association(rt: HostRuntime) {
+    assert!(rt;
+        matches!(
+            are_answered(rt.alloc(), RELEASED, SessionEnd::Closed),
+            Ok(true)
+        )
+    );
+}
+
+const LIST_WITHOUT_BIT: Frames = &[
+    MANAGEMENT,
+    ("0001000100010004C003C100", "0001000100010003D80202"),
+];
+
+#[test]
+fn a_list_wants_its_bit(rt: HostRuntime) {
+    assert!(rt;
+        matches!(
+            are_answered(rt.alloc(), LIST_WITHOUT_BIT, SessionEnd::Closed),
+            Ok(true)
+        )
+    );
+}
+
+const ACTION_BLOCKS: Frames = &[
+    MANAGEMENT,
+    (
+        "000100010001000FC101C10046000060030AFF04001601",
+        "0001000100010004C501C100",
+    ),
+    (
+        "0001000100010013C304C10046000060030AFF010000000001010F",
+        "0001000100010007C704C100000001",
+    ),
+    (
+        "000100010001000AC306C101000000020100",
+        "0001000100010005C701C10000",
+    ),
+    (
+        "000100010001000DC001C10046000060030AFF0300",
+        "0001000100010006C401C1001600",
+    ),
+    (
+        "000100010001000AC306C101000000020100",
+        "0001000100010005C701C11000",
+    ),
+];
+
+#[test]
+fn an_action_comes_in_blocks(rt: HostRuntime) {
+    assert!(rt;
+        matches!(
+            are_answered(rt.alloc(), ACTION_BLOCKS, SessionEnd::Closed),
+            Ok(true)
+        )
+    );
+}
+
+const SET_BLOCKS: Frames = &[
+    MANAGEMENT,
+    (
+        "0001000100010014C102C10046000060030AFF040000000000010116",
+        "0001000100010007C502C100000001",
+    ),
+    (
+        "000100010001000AC103C101000000020105",
+        "0001000100010008C503C10000000002",
+    ),
+    (
+        "000100010001000DC001C10046000060030AFF0400",
+        "0001000100010006C401C1001605",
+    ),
+    (
+        "000100010001000AC103C101000000030105",
+        "0001000100010008C503C11200000003",
+    ),
+];
+
+#[test]
+fn a_set_comes_in_blocks(rt: HostRuntime) {
+    assert!(rt;
+        matches!(
+            are_answered(rt.alloc(), SET_BLOCKS, SessionEnd::Closed),
+            Ok(true)
+        )
+    );
+}
+
+const LONG_LIST: Frames = &[
+    (
+        "000100100001001F601DA109060760857405080101BE10040E01000000065F1F04000000100040",
+        "000100010010002B6129A109060760857405080101A203020100A305A103020100BE10040E0800065F1F040000001004000007",
+    ),
+    (
+        "000100100001000DC001C1000F0000280000FF0200",
+        "0001000100100005C401C101FA",
+    ),
+    ("0001001000010007C002C100000001", "0001000100100003D80202"),
+];
+
+#[test]
+fn a_long_list_is_refused_without_block_transfer(rt: HostRuntime) {
+    assert!(rt;
+        matches!(
+            are_answered(rt.alloc(), LONG_LIST, SessionEnd::Closed),
+            Ok(true)
+        )
+    );
+}
+
+/// Inputs without an answer, and their ends.
+const UNANSWERED: &[(Frames, SessionEnd)] = &[
+    (&[("", "")], SessionEnd::Closed),
+    (&[("0002001000010000", "")], SessionEnd::BadVersion),
+    (&[("0001001000010401", "")], SessionEnd::TooLong),
+    (&[("000100100001001F601DA109", "")], SessionEnd::Cut),
+    (&[("00", "")], SessionEnd::Cut),
+];
+
+fn all_end(alloc: Global, rows: &[(Frames, SessionEnd)]) -> Result<bool, AllocError> {
+    for (frames, end) in rows {
+        if !are_answered(alloc, frames, *end)? {
+            return Ok(false);
+        }
+    }
+    Ok(true)
+}
+
+#[test]
+fn wrong_headers_and_cuts_end_the_session(rt: HostRuntime) {
+    assert!(rt; matches!(all_end(rt.alloc(), UNANSWERED), Ok(true)));
+}
+
+/// Returns whether a session waits for input, and `is_idle` returned true before.
+fn waits(alloc: Global, session: &mut Session) -> Result<bool, AllocError> {
+    let is_idle = session.is_idle();
+    let next = session.next(alloc)?;
+    let waits = matches!(&next, Next::Wait);
+    drop(next);
+    Ok(is_idle && waits && !session.asking())
+}
+
+/// Returns whether a session is over because of a header of another version, and is not idle.
+fn is_over(alloc: Global, session: &mut Session) -> Result<bool, AllocError> {
+    let is_idle = session.is_idle();
+    let next = session.next(alloc)?;
+    let is_over = matches!(&next, Next::End(SessionEnd::BadVersion));
+    drop(next);
+    Ok(is_over && !is_idle)
+}
+
+/// Returns whether a frame of another version ends a session that waits, and the session stays over
+/// whatever it is fed.
+fn says_so_again(alloc: Global, session: &mut Session) -> Result<bool, AllocError> {
+    let waits = waits(alloc, session)?;
+    session.feed(&[0, 2, 0, 16, 0, 1, 0, 0])?;
+    let ends = is_over(alloc, session)?;
+    session.feed(&[0, 1, 0, 16, 0, 1, 0, 0])?;
+    Ok(waits && ends && is_over(alloc, session)?)
+}
+
+/// Returns whether a frame of another version ends a new session that waits, and the session stays
+/// over.
+fn a_new_one_says_so_again(alloc: Global) -> Result<bool, AllocError> {
+    let mut session = new_session(alloc)?;
+    let says_so = says_so_again(alloc, &mut session);
+    drop(session);
+    says_so
+}
+
+#[test]
+fn a_session_that_is_over_says_so_again(rt: HostRuntime) {
+    assert!(rt; matches!(a_new_one_says_so_again(rt.alloc()), Ok(true)));
+}
+
+/// Returns whether `Debug` writes only the name of a session's type, because the session has a
+/// password.
+fn is_shown_by_name(alloc: Global, session: &Session) -> Result<bool, AllocError> {
+    let text = format!(in alloc; "{session:?}")?;
+    let is_same = text.as_str() == "Session { .. }";
+    drop(text);
+    Ok(is_same)
+}
+
+#[test]
+fn a_session_does_not_show_its_password(rt: HostRuntime) -> Result<(), Fail> {
+    let session = new_session(rt.alloc())?;
+    let is_shown = is_shown_by_name(rt.alloc(), &session);
+    drop(session);
+    assert!(rt; is_shown == Ok(true));
+    Ok(())
+}
+
+/// Feeds a session the bytes of a text in hexadecimal.
+fn feed_hex(alloc: Global, session: &mut Session, text: &str) -> Result<(), AllocError> {
+    let mut input = Octets::new(alloc);
+    let fed = match add_hex(alloc, &mut input, text) {
+        Ok(()) => session.feed(input.as_slice()),
+        Err(error) => Err(error),
+    };
+    drop(input);
+    fed
+}
+
+/// Associates a client by this AARQ.
+fn associate(
+    alloc: Global,
+    core: &mut RelayCore,
+    session: &mut Session,
+    opening: &str,
+) -> Result<(), AllocError> {
+    feed_hex(alloc, session, opening)?;
+    let mut sent = Octets::new(alloc);
+    let left = settle(alloc, core, session, &mut sent);
+    drop(sent);
+    let _left = left?;
+    Ok(())
+}
+
+/// Returns the frame with the answer to a GET of one attribute at the front, by `next_get` and
+/// `answer_get`. No bytes if there is no such GET.
+fn answer_shortly(
+    alloc: Global,
+    core: &mut RelayCore,
+    session: &mut Session,
+) -> Result<Octets, AllocError> {
+    let Some((level, attr)) = session.next_get() else {
+        return Ok(Octets::new(alloc));
+    };
+    let event = Event::Get {
+        level,
+        attr,
+        selected: false,
+    };
+    let stepped = core.step(alloc, &event);
+    drop(event);
+    let reply = stepped?;
+    let frame = session.answer_get(alloc, &reply);
+    drop(reply);
+    frame
+}
+
+/// Returns the frame with the answer to a short SET or ACTION at the front, by `next_command` and
+/// `answer_command`. No bytes if there is no such command.
+fn answer_command_shortly(
+    alloc: Global,
+    core: &mut RelayCore,
+    session: &mut Session,
+) -> Result<Octets, AllocError> {
+    let Some(event) = session.next_command() else {
+        return Ok(Octets::new(alloc));
+    };
+    let stepped = core.step(alloc, &event);
+    drop(event);
+    let reply = stepped?;
+    let frame = session.answer_command(alloc, &reply);
+    drop(reply);
+    frame
+}
+
+/// The short way of a GET, or that of a SET or an ACTION.
+#[derive(Clone, Copy)]
+enum ShortWay {
+    Get,
+    Command,
+}
+
+/// Feeds a session the AARQ and a frame of a client, and returns its answer by a short way.
+fn answer_after(
+    alloc: Global,
+    core: &mut RelayCore,
+    session: &mut Session,
+    way: ShortWay,
+    texts: (&str, &str),
+) -> Result<Octets, AllocError> {
+    associate(alloc, core, session, texts.0)?;
+    feed_hex(alloc, session, texts.1)?;
+    match way {
+        ShortWay::Get => answer_shortly(alloc, core, session),
+        ShortWay::Command => answer_command_shortly(alloc, core, session),
+    }
+}
+
+/// Returns whether a frame after an AARQ has this answer from a new meter, by a short way.
+fn is_answered_shortly(
+    alloc: Global,
+    way: ShortWay,
+    texts: (&str, &str),
+    answer: &str,
+) -> Result<bool, AllocError> {
+    let mut session = new_session(alloc)?;
+    let answered = match new_core(alloc) {
+        Ok(mut core) => {
+            let answered = answer_after(alloc, &mut core, &mut session, way, texts);
+            drop(core);
+            answered
+        }
+        Err(error) => Err(error),
+    };
+    drop(session);
+    let frame = answered?;
+    let mut expected = Octets::new(alloc);
+    let added = add_hex(alloc, &mut expected, answer);
+    let same = frame.as_slice() == expected.as_slice();
+    drop(expected);
+    drop(frame);
+    added?;
+    Ok(same)
+}
+
+/// A read of the switch's state and of an unknown object. A write and another client's GET have no
+/// answer by `next_get`.
+static BY_THE_SHORT_WAY: [(&str, &str); 4] = [
+    (
+        "000100100001000DC001C10046000060030AFF0300",
+        "0001000100100006C401C1001601",
+    ),
+    (
+        "000100100001000DC001C10046000060030BFF0200",
+        "0001000100100005C401C10104",
+    ),
+    ("000100100001000FC101C10046000060030AFF04001602", ""),
+    ("000100010001000DC001C10046000060030AFF0300", ""),
+];
+
+#[test]
+fn a_get_of_one_attribute_takes_the_short_way(rt: HostRuntime) {
+    for (request, answer) in &BY_THE_SHORT_WAY {
+        assert!(rt;
+            matches!(
+                is_answered_shortly(rt.alloc(), ShortWay::Get, (PUBLIC.0, request), answer),
+                Ok(true)
+            ),
+            "{request}"
+        );
+    }
+}
+
+/// A write of the control mode, a disconnection that mode 0 refuses, a write with selective access
+/// and a GET, which have no answer by `next_command`.
+static COMMANDS: [(&str, &str); 4] = [
+    (
+        "000100010001000FC101C10046000060030AFF04001602",
+        "0001000100010004C501C100",
+    ),
+    (
+        "000100010001000FC301C10046000060030AFF01010F00",
+        "0001000100010005C701C10200",
+    ),
+    ("0001000100010012C101C10046000060030AFF04010100001602", ""),
+    ("000100010001000DC001C10046000060030AFF0300", ""),
+];
+
+#[test]
+fn a_set_and_an_action_take_the_short_way(rt: HostRuntime) {
+    for (request, answer) in &COMMANDS {
+        assert!(rt;
+            matches!(
+                is_answered_shortly(
+                    rt.alloc(),
+                    ShortWay::Command,
+                    (MANAGEMENT.0, request),
+                    answer
+                ),
+                Ok(true)
+            ),
+            "{request}"
+        );
+    }
+}
+
+#[test]
+fn ends_and_faults_have_numbers(rt: HostRuntime) {
+    assert!(rt; u8::from(SessionEnd::Closed) == 1 && u8::from(SessionEnd::Cut) == 2);
+    assert!(rt; u8::from(SessionEnd::BadVersion) == 3 && u8::from(SessionEnd::TooLong) == 4);
+    assert!(rt; u8::from(OpeningFault::Unfit) == 1 && u8::from(OpeningFault::Memory) == 2);
+}

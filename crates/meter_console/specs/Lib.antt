@@ -1,4 +1,0 @@
-pub mod Console
-pub mod Ends
-pub mod Lines
-pub mod Queues

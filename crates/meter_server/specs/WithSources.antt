@@ -1,0 +1,29 @@
+-- Clients that are served in parallel with the workers of some sources of events.
+--     first_then    the events of the source with an index
+--     ServesWith    what serving did to the port
+use Rattle.std.specs.Prelude.{ℕ, zero, suc, ◌+◌, ◌<◌, List, IfOk, Result}
+use Rattle.meter_server.specs.ServingAll.{Acted, IsServed, OnEnded}
+use Rattle.meter_server.specs.Sessions.{AreSessions}
+use Rattle.meter_server.specs.declared.serving_all.Served.{Served}
+use Rattle.shared_meter.specs.Handed.{MeterPort}
+use Rattle.relay_events.specs.declared.event.Event.{Event}
+use Rattle.session_io.specs.declared.fault.ServeFault.{ServeFault}
+use Rattle.port_threads.specs.Ports.{PortContinues, AreJoined, child}
+
+-- which events can be all those of the source with an index: of the first source, and of the others
+abbrev pub first_then : (First : List Event → Type 0) → (Others : ℕ → List Event → Type 0) → ℕ
+    → List Event → Type 0
+first_then First Others zero = First
+first_then First Others (suc i) = Others i
+
+-- Port p became port q: clients were served, and the events of `count` sources were passed on, each
+-- by a port that was split off before those of the sessions. If no worker stopped early, the events
+-- of each source are all its events.
+pub record ServesWith (password : List ℕ) (count : ℕ) (CanFollow : ℕ → List Event → Type 0)
+    (p q : MeterPort) (served : Result Served ServeFault) : Type 0 where
+  pub goes : PortContinues p q
+  pub joined : AreJoined p.known.splits q
+  pub sessions : AreSessions password (p.known.splits + count) q
+  pub counted : IfOk served (IsServed (p.known.splits + count) q.known.splits)
+  pub acted : (i : ℕ) → i < count
+      → OnEnded served (Acted q (child p.known.number (p.known.splits + i)) (CanFollow i))

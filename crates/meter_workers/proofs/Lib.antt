@@ -1,3 +1,0 @@
-pub mod BlockLemmas
-pub mod HandedLemmas
-pub mod SourceLemmas

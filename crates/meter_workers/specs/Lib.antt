@@ -1,4 +1,0 @@
-pub mod Blocks
-pub mod Handed
-pub mod Sources
-pub mod Thresholds

@@ -1,0 +1,67 @@
+-- The development of a port while others work through ports that were split off from it.
+use Rattle.std.specs.Prelude.{◌≡◌, ◌⊎◌, ℕ, ◌+◌, ◌<◌, ◌≤◌, List, [], ◌∷◌, ◌++◌}
+use Rattle.turn_lock.specs.declared.turned.Entry.{Entry}
+use Rattle.turn_lock.specs.History.{StartsWith, IsAmong, calls_by}
+use Rattle.turn_lock.specs.Rule.{IsOwn}
+use Rattle.turn_lock.specs.Shown.{ShownPort}
+
+-- q is the later state of the port p, which has made no call and may have split off other ports and
+-- joined some in
+pub record PortContinues {E R O : Type 0} (p q : ShownPort E R O) : Type 0 where
+  pub lock : q.lock ≡ p.lock
+  pub bound : q.bound ≡ p.bound
+  pub origin : q.known.origin ≡ p.known.origin
+  pub number : q.known.number ≡ p.known.number
+  pub splits : p.known.splits ≤ q.known.splits
+  pub drawn : p.known.drawn ≤ q.known.drawn
+  pub seen : StartsWith q.known.seen p.known.seen
+  pub joined : (n : List ℕ) → IsAmong n p.known.joined → IsAmong n q.known.joined
+  pub own : (n : List ℕ) → IsOwn p.known n → calls_by n q.known.seen ≡ calls_by n p.known.seen
+
+-- the number of the port that was split off when i ports had been split off before
+abbrev pub child : List ℕ → ℕ → List ℕ
+child number i = number ++ i ∷ []
+
+-- each port that was split off, from the count `from` on, was joined in
+abbrev pub AreJoined : {E R O : Type 0} → ℕ → ShownPort E R O → Type 0
+AreJoined from p = (i : ℕ) → from ≤ i → i < p.known.splits
+    → IsAmong (child p.known.number i) p.known.joined
+
+-- The port `own` was split off from p, whose later state is q
+pub record SplitsOff {E R O : Type 0} (p own q : ShownPort E R O) : Type 0 where
+  pub goes : PortContinues p q
+  pub splits : q.known.splits ≡ p.known.splits + 1
+  pub lock : own.lock ≡ p.lock
+  pub bound : own.bound ≡ p.bound
+  pub number : own.known.number ≡ child p.known.number p.known.splits
+  pub fresh : calls_by own.known.number own.known.seen ≡ []
+
+-- the port r was joined into p, whose later state is q
+pub record TakesIn {E R O : Type 0} (p r q : ShownPort E R O) : Type 0 where
+  pub goes : PortContinues p q
+  pub splits : q.known.splits ≡ p.known.splits
+  pub joined : IsAmong r.known.number q.known.joined
+  pub drawn : r.known.drawn ≤ q.known.drawn
+  pub told : StartsWith q.known.seen r.known.seen
+  pub theirs : calls_by r.known.number q.known.seen ≡ calls_by r.known.number r.known.seen
+
+-- a port was returned by a thread, either as it was lent or as the thread's work left it
+abbrev pub Returns : {E R O : Type 0} → (ShownPort E R O → ShownPort E R O → Type 0)
+    → ShownPort E R O → ShownPort E R O → Type 0
+Returns did p q = (q ≡ p) ⊎ did p q
+
+-- these are the calls of a port with this number, which was new and did this work
+pub record AreCallsOf {E R O : Type 0} (did : ShownPort E R O → ShownPort E R O
+    → Type 0) (number : List ℕ) (calls : List (Entry E R)) : Type 0 where
+  pub lent : ShownPort E R O
+  pub back : ShownPort E R O
+  pub named : lent.known.number ≡ number
+  pub fresh : calls_by number lent.known.seen ≡ []
+  pub returned : Returns did lent back
+  pub calls_are : calls ≡ calls_by number back.known.seen
+
+-- each port that was split off, from the count `from` on, did this work, and its calls are known
+abbrev pub AreServed : {E R O : Type 0} → (ShownPort E R O → ShownPort E R O → Type 0) → ℕ
+    → ShownPort E R O → Type 0
+AreServed did from p = (i : ℕ) → from ≤ i → i < p.known.splits
+    → AreCallsOf did (child p.known.number i) (calls_by (child p.known.number i) p.known.seen)

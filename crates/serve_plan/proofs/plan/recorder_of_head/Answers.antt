@@ -1,6 +1,0 @@
-use Rattle.serve_plan.proofs.Resumed.{other_value}
-use Rattle.program_fault.specs.declared.Fault.TheVariants.{Input}
-use Rattle.serve_plan.proofs.plan.recorder_of_head.Goals as goal
-
-pub returns-in-Err-clause-input : goal.returns-in-Err-clause-input
-returns-in-Err-clause-input g c is = c.in-Err.ensures.input (other_value c.in-Err.fault Input is)

@@ -1,0 +1,12 @@
+pub mod AnswerLemmas
+pub mod Decoded
+pub mod Digits
+pub mod Faults
+pub mod FirstLines
+pub mod Heads
+pub mod HeadsFound
+pub mod Laid
+pub mod Pieces
+pub mod RequestLemmas
+pub mod Resumed
+pub mod Unused

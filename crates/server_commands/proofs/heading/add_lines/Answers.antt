@@ -1,0 +1,31 @@
+use Rattle.std.proofs.Common.{Err, ap, arith}
+use Rattle.counted_io.specs.Lines.{left_in}
+use Rattle.program.specs.declared.fault.Fault.{Fault}
+use Rattle.program.specs.declared.fault.Fault.TheVariants.{Input}
+use Rattle.server_commands.proofs.FirstLines.{lines_left, lines_on}
+use Rattle.server_commands.proofs.Heads.{grows_on}
+use Rattle.server_commands.proofs.HeadsFound.{same_fault}
+use Rattle.server_commands.proofs.heading.add_lines.Goals as goal
+
+pub returns-in_err-add_line-clause-input : goal.returns-in_err-add_line-clause-input
+returns-in_err-add_line-clause-input g c = λ is whole rest front rows long small ahead.
+    lines_left whole rest front rows c.lines.counter c.lines.text.items
+    (left_in g.I.Read.remaining c.lines.input) (omega (arith, c.lines-test.true, long))
+    (c.lines.invariant.ahead whole rest front rows long ahead)
+    (λ row others there. c.in_err-add_line.ensures.input
+    (ap (λ (f : Fault). Err f) (same_fault c.from_residual.result c.in_err-add_line.field-0.0 Input
+    c.from_residual.ensures.1 is)) whole rest row others small there)
+
+pub lines-preserved : goal.lines-preserved
+lines-preserved g c = record {
+  grows = grows_on c.args.text.now.items c.lines.text.items c.add_line.new.text.items
+      (left_in g.I.Read.remaining c.args.input.now) (left_in g.I.Read.remaining c.lines.input)
+      (left_in g.I.Read.remaining c.add_line.new.input) c.lines.invariant.grows
+      c.in_ok-add_line.ensures.grows;
+  ahead = λ whole rest front rows long ahead.
+      lines_on whole rest front rows c.lines.counter c.lines.text.items c.add_line.new.text.items
+      (left_in g.I.Read.remaining c.lines.input) (left_in g.I.Read.remaining c.add_line.new.input)
+      (omega (arith, c.lines-test.true, long))
+      (c.lines.invariant.ahead whole rest front rows long ahead)
+      (λ row others there. c.in_ok-add_line.ensures.ahead whole rest row others there);
+}

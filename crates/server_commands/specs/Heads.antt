@@ -1,0 +1,105 @@
+-- The trace at the head of an input.
+--     TakesHead     the trace was read, and no more
+--     HasHead       the input begins with a trace
+--     IsHeadFault   why no trace was read
+--     Grows         a text grew by the bytes that were read
+--     IsLine        bytes that are one line
+--     IsLaidOut     the lines of a trace
+--     Ahead         the lines of a trace that are still to be read
+use Rattle.std.specs.Prelude.{◌≡◌, ℕ, suc, Bool, true, codes, List, [], ◌∷◌, Option, Some, Ok, ◌++◌, length, ⊤}
+use Rattle.std.specs.Io.KnownBytes.{Consumes}
+use Rattle.program.specs.declared.fault.Fault.{Fault}
+use Rattle.program.specs.declared.fault.Fault.TheVariants as program
+use Rattle.relay_core.specs.Opening.{IsFitOpening}
+use Rattle.relay_recorder.specs.declared.trace.Trace.{Trace}
+use Rattle.trace_openings.specs.OpeningFields.{version_from}
+use Rattle.trace_lines.specs.Events.{events_from}
+use Rattle.trace_words.specs.Rows.{Row}
+use Rattle.trace_words.specs.declared.fault.TraceFault.{TraceFault}
+use Rattle.trace_words.specs.declared.fault.TraceFault.TheVariants as trace_fault
+use Rattle.trace_words.specs.declared.version.Version.{Version}
+use Rattle.trace_words.specs.declared.version.Version.TheVariants.{One, Two}
+use Rattle.trace_player.specs.Traces.{trace_of}
+use Rattle.text_lines.specs.Lines.{rows_of, unended_of}
+use Rattle.text_lines.specs.Words.{words_of}
+
+-- of the input, the bytes of a whole trace were read, and no more
+pub record TakesHead (left : Option (List ℕ)) (trace : Trace) (left' : Option (List ℕ)) : Type 0
+  where
+    pub text : List ℕ
+    pub read : Consumes left left' text
+    pub told : trace_of text ≡ Ok trace
+    pub fit : IsFitOpening trace.opening
+
+-- the first of these bytes are the text of a trace
+pub record HasHead (bytes : List ℕ) : Type 0 where
+  pub text : List ℕ
+  pub rest : List ℕ
+  pub cut : bytes ≡ text ++ rest
+  pub trace : Trace
+  pub told : trace_of text ≡ Ok trace
+
+-- why a trace is not read: there is none, a read of the stream failed, or out of memory
+abbrev pub IsHeadFault : Bool → Fault → Type 0
+IsHeadFault failed program.Input = ⊤
+IsHeadFault failed program.Read = failed ≡ true
+IsHeadFault failed program.Write = ⊥
+IsHeadFault failed program.Listen = ⊥
+IsHeadFault failed program.Memory = ⊤
+IsHeadFault failed program.Turns = ⊥
+
+-- the fault of a text that is not a trace
+abbrev pub head_fault : TraceFault → Fault
+head_fault (trace_fault.Line number) = program.Input
+head_fault trace_fault.TooLong = program.Input
+head_fault trace_fault.Memory = program.Memory
+
+-- a text grew by the bytes that were read
+pub record Grows (text : List ℕ) (left : Option (List ℕ)) (text' : List ℕ) (left' : Option (List ℕ))
+    : Type 0 where
+  pub bytes : List ℕ
+  pub read : Consumes left left' bytes
+  pub added : text' ≡ text ++ bytes
+
+-- bytes are one line of these words
+pub record IsLine (bytes : List ℕ) (row : Row) : Type 0 where
+  pub line : List ℕ
+  pub ended : bytes ≡ line ++ 10 ∷ []
+  pub words : words_of line ≡ row
+  pub alone : rows_of bytes ≡ row ∷ []
+
+-- the number of lines before the number of events
+abbrev pub lines_before : Version → ℕ
+lines_before One = 20
+lines_before Two = 30
+
+-- the first line of a text of this version
+abbrev pub first_line : Version → List ℕ
+first_line One = codes "RELAYTRACE 1" ++ 10 ∷ []
+first_line Two = codes "RELAYTRACE 2" ++ 10 ∷ []
+
+-- the lines of a text have the number that a trace has: those before the number of events, that
+-- one, and one for each event
+pub record IsLaidOut (text : List ℕ) : Type 0 where
+  pub version : Version
+  pub count : ℕ
+  pub first : Row
+  pub opening : List Row
+  pub events_row : Row
+  pub events : List Row
+  pub rows : rows_of text ≡ (first ∷ []) ++ (opening ++ (events_row ∷ (events ++ [])))
+  pub ended : unended_of text ≡ []
+  pub told : version_from first ≡ Ok version
+  pub before : suc (length opening) ≡ lines_before version
+  pub counted : events_from events_row ≡ Ok count
+  pub all : length events ≡ count
+
+-- after what was read of a text, these lines of it are still to be read, followed by the rest of
+-- the input
+pub record Ahead (text rest : List ℕ) (rows : List Row) (so_far : List ℕ) (left : Option (List ℕ))
+    : Type 0 where
+  pub still : List ℕ
+  pub whole : text ≡ so_far ++ still
+  pub left_is : left ≡ Some (still ++ rest)
+  pub rows_are : rows_of still ≡ rows
+  pub ended : unended_of still ≡ []

@@ -1,0 +1,9 @@
+pub mod Apdu
+pub mod Asking
+pub mod Faults
+pub mod Heads
+pub mod Input
+pub mod Options
+pub mod Plans
+pub mod Requests
+pub mod Sessions

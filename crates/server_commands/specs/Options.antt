@@ -1,0 +1,45 @@
+-- The values of the options of a command line.
+--     IsText       the text of an option
+--     IsNumber     the number of an option
+--     IsFlag       whether an option without a value is given
+--     IsBounds     the limits and flags of `serve`
+--     default_of   the value of an option that is not given
+use Rattle.std.specs.Prelude.{◌≡◌, ◌<◌, ◌^◌, ℕ, Bool, true, false, codes, List, [], Option, Some, unwrap_or, slice_get}
+use Rattle.std.specs.Option.{option_map}
+use Rattle.std.specs.Str.Parse.{IsNumeral, digits_value, without_leading_plus}
+use Rattle.clap.specs.Matches.{first_value, one_text}
+use Rattle.clap.specs.declared.parser.matches.Found.{Found}
+use Rattle.clap.specs.Texts.{items_of}
+use Rattle.clap.specs.declared.builder.arg.Arg.{Arg}
+use Rattle.server_commands.specs.declared.options.Bounds.{Bounds}
+
+-- the text of the option of this name; empty if there is none
+abbrev pub IsText : Found → List ℕ → List ℕ → Type 0
+IsText found name text = text ≡ unwrap_or (first_value found name) []
+
+-- the number of the option of this name, which is written in decimal and fits in this number of
+-- bits
+abbrev pub IsNumber : ℕ → Found → List ℕ → ℕ → Type 0
+IsNumber bits found name number = (text : List ℕ) → one_text found name ≡ Some text
+    → IsNumeral 10 (without_leading_plus text)
+    → digits_value 10 (without_leading_plus text) < 2 ^ bits
+    → number ≡ digits_value 10 (without_leading_plus text)
+
+-- whether the option of this name is given
+pub record IsFlag (found : Found) (name : List ℕ) (value : Bool) : Type 0 where
+  pub given : one_text found name ≡ Some (codes "true") → value ≡ true
+  pub absent : one_text found name ≡ Some (codes "false") → value ≡ false
+
+-- the limits and flags of `serve`
+pub record IsBounds (found : Found) (bounds : Bounds) : Type 0 where
+  pub depth : IsNumber 16 found (codes "depth") bounds.depth
+  pub connections : IsNumber 64 found (codes "connections") bounds.connections
+  pub inactivity : IsNumber 32 found (codes "inactivity") bounds.inactivity
+  pub session : IsNumber 32 found (codes "session") bounds.session
+  pub stops_with_input : IsFlag found (codes "stop-with-input") bounds.stops_with_input
+  pub resumes : IsFlag found (codes "resume") bounds.resumes
+  pub is_verbose : IsFlag found (codes "verbose") bounds.is_verbose
+
+-- the value of an option that is not given
+abbrev pub default_of : Arg → Option (List ℕ)
+default_of argument = option_map (λ text. text.now) (slice_get (items_of argument.default_vals) 0)

@@ -1,0 +1,27 @@
+//! The commands of the program `meter_server`: its command line, parsed into options; the plan of
+//! `serve`, with a recorder that is new or resumed from a trace; and `apdu` and `hex`, each one
+//! function from a text in hexadecimal to the text that a new meter answers.
+#![tactic(auto)]
+
+mod answers;
+mod apdu;
+mod arguments;
+mod heading;
+mod hex_session;
+mod input;
+mod lines;
+mod options;
+mod plan;
+mod reading;
+mod requests;
+mod telling;
+mod texts;
+
+pub use apdu::answer_text;
+pub use heading::read_head;
+pub use hex_session::play_text;
+pub use options::{Bounds, HexOptions, ServeOptions};
+pub use plan::{ServePlan, make_plan};
+pub use reading::{Work, parse_command_line};
+pub use telling::{CommandFault, report_fault};
+pub use texts::octets_of;

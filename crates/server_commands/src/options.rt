@@ -1,0 +1,187 @@
+//! The options of each command.
+ghost use Rattle.std.specs.Prelude.{◌≡◌, true, codes, string_bytes, ℕ, List, Some, IfOk, IfErr};
+ghost use Rattle.clap.specs.Matches.{first_value, found_of};
+ghost use Rattle.server_commands.specs.Asking.{is_of_asking};
+ghost use Rattle.server_commands.specs.Options.{IsText, IsNumber, IsFlag, IsBounds};
+
+use clap::ArgMatches;
+use program::Fault;
+use std::alloc::{AllocGlobal, Global};
+use std::env;
+use std::env::VarError;
+use std::rt::Env;
+
+// The environment variable of the password.
+pub(crate) const PASSWORD_VARIABLE: &str = "METER_PASSWORD";
+
+/// The options of `hex`.
+#[derive(Drop)]
+pub struct HexOptions {
+    /// The password of the management client, of any length.
+    pub password: String,
+    /// The name of the meter, of any length.
+    pub device: String,
+    /// Whether faults are described on standard error.
+    pub is_verbose: bool,
+}
+
+/// The limits and flags of `serve`.
+#[derive(Clone, Copy, Debug)]
+pub struct Bounds {
+    /// The number of events that the trace keeps, 1 to 1,024.
+    pub depth: u16,
+    /// The number of connections to accept; 0 means no limit.
+    pub connections: u64,
+    /// The time limit of a read or a write of a client, in seconds; 0 means no limit.
+    pub inactivity: u32,
+    /// The time limit of a client's session, in seconds; 0 means no limit.
+    pub session: u32,
+    /// Whether no more connections are accepted once standard input has ended.
+    pub stops_with_input: bool,
+    /// Whether the meter resumes from the trace at the head of standard input.
+    pub resumes: bool,
+    /// Whether faults, connections and ends of sessions are reported on standard error.
+    pub is_verbose: bool,
+}
+
+/// The options of `serve`.
+#[derive(Drop)]
+pub struct ServeOptions {
+    /// The password of the management client, of any length.
+    pub password: String,
+    /// The name of the meter, of any length.
+    pub device: String,
+    /// The address that clients connect to.
+    pub address: String,
+    /// The limits and flags.
+    pub bounds: Bounds,
+}
+
+// Copies a text.
+fn copy_text(alloc: Global, text: &str) -> Result<String, Fault>
+    ensures text { IfOk result (λ owned. string_bytes owned ≡ text.now) }
+    ensures err { IfErr result (λ fault. is_of_asking fault ≡ true) }
+{
+    let mut owned = String::new(alloc);
+    match owned.push_str(text) {
+        Ok(()) => Ok(owned),
+        Err(_) => Err(Fault::Memory),
+    }
+}
+
+// Returns the text of an option; empty if it is not given.
+fn text_of(alloc: Global, matches: &ArgMatches<'_>, name: &str) -> Result<String, Fault>
+    ensures text { IfOk result
+        (λ text. IsText (found_of matches.now) name.now (string_bytes text)) }
+    ensures err { IfErr result (λ fault. is_of_asking fault ≡ true) }
+{
+    copy_text(alloc, matches.get_str(name).unwrap_or(""))
+}
+
+// Reads the options of `hex`.
+pub(crate) fn hex_options(alloc: Global, matches: &ArgMatches<'_>) -> Result<HexOptions, Fault>
+    ensures password { IfOk result
+        (λ options. IsText (found_of matches.now) (codes "password")
+        (string_bytes options.password)) }
+    ensures device { IfOk result
+        (λ options. IsText (found_of matches.now) (codes "device") (string_bytes options.device)) }
+    ensures is_verbose { IfOk result
+        (λ options. IsFlag (found_of matches.now) (codes "verbose") options.is_verbose) }
+    ensures err { IfErr result (λ fault. is_of_asking fault ≡ true) }
+{
+    let password = text_of(alloc, matches, "password")?;
+    let device = text_of(alloc, matches, "device")?;
+    Ok(HexOptions {
+        password,
+        device,
+        is_verbose: is_given(matches, "verbose"),
+    })
+}
+
+// Returns the password of the command line, else that of the environment. Errors: `Memory`, and
+// `Input` if neither has one.
+fn password_of<R: Env + AllocGlobal>(rt: &R, matches: &ArgMatches<'_>) -> Result<String, Fault>
+    ensures given { IfOk result (λ password. (text : List ℕ)
+        → first_value (found_of matches.now) (codes "password") ≡ Some text
+        → string_bytes password ≡ text) }
+    ensures err { IfErr result (λ fault. is_of_asking fault ≡ true) }
+{
+    if let Some(text) = matches.get_str("password") {
+        return copy_text(rt.alloc(), text);
+    }
+    match env::var(rt, PASSWORD_VARIABLE) {
+        Ok(text) => Ok(text),
+        Err(VarError::OutOfMemory) => Err(Fault::Memory),
+        Err(_) => Err(Fault::Input),
+    }
+}
+
+// Returns the number of events that the trace keeps.
+fn depth_of(matches: &ArgMatches<'_>) -> u16
+    ensures { IsNumber 16 (found_of matches.now) (codes "depth") result }
+{
+    matches.get_one::<u16>("depth").unwrap_or(0)
+}
+
+// Returns the number of connections to accept.
+fn connections_of(matches: &ArgMatches<'_>) -> u64
+    ensures { IsNumber 64 (found_of matches.now) (codes "connections") result }
+{
+    matches.get_one::<u64>("connections").unwrap_or(0)
+}
+
+// Returns the number of seconds of an option.
+fn seconds_of(matches: &ArgMatches<'_>, name: &str) -> u32
+    ensures { IsNumber 32 (found_of matches.now) name.now result }
+{
+    matches.get_one::<u32>(name).unwrap_or(0)
+}
+
+// Returns whether an option without a value is given.
+fn is_given(matches: &ArgMatches<'_>, name: &str) -> bool
+    ensures { IsFlag (found_of matches.now) name.now result }
+{
+    matches.get_flag(name)
+}
+
+// Reads the limits and flags of `serve`.
+fn bounds_of(matches: &ArgMatches<'_>) -> Bounds
+    ensures { IsBounds (found_of matches.now) result }
+{
+    Bounds {
+        depth: depth_of(matches),
+        connections: connections_of(matches),
+        inactivity: seconds_of(matches, "inactivity"),
+        session: seconds_of(matches, "session"),
+        stops_with_input: is_given(matches, "stop-with-input"),
+        resumes: is_given(matches, "resume"),
+        is_verbose: is_given(matches, "verbose"),
+    }
+}
+
+// Reads the options of `serve`.
+pub(crate) fn serve_options<R: Env + AllocGlobal>(
+    rt: &R,
+    matches: &ArgMatches<'_>,
+) -> Result<ServeOptions, Fault>
+    ensures password { IfOk result (λ options. (text : List ℕ)
+        → first_value (found_of matches.now) (codes "password") ≡ Some text
+        → string_bytes options.password ≡ text) }
+    ensures device { IfOk result
+        (λ options. IsText (found_of matches.now) (codes "device") (string_bytes options.device)) }
+    ensures address { IfOk result
+        (λ options. IsText (found_of matches.now) (codes "listen") (string_bytes options.address)) }
+    ensures bounds { IfOk result (λ options. IsBounds (found_of matches.now) options.bounds) }
+    ensures err { IfErr result (λ fault. is_of_asking fault ≡ true) }
+{
+    let bounds = bounds_of(matches);
+    let password = password_of(rt, matches)?;
+    let device = text_of(rt.alloc(), matches, "device")?;
+    let address = text_of(rt.alloc(), matches, "listen")?;
+    Ok(ServeOptions {
+        password,
+        device,
+        address,
+        bounds,
+    })
+}

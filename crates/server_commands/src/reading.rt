@@ -1,0 +1,71 @@
+//! Parses the command line of `meter_server` into the work that it requests.
+ghost use Rattle.std.specs.Prelude.{◌≡◌, true, IfErr};
+ghost use Rattle.server_commands.specs.Asking.{is_of_asking};
+
+use crate::arguments::command_line;
+use crate::options::{HexOptions, PASSWORD_VARIABLE, ServeOptions, hex_options, serve_options};
+use clap::ArgMatches;
+use program::{Fault, without_work, words};
+use std::alloc::{AllocGlobal, Global};
+use std::env;
+use std::env::VarError;
+use std::rt::Env;
+
+/// The work that a command line requests.
+#[derive(Drop)]
+pub enum Work {
+    /// No work: help, the version or the reason why the command line is wrong was printed. Holds
+    /// the exit status, 0 or 2.
+    Exit(u8),
+    /// `apdu`. Holds whether faults are described on standard error.
+    Apdu(bool),
+    /// `hex`.
+    Hex(HexOptions),
+    /// `serve`.
+    Serve(ServeOptions),
+}
+
+// Returns the work of a command.
+fn parse_command<R: Env + AllocGlobal>(rt: &R, matches: &ArgMatches<'_>) -> Result<Work, Fault>
+    ensures { IfErr result (λ fault. is_of_asking fault ≡ true) }
+{
+    match matches.subcommand() {
+        Some(("serve", matches)) => Ok(Work::Serve(serve_options(rt, matches)?)),
+        Some(("apdu", matches)) => Ok(Work::Apdu(matches.get_flag("verbose"))),
+        Some(("hex", matches)) => Ok(Work::Hex(hex_options(rt.alloc(), matches)?)),
+        _ => Err(Fault::Input),
+    }
+}
+
+// Returns the work of a command line. `has_password`: the environment has the password of `serve`.
+#[tactic(auto, using(crate::proofs::Faults::texts_told))]
+fn asked_in<R: Env + AllocGlobal + Print + Eprint>(
+    rt: &R,
+    words: &[String],
+    has_password: bool,
+) -> Result<Work, Fault>
+    ensures { IfErr result (λ fault. is_of_asking fault ≡ true) }
+{
+    let Ok(command) = command_line(rt.alloc(), has_password) else {
+        return Err(Fault::Memory);
+    };
+    match command.try_get_matches_from(words) {
+        Ok(matches) => parse_command(rt, &matches),
+        Err(error) => Ok(Work::Exit(without_work(rt, &error)?)),
+    }
+}
+
+/// Returns the work of the command line. The password of `serve` may be in the environment variable
+/// METER_PASSWORD.
+///
+/// Errors: `Memory`; `Input` if a word or the password of the environment is not UTF-8; `Write` if
+/// help,
+/// the version or why the command line is wrong could not be printed.
+#[tactic(auto, using(crate::proofs::Faults::words_told))]
+pub fn parse_command_line<R: Env + AllocGlobal + Print + Eprint>(rt: &R) -> Result<Work, Fault>
+    ensures { IfErr result (λ fault. is_of_asking fault ≡ true) }
+{
+    let words = words(rt)?;
+    let has_password = !matches!(env::var(rt, PASSWORD_VARIABLE), Err(VarError::NotPresent));
+    asked_in(rt, words.as_slice(), has_password)
+}

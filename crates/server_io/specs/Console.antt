@@ -1,0 +1,27 @@
+-- The event of a line of the console.
+--     IsOwnWord     the first word of an event of the meter itself
+--     IsOwnLine     a line that begins with one
+--     Brings        the event of a line
+use Rattle.std.specs.Prelude.{◌≡◌, ◌⊎◌, ℕ, codes, List, ◌∷◌, Ok}
+use Rattle.relay_events.specs.declared.event.Event.{Event}
+use Rattle.trace_lines.specs.Events.{event_of}
+use Rattle.trace_words.specs.declared.version.Version.TheVariants.{Two}
+use Rattle.text_lines.specs.Words.{words_of}
+
+-- a press, samples, pairs or a moment; the events that clients request begin with other words
+abbrev pub IsOwnWord : List ℕ → Type 0
+IsOwnWord word = (word ≡ codes "button") ⊎ (word ≡ codes "samples") ⊎ (word ≡ codes "pairs")
+    ⊎ (word ≡ codes "moment")
+
+-- the line begins with such a word
+pub record IsOwnLine (line : List ℕ) : Type 0 where
+  pub first : List ℕ
+  pub others : List (List ℕ)
+  pub words : words_of line ≡ first ∷ others
+  pub own : IsOwnWord first
+
+-- the line has the event: it is one of the meter itself, and the line is the one that a trace of
+-- version 2 has for it
+pub record Brings (line : List ℕ) (event : Event) : Type 0 where
+  pub own : IsOwnLine line
+  pub written : event_of Two (words_of line) ≡ Ok event

@@ -1,0 +1,69 @@
+-- What happens to the console's lines.
+--     Brought                   the events of lines, and the number of lost lines
+--     TakesFrom                 a sink took the event of one line
+--     HandsOn                   the events of the first lines of an input were passed on
+--     has_failed, lost_lines    whether a read failed, and the number of lost lines
+--     EndsSo                    the console ended
+use Rattle.std.specs.Prelude.{◌≡◌, ◌⊎◌, ℕ, suc, Bool, false, List, [], ◌∷◌, ◌++◌, Option, Some}
+use Rattle.relay_events.specs.declared.event.Event.{Event}
+use Rattle.server_io.specs.Console.{Brings, IsOwnLine}
+use Rattle.server_io.specs.Lines.{lines_in}
+use Rattle.server_io.specs.declared.running.ConsoleEnd.{ConsoleEnd}
+
+-- each line in turn has the next of the events, or has none, or is lost; `lost` is the number of
+-- lost lines
+abbrev pub Brought : List (List ℕ) → List Event → ℕ → Type 0
+Brought [] events lost = (events ≡ []) × (lost ≡ 0)
+Brought (line ∷ lines) events lost =
+    ((event : Event) × (later : List Event) × Brings line event × (events ≡ event ∷ later)
+    × Brought lines later lost)
+    ⊎ (((event : Event) → ¬ (Brings line event)) × Brought lines events lost)
+    ⊎ ((others : ℕ) × IsOwnLine line × (lost ≡ suc others) × Brought lines events others)
+
+-- a sink took the event of one line, or the line was lost
+abbrev pub TakesFrom : List ℕ → ℕ → Option (List Event) → Option (List Event) → Type 0
+TakesFrom line lost listed taken = (before : List Event) → listed ≡ Some before
+    → (events : List Event) × Brought (line ∷ []) events lost × (taken ≡ Some (before ++ events))
+
+-- the events of the first lines of an input were passed on, in order, each once; `lost` of these
+-- lines were lost
+pub record HandsOn (input : List ℕ) (before : List Event) (lost : ℕ) (left : Option (List ℕ))
+    (taken : Option (List Event)) : Type 0 where
+  pub read : List (List ℕ)
+  pub rest : List ℕ
+  pub events : List Event
+  pub left_is : left ≡ Some rest
+  pub lines : lines_in input ≡ read ++ lines_in rest
+  pub brought : Brought read events lost
+  pub taken_is : taken ≡ Some (before ++ events)
+
+-- `HandsOn` if the bytes of the reader are known and the sink lists its events
+abbrev pub Hands : Option (List ℕ) → Option (List Event) → ℕ → Option (List ℕ) → Option (List Event)
+    → Type 0
+Hands known listed lost left taken = (input : List ℕ) (before : List Event) → known ≡ Some input
+    → listed ≡ Some before → HandsOn input before lost left taken
+
+-- a read failed
+abbrev pub has_failed : ConsoleEnd → Bool
+has_failed end = end.has_failed
+
+-- the number of lost lines
+abbrev pub lost_lines : ConsoleEnd → ℕ
+lost_lines end = end.lost
+
+-- the console ended: the events of its lines were passed on, in order, each once; after a failed
+-- read those of the last lines may be missing
+pub record EndsSo (input : List ℕ) (before : List Event) (end : ConsoleEnd)
+    (taken : Option (List Event)) : Type 0 where
+  pub read : List (List ℕ)
+  pub unread : List (List ℕ)
+  pub events : List Event
+  pub lines : lines_in input ≡ read ++ unread
+  pub all : end.has_failed ≡ false → unread ≡ []
+  pub brought : Brought read events end.lost
+  pub taken_is : taken ≡ Some (before ++ events)
+
+-- `EndsSo` if the bytes of the reader are known and the sink lists its events
+abbrev pub Ends : Option (List ℕ) → Option (List Event) → ConsoleEnd → Option (List Event) → Type 0
+Ends known listed end taken = (input : List ℕ) (before : List Event) → known ≡ Some input
+    → listed ≡ Some before → EndsSo input before end taken

@@ -1,0 +1,40 @@
+//! Ends the listening when the console ends.
+use crate::listening::Stopped;
+use crate::reading::Ended;
+use crate::running::ConsoleEnd;
+use std::net::{Net, SocketAddr, TcpStream};
+use std::sync::atomic::Ordering;
+use std::thread;
+use std::time::{Clock, Duration};
+
+// The maximum number of attempts to wake the blocked `accept` by connecting to it.
+const MAX_WAKE_ATTEMPTS: u32 = 100;
+
+/// Ends the listening when the console ends, if this is enabled.
+#[derive(Drop)]
+pub struct Closing<R> {
+    pub rt: R,
+    /// Whether the console has ended.
+    pub stopped: Stopped,
+    /// The address at which the listener waits for a client, or `None` if it continues to listen.
+    pub address: Option<SocketAddr>,
+}
+
+// Wakes a listener that waits for a client at this address, by connecting to it.
+fn wake<R: Net + Clock>(rt: &R, address: SocketAddr) {
+    for _ in 0..MAX_WAKE_ATTEMPTS {
+        if TcpStream::connect(rt, address).is_ok() {
+            return;
+        }
+        thread::sleep(rt, Duration::from_millis(100));
+    }
+}
+
+impl<R: Net + Clock> Ended for Closing<R> {
+    fn on_console_end(&self, _end: ConsoleEnd) {
+        if let Some(address) = self.address {
+            self.stopped.store(true, Ordering::SeqCst);
+            wake(&self.rt, address);
+        }
+    }
+}

@@ -1,0 +1,55 @@
+//! The thread that reads the console.
+use crate::console::Console;
+use crate::running::ConsoleEnd;
+use std::alloc::Global;
+use std::io::BufRead;
+use std::sync::Wait;
+use std::thread;
+use std::thread::{JoinHandle, Threads};
+
+/// An observer that is called once the console has ended.
+pub trait Ended {
+    /// Is called when the console has ended: no further line is read.
+    fn on_console_end(&self, end: ConsoleEnd);
+}
+
+/// The input of the console's thread, the destinations of events and messages, and the observer of
+/// its end.
+#[derive(Drop)]
+pub struct Reading<R, B, E, N> {
+    pub input: B,
+    pub console: Console<R>,
+    /// The output on which lost lines and a failed read are reported.
+    pub errors: E,
+    pub ended: N,
+}
+
+// Passes on the events of the input's lines, and then calls `ended`.
+fn read<R: Wait + Copy + Drop, B: BufRead + Drop, E: Eprint + Drop, N: Ended + Drop>(
+    alloc: Global,
+    reading: Reading<R, B, E, N>,
+) -> ConsoleEnd {
+    let Reading {
+        mut input,
+        console,
+        errors,
+        ended,
+    } = reading;
+    let end = console.run(alloc, &mut input, &errors);
+    ended.on_console_end(end);
+    end
+}
+
+/// Starts the console's thread, whose result is how the console ended. Returns `None` if the thread
+/// could not be started; `reading` is dropped then.
+pub fn start<
+    R: Threads + Wait + Copy + Drop + Send + 'static,
+    B: BufRead + Drop + Send + 'static,
+    E: Eprint + Drop + Send + 'static,
+    N: Ended + Drop + Send + 'static,
+>(rt: &R, alloc: Global, reading: Reading<R, B, E, N>) -> Option<JoinHandle<ConsoleEnd>> {
+    match thread::spawn(rt, move || read(alloc, reading)) {
+        Ok(thread) => Some(thread),
+        Err(_) => None,
+    }
+}

@@ -1,0 +1,200 @@
+//! Clients and a listener in memory, which wait for each other.
+use meter_server::{ListenFault, Listener, Observer, ServeFault, SessionEnd};
+use std::alloc::Global;
+use std::io::{Read, Write};
+use std::sync::Arc;
+use std::sync::atomic::{AtomicBool, AtomicU64, Ordering};
+use std::{io, thread};
+
+/// The number of attempts of a wait.
+const ASKED: u64 = 1_000_000;
+
+/// The results of one client or several, shared with other threads.
+#[derive(Drop)]
+pub(super) struct Line {
+    sent: AtomicU64,
+    ended: AtomicU64,
+    is_closed: AtomicBool,
+    went_wrong: AtomicBool,
+}
+
+impl Line {
+    pub(super) fn new() -> Line {
+        Line {
+            sent: AtomicU64::new(0),
+            ended: AtomicU64::new(0),
+            is_closed: AtomicBool::new(false),
+            went_wrong: AtomicBool::new(false),
+        }
+    }
+
+    /// Returns the number of bytes that were received, and the number of sessions whose end was
+    /// reported as their input's end between two frames. Returns `None` if a byte was received that
+    /// is not in the expected responses, or a wait gave up.
+    pub(super) fn outcome(&self) -> Option<(u64, u64)> {
+        if self.went_wrong.load(Ordering::SeqCst) {
+            return None;
+        }
+        Some((
+            self.sent.load(Ordering::SeqCst),
+            self.ended.load(Ordering::SeqCst),
+        ))
+    }
+
+    /// Waits until another line has received `sent` bytes or is closed. Returns false if neither
+    /// happens.
+    fn wait_for(&self, other: &Line, sent: u64) -> bool {
+        for _ in 0..ASKED {
+            if other.is_closed.load(Ordering::SeqCst) || other.sent.load(Ordering::SeqCst) >= sent {
+                return true;
+            }
+            thread::yield_now();
+        }
+        self.went_wrong.store(true, Ordering::SeqCst);
+        false
+    }
+}
+
+/// A client. At one place of what it sends, or at the end, it waits until another line has received
+/// `other_sent` bytes or is closed.
+#[derive(Drop)]
+pub(super) struct Caller {
+    pub(super) line: Arc<Line, Global>,
+    pub(super) asks: Vec<u8>,
+    pub(super) answers: Vec<u8>,
+    pub(super) waits_at: usize,
+    pub(super) other: Arc<Line, Global>,
+    pub(super) other_sent: u64,
+}
+
+/// What a client sends.
+#[derive(Drop)]
+pub(super) struct Asking {
+    line: Arc<Line, Global>,
+    bytes: Vec<u8>,
+    at: usize,
+    waits_at: usize,
+    other: Arc<Line, Global>,
+    other_sent: u64,
+}
+
+impl Read for Asking {
+    fn read(&mut self, buffer: &mut [u8]) -> io::Result<usize> {
+        if self.at == self.waits_at && !self.line.wait_for(&self.other, self.other_sent) {
+            return Ok(0);
+        }
+        let mut end = self.bytes.len();
+        if self.at < self.waits_at {
+            end = end.min(self.waits_at);
+        }
+        let Some(rest) = self.bytes.as_slice().get(self.at..end) else {
+            return Ok(0);
+        };
+        let count = rest.len().min(buffer.len());
+        buffer[..count].copy_from_slice(&rest[..count]);
+        self.at = self.at.saturating_add(count);
+        Ok(count)
+    }
+}
+
+/// The responses that a client expects. Its line is closed when this is dropped.
+pub(super) struct Answered {
+    line: Arc<Line, Global>,
+    expected: Vec<u8>,
+    at: usize,
+}
+
+impl Drop for Answered {
+    fn drop(self) {
+        let Answered {
+            line,
+            expected: _,
+            at: _,
+        } = self;
+        line.is_closed.store(true, Ordering::SeqCst);
+    }
+}
+
+impl Write for Answered {
+    fn write(&mut self, bytes: &[u8]) -> io::Result<usize> {
+        let end = self.at.saturating_add(bytes.len());
+        match self.expected.as_slice().get(self.at..end) {
+            Some(expected) if expected == bytes => {
+                self.line
+                    .sent
+                    .fetch_add(bytes.len() as u64, Ordering::SeqCst);
+            }
+            _ => self.line.went_wrong.store(true, Ordering::SeqCst),
+        }
+        self.at = end;
+        Ok(bytes.len())
+    }
+
+    fn flush(&mut self) -> io::Result<()> {
+        Ok(())
+    }
+}
+
+impl Observer for Answered {
+    fn on_session_end(&self, end: &Result<SessionEnd, ServeFault>) {
+        if *end == Ok(SessionEnd::Closed) {
+            self.line.ended.fetch_add(1, Ordering::SeqCst);
+        }
+    }
+}
+
+impl Caller {
+    fn call(self) -> Option<(Asking, Answered)> {
+        let Caller {
+            line,
+            asks,
+            answers,
+            waits_at,
+            other,
+            other_sent,
+        } = self;
+        let answered = Answered {
+            line: Arc::try_clone(&line).ok()?,
+            expected: answers,
+            at: 0,
+        };
+        let asking = Asking {
+            line,
+            bytes: asks,
+            at: 0,
+            waits_at,
+            other,
+            other_sent,
+        };
+        Some((asking, answered))
+    }
+}
+
+/// Returns its clients, the last one first, and then fails. Before it returns the only one left, it
+/// waits until its line has received `sent` bytes. First come clients whose streams cannot be set
+/// up.
+#[derive(Drop)]
+pub(super) struct Door {
+    pub(super) without_stream: u64,
+    pub(super) callers: Vec<Caller>,
+    pub(super) line: Arc<Line, Global>,
+    pub(super) sent: u64,
+}
+
+impl Listener for Door {
+    type Input = Asking;
+
+    type Output = Answered;
+
+    fn accept(&mut self) -> Result<Option<(Asking, Answered)>, ListenFault> {
+        if self.without_stream > 0 {
+            self.without_stream -= 1;
+            return Ok(None);
+        }
+        if self.callers.len() == 1 {
+            self.line.wait_for(&self.line, self.sent);
+        }
+        let caller = self.callers.pop().ok_or(ListenFault)?;
+        Ok(caller.call())
+    }
+}

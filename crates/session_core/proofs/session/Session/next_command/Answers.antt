@@ -1,0 +1,14 @@
+use Rattle.std.proofs.Common.{sym, ◌∙◌}
+use Rattle.session_core.proofs.Commands.{asks_command}
+use Rattle.session_core.proofs.session.Session.next_command.Goals as goal
+
+pub returns-clause-asks : goal.returns-clause-asks
+returns-clause-asks c =
+    rw c.event-event.ensures (asks_command c.args.self.now c.turn_to.new.self c.pass.new.self
+    c.payload-payload.result.now
+    c.receive_command.new.self c.ports-source.result.0 c.ports-source.result.1 c.in-Whole.size
+    c.in_ok-link.link c.in_ok-link.command
+    c.in-Listen.is (sym c.front.ensures.head ∙ c.in-Whole.is) c.ports-source.ensures.src
+    c.ports-source.ensures.dst c.if-destination-ne-SERVER_PORT.false
+    c.payload-payload.ensures c.pass.ensures.after c.pass.ensures.goes_on
+    c.in_ok-link.ensures.heard (rw c.form-form.ensures at c.turn_to.ensures))

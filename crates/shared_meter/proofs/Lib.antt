@@ -1,0 +1,7 @@
+pub mod BlockLemmas
+pub mod CallLemmas
+pub mod HandedLemmas
+pub mod PassingLemmas
+pub mod PendingLemmas
+pub mod Sent
+pub mod SourceLemmas

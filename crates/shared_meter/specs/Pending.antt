@@ -1,0 +1,66 @@
+-- The lines of a journal: each event that may change the meter has one.
+--     event_lines, lines_of_calls   the lines of an event and of a history
+--     PendingView, IsPending        the lines that were not taken yet
+--     Pends                         the same, unless a line was lost
+--     Finds                         what a question finds
+use Rattle.std.specs.Prelude.{◌≡◌, ◌⊎◌, ℕ, ◌≤◌, Bool, true, false, List, [], ◌∷◌, ◌++◌, length}
+use Rattle.std.specs.Prelude.{drop, Option, Some, None, if◌then◌else◌, ⊤}
+use Rattle.turn_lock.specs.declared.turned.Entry.{Entry}
+use Rattle.relay_events.specs.Kinds.{is_read}
+use Rattle.relay_events.specs.declared.event.Event.{Event}
+use Rattle.relay_events.specs.declared.reply.Reply.{Reply}
+use Rattle.text_lines.specs.Lines.{text_of}
+use Rattle.text_lines.specs.Words.{line_of}
+use Rattle.trace_lines.specs.Writing.{event_row}
+use Rattle.shared_meter.specs.declared.pending.Finding.{Finding}
+use Rattle.shared_meter.specs.declared.pending.Finding.TheVariants.{Count, Taken, Incomplete}
+use Rattle.shared_meter.specs.declared.pending.Question.{Question}
+use Rattle.shared_meter.specs.declared.pending.Question.TheVariants as question
+
+-- the line of an event, as a trace has it; a read has none
+abbrev pub event_lines : Event → List (List ℕ)
+event_lines event = if is_read event then [] else line_of (event_row event) ∷ []
+
+-- the lines of calls, in order
+abbrev pub lines_of_calls : List (Entry Event Reply) → List (List ℕ)
+lines_of_calls [] = []
+lines_of_calls (call ∷ calls) = event_lines call.event ++ lines_of_calls calls
+
+-- The lines that were not taken yet: their text, the number of lines that were taken before, the
+-- number of all lines, and whether a line was lost.
+pub record PendingView : Type 0 where
+  pub text : List ℕ
+  pub taken : ℕ
+  pub count : ℕ
+  pub is_lost : Bool
+
+-- The text is that of all lines after those that were taken.
+pub record IsPending (pending : PendingView) (lines : List (List ℕ)) : Type 0 where
+  pub count : pending.count ≡ length lines
+  pub taken : pending.taken ≤ length lines
+  pub text : pending.text ≡ text_of (drop pending.taken lines)
+
+-- unless a line was lost, the text is that of the lines that were not taken
+abbrev pub Pends : PendingView → List (List ℕ) → Type 0
+Pends pending lines = pending.is_lost ≡ false → IsPending pending lines
+
+-- a meter without a journal has no pending lines
+abbrev pub PendsIn : Option PendingView → List (List ℕ) → Type 0
+PendsIn None lines = ⊤
+PendsIn (Some pending) lines = Pends pending lines
+
+-- The text is that of all lines after the first `taken`, and `count` is the number of all.
+pub record IsRest (lines : List (List ℕ)) (taken : ℕ) (text : List ℕ) (count : ℕ) : Type 0 where
+  pub within : taken ≤ length lines
+  pub text_is : text ≡ text_of (drop taken lines)
+  pub count_is : count ≡ length lines
+
+-- what a question finds, by the lines of the history
+abbrev pub Answers : List (List ℕ) → Question → Finding → Type 0
+Answers lines question (Incomplete) = ⊤
+Answers lines question.Count (Count count) = count ≡ length lines
+Answers lines (question.Take taken room) (Taken text count) = IsRest lines taken text.items count
+Answers lines _ _ = ⊥
+
+abbrev pub Finds : List (Entry Event Reply) → Question → Finding → Type 0
+Finds calls question finding = Answers (lines_of_calls calls) question finding

@@ -1,0 +1,40 @@
+//! Waits until the journal has reached the disk.
+ghost use Rattle.std.specs.Prelude.{ℕ, IsTrue};
+ghost use Rattle.turn_lock.specs.Calls.{Watches};
+ghost use Rattle.turn_lock.specs.Shown.{IsSame};
+ghost use Rattle.shared_meter.specs.Calls.{IsLegal};
+ghost use Rattle.shared_meter.specs.Settling.{Settles};
+
+use crate::kept::Kept;
+use crate::pending::{Finding, Question};
+use std::alloc::Global;
+use std::sync::Wait;
+use turn_lock::Port;
+
+/// Says how far a journal is on the disk.
+pub trait Durability {
+    /// Ghost predicate: the first lines of the journal, of this number, are on the disk.
+    ghost is_durable: { ℕ → Type 0 };
+
+    /// Waits until this number of lines is on the disk. Returns false if the journal has failed.
+    fn wait<W: Wait>(&self, rt: &W, lines: u64) -> bool
+        ensures { IsTrue result → is_durable lines };
+}
+
+/// Waits until the lines of all calls that the port has seen are on the disk. Returns false if this
+/// is not certain: the journal has failed, a line was lost, or all turns of the lock were drawn.
+pub fn settle<D: Durability, W: Wait>(
+    rt: &W,
+    alloc: Global,
+    port: &mut Port<Kept>,
+    durability: &D,
+) -> bool
+    ensures same { IsSame port.old port.new }
+    ensures watches { Watches IsLegal port.old.known port.new.known }
+    ensures settled { IsTrue result → Settles D.is_durable port.old port.new }
+{
+    match port.inspect(rt, alloc, Question::Count) {
+        Some(Finding::Count(lines)) => durability.wait(rt, lines),
+        _ => false,
+    }
+}

@@ -1,0 +1,42 @@
+-- The options of the command line.
+--     IsSet          whether an option without a value is given
+--     IsBound        the number of an event, if the option is given
+--     IsView         the view that the options describe
+--     IsDescribed    faults are described
+--     AreInOrder     bounds of which the upper one is not below the lower one
+use Rattle.std.specs.Prelude.{◌≡◌, ◌<◌, ◌≤◌, ◌^◌, ◌⊎◌, Bool, true, false}
+use Rattle.std.specs.Prelude.{codes, List, ℕ, Option, Some, None}
+use Rattle.std.specs.Str.Parse.{IsNumeral, digits_value, without_leading_plus}
+use Rattle.clap.specs.Matches.{one_text}
+use Rattle.clap.specs.declared.parser.matches.Found.{Found}
+use Rattle.trace_views.specs.declared.view.TraceView.{TraceView}
+
+-- whether the option of this name is given
+pub record IsSet (found : Found) (name : List ℕ) (value : Bool) : Type 0 where
+  pub given : one_text found name ≡ Some (codes "true") → value ≡ true
+  pub absent : one_text found name ≡ Some (codes "false") → value ≡ false
+
+-- the number of the option of this name, which is written in decimal and fits in 32 bits; none if
+-- the option is not given
+pub record IsBound (found : Found) (name : List ℕ) (bound : Option ℕ) : Type 0 where
+  pub given : (text : List ℕ) → one_text found name ≡ Some text
+      → IsNumeral 10 (without_leading_plus text)
+      → digits_value 10 (without_leading_plus text) < 2 ^ 32
+      → bound ≡ Some (digits_value 10 (without_leading_plus text))
+  pub absent : one_text found name ≡ None → bound ≡ None
+
+-- the view that the options describe
+pub record IsView (found : Found) (view : TraceView) : Type 0 where
+  pub first : IsBound found (codes "from") view.first
+  pub last : IsBound found (codes "to") view.last
+  pub changes_only : IsSet found (codes "changes") view.changes_only
+  pub with_events : IsSet found (codes "events") view.with_events
+
+-- an upper bound that is not below the lower one, if there are both
+abbrev pub AreInOrder : Option ℕ → Option ℕ → Type 0
+AreInOrder (Some first) (Some last) = first ≤ last
+AreInOrder _ _ = Unit {0}
+
+-- faults are described with either of the options
+abbrev pub IsDescribed : Bool → Bool → Type 0
+IsDescribed is_partial is_verbose = (is_partial ≡ true) ⊎ (is_verbose ≡ true)

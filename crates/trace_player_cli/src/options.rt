@@ -1,0 +1,91 @@
+//! The options of the command line as values.
+ghost use Rattle.std.specs.Prelude.{◌≡◌, ◌↔◌, codes, IsTrue};
+ghost use Rattle.clap.specs.Matches.{found_of};
+ghost use Rattle.trace_player_cli.specs.Options.{AreInOrder, IsBound, IsDescribed, IsSet, IsView};
+ghost use Rattle.trace_views.specs.Views.{whole_view};
+
+use clap::ArgMatches;
+use trace_views::TraceView;
+
+// The operand and the options.
+#[derive(Clone, Copy, Debug)]
+pub(crate) struct Options<'a> {
+    // The path of the trace; `None`: standard input.
+    pub(crate) file: Option<&'a str>,
+    pub(crate) view: TraceView,
+    // Whether the whole events before the first wrong line are played.
+    pub(crate) is_partial: bool,
+    // Whether faults are described on standard error.
+    pub(crate) is_verbose: bool,
+}
+
+impl Options<'_> {
+    // Returns whether faults are described on standard error: with `--partial` or `--verbose`.
+    pub(crate) fn describes_faults(&self) -> bool
+        ensures { IsTrue result ↔ IsDescribed self.now.is_partial self.now.is_verbose }
+    {
+        self.is_partial || self.is_verbose
+    }
+
+    // Returns whether the whole output of a trace is asked for, with no description of a fault.
+    pub(crate) fn is_plain(&self) -> bool
+        ensures view { IsTrue result → self.now.view ≡ whole_view }
+        ensures faults { IsTrue result → ¬ (IsDescribed self.now.is_partial self.now.is_verbose) }
+    {
+        !self.describes_faults() && self.view == TraceView::whole()
+    }
+}
+
+// Returns whether an option without a value is given.
+fn is_set(matches: &ArgMatches<'_>, name: &str) -> bool
+    ensures { IsSet (found_of matches.now) name.now result }
+{
+    matches.get_flag(name)
+}
+
+// Returns the number of an event that an option has.
+fn number_of(matches: &ArgMatches<'_>, name: &str) -> Option<u32>
+    ensures { IsBound (found_of matches.now) name.now result }
+{
+    matches.get_one::<u32>(name)
+}
+
+// Returns the view that the options describe.
+fn view_of(matches: &ArgMatches<'_>) -> TraceView
+    ensures { IsView (found_of matches.now) result }
+{
+    TraceView {
+        first: number_of(matches, "from"),
+        last: number_of(matches, "to"),
+        changes_only: is_set(matches, "changes"),
+        with_events: is_set(matches, "events"),
+    }
+}
+
+// Returns the operand and the options.
+pub(crate) fn options_of<'a>(matches: &ArgMatches<'a>) -> Options<'a>
+    ensures view { IsView (found_of matches.now) result.view }
+    ensures is_partial { IsSet (found_of matches.now) (codes "partial") result.is_partial }
+    ensures is_verbose { IsSet (found_of matches.now) (codes "verbose") result.is_verbose }
+{
+    let file = match matches.get_str("file") {
+        Some("-") => None,
+        file => file,
+    };
+    Options {
+        file,
+        view: view_of(matches),
+        is_partial: is_set(matches, "partial"),
+        is_verbose: is_set(matches, "verbose"),
+    }
+}
+
+// Returns whether the last event of a view is not before its first one.
+pub(crate) fn is_in_order(view: &TraceView) -> bool
+    ensures { IsTrue result ↔ AreInOrder view.now.first view.now.last }
+{
+    match (view.first, view.last) {
+        (Some(first), Some(last)) => first <= last,
+        _ => true,
+    }
+}

@@ -1,0 +1,5 @@
+pub mod FrontFaults
+pub mod Fronts
+pub mod Steps
+pub mod Whole
+pub mod WholeFronts

@@ -1,0 +1,111 @@
+-- What a view shows of a trace: the lines of its run that it selects, each with its event if the
+-- view has events.
+--     whole_view        the view that shows each line, without its event
+--     Step, steps       the events of a run with their numbers, their lines and the switch before
+--     is_shown          whether a view shows the line of an event
+--     step_text         the line of an event as text
+--     view_text         the text of a view of a trace
+use Rattle.std.specs.Prelude.{ℕ, suc, nat_lt, Bool, true, false, not, ◌&&◌, ◌||◌, codes, Option}
+use Rattle.std.specs.Prelude.{Some, None, List, [], ◌∷◌, ◌++◌, filter, flat_map, if◌then◌else◌}
+use Rattle.disconnect_control.specs.Transitions.{is_state}
+use Rattle.disconnect_control.specs.declared.state.ControlState.TheVariants.{Connected}
+use Rattle.relay_core.specs.Machine.{at_event}
+use Rattle.relay_core.specs.Opening.{world_of_opening}
+use Rattle.relay_core.specs.Runs.{line_at}
+use Rattle.relay_core.specs.World.{World}
+use Rattle.relay_events.specs.declared.event.Event.{Event}
+use Rattle.relay_events.specs.declared.reply.Line.{Line}
+use Rattle.relay_recorder.specs.declared.trace.Trace.{Trace}
+use Rattle.text_lines.specs.Words.{line_of}
+use Rattle.trace_lines.specs.Replies.{line_text}
+use Rattle.trace_lines.specs.Writing.{event_row}
+use Rattle.trace_views.specs.declared.view.Switch.{Switch}
+use Rattle.trace_views.specs.declared.view.TraceView.{TraceView}
+
+-- each line, without its event
+abbrev pub whole_view : TraceView
+whole_view = record { first = None; last = None; changes_only = false; with_events = false }
+
+-- the switch of a meter in this world
+abbrev pub switch_in : World → Switch
+switch_in w = record {
+  state = w.control.state;
+  output = is_state w.control.state Connected;
+}
+
+-- an event of a run: its number, the switch before it, and its line
+pub record Step : Type 0 where
+  pub number : ℕ
+  pub event : Event
+  pub before : Switch
+  pub line : Line
+
+abbrev pub step_at : ℕ → Event → World → Step
+step_at number event w = record {
+  number = number;
+  event = event;
+  before = switch_in w;
+  line = line_at event w;
+}
+
+-- the events of a run, the first of them with this number
+abbrev pub steps : ℕ → List Event → World → List Step
+steps number [] w = []
+steps number (event ∷ events) w =
+    step_at number event w ∷ steps (suc number) events (at_event event w).world
+
+-- a number below the lower bound, or above the upper one
+abbrev pub is_below : Option ℕ → ℕ → Bool
+is_below None number = false
+is_below (Some first) number = nat_lt number first
+
+abbrev pub is_above : Option ℕ → ℕ → Bool
+is_above None number = false
+is_above (Some last) number = nat_lt last number
+
+-- a number within the bounds of a view
+abbrev pub is_within : TraceView → ℕ → Bool
+is_within view number = not (is_below view.first number) && not (is_above view.last number)
+
+-- whether a supply is on and the other off
+abbrev pub is_other : Bool → Bool → Bool
+is_other true output = not output
+is_other false output = output
+
+-- whether the control state or the supply of a line differs from that before it
+abbrev pub is_change : Switch → Line → Bool
+is_change before line =
+    not (is_state before.state line.state) || is_other before.output line.output
+
+-- whether a view shows the line of the event of this number
+abbrev pub is_shown : TraceView → ℕ → Switch → Line → Bool
+is_shown view number before line =
+    is_within view number && (not view.changes_only || is_change before line)
+
+abbrev pub shows : TraceView → Step → Bool
+shows view step = is_shown view step.number step.before step.line
+
+-- the event at the end of its line, as the trace has it
+abbrev pub event_end : Bool → Event → List ℕ
+event_end true event = codes "; event " ++ line_of (event_row event)
+event_end false event = []
+
+-- the line of an event, which the player prints, with the event at its end if `with_events`
+abbrev pub step_text : Bool → ℕ → Event → Line → List ℕ
+step_text with_events number event line =
+    line_text number line ++ event_end with_events event ++ 10 ∷ []
+
+abbrev pub text_of : TraceView → Step → List ℕ
+text_of view step = step_text view.with_events step.number step.event step.line
+
+-- what a view shows of one event
+abbrev pub shown_text : TraceView → Step → List ℕ
+shown_text view step = if shows view step then text_of view step else []
+
+-- what a view shows of the events of a run: the lines that it selects
+abbrev pub steps_text : TraceView → List Step → List ℕ
+steps_text view steps = flat_map (text_of view) (filter (shows view) steps)
+
+-- the text of a view of a trace
+abbrev pub view_text : TraceView → Trace → List ℕ
+view_text view trace = steps_text view (steps 1 trace.events (world_of_opening trace.opening))

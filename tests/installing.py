@@ -1,0 +1,245 @@
+#!/usr/bin/env python3
+"""Tests bin/install over the proved executables that the gate left: what it copies with and without
+DESTDIR, that --remove removes exactly that, versions, manual pages and completions of all commands,
+and programs and scripts that are called through symbolic links.
+
+What a missing tool would test (man, GNU parallel, matplotlib) is skipped with a message.
+
+usage: tests/installing.py
+"""
+import os
+import re
+import shutil
+import subprocess
+import sys
+import tempfile
+from pathlib import Path
+
+TOP = Path(__file__).resolve().parent.parent
+PROGRAMS = ("meter_server", "head_end", "trace_player")
+SCRIPTS = ("campaign", "trace_chart", "meter_service")
+COMMANDS = PROGRAMS + SCRIPTS
+RECORD = "share/wesplina/installed"
+WORKED = TOP / "crates" / "trace_player_cli" / "stdin"
+# What an installed user must find in the manual pages.
+PAGES = {
+    "meter_server": ["samples WATTS ..", "pairs WATTS WATTS ..", "moment SECONDS",
+                     "prints no trace"],
+    "head_end": ["NAME done N", "NAME unknown", "does not mean that the meter did not switch"],
+    "campaign": ["NAME done N", "NAME unknown", "does not mean that the meter did not switch"],
+    "trace_player": ["docs/TRACE.md"],
+    "trace_chart": ["--from PLACE", "--to PLACE", "sampler: reads both thresholds"],
+    "meter_service": ["FOLDER/console", "FOLDER/running", "SIGTERM"],
+}
+
+
+def run(*words, **more):
+    return subprocess.run([str(it) for it in words], stdin=subprocess.DEVNULL, capture_output=True,
+                          text=True, timeout=300, **more)
+
+
+def install(*words, destination=None):
+    environment = {name: it for name, it in os.environ.items() if name != "DESTDIR"}
+    environment |= {"DESTDIR": str(destination)} if destination else {}
+    return run(TOP / "bin" / "install", *words, env=environment)
+
+
+def tree(folder):
+    """Each path below a folder, and the content of each file."""
+    return {it.relative_to(folder): it.read_bytes() if it.is_file() else None
+            for it in folder.rglob("*")}
+
+
+def recorded(root):
+    lines = (root / RECORD).read_text().splitlines()
+    return {it.split("  ", 1)[1] for it in lines if not it.startswith("#")}
+
+
+def destinations(room):
+    prefix, stage = room / "prefix", room / "stage"
+    ran = install(prefix, destination=stage)
+    root = Path(f"{stage}{prefix}")
+    yield "DESTDIR: installs", ran.returncode == 0 and not ran.stderr
+    yield "DESTDIR: nothing in PREFIX", not prefix.exists()
+    files = {str(it) for it, text in tree(root).items() if text is not None}
+    yield "DESTDIR: the record has each file", recorded(root) == files - {RECORD}
+    ran = run("sha256sum", "--check", "--strict", "--quiet", RECORD, cwd=root)
+    yield "DESTDIR: the digests", ran.returncode == 0
+    wanted = {*(f"bin/{it}" for it in COMMANDS), "share/doc/wesplina/LICENSE",
+              "share/doc/wesplina/docs/SERVICE.md", "share/systemd/meter_server.service"}
+    shared = {str(it.relative_to(TOP)) for it in (TOP / "share").rglob("*") if it.is_file()}
+    yield "DESTDIR: programs, licence, documents and share", wanted | shared <= files
+    unit = (root / "share/systemd/meter_server.service").read_text()
+    yield "DESTDIR: the unit calls PREFIX", f"ExecStart={prefix}/bin/meter_service " in unit
+    ran = install("--remove", prefix, destination=stage)
+    yield "DESTDIR: --remove", ran.returncode == 0 and not tree(root)
+
+
+def removals(room):
+    root = room / "some"
+    (root / "bin").mkdir(parents=True)
+    (root / "bin" / "other").write_text("a file of another package\n")
+    (root / "share" / "man").mkdir(parents=True)
+    before = tree(root)
+    ran = install("--remove", root)
+    yield "remove: nothing is known", (ran.returncode, ran.stderr.count("\n")) == (1, 1)
+    installs = install(root).returncode == install(root).returncode == 0
+    yield "remove: a second installation", installs
+    ran = install("--remove", root)
+    yield "remove: exactly that", ran.returncode == 0 and tree(root) == before
+    install(root)
+    (root / "share/man/man1/campaign.1").write_text("changed\n")
+    ran = install("--remove", root)
+    left = {Path("share/man/man1"): None, Path("share/man/man1/campaign.1"): b"changed\n"}
+    yield "remove: a changed file stays", ran.returncode == 1 and tree(root) == before | left
+    yield ("remove: and is named",
+           ran.stderr.count("\n") == 1 and "man1/campaign.1: changed" in ran.stderr)
+    shutil.rmtree(root / "share/man/man1")
+    yield from an_earlier_file(root)
+
+
+def an_earlier_file(root):
+    """A file that an earlier installation copied, and the present one does not."""
+    install(root)
+    old = root / "share/man/man1/old_command.1"
+    old.write_text("old\n")
+    ran = run("sha256sum", "share/man/man1/old_command.1", cwd=root)
+    with open(root / RECORD, "a", encoding="utf-8") as record:
+        record.write(ran.stdout)
+    ran = install(root)
+    yield "remove: a file of an earlier installation", ran.returncode == 0 and not old.exists()
+    ran = install("--remove", root)
+    yield "remove: with a record of two installations", ran.returncode == 0
+
+
+def arguments():
+    for words in ([], ["a", "b"], ["--remove"], ["--remove", "a", "b"], ["--other", "a"]):
+        ran = install(*words)
+        yield f"arguments {words}", ran.returncode == 2 and "usage: bin/install" in ran.stderr
+    ran = install("--help")
+    yield "help", ran.returncode == 0 and "--remove PREFIX" in ran.stdout and not ran.stderr
+
+
+def versions(root):
+    first = (root / RECORD).read_text().partition("\n")[0]
+    number = re.match(r"# wesplina (\d+\.\d+\.\d+)", first)
+    yield "the record has the version", number is not None
+    for it in PROGRAMS:
+        ran = run(root / "bin" / it, "--version")
+        yield f"the version of {it}", (ran.returncode, ran.stdout) == (0, f"{it} {number[1]}\n")
+    for it in SCRIPTS:
+        wanted = first.replace("# wesplina", it) + "\n"
+        for flag in ("--version", "-V"):
+            ran = run(root / "bin" / it, flag)
+            yield f"the version of {it} {flag}", (ran.returncode, ran.stdout) == (0, wanted)
+        ran = run(TOP / "bin" / it, "--version")
+        yield f"the version of bin/{it}", (ran.returncode, ran.stdout) == (0, f"{it} {number[1]}\n")
+
+
+def options_of(root, name):
+    """The options that the help of a command and of its subcommands describes."""
+    commands = {"meter_server": ("apdu", "hex", "serve"), "head_end": ("check", "run")}
+    texts = [run(root / "bin" / name, *it, "--help").stdout
+             for it in ((), *((it,) for it in commands.get(name, ())))]
+    return sorted(set(re.findall(r"(?m)^ +(?:-\w, )?(--[a-z-]+)", "\n".join(texts))))
+
+
+def pages(root):
+    has_man = shutil.which("man")
+    if not has_man:
+        print("SKIPPED rendered pages: man is not installed")
+    for name in COMMANDS:
+        page = root / "share/man/man1" / f"{name}.1"
+        text = page.read_text().replace("\\-", "-").replace("\n", " ")
+        completion = (root / "share/bash-completion/completions" / name).read_text()
+        for it in PAGES[name]:
+            yield f"the page of {name}: {it}", it in text
+        for it in options_of(root, name):
+            yield f"the page of {name}: {it}", it in text
+            yield f"the completion of {name}: {it}", it in completion
+        for it in (f"zsh/site-functions/_{name}", f"fish/vendor_completions.d/{name}.fish"):
+            yield f"share/{it}", name in (root / "share" / it).read_text()
+        if has_man:
+            ran = run("man", "--warnings", "-E", "UTF-8", "-l", "-Tutf8", page,
+                      env={**os.environ, "MANWIDTH": "100", "LC_ALL": "C.UTF-8"})
+            yield (f"the page of {name} is rendered",
+                   ran.returncode == 0 and not ran.stderr and name in ran.stdout)
+
+
+def completions(root):
+    cases = (("campaign", "--jobl", "--joblog"), ("trace_chart", "--fr", "--from"),
+             ("meter_service", "--se", "--server"))
+    for name, word, wanted in cases:
+        file = root / "share/bash-completion/completions" / name
+        script = (f'. "{file}"; COMP_WORDS=({name} {word}); COMP_CWORD=1; _{name}; '
+                  'echo "${COMPREPLY[@]}"')
+        yield f"{name} {word} is completed", run("bash", "-c", script).stdout == f"{wanted}\n"
+
+
+def links(root, room):
+    """Commands that are called through a link to a link, in a folder without the others."""
+    for at, bin_folder in enumerate((root / "bin", TOP / "bin")):
+        folder = room / f"links {at}"
+        folder.mkdir()
+        for it in COMMANDS:
+            (folder / f"{it}_there").symlink_to(bin_folder / it)
+            (folder / it).symlink_to(f"{it}_there")
+        for it in COMMANDS:
+            ran = run(folder / it, "--version", cwd=folder)
+            yield (f"{bin_folder.name} {at}: a link to {it}",
+                   ran.returncode == 0 and ran.stdout.startswith(f"{it} "))
+        yield from linked_scripts(folder)
+
+
+def linked_scripts(folder):
+    """Whether the scripts find the programs next to what the link leads to."""
+    if shutil.which("parallel"):
+        (folder / "jobs").write_text("m1 127.0.0.1:4059 close\n")
+        ran = run(folder / "campaign", "jobs", cwd=folder,
+                  env={**os.environ, "METER_PASSWORD": "12345678"})
+        yield ("a link to campaign finds head_end",
+               ran.returncode == 2 and "line 1: expected" in ran.stderr)
+    else:
+        print("SKIPPED campaign through a link: GNU parallel is not installed")
+    if run("/usr/bin/python3", "-c", "import matplotlib").returncode == 0:
+        ran = run(folder / "trace_chart", WORKED, cwd=folder)
+        yield ("a link to trace_chart finds trace_player",
+               ran.returncode == 0 and "</svg>" in ran.stdout)
+    else:
+        print("SKIPPED trace_chart through a link: matplotlib is not installed")
+    ran = run(folder / "meter_service", folder / "meter", "--depth", "0", cwd=folder)
+    yield ("a link to meter_service finds meter_server",
+           ran.returncode == 2 and "--depth" in ran.stderr)
+
+
+def all_rows(room):
+    yield from arguments()
+    yield from destinations(room)
+    yield from removals(room)
+    root = room / "installed"
+    ran = install(root)
+    yield "installs", ran.returncode == 0
+    yield from versions(root)
+    yield from pages(root)
+    yield from completions(root)
+    yield from links(root, room)
+
+
+def main():
+    for it in PROGRAMS:
+        if run(TOP / "bin" / ".run", "--where", f"{it}_cli").returncode:
+            print(f"the executable of {it} is missing: run bin/build or bin/test")
+            print("0 passed, 1 failed")
+            return 1
+    passed, failed = 0, 0
+    with tempfile.TemporaryDirectory(prefix="installing ") as room:
+        for name, is_so in all_rows(Path(room)):
+            passed, failed = passed + is_so, failed + (not is_so)
+            if not is_so:
+                print(f"FAILED installing: {name}")
+    print(f"{passed} passed, {failed} failed")
+    return 1 if failed else 0
+
+
+if __name__ == "__main__":
+    sys.exit(main())

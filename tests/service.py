@@ -1,0 +1,358 @@
+#!/usr/bin/env python3
+"""Tests bin/meter_service over the proved executables that the gate left, with clients on the
+loopback interface: what is stored when it ends, what the next run resumes from, and what is known
+after a kill. The service files of share/ are tested with runit's runsv and with systemd-analyze;
+each is skipped with a message if it is not installed (Debian: apt-get install runit systemd).
+
+usage: tests/service.py
+"""
+import os
+import shutil
+import signal
+import subprocess
+import sys
+import tempfile
+import time
+from pathlib import Path
+
+sys.dont_write_bytecode = True
+sys.path.insert(0, str(Path(__file__).resolve().parent))
+import serving
+from serving import DISCONNECT, MODE, PASSWORD, PATIENCE, STATE, check
+
+TOP = Path(__file__).resolve().parent.parent
+SERVICE = TOP / "bin" / "meter_service"
+UNIT = TOP / "share" / "systemd" / "meter_server.service"
+RUNIT = TOP / "share" / "runit" / "meter_server"
+ENVIRONMENT = {**os.environ, "METER_PASSWORD": PASSWORD}
+
+
+def waits_for(holds):
+    """Whether a condition holds within the time limit."""
+    end = time.monotonic() + PATIENCE
+    while not holds() and time.monotonic() < end:
+        time.sleep(0.02)
+    return holds()
+
+
+class Service(serving.Server):
+    """A running meter_service and its folder."""
+
+    def __init__(self, folder, *options, port=None, server=serving.SERVER):
+        self.folder, self.port = folder, port or serving.free_port()
+        words = [SERVICE, "--server", str(server), folder, "--listen", f"127.0.0.1:{self.port}"]
+        self.start([*words, *options], ENVIRONMENT, subprocess.DEVNULL)
+        self.wait_for(b"listening on")
+
+    def write(self, text):
+        """Writes to the console as any program does: opens it, writes and closes it."""
+        with open(self.folder / "console", "w", encoding="ascii") as console:
+            console.write(text)
+
+    def ends(self, number=signal.SIGTERM):
+        """Sends a signal and returns the status and standard error."""
+        self.process.send_signal(number)
+        status, _, errors = self.ended()
+        return status, errors
+
+    def trace(self, number):
+        return (self.folder / "traces" / f"{number:06}.trace").read_text()
+
+    def stop(self):
+        """Ends the service of a failed test, and so its server."""
+        if self.process.poll() is None:
+            self.process.terminate()
+            try:
+                self.process.wait(PATIENCE)
+            except subprocess.TimeoutExpired:
+                self.process.kill()
+
+
+def in_folder(function):
+    """A test with an empty folder."""
+    def tested(name):
+        with tempfile.TemporaryDirectory(prefix="service-") as folder:
+            function(name, Path(folder) / "meter")
+    tested.__name__ = function.__name__
+    return tested
+
+
+def server_of(service):
+    """The process of a service's server."""
+    words = ["ps", "-o", "pid=", "--ppid", str(service.process.pid)]
+    return int(subprocess.run(words, capture_output=True, text=True).stdout.split()[0])
+
+
+def names_of(folder):
+    return sorted(str(it.relative_to(folder)) for it in folder.rglob("*"))
+
+
+@in_folder
+def a_run_is_stored_and_resumed(name, folder):
+    service = Service(folder)
+    check(f"{name}: the marker of a run", (folder / "running").exists())
+    client = service.client()
+    check(f"{name}: mode and disconnect",
+          (client.set(MODE, "1601"), client.execute(DISCONNECT)) == ("code 0", "code 0"))
+    client.close()
+    status, errors = service.ends()
+    check(f"{name}: ends", status == 0 and "stored" in errors, status, errors)
+    check(f"{name}: what the folder has",
+          names_of(folder) == ["console", "traces", "traces/000001.trace"], names_of(folder))
+    check(f"{name}: the trace", serving.stands_in(client.seen, serving.played(service.trace(1))))
+    for number, sent in ((2, signal.SIGINT), (3, signal.SIGHUP)):
+        service = Service(folder, port=service.port)
+        client = service.client()
+        check(f"{name}: still disconnected", client.get(STATE) == "value 1600")
+        client.close()
+        status, errors = service.ends(sent)
+        check(f"{name}: ends by {sent.name}", status == 0, status, errors)
+        check(f"{name}: trace {number}",
+              serving.played(service.trace(number)) == client.seen, service.trace(number))
+
+
+@in_folder
+def the_console_stays_open(name, folder):
+    service = Service(folder, "--depth", "1024")
+    for number in range(20):
+        service.write(f"moment {number}\n")
+    service.write("samples 1 2\n")
+    service.write("button\n" * 300)
+    status, errors = service.ends()
+    check(f"{name}: ends", status == 0, status, errors)
+    events = [event for event, _ in serving.played(service.trace(1))]
+    moments = [it for it in events if it.startswith("moment ")]
+    check(f"{name}: all moments", moments == [f"moment {it}" for it in range(20)], events)
+    check(f"{name}: what was written just before the signal",
+          events.count("button") == 300, events.count("button"))
+    check(f"{name}: samples", "samples 1 2" in events)
+
+
+@in_folder
+def open_sessions_end_first(name, folder):
+    service = Service(folder, "--inactivity", "15")
+    client = service.client()
+    check(f"{name}: mode", client.set(MODE, "1601") == "code 0")
+    service.process.send_signal(signal.SIGTERM)
+    check(f"{name}: the signal is taken", service.wait_for(b"SIGTERM"))
+    check(f"{name}: the session continues", client.execute(DISCONNECT) == "code 0")
+    os.kill(server_of(service), signal.SIGTERM)
+    service.process.send_signal(signal.SIGTERM)
+    check(f"{name}: further signals change nothing", client.get(STATE) == "value 1600")
+    client.close()
+    status, _, errors = service.ended()
+    check(f"{name}: ends", status == 0, status, errors)
+    check(f"{name}: the trace has the session",
+          serving.stands_in(client.seen, serving.played(service.trace(1))))
+
+
+@in_folder
+def a_silent_client_delays_the_end(name, folder):
+    service = Service(folder, "--inactivity", "1")
+    client = service.client()
+    began = time.monotonic()
+    status, errors = service.ends()
+    check(f"{name}: until --inactivity",
+          status == 0 and time.monotonic() - began < 10, status, errors)
+    client.close()
+
+
+@in_folder
+def a_killed_server_is_not_resumed(name, folder):
+    service = Service(folder)
+    status, _ = service.ends()
+    service = Service(folder)
+    os.kill(server_of(service), signal.SIGKILL)
+    status, _, errors = service.ended()
+    check(f"{name}: status", status == 128 + 9 and "stays" in errors, status, errors)
+    service = Service(folder)
+    status, _, errors = service.ended()
+    check(f"{name}: refused", status == 2 and "listening" not in errors, status, errors)
+    check(f"{name}: one line",
+          errors.count("\n") == 1 and "000001.trace" in errors and "running" in errors, errors)
+    (folder / "running").unlink()
+    service = Service(folder)
+    status, errors = service.ends()
+    check(f"{name}: resumed by a person's decision",
+          status == 0 and (folder / "traces/000002.trace").exists(), errors)
+
+
+@in_folder
+def a_killed_service_is_recovered(name, folder):
+    service = Service(folder)
+    client = service.client()
+    check(f"{name}: mode and disconnect",
+          (client.set(MODE, "1601"), client.execute(DISCONNECT)) == ("code 0", "code 0"))
+    service.process.kill()
+    service.process.wait()
+    client.close()
+    check(f"{name}: the server ends in order",
+          waits_for(lambda: (folder / "next.trace").read_text().endswith("\n")))
+    service = Service(folder)
+    client = service.client()
+    check(f"{name}: the next run resumes from its trace", client.get(STATE) == "value 1600")
+    client.close()
+    status, errors = service.ends()
+    check(f"{name}: both traces",
+          status == 0 and names_of(folder / "traces") == ["000001.trace", "000002.trace"], errors)
+
+
+@in_folder
+def what_serves_nothing_loses_nothing(name, folder):
+    service = Service(folder)
+    second = Service(folder)
+    status, _, errors = second.ended()
+    check(f"{name}: a second service",
+          status == 2 and errors.count("\n") == 1 and "another" in errors, status, errors)
+    other = Service(folder.with_name("other"), port=service.port)
+    status, _, errors = other.ended()
+    check(f"{name}: a port in use", status == 3 and "fault: listen" in errors, status, errors)
+    check(f"{name}: no marker stays",
+          names_of(other.folder) == ["console", "traces"], names_of(other.folder))
+    check(f"{name}: the first one serves", service.ends()[0] == 0)
+    wrong = Service(folder, "--depth", "0")
+    status, _, errors = wrong.ended()
+    check(f"{name}: a wrong option",
+          status == 2 and "--depth" in errors and not (folder / "running").exists(), status, errors)
+    (folder / "traces/000002.trace").write_text("RELAYTRACE 3\n")
+    wrong = Service(folder)
+    status, _, errors = wrong.ended()
+    check(f"{name}: a wrong trace", status == 2 and "fault: input" in errors, status, errors)
+
+
+@in_folder
+def a_full_disk_keeps_the_marker(name, folder):
+    server = folder.with_name("server")
+    server.write_text(f'#!/bin/sh\nexec {serving.SERVER} "$@" > /dev/full\n')
+    server.chmod(0o755)
+    service = Service(folder, server=server)
+    status, errors = service.ends()
+    check(f"{name}: reported",
+          status == 3 and "fault: write" in errors and "stays" in errors, status, errors)
+    check(f"{name}: the marker",
+          (folder / "running").exists() and not list((folder / "traces").iterdir()))
+
+
+def command_line(name):
+    def run(*words):
+        return subprocess.run([SERVICE, *words], capture_output=True, text=True, timeout=PATIENCE)
+    for word in ("-h", "--help"):
+        ran = run(word)
+        check(f"{name}: {word}",
+              ran.returncode == 0 and "usage: bin/meter_service" in ran.stdout and not ran.stderr)
+    for words in ([], ["--listen", "127.0.0.1:0"], ["--server"]):
+        ran = run(*words)
+        check(f"{name}: {words}",
+              ran.returncode == 2 and "expected FOLDER" in ran.stderr and not ran.stdout)
+    with tempfile.TemporaryDirectory(prefix="service-") as folder:
+        ran = run("--server", f"{folder}/none", f"{folder}/meter")
+        check(f"{name}: a server that is missing",
+              ran.returncode == 3 and ran.stderr.count("\n") == 1, ran.stderr)
+
+
+def service_of_runit(folder, port):
+    """A copy of the service's folder that runs the script of this repository as this user."""
+    service = folder / "meter_server"
+    shutil.copytree(RUNIT, service)
+    (service / "env").mkdir()
+    (service / "env" / "METER_PASSWORD").write_text(f"{PASSWORD}\n")
+    text = (service / "run").read_text()
+    for old, new in (("-u meter_server ", ""), ("/usr/local/bin/", f"{TOP}/bin/"),
+                     ("/var/lib/meter_server", f"{folder}/state"),
+                     ("0.0.0.0:4059", f"127.0.0.1:{port}")):
+        assert text.count(old) == 1, old
+        text = text.replace(old, new)
+    (service / "run").write_text(text)
+    return service
+
+
+def under_runit(name):
+    missing = [it for it in ("runsv", "sv", "svlogd", "chpst") if not shutil.which(it)]
+    if missing:
+        print(f"SKIPPED runit: {', '.join(missing)} not installed (Debian: apt-get install runit)")
+        return
+    with tempfile.TemporaryDirectory(prefix="service-runit-") as folder:
+        folder, port = Path(folder), serving.free_port()
+        service = service_of_runit(folder, port)
+        supervisor = subprocess.Popen(["runsv", service], stderr=subprocess.DEVNULL)
+        try:
+            commands_of_runit(name, folder, service, port)
+        finally:
+            subprocess.run(["sv", "-w", "30", "shutdown", service], capture_output=True)
+            supervisor.wait(PATIENCE)
+
+
+def commands_of_runit(name, folder, service, port):
+    log, traces = service / "log" / "main" / "current", folder / "state" / "traces"
+
+    def logged(words, times):
+        return waits_for(lambda: log.exists() and log.read_text().count(words) >= times)
+
+    def sv(*words):
+        return subprocess.run(["sv", *words, service], capture_output=True).returncode == 0
+
+    check(f"{name}: runs", logged("listening on", 1))
+    client = serving.Client(port)
+    client.associate()
+    check(f"{name}: mode and disconnect",
+          (client.set(MODE, "1601"), client.execute(DISCONNECT)) == ("code 0", "code 0"))
+    client.close()
+    check(f"{name}: restart",
+          sv("-w", "30", "restart") and logged("listening on", 2)
+          and (traces / "000001.trace").exists())
+    client = serving.Client(port)
+    client.associate()
+    check(f"{name}: still disconnected", client.get(STATE) == "value 1600")
+    client.close()
+    check(f"{name}: stop", sv("-w", "30", "stop") and (traces / "000002.trace").exists())
+    check(f"{name}: the log has times",
+          log.read_text().startswith(time.strftime("%Y-", time.gmtime())))
+    (folder / "state" / "running").touch()
+    subprocess.run(["sv", "start", service], capture_output=True)
+    check(f"{name}: what a person must decide stays down",
+          logged("left no trace", 1) and waits_for(lambda: is_down(service)))
+    (folder / "state" / "running").unlink()
+    subprocess.run(["sv", "start", service], capture_output=True)
+    check(f"{name}: starts again", logged("listening on", 3))
+
+
+def is_down(service):
+    """Whether a service is down, and runsv does not start it again."""
+    said = subprocess.run(["sv", "status", service], capture_output=True, text=True).stdout
+    return said.startswith("down:") and "want up" not in said
+
+
+def under_systemd(name):
+    if not shutil.which("systemd-analyze"):
+        print("SKIPPED systemd: systemd-analyze is not installed (Debian: apt-get install systemd)")
+        return
+    with tempfile.TemporaryDirectory(prefix="service-systemd-") as folder:
+        unit, text = Path(folder) / "meter_server.service", UNIT.read_text()
+        environment = {**os.environ, "MANPATH": f"{TOP}/share/man"}
+        for what, old, new, status in (
+                ("the unit", "/usr/local/", f"{TOP}/", 0),
+                ("a wrong unit", "Type=exec", "Type=wrong", 1)):
+            unit.write_text(text.replace("/usr/local/", f"{TOP}/").replace(old, new))
+            ran = subprocess.run(["systemd-analyze", "verify", unit], capture_output=True,
+                                 text=True, env=environment)
+            said = ran.stdout + ran.stderr
+            check(f"{name}: {what}",
+                  (ran.returncode == 0 and not said) == (status == 0), ran.returncode, said)
+
+
+def main():
+    for executable in (serving.SERVER, serving.PLAYER):
+        if not os.access(executable, os.X_OK):
+            print(f"{executable} is missing: run bin/build or bin/test\n0 passed, 1 failed")
+            return 1
+    for function in (a_run_is_stored_and_resumed, the_console_stays_open, open_sessions_end_first,
+                     a_silent_client_delays_the_end, a_killed_server_is_not_resumed,
+                     a_killed_service_is_recovered, what_serves_nothing_loses_nothing,
+                     a_full_disk_keeps_the_marker, command_line, under_runit, under_systemd):
+        serving.test(function)
+    print(f"{serving.passed} passed, {serving.failed} failed")
+    return 1 if serving.failed else 0
+
+
+if __name__ == "__main__":
+    sys.exit(main())
