@@ -7,6 +7,7 @@ cluster of one node that the test starts. Every wait has a time limit.
 usage: tests/campaigns.py [--short]     (--short: campaigns of 2,000 jobs instead of 20,000)"""
 
 import argparse
+import errno
 import os
 import pathlib
 import pty
@@ -265,6 +266,19 @@ def a_meter_is_reached_by_its_name(name):
     meter.stop()
 
 
+def text_of_terminal(terminal):
+    """All that was written to a terminal that nobody has open any more: a read gives some of it,
+    one at the end fails."""
+    pieces = []
+    try:
+        while piece := os.read(terminal, 4_096):
+            pieces.append(piece)
+    except OSError as fault:
+        if fault.errno != errno.EIO:
+            raise
+    return b"".join(pieces).decode().replace("\r\n", "\n")
+
+
 def progress_is_reported(name):
     meter = ScriptedMeter(does_it)
     status, text, errors = run_head_end(f"m1 127.0.0.1:{meter.port} state\nm2 127.0.0.1:{meter.port} reconnect\n", "--progress", "--workers", "1")
@@ -274,7 +288,7 @@ def progress_is_reported(name):
     jobs = f"m1 127.0.0.1:{meter.port} state\nm2 127.0.0.1:{meter.port} reconnect\n"
     ran = subprocess.run([str(HEAD_END), "run", "--password", PASSWORD, "--workers", "1"], input=jobs, stdout=subprocess.PIPE, stderr=standard_error, text=True, timeout=60)
     os.close(standard_error)
-    lines = os.read(terminal, 4_096).decode().replace("\r\n", "\n")
+    lines = text_of_terminal(terminal)
     os.close(terminal)
     check(f"{name}, on a terminal", (ran.returncode, ran.stdout) == (0, "m1 done 0\nm2 done 0\n") and re.fullmatch(PROGRESS, without_warnings(lines)), ran, lines)
     meter.stop()
