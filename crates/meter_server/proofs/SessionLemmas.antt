@@ -1,5 +1,6 @@
 -- The calls of a session's port are the events of the session.
-use Rattle.std.proofs.Common.{◌≡◌, ℕ, ◌<◌, ◌≤◌, List, [], ◌∷◌, ◌++◌, map, Result, Ok, Err, refl, sym, ap, ◌∙◌, subst, inl, inr, ⊎_elim, arith}
+use Rattle.std.proofs.Common.{◌≡◌, ℕ, ◌<◌, ◌≤◌, List, [], ◌∷◌, ◌++◌, map, Result, Ok, Err, refl}
+use Rattle.std.proofs.Common.{sym, ap, ◌∙◌, subst, inl, inr, ⊎_elim, arith}
 use Rattle.std.proofs.lemmas.List.{append-nil, append_assoc, map-append}
 use Rattle.relay_events.specs.declared.event.Event.{Event}
 use Rattle.relay_events.specs.declared.reply.Reply.{Reply}
@@ -15,97 +16,132 @@ use Rattle.turn_lock.specs.declared.turned.Entry.{Entry}
 use Rattle.turn_lock.specs.History.{calls_by}
 use Rattle.turn_lock.specs.Shown.{IsSame}
 use Rattle.port_threads.specs.Ports.{PortContinues, AreJoined, AreServed, AreCallsOf, child}
-use Rattle.meter_server.specs.Ports.{MeterPort, PortSteps, entries}
+use Rattle.meter_server.specs.Ports.{MeterPort, Enters, entries}
 use Rattle.meter_server.specs.ServingAll.{events_by}
 use Rattle.meter_server.specs.Sessions.{AreAsked, AsksThrough, AreSessions}
-use Rattle.meter_server.proofs.PortLemmas.{is_same, same_on, step_same, replied_on, entered}
+use Rattle.meter_server.proofs.PortLemmas.{ArePortSteps, is_same, same_on, replied_on, entered}
 
 abbrev event_of : Entry Event Reply → Event
 event_of call = call.event
 
--- the events of the port's new calls are those that were replied to
-entries_events : (by : List ℕ) (p : MeterPort) (events : List Event) (replies : List Reply)
-    (q : MeterPort)
-    → RepliesTo PortSteps p events replies q → map event_of (entries by events replies) ≡ events
-entries_events by p [] [] q same = refl
-entries_events by p [] (reply ∷ replies) q never = absurd never
-entries_events by p (event ∷ events) [] q never = absurd never
-entries_events by p (event ∷ events) (reply ∷ replies) q (next, step, rest) =
-    ap (λ (es : List Event). event ∷ es) (entries_events by next events replies q rest)
+-- the port's calls are extended by those of these events
+abbrev Adds : MeterPort → List Event → MeterPort → Type 0
+Adds p events q = events_by p.known.number q ≡ events_by p.known.number p ++ events
 
-replied_events : (p : MeterPort) (events : List Event) (replies : List Reply) (q : MeterPort)
-    → RepliesTo PortSteps p events replies q → events_by p.known.number q
-    ≡ events_by p.known.number p ++ events
-replied_events p events replies q replied =
+-- the same port after further calls
+adds_on : (p q r : MeterPort) (events later : List Event) → q.known.number ≡ p.known.number
+    → Adds p events q → Adds q later r → Adds p (events ++ later) r
+adds_on p q r events later number first second =
     let by : List ℕ = p.known.number in
-    ap (map event_of) (entered p events replies q replied)
+    let N : List ℕ → Type 0 = λ n. events_by n r ≡ events_by n q ++ later in
+    subst N number second ∙ (ap (λ (es : List Event). es ++ later) first
+    ∙ append_assoc (events_by by p) events later)
+
+-- the events of the port's new calls
+enters_adds : (p : MeterPort) (events : List Event) (replies : List Reply) (q : MeterPort)
+    → map event_of (entries p.known.number events replies) ≡ events → Enters p events replies q
+    → Adds p events q
+enters_adds p events replies q those enters =
+    let by : List ℕ = p.known.number in
+    ap (map event_of) enters
     ∙ map-append event_of (calls_by by p.known.seen) (entries by events replies)
-    ∙ ap (λ (es : List Event). events_by by p ++ es) (entries_events by p events replies q replied)
+    ∙ ap (λ (es : List Event). events_by by p ++ es) those
 
-by_replied : (password seen : List ℕ) (p : MeterPort) (events later : List Event)
-    (replies : List Reply) (q : MeterPort)
-    → Asks password seen ≡ events ++ later → RepliesTo PortSteps p events replies q
-    → AsksThrough password p q
-by_replied password seen p events later replies q all replied = record {
-  asked = events;
-  are = record { input = seen; later = later; all = all };
-  entered = replied_events p events replies q replied;
-}
+module _ (steps : MeterPort → Event → Result Reply CallFault → MeterPort → Type 0)
+    (is_port : ArePortSteps steps) where
+  -- the events of the port's new calls are those that were replied to
+  entries_events : (by : List ℕ) (p : MeterPort) (events : List Event) (replies : List Reply)
+      (q : MeterPort)
+      → RepliesTo steps p events replies q → map event_of (entries by events replies) ≡ events
+  entries_events by p [] [] q same = refl
+  entries_events by p [] (reply ∷ replies) q never = absurd never
+  entries_events by p (event ∷ events) [] q never = absurd never
+  entries_events by p (event ∷ events) (reply ∷ replies) q (next, step, rest) =
+      ap (λ (es : List Event). event ∷ es) (entries_events by next events replies q rest)
 
-by_refused : (password seen : List ℕ) (p : MeterPort) (events later : List Event)
-    (replies : List Reply) (refusal : CallFault) (q : MeterPort)
-    → Asks password seen ≡ events ++ later → RefusesLast PortSteps p events replies refusal q
-    → AsksThrough password p q
-by_refused password seen p events later replies refusal q all r =
-    let same = replied_on PortSteps IsSame is_same same_on step_same p r.taken replies r.before
-    r.replied in
-    let N : List ℕ → Type 0 = λ n. events_by n q ≡ events_by n r.before in
-    let still : events_by p.known.number q ≡ events_by p.known.number r.before =
-    subst N same.number (ap (map event_of) (r.refused.calls.0.sees.own_calls r.before.known.number
-    (inl refl))) in record {
-      asked = r.taken;
-      are = record {
-        input = seen;
-        later = r.event ∷ later;
-        all = all ∙ ap (λ (es : List Event). es ++ later) r.all
-            ∙ append_assoc r.taken (r.event ∷ []) later;
-      };
-      entered = still ∙ replied_events p r.taken replies r.before r.replied;
-    }
+  replied_events : (p : MeterPort) (events : List Event) (replies : List Reply) (q : MeterPort)
+      → RepliesTo steps p events replies q → Adds p events q
+  replied_events p events replies q replied =
+      enters_adds p events replies q (entries_events p.known.number p events replies q replied)
+      (entered steps is_port p events replies q replied)
 
-effect_asks : (password seen : List ℕ) (before : Sides MeterPort)
-    (result : Result SessionEnd ServeFault) (after : Sides MeterPort)
-    → HasEffect PortSteps (plan_of password) seen before result after
-    → AsksThrough password before.outlets.meter after.outlets.meter
-effect_asks password seen before (Ok end) after effect =
-    by_replied password seen before.outlets.meter _ [] effect.0.replies after.outlets.meter
-    (sym (append-nil (Asks password seen))) effect.0.replied
-effect_asks password seen before (Err fault.Read) after effect =
-    by_replied password seen before.outlets.meter _ [] effect.0.replies after.outlets.meter
-    (sym (append-nil (Asks password seen))) effect.0.replied
-effect_asks password seen before (Err fault.Write) after effect =
-    by_replied password seen before.outlets.meter effect.asked effect.later effect.replies
-    after.outlets.meter effect.all_asked effect.replied
-effect_asks password seen before (Err fault.Memory) after effect =
-    ⊎_elim (by_replied password seen before.outlets.meter effect.asked effect.later effect.replies
-    after.outlets.meter effect.all_asked)
-    (by_refused password seen before.outlets.meter effect.asked effect.later effect.replies _
-    after.outlets.meter effect.all_asked) effect.replied
-effect_asks password seen before (Err fault.Exhausted) after effect =
-    by_refused password seen before.outlets.meter effect.asked effect.later effect.replies _
-    after.outlets.meter effect.all_asked effect.refused
-effect_asks password seen before (Err fault.Listen) after effect = absurd effect
-effect_asks password seen before (Err fault.Journal) after effect =
-    by_refused password seen before.outlets.meter effect.asked effect.later effect.replies _
-    after.outlets.meter effect.all_asked effect.refused
+  by_replied : (password seen : List ℕ) (p : MeterPort) (events later : List Event)
+      (replies : List Reply) (q : MeterPort)
+      → Asks password seen ≡ events ++ later → RepliesTo steps p events replies q
+      → AsksThrough password p q
+  by_replied password seen p events later replies q all replied = record {
+    asked = events;
+    are = record { input = seen; later = later; all = all };
+    entered = replied_events p events replies q replied;
+  }
 
--- a port that served a session made the calls of the session
-pub served_asks : (password : List ℕ) (before : Sides MeterPort)
-    (result : Result SessionEnd ServeFault) (after : Sides MeterPort)
-    → ServesSession PortSteps password before result after
-    → AsksThrough password before.outlets.meter after.outlets.meter
-served_asks password before result after served =
-    effect_asks password served.seen before result after served.effect
+  -- the events of the port's new calls, of which the last was refused
+  by_refused : (password seen : List ℕ) (p : MeterPort) (events later : List Event)
+      (replies : List Reply) (refusal : CallFault) (q : MeterPort)
+      → Asks password seen ≡ events ++ later → RefusesLast steps p events replies refusal q
+      → AsksThrough password p q
+  by_refused password seen p events later replies refusal q all r =
+      let number = (replied_on steps IsSame is_same same_on is_port.same p r.taken replies r.before
+      r.replied).number in
+      let taken = replied_events p r.taken replies r.before r.replied in
+      elim (is_port.refused r.before r.event refusal q r.refused) [
+        | inl none ↦ record {
+          asked = r.taken;
+          are = record {
+            input = seen;
+            later = r.event ∷ later;
+            all = all ∙ ap (λ (es : List Event). es ++ later) r.all
+                ∙ append_assoc r.taken (r.event ∷ []) later;
+          };
+          entered = adds_on p r.before q r.taken [] number taken
+              (enters_adds r.before [] [] q refl none)
+              ∙ ap (λ (es : List Event). events_by p.known.number p ++ es) (append-nil r.taken);
+        }
+        | inr called ↦ record {
+          asked = r.taken ++ r.event ∷ [];
+          are = record {
+            input = seen;
+            later = later;
+            all = all ∙ ap (λ (es : List Event). es ++ later) r.all;
+          };
+          entered = adds_on p r.before q r.taken (r.event ∷ []) number taken
+              (enters_adds r.before (r.event ∷ []) (called.0 ∷ []) q refl called.1);
+        }
+      ]
+
+  effect_asks : (password seen : List ℕ) (before : Sides MeterPort)
+      (result : Result SessionEnd ServeFault) (after : Sides MeterPort)
+      → HasEffect steps (plan_of password) seen before result after
+      → AsksThrough password before.outlets.meter after.outlets.meter
+  effect_asks password seen before (Ok end) after effect =
+      by_replied password seen before.outlets.meter _ [] effect.0.replies after.outlets.meter
+      (sym (append-nil (Asks password seen))) effect.0.replied
+  effect_asks password seen before (Err fault.Read) after effect =
+      by_replied password seen before.outlets.meter _ [] effect.0.replies after.outlets.meter
+      (sym (append-nil (Asks password seen))) effect.0.replied
+  effect_asks password seen before (Err fault.Write) after effect =
+      by_replied password seen before.outlets.meter effect.asked effect.later effect.replies
+      after.outlets.meter effect.all_asked effect.replied
+  effect_asks password seen before (Err fault.Memory) after effect =
+      ⊎_elim (by_replied password seen before.outlets.meter effect.asked effect.later
+      effect.replies after.outlets.meter effect.all_asked)
+      (by_refused password seen before.outlets.meter effect.asked effect.later effect.replies _
+      after.outlets.meter effect.all_asked) effect.replied
+  effect_asks password seen before (Err fault.Exhausted) after effect =
+      by_refused password seen before.outlets.meter effect.asked effect.later effect.replies _
+      after.outlets.meter effect.all_asked effect.refused
+  effect_asks password seen before (Err fault.Listen) after effect = absurd effect
+  effect_asks password seen before (Err fault.Journal) after effect =
+      by_refused password seen before.outlets.meter effect.asked effect.later effect.replies _
+      after.outlets.meter effect.all_asked effect.refused
+
+  -- a port that served a session made the calls of the session
+  pub served_asks : (password : List ℕ) (before : Sides MeterPort)
+      (result : Result SessionEnd ServeFault) (after : Sides MeterPort)
+      → ServesSession steps password before result after
+      → AsksThrough password before.outlets.meter after.outlets.meter
+  served_asks password before result after served =
+      effect_asks password served.seen before result after served.effect
 
 abbrev Session : List ℕ → MeterPort → MeterPort → Type 0
 Session password p q = IsSame p q × AsksThrough password p q

@@ -1,3 +1,4 @@
+pub mod Journaled
 pub mod Ports
 pub mod ServingAll
 pub mod Sessions
