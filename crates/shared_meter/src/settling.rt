@@ -7,18 +7,29 @@ ghost use Rattle.shared_meter.specs.Settling.{Settles};
 
 use crate::kept::Kept;
 use crate::pending::{Finding, Question};
-use std::alloc::Global;
+use std::alloc::{AllocError, Global};
 use std::sync::Wait;
 use turn_lock::Port;
 
-/// Says how far a journal is on the disk.
-pub trait Durability {
+/// A handle of a journal, by which a thread waits for the disk.
+///
+/// Lines are counted from the start of the lock's history.
+pub trait Durability: Drop {
     /// Ghost predicate: the first lines of the journal, of this number, are on the disk.
     ghost is_durable: { ℕ → Type 0 };
 
     /// Waits until this number of lines is on the disk. Returns false if the journal has failed.
     fn wait<W: Wait>(&self, rt: &W, lines: u64) -> bool
         ensures { IsTrue result → is_durable lines };
+
+    /// Returns another handle of the same journal, for another thread. Returns `AllocError` if out
+    /// of memory; this handle is unchanged.
+    fn share(&self) -> Result<Self, AllocError>
+    where
+        Self: Sized;
+
+    /// Returns whether the journal has failed. Once it has, it stays so.
+    fn has_failed(&self) -> bool;
 }
 
 /// Waits until the lines of all calls that the port has seen are on the disk. Returns false if this
