@@ -43,6 +43,7 @@ pub record Parts (begun bytes : List ℕ) : Type 0 where
   pub split : begun ++ bytes ≡ text_of (lines_after begun bytes) ++ rest
 
 pub parts : (begun bytes : List ℕ) → Parts begun bytes
+unfolding text_of
 parts begun [] = record { rest = begun; split = append-nil begun }
 parts begun (byte ∷ bytes) = elim (first_byte byte) [
   | Zero is ↦ record {
@@ -80,6 +81,7 @@ line_first begun (byte ∷ line) rest plain =
 -- the text of plain lines is read as these lines, whatever bytes follow it
 pub lines_in-text_of : (lines : List (List ℕ)) (rest : List ℕ) → AllByRecursion IsPlain lines
     → lines_in (text_of lines ++ rest) ≡ lines ++ lines_in rest
+unfolding text_of
 lines_in-text_of [] rest plain = refl
 lines_in-text_of (line ∷ lines) rest plain =
     ap lines_in (append_assoc line (10 ∷ text_of lines) rest)
@@ -116,6 +118,7 @@ lines_in-same bytes =
 
 pub text_of-append : (lines more : List (List ℕ))
     → text_of (lines ++ more) ≡ text_of lines ++ text_of more
+unfolding text_of
 text_of-append [] more = refl
 text_of-append (line ∷ lines) more =
     ap (λ t. line ++ 10 ∷ t) (text_of-append lines more)

@@ -70,6 +70,7 @@ none_added old added = (0, omega arith, sym (append-nil old))
 -- lines, if there are any, are longer than what has begun
 none_or_longer : (begun bytes : List ℕ) → (lines_after begun bytes ≡ [])
     ⊎ (suc (length begun) ≤ length (text_of (lines_after begun bytes)))
+unfolding text_of
 none_or_longer begun [] = inl refl
 none_or_longer begun (byte ∷ bytes) = elim (first_byte byte) [
   | Zero is ↦ inl (lines_zero begun byte bytes is)
@@ -88,6 +89,7 @@ none_or_longer begun (byte ∷ bytes) = elim (first_byte byte) [
 lines_kept : (n : ℕ) (begun bytes : List ℕ)
     → length (text_of (lines_after begun bytes)) ≤ length begun + n
     → lines_after begun (take n bytes) ≡ lines_after begun bytes
+unfolding text_of
 lines_kept zero begun [] le = refl
 lines_kept (suc n) begun [] le = refl
 lines_kept zero begun (byte ∷ bytes) le = ⊎_elim (λ none. sym none)

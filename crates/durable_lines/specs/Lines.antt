@@ -1,13 +1,14 @@
 -- The lines that a file's bytes are, each ended by the byte 0A.
 --     lines_in        the whole lines before the first byte 0
---     text_of         the text of lines
+--     text_of         the text of lines, of text_lines
 --     IsText          bytes that are whole lines without a byte 0, and nothing else
---     IsPlain         a line that a text can hold
+--     IsPlain         a line that a text can hold, of text_lines
 --     IsBetween       some lines, followed by a front of others
 --     IsSettled       a file of whole lines, all of them on the disk
-use Rattle.std.specs.Prelude.{◌≡◌, ◌≢◌, ◌≤◌, ◌==◌, ℕ, List, [], ◌∷◌, ◌++◌, length, take}
+use Rattle.std.specs.Prelude.{◌≡◌, ◌≤◌, ◌==◌, ℕ, List, [], ◌∷◌, ◌++◌, length, take}
 use Rattle.std.specs.Prelude.{if◌then◌else◌}
-use Rattle.std.specs.List.{AllByRecursion}
+unfoldable pub use Rattle.text_lines.specs.Lines.{text_of}
+pub use Rattle.text_lines.specs.Lines.{IsPlain}
 use Rattle.durable_lines.specs.CrashModel.{Only}
 
 -- the whole lines of bytes that follow the beginning of a line, up to the first byte 0
@@ -22,18 +23,9 @@ lines_after begun (byte ∷ rest) =
 abbrev pub lines_in : List ℕ → List (List ℕ)
 lines_in bytes = lines_after [] bytes
 
--- the text of lines
-abbrev pub text_of : List (List ℕ) → List ℕ
-text_of [] = []
-text_of (line ∷ lines) = line ++ 10 ∷ text_of lines
-
 -- bytes that are whole lines without a byte 0, and nothing else
 abbrev pub IsText : List ℕ → Type 0
 IsText bytes = bytes ≡ text_of (lines_in bytes)
-
--- a line without the bytes 0 and 0A
-abbrev pub IsPlain : List ℕ → Type 0
-IsPlain line = AllByRecursion (λ byte. (byte ≢ 0) × (byte ≢ 10)) line
 
 -- the old lines, followed by a front of the added ones
 abbrev pub IsBetween : List (List ℕ) → List (List ℕ) → List (List ℕ) → Type 0

@@ -27,6 +27,7 @@ pub fn texts_are_appended()
 
 /// Examples of the lines of bytes: whole lines, an unfinished one, a byte 0 inside a line, and no
 /// line at all.
+#[tactic(auto, unfolding(text_lines::specs::Lines::text_of))]
 pub fn examples_of_lines()
     ensures whole { lines_in (codes "ab\n\nc\n") ≡ codes "ab" ∷ [] ∷ codes "c" ∷ [] }
     ensures unfinished { lines_in (codes "ab\ncd") ≡ codes "ab" ∷ [] }

@@ -10,6 +10,7 @@ pub fn is_text(bytes: &[u8]) -> bool
 }
 
 // Returns the length of the whole lines before the first byte 0.
+#[tactic(auto, unfolding(text_lines::specs::Lines::text_of))]
 pub(crate) fn whole_len(bytes: &[u8]) -> usize
     ensures len { result ≡ length (text_of (lines_in bytes.now)) }
     ensures within { result ≤ length bytes.now }

@@ -3,12 +3,14 @@ use Rattle.std.proofs.Common.{◌≡◌, ℕ, ◌+◌, ◌≤◌, Bool, true, fa
 use Rattle.std.proofs.Common.{drop, Option, Some, None, refl, sym, ap, ◌∙◌, subst, arith}
 use Rattle.std.proofs.lemmas.List.{length-append, drop-append-le, append_assoc, append-nil}
 use Rattle.std.proofs.Math.Seq.{drop-length}
-use Rattle.text_lines.specs.Lines.{text_of}
+use Rattle.std.specs.List.{AllByRecursion}
+use Rattle.text_lines.specs.Lines.{text_of, IsPlain}
 use Rattle.turn_lock.specs.declared.turned.Entry.{Entry}
 use Rattle.turn_lock.specs.History.{entry}
 use Rattle.relay_events.specs.declared.event.Event.{Event}
 use Rattle.relay_events.specs.declared.reply.Reply.{Reply}
-use Rattle.shared_meter.specs.Pending.{PendingView, IsPending, Pends, event_lines, lines_of_calls}
+use Rattle.shared_meter.specs.Pending.{PendingView, IsPending, IsTextOfLine, Pends}
+use Rattle.shared_meter.specs.Pending.{event_lines, lines_of_calls}
 
 -- the text of two lists of lines is that of both, one after the other
 pub text_append : (lines more : List (List ℕ)) → text_of (lines ++ more) ≡ text_of lines ++ text_of more
@@ -23,24 +25,31 @@ pub none_pending : (pending : PendingView) → pending.text ≡ [] → pending.t
     → pending.count ≡ 0 → IsPending pending []
 unfolding text_of
 none_pending pending text taken count = record {
+  plain = tt;
   count = count;
   taken = subst (λ n. n ≤ 0) (sym taken) (omega arith);
   text = text ∙ subst (λ n. [] ≡ text_of (drop n [])) (sym taken) refl;
 }
 
+plain_push : (lines : List (List ℕ)) (line : List ℕ) → AllByRecursion IsPlain lines → IsPlain line
+    → AllByRecursion IsPlain (lines ++ line ∷ [])
+plain_push [] line plain one = (one, tt)
+plain_push (first ∷ lines) line plain one = (plain.0, plain_push lines line plain.1 one)
+
 -- one more line is pending, unless it was lost
 pub noted : (old new : PendingView) (more line : List ℕ) (lines : List (List ℕ))
-    → more ≡ text_of (line ∷ []) → new.text ≡ old.text ++ more → new.taken ≡ old.taken
+    → IsTextOfLine line more → new.text ≡ old.text ++ more → new.taken ≡ old.taken
     → new.count ≡ old.count + 1 → new.is_lost ≡ old.is_lost
     → Pends old lines → Pends new (lines ++ line ∷ [])
 noted old new more line lines written text taken count same pends whole =
     let was : IsPending old lines = pends (sym same ∙ whole) in
     let within : new.taken ≤ length lines = subst (λ n. n ≤ length lines) (sym taken) was.taken in
     record {
+      plain = plain_push lines line was.plain written.1;
       count = count ∙ (ap (λ n. n + 1) was.count ∙ sym (length-append lines (line ∷ [])));
       taken = omega (arith, within, length-append lines (line ∷ []));
       text = text ∙ (ap (λ (t : List ℕ). t ++ more) was.text
-          ∙ (ap (λ (t : List ℕ). text_of (drop old.taken lines) ++ t) written
+          ∙ (ap (λ (t : List ℕ). text_of (drop old.taken lines) ++ t) written.0
           ∙ (sym (text_append (drop old.taken lines) (line ∷ []))
           ∙ (ap (λ n. text_of (drop n lines ++ line ∷ [])) (sym taken)
           ∙ ap text_of (sym (drop-append-le new.taken lines (line ∷ []) within))))));
@@ -53,6 +62,7 @@ unfolding text_of
 none_left old new lines text taken count was =
     let all : new.taken ≡ length lines = taken ∙ was.count in
     record {
+      plain = was.plain;
       count = count ∙ was.count;
       taken = subst (λ n. n ≤ length lines) (sym all) (omega arith);
       text = text ∙ sym (ap text_of (subst (λ n. drop n lines ≡ []) (sym all) (drop-length lines)));

@@ -1,15 +1,17 @@
 -- The lines of a journal: each event that may change the meter has one.
 --     event_lines, lines_of_calls   the lines of an event and of a history
+--     IsTextOfLine                  the text of one line
 --     PendingView, IsPending        the lines that were not taken yet
 --     Pends                         the same, unless a line was lost
 --     Finds                         what a question finds
 use Rattle.std.specs.Prelude.{◌≡◌, ◌⊎◌, ℕ, ◌≤◌, Bool, true, false, List, [], ◌∷◌, ◌++◌, length}
 use Rattle.std.specs.Prelude.{drop, Option, Some, None, if◌then◌else◌, ⊤}
+use Rattle.std.specs.List.{AllByRecursion}
 use Rattle.turn_lock.specs.declared.turned.Entry.{Entry}
 use Rattle.relay_events.specs.Kinds.{is_read}
 use Rattle.relay_events.specs.declared.event.Event.{Event}
 use Rattle.relay_events.specs.declared.reply.Reply.{Reply}
-use Rattle.text_lines.specs.Lines.{text_of}
+use Rattle.text_lines.specs.Lines.{text_of, IsPlain}
 use Rattle.text_lines.specs.Words.{line_of}
 use Rattle.trace_lines.specs.Writing.{event_row}
 use Rattle.shared_meter.specs.declared.pending.Finding.{Finding}
@@ -26,6 +28,10 @@ abbrev pub lines_of_calls : List (Entry Event Reply) → List (List ℕ)
 lines_of_calls [] = []
 lines_of_calls (call ∷ calls) = event_lines call.event ++ lines_of_calls calls
 
+-- the text of a line that has no byte 0 and no byte 0A
+abbrev pub IsTextOfLine : List ℕ → List ℕ → Type 0
+IsTextOfLine line text = (text ≡ text_of (line ∷ [])) × IsPlain line
+
 -- The lines that were not taken yet: their text, the number of lines that were taken before, the
 -- number of all lines, and whether a line was lost.
 pub record PendingView : Type 0 where
@@ -34,8 +40,9 @@ pub record PendingView : Type 0 where
   pub count : ℕ
   pub is_lost : Bool
 
--- The text is that of all lines after those that were taken.
+-- The text is that of all lines after those that were taken, and no line has a byte 0 or 0A.
 pub record IsPending (pending : PendingView) (lines : List (List ℕ)) : Type 0 where
+  pub plain : AllByRecursion IsPlain lines
   pub count : pending.count ≡ length lines
   pub taken : pending.taken ≤ length lines
   pub text : pending.text ≡ text_of (drop pending.taken lines)
@@ -49,8 +56,10 @@ abbrev pub PendsIn : Option PendingView → List (List ℕ) → Type 0
 PendsIn None lines = ⊤
 PendsIn (Some pending) lines = Pends pending lines
 
--- The text is that of all lines after the first `taken`, and `count` is the number of all.
+-- The text is that of all lines after the first `taken`, and `count` is the number of all. No line
+-- has a byte 0 or 0A.
 pub record IsRest (lines : List (List ℕ)) (taken : ℕ) (text : List ℕ) (count : ℕ) : Type 0 where
+  pub plain : AllByRecursion IsPlain lines
   pub within : taken ≤ length lines
   pub text_is : text ≡ text_of (drop taken lines)
   pub count_is : count ≡ length lines

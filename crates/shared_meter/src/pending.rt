@@ -1,10 +1,9 @@
 //! The lines of a journal that were not taken yet, and the questions by which they are counted and
 //! taken.
 ghost use Rattle.std.specs.Prelude.{◌≡◌, ℕ, List, [], ◌∷◌, ◌++◌, IfOk};
-ghost use Rattle.text_lines.specs.Lines.{text_of};
 ghost use Rattle.text_lines.specs.Words.{line_of};
 ghost use Rattle.trace_lines.specs.Writing.{event_row};
-ghost use Rattle.shared_meter.specs.Pending.{Answers, IsPending, Pends};
+ghost use Rattle.shared_meter.specs.Pending.{Answers, IsPending, IsTextOfLine, Pends};
 ghost use Rattle.shared_meter.specs.declared.pending.Question.TheVariants as question;
 
 use relay_events::Event;
@@ -67,7 +66,7 @@ impl Model for PendingLines {
 // Returns the text of an event's line, with the byte 0A that ends it.
 #[tactic(auto, unfolding(text_lines::specs::Lines::text_of))]
 pub(crate) fn line_text(alloc: Global, event: &Event) -> Result<Vec<u8>, AllocError>
-    ensures { IfOk result (λ text. text.items ≡ text_of (line_of (event_row event.now) ∷ [])) }
+    ensures { IfOk result (λ text. IsTextOfLine (line_of (event_row event.now)) text.items) }
 {
     let mut text = Vec::new(alloc);
     write_event(alloc, &mut text, event)?;
@@ -92,7 +91,7 @@ impl PendingLines {
 
     // Notes a line, or that it was lost: `text` is its text, if there was memory for it.
     pub(crate) fn note(&mut self, text: Result<Vec<u8>, AllocError>)
-        ensures { (line : List ℕ) → IfOk text (λ bytes. bytes.items ≡ text_of (line ∷ []))
+        ensures { (line : List ℕ) → IfOk text (λ bytes. IsTextOfLine line bytes.items)
             → (lines : List (List ℕ)) → Pends self.old lines
             → Pends self.new (lines ++ line ∷ []) }
     {
@@ -105,7 +104,7 @@ impl PendingLines {
     // Appends the text of a line. If there is no memory for it, or there are 2^64 - 1 lines already,
     // the line is lost.
     fn add(&mut self, text: &[u8])
-        ensures { (line : List ℕ) → text.now ≡ text_of (line ∷ []) → (lines : List (List ℕ))
+        ensures { (line : List ℕ) → IsTextOfLine line text.now → (lines : List (List ℕ))
             → Pends self.old lines → Pends self.new (lines ++ line ∷ []) }
     {
         let Some(count) = self.count.checked_add(1) else {

@@ -79,8 +79,8 @@ capital_digit c e =
 -- ---- written and read back
 
 -- all digits that are written are capitals
-encode_capitals : (bytes : List ℕ) → IsBytes bytes → list_all is_capital_digit (encode_upper bytes)
-    ≡ true
+pub encode_capitals : (bytes : List ℕ) → IsBytes bytes
+    → list_all is_capital_digit (encode_upper bytes) ≡ true
 unfolding encode_with
 encode_capitals [] h = refl
 encode_capitals (b ∷ bytes) h =

@@ -4,4 +4,5 @@ pub mod JoinedTexts
 pub mod Known
 pub mod LinesLemmas
 pub mod NumbersLemmas
+pub mod PlainLemmas
 pub mod WordsLemmas

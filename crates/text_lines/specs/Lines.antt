@@ -2,10 +2,11 @@
 --     lines_of      the lines of a text, without the bytes that end them
 --     unended_of    the text after the last byte 0A
 --     text_of       the text of lines
+--     IsPlain       a line that any text can hold
 --     rows_of       the words of each line of a text
 --     rows_text     the text of lines of words
-use Rattle.std.specs.Prelude.{ℕ, Bool, false, List, [], ◌∷◌, ◌++◌, map}
-use Rattle.std.specs.List.{list_all}
+use Rattle.std.specs.Prelude.{◌≢◌, ℕ, Bool, false, List, [], ◌∷◌, ◌++◌, map}
+use Rattle.std.specs.List.{list_all, AllByRecursion}
 use Rattle.text_lines.specs.Parts.{parts_at}
 use Rattle.text_lines.specs.Words.{words_of, line_of, is_word}
 
@@ -33,6 +34,10 @@ unended_of text = last_of (parts_at 10 text)
 unfoldable pub text_of : List (List ℕ) → List ℕ
 text_of [] = []
 text_of (line ∷ lines) = line ++ 10 ∷ text_of lines
+
+-- a line without the bytes 0 and 0A
+abbrev pub IsPlain : List ℕ → Type 0
+IsPlain line = AllByRecursion (λ byte. (byte ≢ 0) × (byte ≢ 10)) line
 
 -- the words of each line of a text
 unfoldable pub rows_of : List ℕ → List (List (List ℕ))

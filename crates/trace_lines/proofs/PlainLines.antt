@@ -1,106 +1,115 @@
--- The line of an event that a trace can hold has no byte 0.
-use Rattle.std.proofs.Common.{◌≡◌, ◌≤◌, ℕ, false, Option, Some, None, refl, arith}
-use Rattle.std.specs.Prelude.{IfSome}
-use Rattle.wire_bytes.specs.Format.{◌&◌}
-use Rattle.cosem_axdr.specs.declared.value.Data.{Data}
-use Rattle.cosem_names.specs.declared.level.Level.{Level}
-use Rattle.cosem_names.specs.declared.level.Level.TheVariants.{Public, Management}
+-- The line of an event has no byte 0 and no byte 0A.
+use Rattle.std.proofs.Common.{ℕ, List, [], ◌∷◌, length, Option, Some, None, OnOk, Result, Ok, Err}
+use Rattle.std.proofs.Common.{codes, decimal, refl}
+use Rattle.std.specs.List.{zip, AllByRecursion}
+use Rattle.wire_bytes.specs.Choice.{keyed_text}
+use Rattle.cosem_names.specs.declared.service.AttributeSelection.{AttributeSelection}
 use Rattle.relay_events.specs.declared.event.Event.{Event}
+use Rattle.relay_events.specs.declared.event.Event.TheVariants.{Get, GetList, Set, Execute, Button}
+use Rattle.relay_events.specs.declared.event.Event.TheVariants.{Samples, Moment}
+use Rattle.text_lines.specs.Lines.{IsPlain}
 use Rattle.text_lines.specs.Words.{line_of}
-use Rattle.trace_words.proofs.PlainWords.{ArePlainForms, IsPlain, both_plain, counted_plain}
-use Rattle.trace_words.proofs.PlainWords.{data_plain, data_word_plain, decimal_plain, flag_plain}
-use Rattle.trace_words.proofs.PlainWords.{hex_plain, iso_plain, keyed_plain, number_plain}
-use Rattle.trace_words.proofs.PlainWords.{plain_line, to_end_plain}
-use Rattle.trace_words.specs.WholeLines.{has_zero}
-use Rattle.trace_words.specs.Writing.{IsHeld}
+use Rattle.text_lines.proofs.PlainLemmas.{decimal_is_plain, hex_is_plain, line_is_plain, plain_word}
+use Rattle.trace_words.specs.Parts.{Each, before}
+use Rattle.trace_words.specs.Rows.{Row}
+use Rattle.trace_words.specs.Writing.{all_words, flag_number}
 use Rattle.trace_words.specs.declared.version.Version.TheVariants.{Two}
-use Rattle.trace_words.specs.Parts.{counted_items, data_part, flag_part, number_part}
-use Rattle.trace_lines.specs.Events.{event_forms, event_parts, later_forms, max_items}
-use Rattle.trace_lines.specs.Parts.{attribute_part, class_part, level_part, method_part, name_part}
-use Rattle.trace_lines.specs.Parts.{pair_part, parameter_part, sample_part, selection_part}
-use Rattle.trace_lines.specs.Reading.{level_number, parameter_word}
-use Rattle.trace_lines.specs.Traced.{IsTraced}
+use Rattle.trace_lines.specs.Events.{event_forms, later_forms, samples_parts}
+use Rattle.trace_lines.specs.Parts.{selection_part, sample_part, pair_part}
+use Rattle.trace_lines.specs.Reading.{level_number}
+use Rattle.trace_lines.specs.Traced.{IsNamed, HasPlainData}
 use Rattle.trace_lines.specs.Writing.{event_row}
 
-level_small : (level : Level) → level_number level ≤ 16
-level_small Management = omega arith
-level_small Public = omega arith
+-- a fact holds if a call returned `Ok`
+pub on_ok_any : {T E P : Type 0} (r : Result T E) → P → OnOk r P
+on_ok_any (Ok value) holds = holds
+on_ok_any (Err error) holds = tt
 
-level_plain : IsPlain level_part
-level_plain level fit = (decimal_plain (level_number level) (omega (arith, level_small level)), tt)
+-- each of the words is plain
+abbrev ArePlain : Row → Type 0
+ArePlain words = AllByRecursion IsPlain words
 
-name_plain : IsPlain name_part
-name_plain name fit = (hex_plain name.0 (omega (arith, fit.0)) fit.1, tt)
+items_plain : (items : List AttributeSelection) → Each selection_part.Fits items
+    → ArePlain (all_words (before selection_part) items)
+unfolding all_words
+items_plain [] named = tt
+items_plain (item ∷ items) named = (
+  decimal_is_plain item.attr.class.0,
+  (
+    hex_is_plain item.attr.name.0 named.0.0.1.0.1,
+    (
+      decimal_is_plain item.attr.number,
+      (decimal_is_plain (flag_number item.selected), items_plain items named.1),
+    ),
+  ),
+)
 
-class_plain : IsPlain class_part
-class_plain = iso_plain (λ n. record { 0 = n }) (λ class. class.0) (number_part 65535)
-    (number_plain 65535 (omega arith))
+values_plain : (values : List ℕ) → ArePlain (all_words (before sample_part) values)
+unfolding all_words
+values_plain [] = tt
+values_plain (value ∷ values) = (decimal_is_plain value, values_plain values)
 
--- class, name, number
-reference_plain : IsPlain (class_part & name_part & number_part 255)
-reference_plain = both_plain class_part (name_part & number_part 255) class_plain
-    (both_plain name_part (number_part 255) name_plain (number_plain 255 (omega arith)))
+pairs_plain : (pairs : List (ℕ × ℕ)) → ArePlain (all_words (before pair_part) pairs)
+unfolding all_words
+pairs_plain [] = tt
+pairs_plain (pair ∷ pairs) =
+    (decimal_is_plain pair.0, (decimal_is_plain pair.1, pairs_plain pairs))
 
-attribute_plain : IsPlain attribute_part
-attribute_plain = iso_plain (λ p. record { class = p.0; name = p.1.0; number = p.1.1 })
-    (λ a. (a.class, (a.name, a.number))) (class_part & name_part & number_part 255) reference_plain
+block_plain : (imports : List ℕ) (exports : Option (List ℕ))
+    → ArePlain (keyed_text (event_forms (later_forms Two)) (samples_parts imports exports))
+block_plain imports None = (plain_word (codes "samples") refl, values_plain imports)
+block_plain imports (Some exports) =
+    (plain_word (codes "pairs") refl, pairs_plain (zip imports exports))
 
-method_plain : IsPlain method_part
-method_plain = iso_plain (λ p. record { class = p.0; name = p.1.0; number = p.1.1 })
-    (λ m. (m.class, (m.name, m.number))) (class_part & name_part & number_part 255) reference_plain
-
-selection_plain : IsPlain selection_part
-selection_plain = iso_plain (λ p. record { attr = p.0; selected = p.1 })
-    (λ s. (s.attr, s.selected)) (attribute_part & flag_part)
-    (both_plain attribute_part flag_part attribute_plain flag_plain)
-
-parameter_word_plain : (parameter : Option Data) → IfSome parameter IsHeld
-    → has_zero (parameter_word parameter) ≡ false
-parameter_word_plain None held = refl
-parameter_word_plain (Some value) held = data_word_plain value held
-
-parameter_plain : IsPlain parameter_part
-parameter_plain parameter fit = (parameter_word_plain parameter fit, tt)
-
-sample_plain : IsPlain sample_part
-sample_plain = number_plain 4294967295 (omega arith)
-
-pair_plain : IsPlain pair_part
-pair_plain = both_plain sample_part sample_part sample_plain sample_plain
-
-forms_plain : ArePlainForms (event_forms (later_forms Two))
-forms_plain =
-    let get = both_plain level_part selection_part level_plain selection_plain in
-    let get_list = both_plain level_part (counted_items max_items selection_part) level_plain
-    (counted_plain max_items selection_part (omega arith) selection_plain) in
-    let set = both_plain level_part (selection_part & data_part) level_plain
-    (both_plain selection_part data_part selection_plain data_plain) in
-    let execute = both_plain level_part (method_part & parameter_part) level_plain
-    (both_plain method_part parameter_part method_plain parameter_plain) in
-    let samples = to_end_plain 256 sample_part sample_plain in
-    let pairs = to_end_plain 256 pair_part pair_plain in (
-      get,
-      refl,
+row_plain : (event : Event) → IsNamed event → HasPlainData event → ArePlain (event_row event)
+unfolding event_row
+row_plain (Get level attr selected) named held = (
+  plain_word (codes "get") refl,
+  (
+    decimal_is_plain (level_number level),
+    (
+      decimal_is_plain attr.class.0,
       (
-        get_list,
-        refl,
-        (
-          set,
-          refl,
-          (
-            execute,
-            refl,
-            (
-              λ nothing fit. tt,
-              refl,
-              (sample_plain, refl, (samples, refl, (pairs, refl, tt))),
-            ),
-          ),
-        ),
+        hex_is_plain attr.name.0 named.1.0.1,
+        (decimal_is_plain attr.number, (decimal_is_plain (flag_number selected), tt)),
       ),
-    )
+    ),
+  ),
+)
+row_plain (GetList level items) named held = (
+  plain_word (codes "getlist") refl,
+  (
+    decimal_is_plain (level_number level),
+    (decimal_is_plain (length items), items_plain items named),
+  ),
+)
+row_plain (Set level attr selected value) named held = (
+  plain_word (codes "set") refl,
+  (
+    decimal_is_plain (level_number level),
+    (
+      decimal_is_plain attr.class.0,
+      (
+        hex_is_plain attr.name.0 named.1.0.1,
+        (decimal_is_plain attr.number, (decimal_is_plain (flag_number selected), (held, tt))),
+      ),
+    ),
+  ),
+)
+row_plain (Execute level method parameter) named held = (
+  plain_word (codes "execute") refl,
+  (
+    decimal_is_plain (level_number level),
+    (
+      decimal_is_plain method.class.0,
+      (hex_is_plain method.name.0 named.1.0.1, (decimal_is_plain method.number, (held, tt))),
+    ),
+  ),
+)
+row_plain Button named held = (plain_word (codes "button") refl, tt)
+row_plain (Moment now) named held = (plain_word (codes "moment") refl, (decimal_is_plain now, tt))
+row_plain (Samples block) named held = block_plain block.import block.export
 
-pub event_plain : (event : Event) → IsTraced event → has_zero (line_of (event_row event)) ≡ false
-unfolding event_row IsTraced
-event_plain event traced = plain_line (event_row event)
-    (keyed_plain (event_forms (later_forms Two)) forms_plain (event_parts event) traced.1)
+pub event_line_plain : (event : Event) → IsNamed event → HasPlainData event
+    → IsPlain (line_of (event_row event))
+event_line_plain event named held = line_is_plain (event_row event) (row_plain event named held)

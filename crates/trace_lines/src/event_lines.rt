@@ -2,11 +2,14 @@
 ghost use Rattle.std.specs.Prelude.{◌≡◌, ◌++◌, OnOk, OnErr};
 ghost use Rattle.wire_bytes.specs.Format.{◌&◌};
 ghost use Rattle.relay_events.specs.declared.event.Event.TheVariants as event;
+ghost use Rattle.text_lines.specs.Lines.{IsPlain};
 ghost use Rattle.text_lines.specs.Words.{line_of};
 ghost use Rattle.trace_words.specs.Writing.{words_after_blanks, row_text};
 ghost use Rattle.trace_lines.specs.Parts.{level_part, selection_part};
+ghost use Rattle.trace_lines.specs.Traced.{HasPlainData};
 ghost use Rattle.trace_lines.specs.Writing.{event_row};
 
+use crate::limits::event_is_named;
 use crate::writing::{
     add_attribute, add_level, add_method, add_pairs, add_parameter, add_selections, add_values,
 };
@@ -56,7 +59,8 @@ fn add_asked(
 // Appends the line of an event.
 #[tactic(auto, unfolding(crate::specs::Writing::event_row))]
 fn add_event(alloc: Global, out: &mut Vec<u8>, event: &Event) -> Result<(), AllocError>
-    ensures { OnOk result (out.new.items ≡ out.old.items ++ row_text (event_row event.now)) }
+    ensures ok { OnOk result (out.new.items ≡ out.old.items ++ row_text (event_row event.now)) }
+    ensures plain { OnOk result (HasPlainData event.now) }
 {
     match event {
         Event::Get {
@@ -102,13 +106,16 @@ fn add_event(alloc: Global, out: &mut Vec<u8>, event: &Event) -> Result<(), Allo
     }
 }
 
-/// Appends the line of an event, without the byte 0A that ends it. On an error nothing is appended.
+/// Appends the line of an event, without the byte 0A that ends it: a line without the bytes 0 and
+/// 0A. On an error nothing is appended.
 #[tactic(auto, using(trace_words::proofs::Blanks::row_is_text))]
 pub fn write_event(alloc: Global, out: &mut Vec<u8>, event: &Event) -> Result<(), AllocError>
     ensures ok { OnOk result (out.new.items ≡ out.old.items ++ line_of (event_row event.now)) }
+    ensures plain { OnOk result (IsPlain (line_of (event_row event.now))) }
     ensures err { OnErr result (out.new.items ≡ out.old.items) }
 {
     let mut line = Vec::new(alloc);
     add_event(alloc, &mut line, event)?;
+    event_is_named(event);
     out.extend_from_slice(line.as_slice())
 }

@@ -60,7 +60,7 @@ pub fn written_event_count_is_read()
 {}
 
 /// Proves that the line of an event that is read back has no byte 0.
-#[tactic(auto, using(crate::proofs::PlainLines::event_plain))]
+#[tactic(auto, using(crate::proofs::NoZeros::event_plain))]
 pub fn written_event_has_no_zero()
     ensures { (event : Event) → IsTraced event → has_zero (line_of (event_row event)) ≡ false }
 {}

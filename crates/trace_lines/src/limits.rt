@@ -4,7 +4,7 @@ ghost use Rattle.std.specs.Prelude.{◌↔◌, IfSome, IsTrue, ◌≡◌, ◌≤
 ghost use Rattle.hex.specs.Hex.{IsBytes};
 ghost use Rattle.relay_events.specs.declared.event.Event.TheVariants as event;
 ghost use Rattle.trace_lines.specs.Parts.{attribute_part, method_part, selection_part, sample_part};
-ghost use Rattle.trace_lines.specs.Traced.{FitsLine, IsTraced};
+ghost use Rattle.trace_lines.specs.Traced.{FitsLine, IsNamed, IsTraced};
 ghost use Rattle.trace_words.specs.Parts.{Each};
 ghost use Rattle.trace_words.specs.Writing.{IsHeld};
 
@@ -56,6 +56,22 @@ pub fn event_is_traced(event: &Event)
         Event::Button => {}
         Event::Samples(block) => block_is_traced(block),
         Event::Moment(now) => look_at(*now),
+    }
+}
+
+// Makes known that the numbers and the bytes of an event's names are in the ranges of their types.
+pub(crate) fn event_is_named(event: &Event)
+    ensures { IsNamed event.now }
+{
+    match event {
+        Event::Get { attr, .. } => attribute_is_named(attr),
+        Event::GetList { items, .. } => {
+            let items = items.as_slice();
+            attributes_are_named(items);
+        }
+        Event::Set { attr, .. } => attribute_is_named(attr),
+        Event::Execute { method, .. } => method_is_named(method),
+        Event::Button | Event::Samples(_) | Event::Moment(_) => {}
     }
 }
 

@@ -1,8 +1,10 @@
 //! Appends the words of an event's line: ports, attributes, methods, parameters and samples.
 ghost use Rattle.std.specs.Prelude.{◌≡◌, ◌++◌, OnOk, length};
+ghost use Rattle.text_lines.specs.Lines.{IsPlain};
 ghost use Rattle.trace_words.specs.Parts.{before};
 ghost use Rattle.trace_words.specs.Writing.{words_after_blanks, all_words};
 ghost use Rattle.trace_lines.specs.Parts.{level_part, attribute_part, method_part, selection_part, parameter_part, sample_part, pairs_words};
+ghost use Rattle.trace_lines.specs.Reading.{parameter_word};
 
 use cosem_axdr::Data;
 use cosem_names::{AttrRef, AttributeSelection, Level, MethodRef};
@@ -86,8 +88,9 @@ pub(crate) fn add_parameter(
     out: &mut Vec<u8>,
     parameter: &Option<Data>,
 ) -> Result<(), AllocError>
-    ensures { OnOk result (out.new.items ≡ out.old.items
+    ensures ok { OnOk result (out.new.items ≡ out.old.items
         ++ words_after_blanks (parameter_part.text parameter.now)) }
+    ensures plain { OnOk result (IsPlain (parameter_word parameter.now)) }
 {
     match parameter {
         Some(value) => add_data(alloc, out, value),

@@ -11,7 +11,7 @@ use Rattle.relay_recorder.specs.declared.trace.Trace.{Trace}
 use Rattle.text_lines.proofs.LinesLemmas.{rows_again, rows_text-append, rows_text-nil, unended_again}
 use Rattle.text_lines.specs.Lines.{is_row, rows_of, rows_text, unended_of}
 use Rattle.trace_lines.proofs.CountLemmas.{open_count_again}
-use Rattle.trace_lines.proofs.PlainLines.{event_plain}
+use Rattle.trace_lines.proofs.NoZeros.{event_plain}
 use Rattle.trace_lines.specs.OpenCount.{open_row}
 use Rattle.trace_lines.specs.Writing.{event_row}
 use Rattle.trace_openings.specs.OpeningRows.{opening_rows}

@@ -1,6 +1,7 @@
 //! Appends a flag or a Data as a word, or a line of a label and a number.
 ghost use Rattle.std.specs.Prelude.{◌≡◌, ◌++◌, ◌∷◌, [], OnOk, decimal};
-ghost use Rattle.text_lines.specs.Lines.{rows_text};
+ghost use Rattle.hex.specs.Hex.{encode_upper};
+ghost use Rattle.text_lines.specs.Lines.{rows_text, IsPlain};
 ghost use Rattle.trace_words.specs.Labels.{number_row};
 ghost use Rattle.trace_words.specs.Writing.{words_after_blanks, data_word, flag_number};
 
@@ -18,13 +19,21 @@ pub fn add_flag(out: &mut Vec<u8>, flag: bool) -> Result<(), AllocError>
 
 /// Appends a Data as a word: its A-XDR encoding in hexadecimal.
 pub fn add_data(alloc: Global, out: &mut Vec<u8>, value: &Data) -> Result<(), AllocError>
-    ensures { OnOk result (out.new.items ≡ out.old.items
+    ensures ok { OnOk result (out.new.items ≡ out.old.items
         ++ words_after_blanks (data_word value.now ∷ [])) }
+    ensures plain { OnOk result (IsPlain (data_word value.now)) }
 {
     let mut text = Octets::new(alloc);
     write(alloc, value, &mut text)?;
+    digits_are_plain(text.as_slice());
     add_hex(alloc, out, text.as_slice())
 }
+
+// Makes known that the hexadecimal digits of bytes have neither a byte 0 nor a byte 0A.
+#[tactic(auto, using(text_lines::proofs::PlainLemmas::hex_is_plain))]
+fn digits_are_plain(_bytes: &[u8])
+    ensures { IsPlain (encode_upper _bytes.now) }
+{}
 
 /// Appends a line of a first word and a number, with the byte 0A that ends it. On an error a part
 /// of it may have been appended.

@@ -1,0 +1,3 @@
+pub mod KeepingLemmas
+pub mod ProgressLemmas
+pub mod SavingLemmas

@@ -1,0 +1,8 @@
+use Rattle.meter_journal.proofs.ProgressLemmas.{stored_none}
+use Rattle.meter_journal.proofs.progress.Progress.new.Goals as goal
+
+pub new-requires : goal.new-requires
+new-requires g c =
+    let D = g.F.DurableFile in
+    λ acts. stored_none D.seen D.may_leave D.stored c.args.file.now c.args.port.now
+    c.has_a_legal_history.ensures (c.requires acts)

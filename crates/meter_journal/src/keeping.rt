@@ -1,0 +1,60 @@
+//! The loop that saves a journal until it is stopped.
+ghost use Rattle.std.specs.Prelude.{OnOk};
+ghost use Rattle.durable_lines.specs.CrashModel.{LeavesOnly};
+ghost use Rattle.durable_lines.specs.Lines.{lines_in, IsSettled};
+ghost use Rattle.turn_lock.specs.Calls.{Watches};
+ghost use Rattle.turn_lock.specs.Shown.{IsSame};
+ghost use Rattle.shared_meter.specs.Calls.{IsLegal};
+ghost use Rattle.meter_journal.specs.Saving.{IsAllSaved, IsSavedFrom};
+
+use crate::fault::JournalFault;
+use crate::progress::Progress;
+use crate::saving::{Saved, save};
+use durable_lines::DurableFile;
+use shared_meter::Kept;
+use std::alloc::Global;
+use std::sync::Wait;
+use turn_lock::Port;
+
+// Saves lines again and again, and announces each number of lines on the disk, until the journal is
+// stopped and a last save has found no further line. The history has no line when it begins.
+//
+// Errors: those of a save, after which some of the lines may be lost.
+pub(crate) fn keep_lines<F: DurableFile, W: Wait>(
+    rt: &W,
+    alloc: Global,
+    port: &mut Port<Kept>,
+    file: &mut F,
+    progress: &Progress<F>,
+    room: Vec<u8>,
+) -> Result<(), JournalFault>
+    requires settled { F.acts_as_file → IsSettled F.seen F.may_leave F.stored file.old }
+    ensures same { IsSame port.old port.new }
+    ensures watches { Watches IsLegal port.old.known port.new.known }
+    ensures settled { OnOk result (F.acts_as_file
+        → IsSettled F.seen F.may_leave F.stored file.new) }
+    ensures all { OnOk result (F.acts_as_file
+        → IsAllSaved (lines_in (F.seen file.old)) port.new.known.seen (F.seen file.new)) }
+    ensures any_moment { F.acts_as_file → LeavesOnly F.moment F.left_since file.old file.new
+        (IsSavedFrom 0 (lines_in (F.seen file.old)) port.new.known.seen) }
+{
+    port.has_a_legal_history();
+    let mut saved = Saved { count: 0, room };
+    'saving: for _ in rt.forever() {
+        let seen = progress.requests();
+        let is_last = progress.is_stopped();
+        let Saved {
+            count: before,
+            room,
+        } = saved;
+        saved = save(rt, alloc, port, file, before, room)?;
+        if saved.count != before {
+            progress.announce(saved.count);
+        } else if is_last {
+            return Ok(());
+        } else {
+            progress.sleep(rt, seen);
+        }
+    }
+    unreachable!()
+}

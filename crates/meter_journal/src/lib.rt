@@ -1,0 +1,18 @@
+//! The journal of a meter: a worker writes the lines of its events to a durable file, and sessions
+//! wait until their lines are on the disk.
+//!
+//! [`save`] appends the lines that were not taken yet. [`JournalWorker`] repeats it in a thread of
+//! its own, and [`Progress`] says how many lines are on the disk. Lines that wait at the same time
+//! are saved together, so that one sync serves all of them.
+#![tactic(auto)]
+
+mod fault;
+mod keeping;
+mod progress;
+mod saving;
+mod worker;
+
+pub use fault::JournalFault;
+pub use progress::Progress;
+pub use saving::{Saved, save};
+pub use worker::{FailureAction, JournalWorker};

@@ -1,0 +1,175 @@
+//! `Progress`: how many lines of a journal are on the disk, for the sessions that wait for theirs.
+ghost use Rattle.std.specs.Prelude.{IsTrue};
+ghost use Rattle.durable_lines.specs.Lines.{IsSettled};
+ghost use Rattle.meter_journal.specs.Saving.{IsStored};
+
+use durable_lines::DurableFile;
+use shared_meter::{Durability, Kept};
+use std::alloc::{AllocError, Global};
+use std::marker::PhantomData;
+use std::sync::atomic::{AtomicBool, AtomicIn, Ordering, Rule};
+use std::sync::{Arc, Condvar, Wait};
+use std::time::Duration;
+use turn_lock::Port;
+
+/// The time after which the worker looks for lines that no session waits for, in milliseconds.
+const PERIOD: u64 = 50;
+
+/// The time after which a session looks again at the number of lines, in milliseconds. It is woken
+/// when the number changes.
+const PATIENCE: u64 = 1_000;
+
+// The rule of the number of lines on the disk: a sync of a file of this type returned while the
+// file had as many lines of a history. No value of it is made.
+struct StoredLines<F>(PhantomData<F>);
+
+impl<F: DurableFile> Rule for StoredLines<F> {
+    ghost invariant = { λ n. F.acts_as_file → IsStored F.stored n };
+}
+
+// What the handles of a journal share. Of the two conditions one is changed for sessions that wait
+// for lines, the other for the worker.
+#[derive(Drop)]
+struct Board<F: DurableFile> {
+    lines: AtomicIn<StoredLines<F>>,
+    has_ended: AtomicBool,
+    has_failed: AtomicBool,
+    is_stopped: AtomicBool,
+    saved: Condvar,
+    wanted: Condvar,
+}
+
+impl<F: DurableFile> Board<F> {
+    // Returns whether this number of lines is on the disk.
+    fn has(&self, lines: u64) -> bool
+        ensures { IsTrue result → F.acts_as_file → IsStored F.stored lines }
+    {
+        self.lines.load(Ordering::SeqCst) >= lines
+    }
+
+    // Waits until this number of lines is on the disk, or the journal has ended.
+    fn wait<W: Wait>(&self, rt: &W, lines: u64) -> bool
+        ensures { IsTrue result → F.acts_as_file → IsStored F.stored lines }
+    {
+        for _ in rt.forever() {
+            let seen = self.saved.notifications();
+            let has_ended = self.has_ended.load(Ordering::SeqCst);
+            if self.has(lines) {
+                return true;
+            }
+            if has_ended {
+                return false;
+            }
+            self.wanted.notify_all();
+            self.saved
+                .sleep(rt, seen, Duration::from_millis(PATIENCE));
+        }
+        unreachable!()
+    }
+}
+
+/// A handle of a journal: how many of its lines are on the disk, and whether it has ended. The
+/// worker has one, each session has one, and the program has one to stop the worker.
+///
+/// Lines are counted from the start of the history of the meter's lock; those that the file had
+/// before are not counted.
+#[derive(Drop)]
+pub struct Progress<F: DurableFile> {
+    board: Arc<Board<F>, Global>,
+}
+
+impl<F: DurableFile> Progress<F> {
+    /// Returns the handle of a journal without lines, which will be written to this file through a
+    /// port of this lock. Errors: `AllocError`.
+    pub fn new(alloc: Global, port: &Port<Kept>, file: &F) -> Result<Progress<F>, AllocError>
+        requires { F.acts_as_file → IsSettled F.seen F.may_leave F.stored file.now }
+    {
+        port.has_a_legal_history();
+        let _file = file;
+        let board = Board {
+            lines: AtomicIn::new(0),
+            has_ended: AtomicBool::new(false),
+            has_failed: AtomicBool::new(false),
+            is_stopped: AtomicBool::new(false),
+            saved: Condvar::new(),
+            wanted: Condvar::new(),
+        };
+        Ok(Progress {
+            board: Arc::new(alloc, board)?,
+        })
+    }
+
+    /// Returns the number of lines that are on the disk.
+    pub fn lines(&self) -> u64
+        ensures { F.acts_as_file → IsStored F.stored result }
+    {
+        self.board.lines.load(Ordering::SeqCst)
+    }
+
+    /// Records that this number of lines is on the disk, and wakes the sessions that wait. Only the
+    /// worker calls it.
+    pub fn announce(&self, lines: u64)
+        requires { F.acts_as_file → IsStored F.stored lines }
+    {
+        self.board.lines.store(lines, Ordering::SeqCst);
+        self.board.saved.notify_all();
+    }
+
+    /// Records that no further lines will be on the disk: from now on every wait for more lines
+    /// returns false at once. Only the worker calls it.
+    pub fn end(&self) {
+        self.board.has_ended.store(true, Ordering::SeqCst);
+        self.board.saved.notify_all();
+    }
+
+    /// Records that the journal has failed, and ends it as [`end`](Progress::end) does. Only the
+    /// worker calls it.
+    pub fn fail(&self) {
+        self.board.has_failed.store(true, Ordering::SeqCst);
+        self.end();
+    }
+
+    /// Asks the worker to save the lines that have been noted, and then to end.
+    pub fn stop(&self) {
+        self.board.is_stopped.store(true, Ordering::SeqCst);
+        self.board.wanted.notify_all();
+    }
+
+    // Returns whether the worker was asked to end.
+    pub(crate) fn is_stopped(&self) -> bool {
+        self.board.is_stopped.load(Ordering::SeqCst)
+    }
+
+    // Returns the number of requests for a save so far, which wraps.
+    pub(crate) fn requests(&self) -> u64 {
+        self.board.wanted.notifications()
+    }
+
+    // Sleeps for a period, unless there were more requests than `seen`.
+    pub(crate) fn sleep<W: Wait>(&self, rt: &W, seen: u64) {
+        self.board
+            .wanted
+            .sleep(rt, seen, Duration::from_millis(PERIOD));
+    }
+}
+
+impl<F: DurableFile> Durability for Progress<F> {
+    ghost is_durable = { λ lines. F.acts_as_file → IsStored F.stored lines };
+
+    fn wait<W: Wait>(&self, rt: &W, lines: u64) -> bool {
+        if self.board.has(lines) {
+            return true;
+        }
+        self.board.wait(rt, lines)
+    }
+
+    fn share(&self) -> Result<Progress<F>, AllocError> {
+        Ok(Progress {
+            board: Arc::try_clone(&self.board)?,
+        })
+    }
+
+    fn has_failed(&self) -> bool {
+        self.board.has_failed.load(Ordering::SeqCst)
+    }
+}

@@ -1,0 +1,90 @@
+//! `save`: appends the lines that were not taken yet to the file of a journal.
+ghost use Rattle.std.specs.Prelude.{◌≡◌, ◌≤◌, ℕ, List, IfOk, OnOk, IsErrOf, length};
+ghost use Rattle.durable_lines.specs.CrashModel.{LeavesOnly};
+ghost use Rattle.durable_lines.specs.Lines.{IsSettled};
+ghost use Rattle.turn_lock.specs.Calls.{Watches};
+ghost use Rattle.turn_lock.specs.Shown.{IsSame};
+ghost use Rattle.shared_meter.specs.Calls.{IsLegal};
+ghost use Rattle.shared_meter.specs.Pending.{lines_of_calls, IsRest};
+ghost use Rattle.meter_journal.specs.Saving.{IsSaved, IsSavedFrom};
+
+use crate::fault::JournalFault;
+use durable_lines::{DurableFile, FileFault, append_lines};
+use shared_meter::{Finding, Kept, Question};
+use std::alloc::Global;
+use std::sync::Wait;
+use turn_lock::Port;
+
+/// The result of a save.
+#[derive(Debug, Drop)]
+pub struct Saved {
+    /// The number of lines of the history so far, all of which are on the disk.
+    pub count: u64,
+    /// Memory for the text of the next save.
+    pub room: Vec<u8>,
+}
+
+// Takes the text of the lines after the first `taken`, and the number of all lines.
+fn take_lines<W: Wait>(
+    rt: &W,
+    alloc: Global,
+    port: &mut Port<Kept>,
+    taken: u64,
+    room: Vec<u8>,
+) -> Result<(Vec<u8>, u64), JournalFault>
+    ensures same { IsSame port.old port.new }
+    ensures watches { Watches IsLegal port.old.known port.new.known }
+    ensures lines { IfOk result
+        (λ found. IsRest (lines_of_calls port.new.known.seen) taken found.0.items found.1) }
+    ensures turns { IsErrOf result JournalFault.Turns → port.old.bound ≤ port.new.known.drawn }
+    ensures not_file { ¬ IsErrOf result (JournalFault.File FileFault.Failed) }
+{
+    match port.inspect(rt, alloc, Question::Take { taken, room }) {
+        Some(Finding::Taken { text, count }) => Ok((text, count)),
+        Some(_) => Err(JournalFault::Lines),
+        None => Err(JournalFault::Turns),
+    }
+}
+
+/// Appends the lines of the port's history after the first `taken`, which were taken before, to the
+/// file, and waits until they are on the disk. The lines that are noted meanwhile are written into
+/// `room`, so that its memory is used again. If there are no further lines, nothing is synced.
+///
+/// After `Ok` the file has all lines of the history that the port has seen, each once, in order,
+/// and every crash leaves them. A crash during the call leaves a front of them, with at least the
+/// first `taken`. Errors: `Lines` if a line was lost, another number of lines was taken before, or
+/// the meter has no journal; `Turns` if all turns of the lock were drawn; `File` if the file failed
+/// or would exceed its limit. After an error some of the lines may be lost, so the journal can't be
+/// continued.
+pub fn save<F: DurableFile, W: Wait>(
+    rt: &W,
+    alloc: Global,
+    port: &mut Port<Kept>,
+    file: &mut F,
+    taken: u64,
+    room: Vec<u8>,
+) -> Result<Saved, JournalFault>
+    requires settled { F.acts_as_file → IsSettled F.seen F.may_leave F.stored file.old }
+    ensures same { IsSame port.old port.new }
+    ensures watches { Watches IsLegal port.old.known port.new.known }
+    ensures count { IfOk result
+        (λ saved. saved.count ≡ length (lines_of_calls port.new.known.seen)) }
+    ensures settled { OnOk result (F.acts_as_file
+        → IsSettled F.seen F.may_leave F.stored file.new) }
+    ensures saved { IfOk result (λ saved. F.acts_as_file → (first : List (List ℕ))
+        → IsSaved first taken port.old.known.seen (F.seen file.old)
+        → IsSaved first saved.count port.new.known.seen (F.seen file.new)) }
+    // A crash at any moment of the call leaves a front of the lines.
+    ensures any_moment { F.acts_as_file → (first : List (List ℕ))
+        → IsSaved first taken port.old.known.seen (F.seen file.old)
+        → LeavesOnly F.moment F.left_since file.old file.new
+        (IsSavedFrom taken first port.new.known.seen) }
+    ensures turns { IsErrOf result JournalFault.Turns → port.old.bound ≤ port.new.known.drawn }
+    ensures failed { IsErrOf result (JournalFault.File FileFault.Failed) → F.has_failed file.new }
+{
+    let (text, count) = take_lines(rt, alloc, port, taken, room)?;
+    match append_lines(file, text.as_slice()) {
+        Ok(()) => Ok(Saved { count, room: text }),
+        Err(fault) => Err(JournalFault::File(fault)),
+    }
+}

@@ -1,0 +1,103 @@
+//! The worker that writes a journal, in a thread of its own.
+ghost use Rattle.durable_lines.specs.Lines.{IsSettled};
+
+use crate::fault::JournalFault;
+use crate::keeping::keep_lines;
+use crate::progress::Progress;
+use durable_lines::DurableFile;
+use port_threads::Worker;
+use shared_meter::{Durability, Kept};
+use std::alloc::{AllocError, Global};
+use std::marker::Model;
+use std::sync::Wait;
+use turn_lock::{CallFault, Port};
+
+/// What is done when a journal fails, such as to stop the server.
+pub trait FailureAction: Drop + Send {
+    /// Is called once, by the worker's thread, after the waits of the sessions have ended.
+    fn act(self, fault: JournalFault)
+    where
+        Self: Sized;
+}
+
+// A file of whole lines, all of them on the disk. Contracts see the file.
+#[derive(Drop)]
+struct SettledFile<F: DurableFile> {
+    file: F,
+}
+
+impl<F: DurableFile> Model for SettledFile<F> {
+    ghost Value = { F };
+
+    ghost view = { λ s. s.file };
+
+    ghost invariant = { λ s. F.acts_as_file → IsSettled F.seen F.may_leave F.stored s.file };
+}
+
+/// The worker of a journal: it saves the lines of the meter's events to its file, and announces
+/// them, until the journal is stopped or fails.
+#[derive(Drop)]
+pub struct JournalWorker<F: DurableFile, A: FailureAction> {
+    settled: SettledFile<F>,
+    progress: Progress<F>,
+    on_failure: A,
+    room: Vec<u8>,
+}
+
+impl<F: DurableFile, A: FailureAction> JournalWorker<F, A> {
+    /// Makes the worker of a journal that was recovered or begun, so that its file has whole lines
+    /// and all of them are on the disk. Errors: `AllocError`.
+    pub fn new(
+        alloc: Global,
+        file: F,
+        progress: &Progress<F>,
+        on_failure: A,
+        room: usize,
+    ) -> Result<JournalWorker<F, A>, AllocError>
+        requires { F.acts_as_file → IsSettled F.seen F.may_leave F.stored file }
+    {
+        let mut text = Vec::new(alloc);
+        text.reserve(room)?;
+        Ok(JournalWorker {
+            settled: SettledFile { file },
+            progress: progress.share()?,
+            on_failure,
+            room: text,
+        })
+    }
+}
+
+impl<F: DurableFile + Send, A: FailureAction> Worker<Port<Kept>> for JournalWorker<F, A> {
+    ghost use Rattle.meter_journal.specs.Saving.{Keeps};
+
+    ghost did = { λ worker p q end. Keeps F.acts_as_file F.seen F.may_leave F.moment F.left_since
+        worker.settled p q end };
+
+    /// Saves lines until the journal is stopped. The only error is `Journal`.
+    fn work<W: Wait>(
+        self,
+        rt: &W,
+        alloc: Global,
+        port: Port<Kept>,
+    ) -> (Port<Kept>, Result<(), CallFault>) {
+        let JournalWorker {
+            settled,
+            progress,
+            on_failure,
+            room,
+        } = self;
+        let SettledFile { mut file } = settled;
+        let mut port = port;
+        match keep_lines(rt, alloc, &mut port, &mut file, &progress, room) {
+            Ok(()) => {
+                progress.end();
+                (port, Ok(()))
+            }
+            Err(fault) => {
+                progress.fail();
+                on_failure.act(fault);
+                (port, Err(CallFault::Journal))
+            }
+        }
+    }
+}
