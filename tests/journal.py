@@ -176,7 +176,7 @@ class Console(threading.Thread):
         if kind == "button":
             return kind
         if kind == "moment":
-            self.now += self.choose.choice((1, 1, 60, -2))
+            self.now = max(0, self.now + self.choose.choice((1, 1, 60, -2)))
             return f"moment {self.now}"
         numbers = range(self.choose.randrange(0, 4) * (2 if kind == "pairs" else 1))
         return " ".join([kind, *(str(self.choose.randrange(100_000)) for _ in numbers)])
@@ -328,7 +328,7 @@ def killed_servers_lose_no_answer(name):
         for number in range(1, runs + 1):
             try:
                 run_and_kill(journal, number, totals)
-            except (AssertionError, *GONE, subprocess.TimeoutExpired) as error:
+            except (AssertionError, LookupError, ValueError, *GONE, subprocess.TimeoutExpired) as error:
                 check(f"{name}: run {number} of seed {seed}", False, f"{type(error).__name__} {error}")
                 return
         end_in_order(name, journal)
@@ -477,8 +477,10 @@ def one_server_has_a_journal(name):
         check(f"{name}: once it was killed, another", end_of_a_run(journal))
         held = os.path.join(folder, "none", "journal")
         check(f"{name}: a folder that is not there", is_fault(start_on(held), 3, "write") and not os.path.exists(os.path.dirname(held)))
-        made = start_on(folder)
-        check(f"{name}: a folder", (is_fault(made, 3, "write") or is_fault(made, 3, "read")) and "journal" in os.listdir(folder), made)
+        inner = os.path.join(folder, "inner")
+        os.mkdir(inner)
+        made = start_on(inner)
+        check(f"{name}: a folder", (is_fault(made, 3, "write") or is_fault(made, 3, "read")) and os.listdir(inner) == [], made)
 
 
 def end_of_a_run(journal):
@@ -489,17 +491,20 @@ def end_of_a_run(journal):
 
 
 def a_journal_begins_from_a_trace(name):
-    """With --resume a new journal begins from the trace; a journal that is there has precedence."""
+    """With --resume a new journal begins from the trace. A journal that is there has precedence: the
+    trace is read, and none of its lines reaches the console."""
     with tempfile.TemporaryDirectory(prefix="journal-") as folder:
         server = Server("--stop-with-input")
         client = server.client()
         client.set(MODE, "1604")
         client.execute(DISCONNECT)
         client.close()
+        server.say("samples 10 70", "moment 300")
         trace = server.ended()[1].encode()
+        check(f"{name}: a trace", b"\nsamples 10 70\n" in trace and b"\nmoment 300\n" in trace, trace)
         journal = Journal(f"{folder}/journal")
         server, client = restart(journal, "--resume", console=trace)
-        check(f"{name}: the state", (journal.model.state, journal.model.mode) == (0, 4) and client.get(STATE) == "value 1600")
+        check(f"{name}: the state", (journal.model.state, journal.model.mode, journal.model.value, journal.model.now) == (0, 4, 70, 300) and client.get(STATE) == "value 1600")
         check(f"{name}: reconnect", client.execute(RECONNECT) == "code 0")
         client.close()
         server.say("moment 400")
@@ -508,7 +513,7 @@ def a_journal_begins_from_a_trace(name):
         server, client = restart(journal, "--resume", console=trace)
         check(f"{name}: the journal has precedence", client.get(STATE) == "value 1601")
         client.close()
-        check(f"{name}: its end", server.ended()[0] == 0)
+        check(f"{name}: its end", server.ended()[0] == 0 and journal.follow() == [])
 
 
 def a_journal_changes_no_answer(name):

@@ -95,6 +95,7 @@ class SwitchModel:
             imported = words[1:] if words[0] == "samples" else words[1::2]
             self.value = int(imported[-1]) if imported else self.value
             return "sampled"
+        assert words[0] in ("set", "execute"), f"no event of a journal: {line}"
         return f"code {self.called(words)}"
 
     def read(self, event):
