@@ -575,7 +575,7 @@ def a_full_disk_ends_the_server(name):
         try:
             disk.fill("filler", 0)
             made = start_on(disk.path / "journal")
-            check(f"{name}: no room for a journal", is_fault(made, 3, "write") and not (disk.path / "journal").exists(), made)
+            check(f"{name}: a new journal", is_fault(made, 3, "write") and not (disk.path / "journal").exists(), made)
             disk.fill("filler", 16_384)
             a_journal_fills_its_disk(name, disk)
         finally:
