@@ -89,11 +89,15 @@ class Journal:
         return all(client.get(place) == self.model.read(f"get {client.line(place)} 0") for place in SHOWN)
 
 
-def lines_played(path):
-    """What trace_player prints of a file, without the counts of firings."""
+def lines_played(path, skip=0):
+    """The lines that trace_player prints of a file after the first ones, without the counts of
+    firings."""
     made = subprocess.run([str(PLAYER), str(path)], capture_output=True, timeout=PATIENCE)
     assert (made.returncode, made.stderr) == (0, b""), (made.returncode, made.stderr)
-    return re.sub(r"sampled[ \d]*;", "sampled;", made.stdout.decode()).splitlines()
+    count = made.stdout.count(b"\n")
+    assert count >= skip, f"{count} lines were played, {skip} before"
+    lines = (b"\n" + made.stdout).rsplit(b"\n", count - skip + 1)[1:-1]
+    return [re.sub(r"sampled[ \d]*;", "sampled;", line.decode()) for line in lines]
 
 
 def model_lines(text):
@@ -292,7 +296,7 @@ def run_and_kill(journal, number, totals):
             thread.start()
         assert answered.wait(PATIENCE), "no answer"
         if choose.random() < 0.2:
-            meanwhile = lines_played(journal.path)
+            meanwhile = lines_played(journal.path, journal.count)
         time.sleep(choose.uniform(0.002, 0.060))
         assert server.process.poll() is None, f"the server ended: {server.errors}"
     finally:
@@ -312,10 +316,10 @@ def compare(journal, talkers, console, meanwhile, totals):
     explanation = Explanation(journal, talkers, console)
     expected = [explanation.take(line) for line in lines]
     unanswered = explanation.end()
-    printed = lines_played(journal.path)
-    assert len(printed) == journal.count and printed[before:] == expected, f"played: {printed[before:]}, not {expected}"
+    printed = lines_played(journal.path, before)
+    assert printed == expected, f"played: {printed}, not {expected}"
     if meanwhile is not None:
-        assert meanwhile[before:] == expected[:len(meanwhile) - before], f"played while it ran: {meanwhile[before:]}, not {expected}"
+        assert meanwhile == expected[:len(meanwhile)], f"played while it ran: {meanwhile}, not {expected}"
     seen = [event for talker in talkers for event, _ in talker.client.seen]
     totals.update({"answers": len(seen), "answered events": sum(not event.startswith("get ") for event in seen),
                    "events without an answer": unanswered, "lines of the console": sum(explanation.heard.values())})
