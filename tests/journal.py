@@ -16,6 +16,7 @@ import collections
 import os
 import pathlib
 import random
+import re
 import subprocess
 import sys
 import tempfile
@@ -247,13 +248,14 @@ def a_wrong_journal_is_refused(name, folder):
         held = b"\n".join((*lines[:at], line, *lines[at + 1:])) + HALF
         journal.path.write_bytes(held)
         made = start_on(journal.path)
-        place = f"{journal.path}: line {at + 1}: "
-        check(f"{name}: {what}", is_fault(made, 2, "input") and place in made[2], made)
+        has_place = re.search(rf"^{re.escape(str(journal.path))}: line {at + 1}\b", made[2])
+        check(f"{name}: {what}", is_fault(made, 2, "input") and has_place, made)
         check(f"{name}: {what}, unchanged", journal.path.read_bytes() == held)
-    journal.path.write_bytes(b"")
-    made = start_on(journal.path)
-    check(f"{name}: an empty file",
-          is_fault(made, 2, "input") and journal.path.read_bytes() == b"", made)
+    for what, held in (("an empty file", b""), ("a trace of counted events", trace_of_a_run())):
+        journal.path.write_bytes(held)
+        made = start_on(journal.path)
+        check(f"{name}: {what}",
+              is_fault(made, 2, "input") and journal.path.read_bytes() == held, made)
 
 
 @in_folder
