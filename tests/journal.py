@@ -414,13 +414,21 @@ def a_full_disk_ends_the_server(name, folder):
         disk.stop()
 
 
+def later_client(server):
+    """A client of a server that may not serve it any more: it waits for a second at most."""
+    client = Client(server.port)
+    client.socket.settimeout(1)
+    client.associate()
+    return client
+
+
 def a_journal_fills_its_disk(name, journal):
     server, client = restart(journal)
     sent, told = 0, JOURNAL_FAILED.format(journal.path).encode()
     while sent < 2_000 and answer_of(client.set, MODE, f"160{1 + sent % 6}") == "code 0":
         sent += 1
     check(f"{name}: reported at once", server.wait_for(told), server.errors)
-    later = answer_of(server.client)
+    later = answer_of(later_client, server)
     replies = [answer_of(one.set, MODE, "1601") for one in (client, client, later) if one]
     check(f"{name}: no success afterwards", "code 0" not in replies, replies)
     for one in (client, later):
