@@ -266,6 +266,23 @@ def a_meter_is_reached_by_its_name(name):
     meter.stop()
 
 
+def a_file_has_the_password(name):
+    """A campaign whose password is in a file: the meter is a server with that password, and neither
+    the command line nor the environment of the campaign has it."""
+    with tempfile.TemporaryDirectory(prefix="passwords-") as folder:
+        path = pathlib.Path(folder) / "password"
+        path.touch(0o600)
+        path.write_text("of the file\n")
+        server = Server("--connections", "1", "--password-file", str(path), password=None)
+        campaign = subprocess.Popen([str(HEAD_END), "run", "--password-file", str(path)], stdin=subprocess.PIPE, stdout=subprocess.PIPE, text=True,
+                                    env={**os.environ, "METER_PASSWORD": "of the environment"})
+        seen = b"".join(pathlib.Path(f"/proc/{campaign.pid}/{it}").read_bytes() for it in ("cmdline", "environ"))
+        check(f"{name}: not shown", b"--password-file" in seen and b"of the environment" in seen and b"of the file" not in seen, seen)
+        report, _ = campaign.communicate(f"m1 127.0.0.1:{server.port} state\n", timeout=LONGEST)
+        check(f"{name}: report", (campaign.returncode, report) == (0, "m1 done 1\n"), campaign.returncode, report)
+        check(f"{name}: end", server.ended()[0] == 0)
+
+
 def text_of_terminal(terminal):
     """All that was written to a terminal that nobody has open any more: a read gives some of it,
     one at the end fails."""
@@ -778,7 +795,7 @@ def main():
             return 1
     _, most = resource.getrlimit(resource.RLIMIT_NOFILE)
     resource.setrlimit(resource.RLIMIT_NOFILE, (most, most))
-    for function in (campaigns_among_running_meters, a_meter_is_reached_by_its_name, progress_is_reported):
+    for function in (campaigns_among_running_meters, a_meter_is_reached_by_its_name, a_file_has_the_password, progress_is_reported):
         test(function)
 
     def campaigns_of_many_jobs(name):

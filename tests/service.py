@@ -281,11 +281,12 @@ def service_of_runit(folder, port):
     """A copy of the service's folder that runs the script of this repository as this user."""
     service = folder / "meter_server"
     shutil.copytree(RUNIT, service)
-    (service / "env").mkdir()
-    (service / "env" / "METER_PASSWORD").write_text(f"{PASSWORD}\n")
+    (folder / "password").touch(0o600)
+    (folder / "password").write_text(f"{PASSWORD}\n")
     text = (service / "run").read_text()
     for old, new in (("-u meter_server ", ""), ("/usr/local/bin/", f"{TOP}/bin/"),
                      ("/var/lib/meter_server", f"{folder}/state"),
+                     ("/etc/meter_server/password", f"{folder}/password"),
                      ("0.0.0.0:4059", f"127.0.0.1:{port}")):
         assert text.count(old) == 1, old
         text = text.replace(old, new)
