@@ -1,15 +1,25 @@
 -- A port that waits for its journal: how it takes an event, and what is on the disk once it has
 -- returned replies.
-use Rattle.std.proofs.Common.{◌⊎◌, ℕ, zero, suc, List, [], ◌∷◌, ◌++◌, take, Result, Ok, Err, sym}
-use Rattle.std.proofs.Common.{subst, ◌∙◌, inl, inr, arith}
+use Rattle.std.proofs.Common.{◌≡◌, ◌⊎◌, ℕ, zero, suc, ◌<◌, ◌≤◌, List, [], ◌∷◌, ◌++◌, length, take}
+use Rattle.std.proofs.Common.{Option, Some, None, Result, Ok, Err, refl, sym, ap, subst, ◌∙◌}
+use Rattle.std.proofs.Common.{inl, inr, arith}
 use Rattle.std.proofs.lemmas.List.{append-nil, append_assoc}
-use Rattle.meter_server.specs.Journaled.{AreWritten, HasCalled, IsHeldBack, JournalSteps}
-use Rattle.meter_server.specs.Ports.{Enters, MeterPort}
-use Rattle.meter_server.proofs.PortLemmas.{ArePortSteps, enters_more, is_same, refusal_enters}
-use Rattle.meter_server.proofs.PortLemmas.{replied_on, same_on, step_same}
+use Rattle.std.specs.Prelude.{IfSome}
+use Rattle.meter_server.specs.Journaled.{AreWritten, HasCalled, IsHeldBack, IsOnDisk, JournalSteps}
+use Rattle.meter_server.specs.JournaledSessions.{AnswersCalls, AreAnswered, AreJournaled, HandsBack}
+use Rattle.meter_server.specs.JournaledSessions.{HasJournal, client_terms}
+use Rattle.meter_server.specs.Ports.{Enters, MeterPort, entries}
+use Rattle.meter_server.proofs.PortLemmas.{ArePortSteps, effect_by, entered, enters_more, is_same}
+use Rattle.meter_server.proofs.PortLemmas.{refusal_enters, replied_on, same_on, step_same}
+use Rattle.port_threads.specs.Ports.{AreCallsOf, AreServed, child}
 use Rattle.relay_events.specs.declared.event.Event.{Event}
 use Rattle.relay_events.specs.declared.reply.Reply.{Reply}
-use Rattle.session_io.specs.Meters.{RepliesTo}
+use Rattle.session_core.specs.declared.end.SessionEnd.{SessionEnd}
+use Rattle.session_io.specs.Meters.{RepliesTo, RefusesLast}
+use Rattle.session_io.specs.Serving.{ServesSession, plan_of}
+use Rattle.session_io.specs.Sides.{Sides}
+use Rattle.session_io.specs.declared.fault.ServeFault.{ServeFault}
+use Rattle.shared_meter.specs.Calls.{Calls}
 use Rattle.turn_lock.proofs.Lists.{starts_refl, starts_trans}
 use Rattle.turn_lock.specs.History.{StartsWith, calls_by, entry}
 use Rattle.turn_lock.specs.Shown.{IsSame}
@@ -51,6 +61,14 @@ held_seen : (p : MeterPort) (event : Event) (q : MeterPort) → IsHeldBack p eve
     → StartsWith q.known.seen p.known.seen
 held_seen p event q held =
     subst (λ x. StartsWith x.known.seen p.known.seen) (sym held.1) (starts_refl p.known.seen)
+
+-- there are replies if there are calls
+some_replies : (by : List ℕ) (events : List Event) (replies : List Reply)
+    → 0 < length (entries by events replies) → 0 < length replies
+some_replies by [] [] low = low
+some_replies by (event ∷ events) [] low = low
+some_replies by [] (reply ∷ replies) low = omega arith
+some_replies by (event ∷ events) (reply ∷ replies) low = omega arith
 
 module _ (IsDurable : ℕ → Type 0) where
   journal_same : (p : MeterPort) (event : Event) (result : Result Reply CallFault) (q : MeterPort)
@@ -125,3 +143,110 @@ module _ (IsDurable : ℕ → Type 0) where
             (called_enters p event reply next step.0) later.entered;
         on_disk = later.on_disk;
       }
+
+  -- after the last of some replies, all lines that the port has seen are on the disk
+  last_on_disk : (p : MeterPort) (events : List Event) (replies : List Reply) (q : MeterPort)
+      → RepliesTo (JournalSteps IsDurable) p events replies q → 0 < length replies
+      → IsOnDisk IsDurable q.known.seen
+  last_on_disk p [] [] q same low = absurd (omega (arith, low))
+  last_on_disk p [] (reply ∷ replies) q never low = absurd never
+  last_on_disk p (event ∷ events) [] q never low = absurd never
+  last_on_disk p (event ∷ []) (reply ∷ []) q (next, step, same) low =
+      subst (λ (x : MeterPort). IsOnDisk IsDurable x.known.seen) (sym same) step.1
+  last_on_disk p (event ∷ []) (reply ∷ later ∷ replies) q (next, step, never) low = absurd never
+  last_on_disk p (event ∷ other ∷ events) (reply ∷ []) q (next, step, never) low = absurd never
+  last_on_disk p (event ∷ other ∷ events) (reply ∷ later ∷ replies) q (next, step, rest) low =
+      last_on_disk next (other ∷ events) (later ∷ replies) q rest (omega arith)
+
+  -- some replies were returned, and then at most one call was made that was not answered
+  answered_by : (p : MeterPort) (taken : List Event) (replies : List Reply) (mid : MeterPort)
+      (last : Calls) (q : MeterPort)
+      → RepliesTo (JournalSteps IsDurable) p taken replies mid
+      → StartsWith q.known.seen mid.known.seen → length last ≤ 1
+      → calls_by mid.known.number q.known.seen ≡ calls_by mid.known.number mid.known.seen ++ last
+      → AnswersCalls IsDurable p q
+  answered_by p taken replies mid last q replied begins most adds =
+      let by : List ℕ = p.known.number in
+      let A : List ℕ → Type 0 = λ n. calls_by n q.known.seen ≡ calls_by n mid.known.seen ++ last in
+      let same = replied_on (JournalSteps IsDurable) IsSame is_same same_on journal_same p taken
+      replies mid replied in
+      let enters = entered (JournalSteps IsDurable) journal_steps p taken replies mid replied in (
+        record {
+          answered = entries by taken replies;
+          unanswered = last;
+          all = subst A same.number adds ∙ ap (λ (calls : Calls). calls ++ last) enters;
+          most = most;
+          history = mid.known.seen;
+          entered = enters;
+          on_disk = λ low. last_on_disk p taken replies mid replied (some_replies by taken replies
+              low);
+        },
+        begins,
+      )
+
+  replied_answered : (p : MeterPort) (events : List Event) (replies : List Reply) (q : MeterPort)
+      → RepliesTo (JournalSteps IsDurable) p events replies q → AnswersCalls IsDurable p q
+  replied_answered p events replies q replied =
+      answered_by p events replies q [] q replied (starts_refl q.known.seen) (omega arith)
+      (sym (append-nil (calls_by q.known.number q.known.seen)))
+
+  refused_answered : (p : MeterPort) (events : List Event) (replies : List Reply)
+      (fault : CallFault) (q : MeterPort)
+      → RefusesLast (JournalSteps IsDurable) p events replies fault q → AnswersCalls IsDurable p q
+  refused_answered p events replies fault q r =
+      let begins = journal_seen r.before r.event (Err fault) q r.refused in
+      elim (journal_refused r.before r.event fault q r.refused) [
+        | inl none ↦ answered_by p r.taken replies r.before [] q r.replied begins (omega arith) none
+        | inr called ↦ answered_by p r.taken replies r.before
+            (entry r.before.known.number r.event called.0 ∷ []) q r.replied begins (omega arith)
+            called.1
+      ]
+
+  -- a session that waits for the journal has answered its calls once they were on the disk
+  pub served_answered : (password : List ℕ) (before : Sides MeterPort)
+      (result : Result SessionEnd ServeFault) (after : Sides MeterPort)
+      → ServesSession (JournalSteps IsDurable) password before result after
+      → AnswersCalls IsDurable before.outlets.meter after.outlets.meter
+  served_answered password before result after served =
+      effect_by (JournalSteps IsDurable) (AnswersCalls IsDurable) replied_answered
+      refused_answered (plan_of password) served.seen before result after served.effect
+
+  -- the calls of a new port that served a session with a journal, or was returned unused
+  calls_answered : (terms number : List ℕ) (calls : Calls) → HasJournal terms
+      → AreCallsOf (HandsBack IsDurable terms) number calls
+      → AreAnswered IsDurable number [] calls
+  calls_answered terms number calls has c = elim c.returned [
+    | inl unused ↦ record {
+      answered = [];
+      unanswered = [];
+      all = c.calls_are ∙ ap (λ (x : MeterPort). calls_by number x.known.seen) unused ∙ c.fresh;
+      most = omega arith;
+      history = [];
+      entered = refl;
+      on_disk = λ low. absurd (omega (arith, low));
+    }
+    | inr session ↦
+        let N : List ℕ → Type 0 = λ n. AreAnswered IsDurable n (calls_by n c.lent.known.seen)
+        (calls_by n c.back.known.seen) in
+        let E : Calls → Type 0 = λ earlier. AreAnswered IsDurable number earlier
+        (calls_by number c.back.known.seen) in
+        let C : Calls → Type 0 = λ all. AreAnswered IsDurable number [] all in
+        subst C (sym c.calls_are) (subst E c.fresh (subst N c.named (session.2 has).0))
+  ]
+
+  pub are_journaled : (terms : List ℕ) (from : ℕ) (port : MeterPort)
+      → AreServed (HandsBack IsDurable terms) from port → HasJournal terms
+      → AreJournaled IsDurable from port
+  are_journaled terms from port served has i low high =
+      calls_answered terms (child port.known.number i) _ has (served i low high)
+
+-- a fact that holds if the terms have a journal, and one that holds if there is a journal
+pub by_terms : {D : Type 0} (journal : Option D) (password : List ℕ) (A : Type 0)
+    → IfSome journal (λ _. A) → HasJournal (client_terms journal password) → A
+by_terms None password A so has = absurd (cc has)
+by_terms (Some given) password A so has = so
+
+pub if_journal : {D : Type 0} (journal : Option D) (password : List ℕ) (A : Type 0)
+    → (HasJournal (client_terms journal password) → A) → IfSome journal (λ _. A)
+if_journal None password A so = tt
+if_journal (Some given) password A so = so refl

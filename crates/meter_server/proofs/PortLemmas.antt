@@ -59,6 +59,32 @@ pub port_fits : (k : Known Event Reply Opening) (event : Event) (result : Result
 port_fits k event (Ok reply) l called = called_fits k event reply l called
 port_fits k event (Err fault) l called = tt
 
+-- a relation that holds after replies and after a refusal holds between the first and the last
+-- meter of a session
+module _ {M : Type 0} (steps : M → Event → Result Reply CallFault → M → Type 0) (P : M → M → Type 0)
+    (replied : (m : M) (events : List Event) (replies : List Reply) (n : M)
+    → RepliesTo steps m events replies n → P m n)
+    (refused : (m : M) (events : List Event) (replies : List Reply) (fault : CallFault) (n : M)
+    → RefusesLast steps m events replies fault n → P m n) where
+  pub effect_by : (plan : Plan) (seen : List ℕ) (before : Sides M)
+      (result : Result SessionEnd ServeFault) (after : Sides M)
+      → HasEffect steps plan seen before result after → P before.outlets.meter after.outlets.meter
+  effect_by plan seen before (Ok end) after effect =
+      replied before.outlets.meter _ effect.0.replies after.outlets.meter effect.0.replied
+  effect_by plan seen before (Err fault.Read) after effect =
+      replied before.outlets.meter _ effect.0.replies after.outlets.meter effect.0.replied
+  effect_by plan seen before (Err fault.Write) after effect =
+      replied before.outlets.meter effect.asked effect.replies after.outlets.meter effect.replied
+  effect_by plan seen before (Err fault.Memory) after effect =
+      ⊎_elim (replied before.outlets.meter effect.asked effect.replies after.outlets.meter)
+      (refused before.outlets.meter effect.asked effect.replies _ after.outlets.meter)
+      effect.replied
+  effect_by plan seen before (Err fault.Exhausted) after effect = refused before.outlets.meter
+      effect.asked effect.replies _ after.outlets.meter effect.refused
+  effect_by plan seen before (Err fault.Listen) after effect = absurd effect
+  effect_by plan seen before (Err fault.Journal) after effect = refused before.outlets.meter
+      effect.asked effect.replies _ after.outlets.meter effect.refused
+
 -- a relation that is reflexive, holds for each step and is transitive holds between the first and
 -- the last meter of a session
 module _ {M : Type 0} (steps : M → Event → Result Reply CallFault → M → Type 0) (P : M → M → Type 0)
@@ -82,21 +108,7 @@ module _ {M : Type 0} (steps : M → Event → Result Reply CallFault → M → 
   effect_on : (plan : Plan) (seen : List ℕ) (before : Sides M)
       (result : Result SessionEnd ServeFault) (after : Sides M)
       → HasEffect steps plan seen before result after → P before.outlets.meter after.outlets.meter
-  effect_on plan seen before (Ok end) after effect =
-      replied_on before.outlets.meter _ effect.0.replies after.outlets.meter effect.0.replied
-  effect_on plan seen before (Err fault.Read) after effect =
-      replied_on before.outlets.meter _ effect.0.replies after.outlets.meter effect.0.replied
-  effect_on plan seen before (Err fault.Write) after effect =
-      replied_on before.outlets.meter effect.asked effect.replies after.outlets.meter effect.replied
-  effect_on plan seen before (Err fault.Memory) after effect =
-      ⊎_elim (replied_on before.outlets.meter effect.asked effect.replies after.outlets.meter)
-      (refused_on before.outlets.meter effect.asked effect.replies _ after.outlets.meter)
-      effect.replied
-  effect_on plan seen before (Err fault.Exhausted) after effect = refused_on before.outlets.meter
-      effect.asked effect.replies _ after.outlets.meter effect.refused
-  effect_on plan seen before (Err fault.Listen) after effect = absurd effect
-  effect_on plan seen before (Err fault.Journal) after effect = refused_on before.outlets.meter
-      effect.asked effect.replies _ after.outlets.meter effect.refused
+  effect_on = effect_by steps P replied_on refused_on
 
 pub is_same : (p : MeterPort) → IsSame p p
 is_same p = record {

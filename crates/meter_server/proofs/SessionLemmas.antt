@@ -16,6 +16,9 @@ use Rattle.turn_lock.specs.declared.turned.Entry.{Entry}
 use Rattle.turn_lock.specs.History.{calls_by}
 use Rattle.turn_lock.specs.Shown.{IsSame}
 use Rattle.port_threads.specs.Ports.{PortContinues, AreJoined, AreServed, AreCallsOf, child}
+use Rattle.std.proofs.Common.{drop, Option, Some, None}
+use Rattle.std.specs.Prelude.{IfSome}
+use Rattle.meter_server.specs.JournaledSessions.{AreAnswered, AreJournaled, HandsBack}
 use Rattle.meter_server.specs.Ports.{MeterPort, Enters, entries}
 use Rattle.meter_server.specs.ServingAll.{events_by}
 use Rattle.meter_server.specs.Sessions.{AreAsked, AsksThrough, AreSessions}
@@ -143,20 +146,22 @@ module _ (steps : MeterPort → Event → Result Reply CallFault → MeterPort �
   served_asks password before result after served =
       effect_asks password served.seen before result after served.effect
 
-abbrev Session : List ℕ → MeterPort → MeterPort → Type 0
-Session password p q = IsSame p q × AsksThrough password p q
-
 -- the calls of a new port that served a session, or was returned unused
-calls_asked : (password number : List ℕ) (calls : List (Entry Event Reply))
-    → AreCallsOf (Session password) number calls → AreAsked password (map event_of calls)
-calls_asked password number calls c =
-    let A : List Event → Type 0 = λ es. AreAsked password es in
+calls_asked : (IsDurable : ℕ → Type 0) (terms number : List ℕ) (calls : List (Entry Event Reply))
+    → AreCallsOf (HandsBack IsDurable terms) number calls
+    → AreAsked (drop 1 terms) (map event_of calls)
+calls_asked IsDurable terms number calls c =
+    let A : List Event → Type 0 = λ es. AreAsked (drop 1 terms) es in
     let none : map event_of (calls_by number c.lent.known.seen) ≡ [] = ap (map event_of) c.fresh in
     elim c.returned [
       | inl unused ↦
           let empty : map event_of calls ≡ [] = ap (map event_of) c.calls_are
           ∙ ap (λ (x : MeterPort). events_by number x) unused ∙ none in
-          subst A (sym empty) record { input = []; later = Asks password []; all = refl }
+          subst A (sym empty) record {
+            input = [];
+            later = Asks (drop 1 terms) [];
+            all = refl;
+          }
       | inr session ↦
           let N : List ℕ → Type 0 = λ n. events_by n c.back ≡ events_by n c.lent
           ++ session.1.asked in
@@ -167,26 +172,61 @@ calls_asked password number calls c =
           subst A (sym those) session.1.are
     ]
 
-pub are_sessions : (password : List ℕ) (from : ℕ) (port : MeterPort)
-    → AreServed (Session password) from port → AreSessions password from port
-are_sessions password from port served i low high =
-    calls_asked password (child port.known.number i) _ (served i low high)
+pub are_sessions : (IsDurable : ℕ → Type 0) (terms : List ℕ) (from : ℕ) (port : MeterPort)
+    → AreServed (HandsBack IsDurable terms) from port → AreSessions (drop 1 terms) from port
+are_sessions IsDurable terms from port served i low high =
+    calls_asked IsDurable terms (child port.known.number i) _ (served i low high)
 
--- no port was split off
+-- a property of the calls of each port that was split off
+module _ (P : List ℕ → List (Entry Event Reply) → Type 0) where
+  abbrev Each : ℕ → MeterPort → Type 0
+  Each from port = (i : ℕ) → from ≤ i → i < port.known.splits
+      → P (child port.known.number i) (calls_by (child port.known.number i) port.known.seen)
+
+  -- no port was split off
+  none_each : (from : ℕ) (port : MeterPort) → port.known.splits ≤ from → Each from port
+  none_each from port few i low high = absurd (omega (arith, few, low, high))
+
+  -- facts about joined ports are preserved
+  each_on : (first from before : ℕ) (p q : MeterPort) → from ≡ before → first ≤ from
+      → PortContinues p q → q.known.splits ≡ p.known.splits → AreJoined first p → Each from p
+      → Each before q
+  each_on first from before p q same early goes splits joined each i low high =
+      let within : i < p.known.splits = omega (arith, high, splits) in
+      let late : from ≤ i = omega (arith, low, same) in
+      let number = child p.known.number i in
+      let C : List (Entry Event Reply) → Type 0 = λ calls. P number calls in
+      let N : List ℕ → Type 0 = λ n. P (child n i) (calls_by (child n i) q.known.seen) in
+      let kept : calls_by number q.known.seen ≡ calls_by number p.known.seen =
+      goes.own number (inr (joined i (omega (arith, early, late)) within)) in
+      subst N (sym goes.number) (subst C (sym kept) (each i late within))
+
+abbrev Asked : List ℕ → List ℕ → List (Entry Event Reply) → Type 0
+Asked password number calls = AreAsked password (map event_of calls)
+
 pub no_sessions : (password : List ℕ) (from : ℕ) (port : MeterPort) → port.known.splits ≤ from
     → AreSessions password from port
-no_sessions password from port few i low high = absurd (omega (arith, few, low, high))
+no_sessions password = none_each (Asked password)
 
--- facts about joined ports are preserved
 pub sessions_on : (password : List ℕ) (first from before : ℕ) (p q : MeterPort) → from ≡ before
     → first ≤ from → PortContinues p q → q.known.splits ≡ p.known.splits
     → AreJoined first p → AreSessions password from p → AreSessions password before q
-sessions_on password first from before p q same early goes splits joined sessions i low high =
-    let within : i < p.known.splits = omega (arith, high, splits) in
-    let late : from ≤ i = omega (arith, low, same) in
-    let number = child p.known.number i in
-    let A : List Event → Type 0 = λ es. AreAsked password es in
-    let N : List ℕ → Type 0 = λ n. AreAsked password (events_by (child n i) q) in
-    let kept : events_by number q ≡ events_by number p =
-    ap (map event_of) (goes.own number (inr (joined i (omega (arith, early, late)) within))) in
-    subst N (sym goes.number) (subst A (sym kept) (sessions i late within))
+sessions_on password = each_on (Asked password)
+
+abbrev Answered : (ℕ → Type 0) → List ℕ → List (Entry Event Reply) → Type 0
+Answered IsDurable number calls = AreAnswered IsDurable number [] calls
+
+pub no_journaled : {D : Type 0} (journal : Option D) (IsDurable : ℕ → Type 0) (from : ℕ)
+    (port : MeterPort) → port.known.splits ≤ from
+    → IfSome journal (λ _. AreJournaled IsDurable from port)
+no_journaled None IsDurable from port few = tt
+no_journaled (Some given) IsDurable from port few = none_each (Answered IsDurable) from port few
+
+pub journaled_on : {D : Type 0} (journal : Option D) (IsDurable : ℕ → Type 0)
+    (first from before : ℕ) (p q : MeterPort) → from ≡ before
+    → first ≤ from → PortContinues p q → q.known.splits ≡ p.known.splits
+    → AreJoined first p → IfSome journal (λ _. AreJournaled IsDurable from p)
+    → IfSome journal (λ _. AreJournaled IsDurable before q)
+journaled_on None IsDurable first from before p q same early goes splits joined so = tt
+journaled_on (Some given) IsDurable first from before p q same early goes splits joined so =
+    each_on (Answered IsDurable) first from before p q same early goes splits joined so

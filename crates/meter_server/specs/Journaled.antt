@@ -3,10 +3,9 @@
 --     HasCalled       the port passed an event on and made no further call
 --     IsHeldBack      the event was not passed on
 --     JournalSteps    a step of the port: passing an event on, and waiting
---     client_steps    a step of a client's port, if the meter has a journal, or has none
 --     AreWritten      what is on the disk once replies were returned
-use Rattle.std.specs.Prelude.{◌≡◌, ◌⊎◌, ℕ, false, ◌<◌, ◌≤◌, List, ◌++◌, length, take, Option, Some}
-use Rattle.std.specs.Prelude.{None, Result, Ok, Err}
+use Rattle.std.specs.Prelude.{◌≡◌, ◌⊎◌, ℕ, false, ◌<◌, ◌≤◌, List, ◌++◌, length, take, Result, Ok}
+use Rattle.std.specs.Prelude.{Err}
 use Rattle.meter_server.specs.Ports.{MeterPort, PortSteps, entries}
 use Rattle.relay_events.specs.Kinds.{is_read}
 use Rattle.relay_events.specs.declared.event.Event.{Event}
@@ -45,12 +44,6 @@ JournalSteps IsDurable p event (Err Memory) q = PortSteps p event (Err Memory) q
 JournalSteps IsDurable p event (Err Exhausted) q = PortSteps p event (Err Exhausted) q
 JournalSteps IsDurable p event (Err Journal) q = IsHeldBack p event q
     ⊎ ((reply : Reply) × HasCalled p event reply q)
-
--- a step of a client's port: it waits if the meter has a journal
-abbrev pub client_steps : {D : Type 0} → (IsDurable : ℕ → Type 0) → Option D → MeterPort → Event
-    → Result Reply CallFault → MeterPort → Type 0
-client_steps IsDurable None = PortSteps
-client_steps IsDurable (Some journal) = JournalSteps IsDurable
 
 -- The history that port q knows begins with one that has the calls of these events, with these
 -- replies, as the new calls of port p; the lines of that one are on the disk.

@@ -2,7 +2,8 @@
 ghost use Rattle.std.specs.Prelude.{◌≡◌, List, IfOk};
 ghost use Rattle.acse_ber.specs.Password.{IsPassword};
 ghost use Rattle.session_io.specs.Meters.{RepliesTo};
-ghost use Rattle.meter_server.specs.Journaled.{JournalSteps, AreWritten};
+ghost use Rattle.meter_server.specs.Journaled.{AreWritten, JournalSteps};
+ghost use Rattle.meter_server.specs.JournaledSessions.{AnswersCalls};
 ghost use Rattle.meter_server.specs.Ports.{MeterPort};
 ghost use Rattle.meter_server.specs.Sessions.{AsksThrough};
 ghost use Rattle.session_io.specs.Serving.{ServesSession};
@@ -123,6 +124,9 @@ pub fn answers_are_durable<D: Durability>()
 /// each answer: an answer is written only after the lines of all calls that the port has seen are
 /// on the disk. Returns the port in every case.
 ///
+/// Of the port's calls in the session, all but at most the last one were answered, and the history
+/// that it then knows begins with one that has the answered calls and is on the disk.
+///
 /// Returns the errors of [`serve_session`], of which `Journal` is returned if the journal has
 /// failed: then no answer to the last event is written. It was passed on if it is a read or the
 /// journal failed later, and otherwise it was not.
@@ -150,6 +154,7 @@ pub fn serve_journaled<R: Reader, O: Writer, W: Wait, D: Durability>(
         }) }
     ensures same { IsSame port result.0 }
     ensures asks { AsksThrough password.now port result.0 }
+    ensures answers { AnswersCalls D.is_durable port result.0 }
 {
     let mut meter = JournaledPort::new(rt, journal, port);
     let result = serve_session(alloc, reader, writer, &mut meter, password);

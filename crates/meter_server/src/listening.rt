@@ -2,7 +2,7 @@
 ghost use Rattle.std.specs.Prelude.{◌≡◌, ◌≢◌, ⊤, ℕ, Option, None, Some, is_some};
 ghost use Rattle.std.specs.Prelude.{IfSome, IfNone, IfOk, OnOk, OnErr};
 ghost use Rattle.acse_ber.specs.Password.{IsPassword};
-ghost use Rattle.meter_server.specs.Journaled.{client_steps};
+ghost use Rattle.meter_server.specs.JournaledSessions.{AnswersCalls, client_steps, client_terms};
 ghost use Rattle.meter_server.specs.Sessions.{AsksThrough};
 ghost use Rattle.port_threads.specs.Listening.{IfReady, RisesBy};
 ghost use Rattle.session_io.specs.Serving.{ServesSession};
@@ -82,6 +82,7 @@ fn serve_client<R: Reader, O: Writer, W: Wait, D: Durability>(
         }) }
     ensures same { IsSame port result.0 }
     ensures asks { AsksThrough password.now port result.0 }
+    ensures answers { IfSome journal.now (λ _. AnswersCalls D.is_durable port result.0) }
 {
     match journal {
         Some(journal) => serve_journaled(rt, alloc, reader, writer, port, password, journal),
@@ -102,12 +103,11 @@ pub(crate) struct AcceptedClient<I, O, D> {
 impl<I: Read + Drop + Send, O: Write + Observer + Drop + Send, D: Durability + Send> PortConnection<
     Port<Kept>,
 > for AcceptedClient<I, O, D> {
-    ghost use Rattle.turn_lock.specs.Shown.{IsSame};
-    ghost use Rattle.meter_server.specs.Sessions.{AsksThrough};
+    ghost use Rattle.meter_server.specs.JournaledSessions.{HandsBack, client_terms};
 
-    ghost terms = { λ client. client.password };
+    ghost terms = { λ client. client_terms client.journal client.password };
 
-    ghost hands_back = { λ password p q. IsSame p q × AsksThrough password p q };
+    ghost hands_back = { HandsBack D.is_durable };
 
     fn serve<W: Wait>(self, rt: &W, alloc: Global, port: Port<Kept>) -> Port<Kept> {
         let AcceptedClient {
@@ -155,8 +155,8 @@ fn prepare_client<I: Drop, O: Drop, D: Durability>(
     journal: &Option<D>,
 ) -> Arrival<AcceptedClient<I, O, D>>
     requires { IsPassword password.now }
-    ensures password { IfReady (λ client. client.password ≡ password.now) result }
-    ensures journal { IfReady (λ client. is_some client.journal ≡ is_some journal.now) result }
+    ensures terms { IfReady (λ client. client_terms client.journal client.password
+        ≡ client_terms journal.now password.now) result }
     ensures some { IfSome streams (λ _. result ≢ Arrival.SetupFailed) }
     ensures none { IfNone streams (result ≡ Arrival.SetupFailed) }
 {
@@ -193,7 +193,7 @@ impl<'a, 'b, L: Listener, D: Durability + Send + 'static> port_threads::Connecti
 
     ghost has_failed = { λ clients. L.has_failed clients.listener.now };
 
-    ghost terms = { λ clients. clients.password.now };
+    ghost terms = { λ clients. client_terms clients.journal.now clients.password.now };
 
     ghost accepted = { λ clients. L.accepted clients.listener.now };
 

@@ -1,9 +1,10 @@
 //! The whole server: sessions of clients, blocks of samples, moments and presses on one meter, each
 //! session and source in a thread of its own.
-ghost use Rattle.std.specs.Prelude.{◌≡◌, ◌+◌, ⊤, [], Err, IfOk, IfErr};
+ghost use Rattle.std.specs.Prelude.{◌≡◌, ◌+◌, ⊤, [], Err, IfOk, IfErr, IfSome};
 ghost use Rattle.acse_ber.specs.Password.{IsPassword};
 ghost use Rattle.shared_meter.specs.Calls.{IsLegal as IsLegalRun};
 ghost use Rattle.meter_server.specs.ServingAll.{Acted, EndsWith, IsLimit, IsServed, IsSpent, StopsFor, OnEnded, worker_fault, first_of};
+ghost use Rattle.meter_server.specs.JournaledSessions.{AreJournaled};
 ghost use Rattle.meter_server.specs.Sessions.{AreSessions};
 ghost use Rattle.meter_server.specs.WithSources.{ServesWith, first_then};
 ghost use Rattle.shared_meter.specs.Blocks.{AllBlocks};
@@ -75,7 +76,6 @@ fn first_fault(
 }
 
 // Serves the clients of a listener.
-#[tactic(auto, using(crate::proofs::SessionLemmas::are_sessions))]
 fn serve_clients<
     L: Listener,
     D: Durability + Send + 'static,
@@ -91,6 +91,8 @@ fn serve_clients<
     ensures port_continues { PortContinues port.old port.new }
     ensures joined { AreJoined port.old.known.splits port.new }
     ensures sessions { AreSessions terms.now.password.now port.old.known.splits port.new }
+    ensures journaled { IfSome terms.now.journal
+        (λ _. AreJournaled D.is_durable port.old.known.splits port.new) }
     ensures limit { IfOk result (IsLimit terms.now.limit) }
     ensures counted { IfOk result
         (λ served. IsCounted (L.accepted listener.old) (served.served + served.turned_away)
@@ -151,6 +153,8 @@ fn serve_with_one<
     ensures serves { ServesWith terms.now.password.now 1
         (first_then (S.can_follow source) (λ _ _. ⊤))
         port.old port.new result }
+    ensures journaled { IfSome terms.now.journal
+        (λ _. AreJournaled D.is_durable (port.old.known.splits + 1) port.new) }
     ensures limit { IfOk result (IsLimit terms.now.limit) }
     ensures counted { IfOk result
         (λ served. IsCounted (L.accepted listener.old) (served.served + served.turned_away)
@@ -184,6 +188,8 @@ fn serve_with_two<
         (first_then (S.can_follow sources.0)
         (first_then (T.can_follow sources.1) (λ _ _. ⊤)))
         port.old port.new result }
+    ensures journaled { IfSome terms.now.journal
+        (λ _. AreJournaled D.is_durable (port.old.known.splits + 2) port.new) }
     ensures limit { IfOk result (IsLimit terms.now.limit) }
     ensures counted { IfOk result
         (λ served. IsCounted (L.accepted listener.old) (served.served + served.turned_away)
@@ -220,6 +226,8 @@ fn serve_with_three<
         (first_then (T.can_follow sources.1.0)
         (first_then (U.can_follow sources.1.1) (λ _ _. ⊤))))
         port.old port.new result }
+    ensures journaled { IfSome terms.now.journal
+        (λ _. AreJournaled D.is_durable (port.old.known.splits + 3) port.new) }
     ensures limit { IfOk result (IsLimit terms.now.limit) }
     ensures counted { IfOk result
         (λ served. IsCounted (L.accepted listener.old) (served.served + served.turned_away)
@@ -237,7 +245,8 @@ fn serve_with_three<
 /// Serves clients on these terms, and passes blocks of samples, moments and presses to one meter as
 /// [`serve_all`] does, with its results and its errors. If the meter has a journal, each session
 /// has a handle of it, and writes an answer only after the lines of all calls that its port has
-/// seen are on the disk. Sources do not wait for it.
+/// seen are on the disk. Of the calls of a session's port, all but at most the last one were then
+/// answered once they were on the disk. Sources do not wait for the journal.
 ///
 /// A connection for which no handle of the journal is available is closed without a byte sent,
 /// counted as turned away, and leads to the fault `Memory`. A failure of the journal ends each
@@ -266,6 +275,10 @@ pub fn serve_all_journaled<
         (port.known.splits + 3) r.0) }
     ensures sessions_err { IfErr result (λ r. AreSessions terms.now.password.now
         (port.known.splits + 3) r.0) }
+    ensures journaled { IfOk result (λ r. IfSome terms.now.journal
+        (λ _. AreJournaled D.is_durable (port.known.splits + 3) r.0)) }
+    ensures journaled_err { IfErr result (λ r. IfSome terms.now.journal
+        (λ _. AreJournaled D.is_durable (port.known.splits + 3) r.0)) }
     ensures limit { IfOk result (λ r. IsLimit terms.now.limit r.1) }
     ensures counted { IfOk result
         (λ r. IsCounted (L.accepted listener.old) (r.1.served + r.1.turned_away)
