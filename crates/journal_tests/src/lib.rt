@@ -1,7 +1,9 @@
-//! Tests of a meter's journal: its lines behind the lock.
+//! Tests of a meter's journal: its lines behind the lock, and what a file has of them.
 //!
 //! Tests are in a crate of their own because a check of tests proves their whole crate again.
 #![tactic(auto)]
 
 #[cfg(test)]
 mod lines;
+#[cfg(test)]
+mod saving;

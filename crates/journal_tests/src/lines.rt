@@ -30,7 +30,7 @@ fn read_mode() -> Event {
 }
 
 /// Returns a management client's write of mode 1.
-fn write_mode() -> Event {
+pub(crate) fn write_mode() -> Event {
     Event::Set {
         level: Level::Management,
         attr: MODE,
@@ -68,7 +68,10 @@ fn lock_over(
 }
 
 /// Returns a lock over a new meter with a journal, and its first port.
-fn new_journal(alloc: Global, bound: u64) -> Result<(Shared<Kept>, Port<Kept>), AllocError>
+pub(crate) fn new_journal(
+    alloc: Global,
+    bound: u64,
+) -> Result<(Shared<Kept>, Port<Kept>), AllocError>
     requires { (0 < bound) × (bound ≤ 1000) }
 {
     let pending = PendingLines::new(alloc, 64)?;
@@ -141,7 +144,7 @@ fn takes<W: Wait>(
 }
 
 /// Calls the meter, and returns whether it replied.
-fn ask<W: Wait>(rt: &W, alloc: Global, port: &mut Port<Kept>, event: Event) -> bool {
+pub(crate) fn ask<W: Wait>(rt: &W, alloc: Global, port: &mut Port<Kept>, event: Event) -> bool {
     port.call(rt, alloc, event).is_ok()
 }
 

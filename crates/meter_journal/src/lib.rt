@@ -10,9 +10,11 @@ mod fault;
 mod keeping;
 mod progress;
 mod saving;
+mod starting;
 mod worker;
 
 pub use fault::JournalFault;
 pub use progress::Progress;
 pub use saving::{Saved, save};
+pub use starting::{JournalThread, start_journal, stop_journal};
 pub use worker::{FailureAction, JournalWorker};

@@ -61,8 +61,7 @@ impl<F: DurableFile> Board<F> {
                 return false;
             }
             self.wanted.notify_all();
-            self.saved
-                .sleep(rt, seen, Duration::from_millis(PATIENCE));
+            self.saved.sleep(rt, seen, Duration::from_millis(PATIENCE));
         }
         unreachable!()
     }
@@ -106,30 +105,30 @@ impl<F: DurableFile> Progress<F> {
         self.board.lines.load(Ordering::SeqCst)
     }
 
-    /// Records that this number of lines is on the disk, and wakes the sessions that wait. Only the
-    /// worker calls it.
-    pub fn announce(&self, lines: u64)
+    // Records that this number of lines is on the disk, and wakes the sessions that wait. Only the
+    // worker calls it.
+    pub(crate) fn announce(&self, lines: u64)
         requires { F.acts_as_file → IsStored F.stored lines }
     {
         self.board.lines.store(lines, Ordering::SeqCst);
         self.board.saved.notify_all();
     }
 
-    /// Records that no further lines will be on the disk: from now on every wait for more lines
-    /// returns false at once. Only the worker calls it.
-    pub fn end(&self) {
+    // Records that no further lines will be on the disk: from now on every wait for more lines
+    // returns false at once.
+    pub(crate) fn end(&self) {
         self.board.has_ended.store(true, Ordering::SeqCst);
         self.board.saved.notify_all();
     }
 
-    /// Records that the journal has failed, and ends it as [`end`](Progress::end) does. Only the
-    /// worker calls it.
-    pub fn fail(&self) {
+    // Records that the journal has failed and ended.
+    pub(crate) fn fail(&self) {
         self.board.has_failed.store(true, Ordering::SeqCst);
         self.end();
     }
 
-    /// Asks the worker to save the lines that have been noted, and then to end.
+    /// Asks the worker to save the lines that have been noted, and then to end. Once it has ended,
+    /// every wait for more lines than are on the disk returns false at once.
     pub fn stop(&self) {
         self.board.is_stopped.store(true, Ordering::SeqCst);
         self.board.wanted.notify_all();

@@ -1,5 +1,4 @@
 use Rattle.std.proofs.Common.{◌≡◌, List, ℕ, subst, sym}
-use Rattle.durable_lines.specs.Lines.{IsText}
 use Rattle.shared_meter.specs.Pending.{lines_of_calls, IsRest}
 use Rattle.meter_journal.proofs.SavingLemmas.{appended_leaves, is_text_taken, saved_all}
 use Rattle.meter_journal.proofs.SavingLemmas.{unchanged_leaves}

@@ -1,0 +1,64 @@
+//! Starts the thread of a journal, and stops it.
+ghost use Rattle.std.specs.Prelude.{◌≡◌, ◌+◌, ◌≤◌, IfNone, IfSome};
+ghost use Rattle.port_threads.specs.Ports.{AreJoined, PortContinues, SplitsOff};
+ghost use Rattle.port_threads.specs.Workers.{ComesBack};
+ghost use Rattle.meter_journal.specs.Saving.{Keeps};
+
+use crate::progress::Progress;
+use crate::worker::{FailureAction, JournalWorker};
+use durable_lines::DurableFile;
+use port_threads::{WorkerThread, join_worker, start_worker};
+use shared_meter::Kept;
+use std::alloc::Global;
+use std::sync::Wait;
+use std::thread::Threads;
+use turn_lock::{CallFault, Port};
+
+/// The handle of a running journal's thread.
+pub type JournalThread<F, A> = WorkerThread<Kept, JournalWorker<F, A>>;
+
+/// Starts a thread for the worker of a journal, with a port split off from this one. Returns `None`
+/// if no memory, port or thread is available; the worker is dropped with its file, every wait for a
+/// line returns false, and no port is lost.
+pub fn start_journal<
+    F: DurableFile + Send + 'static,
+    A: FailureAction + 'static,
+    R: Threads + Wait + Copy + Send + 'static,
+>(
+    rt: &R,
+    alloc: Global,
+    worker: JournalWorker<F, A>,
+    progress: &Progress<F>,
+    port: &mut Port<Kept>,
+) -> Option<JournalThread<F, A>>
+    ensures worker { IfSome result (λ running. running.promise.worker.value ≡ worker) }
+    ensures port { IfSome result
+        (λ running. SplitsOff port.old running.promise.port.value port.new) }
+    ensures none { IfNone result (PortContinues port.old port.new
+        × AreJoined port.old.known.splits port.new) }
+    ensures most { IfNone result (port.new.known.splits ≤ port.old.known.splits + 1) }
+{
+    let running = start_worker(rt, alloc, worker, port);
+    if running.is_none() {
+        progress.end();
+    }
+    running
+}
+
+/// Asks the worker of a journal to save the lines that have been noted, waits for its end, and joins
+/// its port in. Returns `None` if its work was not started, and `Err(Journal)` if the journal has
+/// failed.
+pub fn stop_journal<F: DurableFile + Send, A: FailureAction, R: Threads>(
+    rt: &R,
+    running: JournalThread<F, A>,
+    progress: &Progress<F>,
+    port: &mut Port<Kept>,
+) -> Option<Result<(), CallFault>>
+    requires { running.promise.port.value.lock ≡ port.old.lock }
+    ensures { let task = running.promise
+        in ComesBack (Keeps F.acts_as_file F.seen F.may_leave F.moment F.left_since
+        task.worker.value.settled) task.port.value result port.old port.new }
+{
+    progress.stop();
+    join_worker(rt, running, port)
+}
