@@ -27,7 +27,7 @@ sys.dont_write_bytecode = True  # importing the modules of tests/ leaves no file
 import serving
 from one_node_slurm import LONG_PATIENCE, Slurm, missing_commands, wait_until
 from scripted_meters import AARQ, CROWD, HOLDING, RELEASE, REQUESTS, SCRIPTS, Crowd, ScriptedMeter, Unheard, does_it
-from serving import MODE, PASSWORD, PATIENCE, PLAYER, SERVER, TOP, Client, Server, check, played, test
+from serving import MODE, PASSWORD, PATIENCE, PLAYER, SERVER, TOP, Client, Server, check, played, shown_of, test
 
 HEAD_END = os.environ.get("HEAD_END") or TOP / "crates" / "head_end_cli" / "out" / "head_end_cli"
 CAMPAIGN = TOP / "bin" / "campaign"
@@ -276,8 +276,8 @@ def a_file_has_the_password(name):
         server = Server("--connections", "1", "--password-file", str(path), password=None)
         campaign = subprocess.Popen([str(HEAD_END), "run", "--password-file", str(path)], stdin=subprocess.PIPE, stdout=subprocess.PIPE, text=True,
                                     env={**os.environ, "METER_PASSWORD": "of the environment"})
-        seen = b"".join(pathlib.Path(f"/proc/{campaign.pid}/{it}").read_bytes() for it in ("cmdline", "environ"))
-        check(f"{name}: not shown", b"--password-file" in seen and b"of the environment" in seen and b"of the file" not in seen, seen)
+        shown = shown_of(campaign)
+        check(f"{name}: not shown", b"--password-file" in shown and b"of the environment" in shown and b"of the file" not in shown, shown)
         report, _ = campaign.communicate(f"m1 127.0.0.1:{server.port} state\n", timeout=LONGEST)
         check(f"{name}: report", (campaign.returncode, report) == (0, "m1 done 1\n"), campaign.returncode, report)
         check(f"{name}: end", server.ended()[0] == 0)

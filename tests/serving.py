@@ -568,6 +568,18 @@ def the_environment_has_the_password(name):
     check(f"{name}: neither", status == 2 and output == "" and "--password <TEXT>" in errors, errors)
 
 
+def shown_of(process):
+    """The command line and the environment that /proc shows of a process. They are empty until its
+    program has begun."""
+    end = time.monotonic() + PATIENCE
+    while time.monotonic() < end:
+        shown = [pathlib.Path(f"/proc/{process.pid}/{it}").read_bytes() for it in ("cmdline", "environ")]
+        if all(shown):
+            break
+        time.sleep(0.005)
+    return b"".join(shown)
+
+
 def a_file_has_the_password(name):
     with tempfile.TemporaryDirectory(prefix="passwords-") as folder:
         path = pathlib.Path(folder) / "password"
@@ -576,8 +588,8 @@ def a_file_has_the_password(name):
         server = Server("--connections", "1", "--password-file", str(path), password=None, environment={"METER_PASSWORD": "of the environment"})
         client = Client(server.port)
         check(f"{name}: taken before that of the environment", client.associate("of the file").startswith(AARE))
-        seen = b"".join(pathlib.Path(f"/proc/{server.process.pid}/{it}").read_bytes() for it in ("cmdline", "environ"))
-        check(f"{name}: not shown", b"--password-file" in seen and b"of the environment" in seen and b"of the file" not in seen, seen)
+        shown = shown_of(server.process)
+        check(f"{name}: not shown", b"--password-file" in shown and b"of the environment" in shown and b"of the file" not in shown, shown)
         client.close()
         check(f"{name}: end", server.ended()[0] == 0)
         server = Server("--connections", "1", "--password-file", str(path))
