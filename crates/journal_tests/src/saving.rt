@@ -4,7 +4,7 @@ ghost use Rattle.durable_lines.specs.Lines.{IsSettled};
 
 use crate::lines::{ask, new_journal, write_mode};
 use durable_lines::{ByteFate, DurableFile, FileFault, MemoryFile, recover};
-use meter_journal::{FailureAction, JournalFault, JournalWorker, Progress, save};
+use meter_journal::{FailureAction, JournalFault, JournalProgress, JournalWorker, save};
 use port_threads::Worker;
 use relay_events::Event;
 use shared_meter::{Durability, Kept};
@@ -16,7 +16,7 @@ use turn_lock::{CallFault, Port};
 /// What a file has before the lines of the first save.
 const FIRST: &[u8] = b"first\n";
 
-/// The same, followed by the lines of three events.
+/// The line of `FIRST`, followed by those of three events.
 const ALL: &[u8] = b"first\nset 1 70 000060030AFF 4 0 1601\nbutton\nmoment 5\n";
 
 /// Does nothing when a journal fails.
@@ -73,11 +73,14 @@ fn run_journal<W: Wait>(
     alloc: Global,
     file: MemoryFile,
     port: Port<Kept>,
-) -> (Option<Progress<MemoryFile>>, Option<Result<(), CallFault>>)
+) -> (
+    Option<JournalProgress<MemoryFile>>,
+    Option<Result<(), CallFault>>,
+)
     requires { let D = ⟦<MemoryFile as DurableFile>⟧
         in IsSettled D.seen D.may_leave D.stored file }
 {
-    let Ok(progress) = Progress::new(alloc, &port, &file) else {
+    let Ok(progress) = JournalProgress::new(alloc, &port, &file) else {
         drop(file);
         drop(port);
         return (None, None);

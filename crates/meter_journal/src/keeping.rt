@@ -8,7 +8,7 @@ ghost use Rattle.shared_meter.specs.Calls.{IsLegal};
 ghost use Rattle.meter_journal.specs.Saving.{IsAllSaved, IsSavedFrom};
 
 use crate::fault::JournalFault;
-use crate::progress::Progress;
+use crate::progress::JournalProgress;
 use crate::saving::{Saved, save};
 use durable_lines::DurableFile;
 use shared_meter::Kept;
@@ -25,7 +25,7 @@ pub(crate) fn keep_lines<F: DurableFile, W: Wait>(
     alloc: Global,
     port: &mut Port<Kept>,
     file: &mut F,
-    progress: &Progress<F>,
+    progress: &JournalProgress<F>,
     room: Vec<u8>,
 ) -> Result<(), JournalFault>
     requires settled { F.acts_as_file → IsSettled F.seen F.may_leave F.stored file.old }

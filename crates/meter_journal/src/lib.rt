@@ -2,8 +2,8 @@
 //! wait until their lines are on the disk.
 //!
 //! [`save`] appends the lines that were not taken yet. [`JournalWorker`] repeats it in a thread of
-//! its own, and [`Progress`] says how many lines are on the disk. Lines that wait at the same time
-//! are saved together, so that one sync serves all of them.
+//! its own, and [`JournalProgress`] says how many lines are on the disk. Lines that wait at the
+//! same time are saved together, so that one sync serves all of them.
 #![tactic(auto)]
 
 mod fault;
@@ -14,7 +14,7 @@ mod starting;
 mod worker;
 
 pub use fault::JournalFault;
-pub use progress::Progress;
+pub use progress::JournalProgress;
 pub use saving::{Saved, save};
 pub use starting::{JournalThread, start_journal, stop_journal};
 pub use worker::{FailureAction, JournalWorker};

@@ -1,4 +1,5 @@
-//! `Progress`: how many lines of a journal are on the disk, for the sessions that wait for theirs.
+//! `JournalProgress`: how many lines of a journal are on the disk, for the sessions that wait for
+//! theirs.
 ghost use Rattle.std.specs.Prelude.{IsTrue};
 ghost use Rattle.durable_lines.specs.Lines.{IsSettled};
 ghost use Rattle.meter_journal.specs.Saving.{IsStored};
@@ -30,7 +31,7 @@ impl<F: DurableFile> Rule for StoredLines<F> {
 // What the handles of a journal share. Of the two conditions one is changed for sessions that wait
 // for lines, the other for the worker.
 #[derive(Drop)]
-struct Board<F: DurableFile> {
+struct ProgressState<F: DurableFile> {
     lines: AtomicIn<StoredLines<F>>,
     has_ended: AtomicBool,
     has_failed: AtomicBool,
@@ -39,7 +40,7 @@ struct Board<F: DurableFile> {
     wanted: Condvar,
 }
 
-impl<F: DurableFile> Board<F> {
+impl<F: DurableFile> ProgressState<F> {
     // Returns whether this number of lines is on the disk.
     fn has(&self, lines: u64) -> bool
         ensures { IsTrue result → F.acts_as_file → IsStored F.stored lines }
@@ -73,19 +74,19 @@ impl<F: DurableFile> Board<F> {
 /// Lines are counted from the start of the history of the meter's lock; those that the file had
 /// before are not counted.
 #[derive(Drop)]
-pub struct Progress<F: DurableFile> {
-    board: Arc<Board<F>, Global>,
+pub struct JournalProgress<F: DurableFile> {
+    state: Arc<ProgressState<F>, Global>,
 }
 
-impl<F: DurableFile> Progress<F> {
+impl<F: DurableFile> JournalProgress<F> {
     /// Returns the handle of a journal without lines, which will be written to this file through a
     /// port of this lock. Errors: `AllocError`.
-    pub fn new(alloc: Global, port: &Port<Kept>, file: &F) -> Result<Progress<F>, AllocError>
+    pub fn new(alloc: Global, port: &Port<Kept>, file: &F) -> Result<JournalProgress<F>, AllocError>
         requires { F.acts_as_file → IsSettled F.seen F.may_leave F.stored file.now }
     {
         port.has_a_legal_history();
         let _file = file;
-        let board = Board {
+        let state = ProgressState {
             lines: AtomicIn::new(0),
             has_ended: AtomicBool::new(false),
             has_failed: AtomicBool::new(false),
@@ -93,8 +94,8 @@ impl<F: DurableFile> Progress<F> {
             saved: Condvar::new(),
             wanted: Condvar::new(),
         };
-        Ok(Progress {
-            board: Arc::new(alloc, board)?,
+        Ok(JournalProgress {
+            state: Arc::new(alloc, state)?,
         })
     }
 
@@ -102,7 +103,7 @@ impl<F: DurableFile> Progress<F> {
     pub fn lines(&self) -> u64
         ensures { F.acts_as_file → IsStored F.stored result }
     {
-        self.board.lines.load(Ordering::SeqCst)
+        self.state.lines.load(Ordering::SeqCst)
     }
 
     // Records that this number of lines is on the disk, and wakes the sessions that wait. Only the
@@ -110,65 +111,65 @@ impl<F: DurableFile> Progress<F> {
     pub(crate) fn announce(&self, lines: u64)
         requires { F.acts_as_file → IsStored F.stored lines }
     {
-        self.board.lines.store(lines, Ordering::SeqCst);
-        self.board.saved.notify_all();
+        self.state.lines.store(lines, Ordering::SeqCst);
+        self.state.saved.notify_all();
     }
 
     // Records that no further lines will be on the disk: from now on every wait for more lines
     // returns false at once.
     pub(crate) fn end(&self) {
-        self.board.has_ended.store(true, Ordering::SeqCst);
-        self.board.saved.notify_all();
+        self.state.has_ended.store(true, Ordering::SeqCst);
+        self.state.saved.notify_all();
     }
 
     // Records that the journal has failed and ended.
     pub(crate) fn fail(&self) {
-        self.board.has_failed.store(true, Ordering::SeqCst);
+        self.state.has_failed.store(true, Ordering::SeqCst);
         self.end();
     }
 
     /// Asks the worker to save the lines that have been noted, and then to end. Once it has ended,
     /// every wait for more lines than are on the disk returns false at once.
     pub fn stop(&self) {
-        self.board.is_stopped.store(true, Ordering::SeqCst);
-        self.board.wanted.notify_all();
+        self.state.is_stopped.store(true, Ordering::SeqCst);
+        self.state.wanted.notify_all();
     }
 
     // Returns whether the worker was asked to end.
     pub(crate) fn is_stopped(&self) -> bool {
-        self.board.is_stopped.load(Ordering::SeqCst)
+        self.state.is_stopped.load(Ordering::SeqCst)
     }
 
     // Returns the number of requests for a save so far, which wraps.
     pub(crate) fn requests(&self) -> u64 {
-        self.board.wanted.notifications()
+        self.state.wanted.notifications()
     }
 
     // Sleeps for a period, unless there were more requests than `seen`.
     pub(crate) fn sleep<W: Wait>(&self, rt: &W, seen: u64) {
-        self.board
+        self.state
             .wanted
             .sleep(rt, seen, Duration::from_millis(PERIOD));
     }
 }
 
-impl<F: DurableFile> Durability for Progress<F> {
+impl<F: DurableFile> Durability for JournalProgress<F> {
     ghost is_durable = { λ lines. F.acts_as_file → IsStored F.stored lines };
 
     fn wait<W: Wait>(&self, rt: &W, lines: u64) -> bool {
-        if self.board.has(lines) {
+        if self.state.has(lines) {
             return true;
         }
-        self.board.wait(rt, lines)
+        self.state.wait(rt, lines)
     }
 
-    fn share(&self) -> Result<Progress<F>, AllocError> {
-        Ok(Progress {
-            board: Arc::try_clone(&self.board)?,
+    fn share(&self) -> Result<JournalProgress<F>, AllocError> {
+        Ok(JournalProgress {
+            state: Arc::try_clone(&self.state)?,
         })
     }
 
     fn has_failed(&self) -> bool {
-        self.board.has_failed.load(Ordering::SeqCst)
+        self.state.has_failed.load(Ordering::SeqCst)
     }
 }

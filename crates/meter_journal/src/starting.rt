@@ -4,7 +4,7 @@ ghost use Rattle.port_threads.specs.Ports.{AreJoined, PortContinues, SplitsOff};
 ghost use Rattle.port_threads.specs.Workers.{ComesBack};
 ghost use Rattle.meter_journal.specs.Saving.{Keeps};
 
-use crate::progress::Progress;
+use crate::progress::JournalProgress;
 use crate::worker::{FailureAction, JournalWorker};
 use durable_lines::DurableFile;
 use port_threads::{WorkerThread, join_worker, start_worker};
@@ -28,7 +28,7 @@ pub fn start_journal<
     rt: &R,
     alloc: Global,
     worker: JournalWorker<F, A>,
-    progress: &Progress<F>,
+    progress: &JournalProgress<F>,
     port: &mut Port<Kept>,
 ) -> Option<JournalThread<F, A>>
     ensures worker { IfSome result (λ running. running.promise.worker.value ≡ worker) }
@@ -45,13 +45,13 @@ pub fn start_journal<
     running
 }
 
-/// Asks the worker of a journal to save the lines that have been noted, waits for its end, and joins
-/// its port in. Returns `None` if its work was not started, and `Err(Journal)` if the journal has
-/// failed.
+/// Asks the worker of a journal to save the lines that have been noted, waits for its end, and
+/// joins its port in. Returns `None` if its work was not started, and `Err(Journal)` if the journal
+/// has failed.
 pub fn stop_journal<F: DurableFile + Send, A: FailureAction, R: Threads>(
     rt: &R,
     running: JournalThread<F, A>,
-    progress: &Progress<F>,
+    progress: &JournalProgress<F>,
     port: &mut Port<Kept>,
 ) -> Option<Result<(), CallFault>>
     requires { running.promise.port.value.lock ≡ port.old.lock }

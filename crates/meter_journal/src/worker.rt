@@ -3,7 +3,7 @@ ghost use Rattle.durable_lines.specs.Lines.{IsSettled};
 
 use crate::fault::JournalFault;
 use crate::keeping::keep_lines;
-use crate::progress::Progress;
+use crate::progress::JournalProgress;
 use durable_lines::DurableFile;
 use port_threads::Worker;
 use shared_meter::{Durability, Kept};
@@ -39,7 +39,7 @@ impl<F: DurableFile> Model for SettledFile<F> {
 #[derive(Drop)]
 pub struct JournalWorker<F: DurableFile, A: FailureAction> {
     settled: SettledFile<F>,
-    progress: Progress<F>,
+    progress: JournalProgress<F>,
     on_failure: A,
     room: Vec<u8>,
 }
@@ -50,7 +50,7 @@ impl<F: DurableFile, A: FailureAction> JournalWorker<F, A> {
     pub fn new(
         alloc: Global,
         file: F,
-        progress: &Progress<F>,
+        progress: &JournalProgress<F>,
         on_failure: A,
         room: usize,
     ) -> Result<JournalWorker<F, A>, AllocError>

@@ -4,7 +4,7 @@
 --     PendingView, IsPending        the lines that were not taken yet
 --     Pends                         the same, unless a line was lost
 --     Finds                         what a question finds
-use Rattle.std.specs.Prelude.{◌≡◌, ◌⊎◌, ℕ, ◌≤◌, Bool, true, false, List, [], ◌∷◌, ◌++◌, length}
+use Rattle.std.specs.Prelude.{◌≡◌, ℕ, ◌≤◌, Bool, false, List, [], ◌∷◌, ◌++◌, length}
 use Rattle.std.specs.Prelude.{drop, Option, Some, None, if◌then◌else◌, ⊤}
 use Rattle.std.specs.List.{AllByRecursion}
 use Rattle.turn_lock.specs.declared.turned.Entry.{Entry}

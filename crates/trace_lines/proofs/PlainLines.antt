@@ -1,6 +1,6 @@
 -- The line of an event has no byte 0 and no byte 0A.
 use Rattle.std.proofs.Common.{ℕ, List, [], ◌∷◌, length, Option, Some, None, OnOk, Result, Ok, Err}
-use Rattle.std.proofs.Common.{codes, decimal, refl}
+use Rattle.std.proofs.Common.{codes, refl}
 use Rattle.std.specs.List.{zip, AllByRecursion}
 use Rattle.wire_bytes.specs.Choice.{keyed_text}
 use Rattle.cosem_names.specs.declared.service.AttributeSelection.{AttributeSelection}

@@ -36,8 +36,8 @@ saving-preserved g c =
 pub returns-then-is_last-clause-watches : goal.returns-then-is_last-clause-watches
 returns-then-is_last-clause-watches g c =
     let D = g.F.DurableFile in
-    let run = run_on D.acts_as_file D.seen D.may_leave D.stored D.moment D.left_since c.args.file.now
-    c.saving.file c.save.new.file c.args.port.now c.saving.port c.save.new.port
+    let run = run_on D.acts_as_file D.seen D.may_leave D.stored D.moment D.left_since
+    c.args.file.now c.saving.file c.save.new.file c.args.port.now c.saving.port c.save.new.port
     c.saving.saved.count c.in_ok-saved.saved.count c.saving.invariant c.save.ensures.same
     c.save.ensures.watches c.in_ok-saved.ensures.settled c.in_ok-saved.ensures.saved
     c.save.ensures.any_moment in
@@ -46,8 +46,8 @@ returns-then-is_last-clause-watches g c =
 pub returns-then-is_last-clause-any_moment : goal.returns-then-is_last-clause-any_moment
 returns-then-is_last-clause-any_moment g c =
     let D = g.F.DurableFile in
-    let run = run_on D.acts_as_file D.seen D.may_leave D.stored D.moment D.left_since c.args.file.now
-    c.saving.file c.save.new.file c.args.port.now c.saving.port c.save.new.port
+    let run = run_on D.acts_as_file D.seen D.may_leave D.stored D.moment D.left_since
+    c.args.file.now c.saving.file c.save.new.file c.args.port.now c.saving.port c.save.new.port
     c.saving.saved.count c.in_ok-saved.saved.count c.saving.invariant c.save.ensures.same
     c.save.ensures.watches c.in_ok-saved.ensures.settled c.in_ok-saved.ensures.saved
     c.save.ensures.any_moment in

@@ -1,5 +1,5 @@
 use Rattle.meter_journal.proofs.ProgressLemmas.{stored_none}
-use Rattle.meter_journal.proofs.progress.Progress.new.Goals as goal
+use Rattle.meter_journal.proofs.progress.JournalProgress.new.Goals as goal
 
 pub new-requires : goal.new-requires
 new-requires g c =
