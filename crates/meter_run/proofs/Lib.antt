@@ -1,1 +1,2 @@
+pub mod JournaledLemmas
 pub mod RunLemmas

@@ -21,7 +21,7 @@ use Rattle.relay_recorder.specs.Recording.{Recording}
 use Rattle.session_io.specs.declared.fault.ServeFault.{ServeFault}
 use Rattle.turn_lock.specs.declared.known.Known.{Known}
 use Rattle.turn_lock.specs.Calls.{Yields}
-use Rattle.turn_lock.specs.History.{IsAmong, calls_by}
+use Rattle.turn_lock.specs.History.{StartsWith, IsAmong, calls_by}
 use Rattle.turn_lock.specs.Rule.{first_known}
 use Rattle.turn_lock.specs.declared.turned.Entry.{Entry}
 
@@ -115,6 +115,18 @@ run_of first recorder given served text p q o start is silent serves traces =
       stands = y.results;
       traced = traces.traced;
     }
+
+-- the calls of a run begin with those that its port has seen
+pub run_seen : (first : ℕ) (recorder : Recording) (given : Given)
+    (served : Result Served ServeFault) (text : List ℕ) (p q : MeterPort) (o : Opening)
+    → (start : StartsFrom first o p) (is : o ≡ opening_of recorder.core)
+    (silent : AreSilent first q) (serves : ServesAll given p q served)
+    (traces : Traces q.known text)
+    → StartsWith (run_of first recorder given served text p q o start is silent serves traces).calls
+    q.known.seen
+unfolding run_of
+run_seen first recorder given served text p q o start is silent serves traces =
+    traces.yields.seen
 
 -- the first port of a lock
 starts_first : (o : Opening) (p : MeterPort) → p.known ≡ first_known o → StartsFrom 0 o p

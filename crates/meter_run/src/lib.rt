@@ -1,12 +1,14 @@
 //! One run of a served meter: from its recorder to the text of its trace.
 //!
-//! `meter_server serve` is this call. Its arguments are the listener and the sources of the
-//! console; its result is what the server prints.
+//! `meter_server serve` is one of two calls. Its arguments are the listener and the sources of the
+//! console, and the journal if the meter has one; its result is what the server prints.
 #![tactic(auto)]
 
 mod closing;
+mod journaled;
 mod running;
 
 pub use closing::close_meter;
+pub use journaled::{JournaledRun, MeterJournal, RunTerms, run_journaled_meter};
 pub use meter_server::Sources;
 pub use running::{MeterRun, run_meter};

@@ -73,7 +73,7 @@ acted_own CanFollow own before q end back fresh is =
     (fresh_handed own fresh) (did_all CanFollow own back.back end back.ended is))
 
 -- a property of a port's number is preserved
-acted_on : (p q : MeterPort) (number : List ℕ) (Whole : List Event → Type 0) → PortContinues p q
+pub acted_on : (p q : MeterPort) (number : List ℕ) (Whole : List Event → Type 0) → PortContinues p q
     → Acted p number Whole → Acted q number Whole
 acted_on p q number Whole goes acted =
     let P : List Event → Type 0 = λ events. Whole events in
@@ -89,7 +89,7 @@ acted_by : (q : MeterPort) (m n : List ℕ) (Whole : List Event → Type 0) → 
 acted_by q m n Whole e acted = let Q : List ℕ → Type 0 = λ k. Acted q k Whole in subst Q e acted
 
 -- the ports that were joined in remain so; they are the ports that were split off
-joined_on : (q last : MeterPort) (from : ℕ) → PortContinues q last
+pub joined_on : (q last : MeterPort) (from : ℕ) → PortContinues q last
     → last.known.splits ≡ q.known.splits
     → AreJoined from q → AreJoined from last
 joined_on q last from goes splits joined i low high =
@@ -136,7 +136,7 @@ not_ended A call.Exhausted = tt
 not_ended A call.Journal = tt
 
 -- the same fact for equal counts of splits
-counted_by : (served : Result Served ServeFault) (from before splits later : ℕ) → from ≡ before
+pub counted_by : (served : Result Served ServeFault) (from before splits later : ℕ) → from ≡ before
     → splits ≡ later → IfOk served (IsServed from splits) → IfOk served (IsServed before later)
 counted_by served from before splits later same still so =
     subst (λ n. IfOk served (IsServed before n)) still

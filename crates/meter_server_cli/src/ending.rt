@@ -56,6 +56,8 @@ fn console_fault(end: Option<ConsoleEnd>) -> Result<(), Fault>
 pub(crate) struct Ends {
     // The result of serving clients.
     pub(crate) served: Result<(), Fault>,
+    // The result of the journal, `Ok` if there is none.
+    pub(crate) journal: Result<(), Fault>,
     // The end of the console, if its thread was waited for.
     pub(crate) console: Option<ConsoleEnd>,
     // The result of printing the trace.
@@ -63,13 +65,14 @@ pub(crate) struct Ends {
 }
 
 impl Ends {
-    // Returns the first fault: that of serving, then that of the console, then that of printing.
+    // Returns the first fault: that of serving, then that of the journal, then that of the console,
+    // then that of printing.
     pub(crate) fn first_fault(self) -> Result<(), Fault>
         ensures { result ≡ first_of self.served
-            (first_of (end_of_console self.console) self.printed) }
+            (first_of self.journal (first_of (end_of_console self.console) self.printed)) }
     {
         let later = first_fault(console_fault(self.console), self.printed);
-        first_fault(self.served, later)
+        first_fault(self.served, first_fault(self.journal, later))
     }
 }
 

@@ -8,6 +8,7 @@
 #![tactic(auto)]
 
 mod ending;
+mod journal;
 mod messages;
 mod serving;
 

@@ -5,6 +5,9 @@ ghost use Rattle.meter_run.specs.Runs.{IsRun};
 ghost use Rattle.meter_server_cli.specs.Endings.{PrintsText};
 
 use crate::ending::{Ends, print_trace, run_fault};
+use crate::journal::{
+    JournaledParts, OpenJournal, ServerEnd, open_journal, run_journaled,
+};
 use crate::messages::{why_not_listening, why_wrong_input};
 use cosem_axdr::Octets;
 use counted_io::Monitored;
@@ -14,9 +17,10 @@ use program::Fault;
 use relay_recorder::Recorder;
 use server_commands::{Bounds, ServeOptions, ServePlan, make_plan};
 use server_io::{
-    Closing, Console, ConsoleEnd, ConsoleSources, Reading, Sockets, Stopped, StreamLimits,
+    Closing, Console, ConsoleBlocks, ConsoleEnd, ConsoleMoments, ConsolePresses, ConsoleSources,
+    Reading, Sockets, Stopped, StreamLimits,
 };
-use std::alloc::Global;
+use std::alloc::{AllocError, Global};
 use std::io::{BufReader, Stdin, Write};
 use std::net::{SocketAddr, TcpListener};
 use std::sync::atomic::AtomicBool;
@@ -25,27 +29,42 @@ use std::thread::{JoinHandle, Threads};
 
 // The parameters of the clients.
 #[derive(Drop)]
-struct ClientParameters {
+pub(crate) struct ClientParameters {
     // The password of the management client.
-    password: Octets,
+    pub(crate) password: Octets,
     // The number of connections to accept; 0 means no limit.
-    connections: u64,
+    pub(crate) connections: u64,
     ghost sized: { IsPassword password },
 }
 
-// Returns the source of clients, and the flag with which the console ends the listening.
+// Returns the source of clients, and two handles of the flag that ends the listening.
 fn sockets_of(
     rt: &HostRuntime,
     bounds: Bounds,
     listener: TcpListener,
-) -> Result<(Sockets<HostRuntime>, Stopped), Fault> {
-    let stopped = Arc::new(rt.alloc(), AtomicBool::new(false)).map_err(|_| Fault::Memory)?;
-    let Ok(theirs) = Arc::try_clone(&stopped) else {
-        return Err(Fault::Memory);
-    };
+) -> Result<(Sockets<HostRuntime>, Stopped, Stopped), AllocError> {
+    let stopped = Arc::new(rt.alloc(), AtomicBool::new(false))?;
+    let second = Arc::try_clone(&stopped)?;
+    let theirs = Arc::try_clone(&stopped)?;
     let limits = StreamLimits::from_seconds(bounds.inactivity, bounds.session);
     let sockets = Sockets::new(*rt, listener, limits, theirs, bounds.is_verbose);
-    Ok((sockets, stopped))
+    Ok((sockets, stopped, second))
+}
+
+// Returns the sources of a console as those of a meter.
+pub(crate) fn meter_sources<R: Wait + Copy + Drop + Send>(
+    sources: ConsoleSources<R>,
+) -> Sources<ConsoleBlocks<R>, ConsoleMoments<R>, ConsolePresses<R>> {
+    let ConsoleSources {
+        blocks,
+        moments,
+        presses,
+    } = sources;
+    Sources {
+        blocks,
+        moments,
+        buttons: presses,
+    }
 }
 
 // Runs the meter and prints its trace. Returns the result of its connections, and whether the
@@ -67,16 +86,7 @@ fn run_and_print<R: Threads + Wait + Copy + Drop + Send + 'static, W: Write>(
         result.0)
         (W.contents output.old) (W.contents output.new)) }
 {
-    let ConsoleSources {
-        blocks,
-        moments,
-        presses,
-    } = sources;
-    let sources = Sources {
-        blocks,
-        moments,
-        buttons: presses,
-    };
+    let sources = meter_sources(sources);
     let MeterRun { served, trace } = run_meter(
         threads,
         alloc,
@@ -89,8 +99,17 @@ fn run_and_print<R: Threads + Wait + Copy + Drop + Send + 'static, W: Write>(
     (served, print_trace(output, trace))
 }
 
-// Prepares the sockets, the sources of the meter's own events, and the input of the console's
-// thread.
+// The parts of a server before its console's thread is started.
+#[derive(Drop)]
+struct Prepared<R> {
+    sockets: Sockets<HostRuntime>,
+    sources: ConsoleSources<R>,
+    reading: Reading<R, BufReader<Monitored<Stdin>>, HostRuntime, Closing<HostRuntime>>,
+    end: ServerEnd<R>,
+}
+
+// Prepares the sockets, the sources of the meter's own events, the input of the console's thread,
+// and what ends them.
 fn prepare<R: Wait + Copy + Drop>(
     rt: &HostRuntime,
     threads: &R,
@@ -98,17 +117,16 @@ fn prepare<R: Wait + Copy + Drop>(
     input: BufReader<Monitored<Stdin>>,
     listener: TcpListener,
     address: SocketAddr,
-) -> Result<
-    (
-        Sockets<HostRuntime>,
-        ConsoleSources<R>,
-        Reading<R, BufReader<Monitored<Stdin>>, HostRuntime, Closing<HostRuntime>>,
-    ),
-    Fault,
-> {
-    let (sockets, stopped) = sockets_of(rt, bounds, listener)?;
-    let Ok((console, sources)) = Console::new(threads, rt.alloc()) else {
-        return Err(Fault::Memory);
+) -> Result<Prepared<R>, AllocError> {
+    let (sockets, stopped, second) = sockets_of(rt, bounds, listener)?;
+    let (console, sources) = Console::new(threads, rt.alloc())?;
+    let end = ServerEnd {
+        closing: Closing {
+            rt: *rt,
+            stopped: second,
+            address: Some(address),
+        },
+        sources: console.sources_end()?,
     };
     let address = if bounds.stops_with_input {
         Some(address)
@@ -125,10 +143,25 @@ fn prepare<R: Wait + Copy + Drop>(
             address,
         },
     };
-    Ok((sockets, sources, reading))
+    Ok(Prepared {
+        sockets,
+        sources,
+        reading,
+        end,
+    })
 }
 
-// Starts the console's thread, and returns the sockets and the sources of the meter's own events.
+// A server whose console's thread is running.
+#[derive(Drop)]
+struct Running<R> {
+    sockets: Sockets<HostRuntime>,
+    sources: ConsoleSources<R>,
+    console: JoinHandle<ConsoleEnd>,
+    end: ServerEnd<R>,
+}
+
+// Starts the console's thread, and returns the sockets, the sources of the meter's own events, and
+// what ends them.
 fn start_server<R: Threads + Wait + Copy + Drop + Send + 'static>(
     rt: &HostRuntime,
     threads: &R,
@@ -136,25 +169,33 @@ fn start_server<R: Threads + Wait + Copy + Drop + Send + 'static>(
     input: BufReader<Monitored<Stdin>>,
     listener: TcpListener,
     address: SocketAddr,
-) -> Result<
-    (
-        Sockets<HostRuntime>,
-        ConsoleSources<R>,
-        JoinHandle<ConsoleEnd>,
-    ),
-    Fault,
-> {
-    let (sockets, sources, reading) = prepare(rt, threads, bounds, input, listener, address)?;
+) -> Result<Running<R>, Fault> {
+    let Ok(prepared) = prepare(rt, threads, bounds, input, listener, address) else {
+        return Err(Fault::Memory);
+    };
+    let Prepared {
+        sockets,
+        sources,
+        reading,
+        end,
+    } = prepared;
     match server_io::start(threads, rt.alloc(), reading) {
-        Some(console) => Ok((sockets, sources, console)),
+        Some(console) => Ok(Running {
+            sockets,
+            sources,
+            console,
+            end,
+        }),
         None => Err(Fault::Memory),
     }
 }
 
-// A server that is ready to serve: the meter and the sockets for its clients.
+// A server that is ready to serve: the meter, its journal if it has one, and the sockets for its
+// clients.
 #[derive(Drop)]
 pub(crate) struct Server {
     plan: ServePlan<Stdin>,
+    journal: Option<OpenJournal>,
     listener: TcpListener,
     address: SocketAddr,
 }
@@ -182,29 +223,89 @@ fn listening(
     Ok((listener, address))
 }
 
-// Prepares a server up to the first client: checks the options, reads the trace to resume from,
-// and listens.
-pub(crate) fn begin(rt: &HostRuntime, options: &ServeOptions) -> Result<Server, Fault> {
-    let plan = match make_plan(rt.alloc(), rt.stdin(), options) {
-        Ok(plan) => plan,
+// Validates the options, and reads the trace to resume from. If `--verbose` is given, a line on
+// standard error says what is wrong.
+fn plan_server(rt: &HostRuntime, options: &ServeOptions) -> Result<ServePlan<Stdin>, Fault> {
+    match make_plan(rt.alloc(), rt.stdin(), options) {
+        Ok(plan) => Ok(plan),
         Err(fault) => {
             if options.bounds.is_verbose && fault == Fault::Input {
                 let _ = eprintln!(rt; "{}", why_wrong_input(options));
             }
-            return Err(fault);
+            Err(fault)
         }
+    }
+}
+
+// Prepares a server up to the first client: validates the options, reads the trace to resume from,
+// opens the journal, and listens.
+pub(crate) fn begin(rt: &HostRuntime, options: &ServeOptions) -> Result<Server, Fault> {
+    let plan = plan_server(rt, options)?;
+    let (plan, journal) = match &options.journal {
+        Some(path) => {
+            let (plan, journal) = open_journal(rt, path.as_str(), plan)?;
+            (plan, Some(journal))
+        }
+        None => (plan, None),
     };
     match listening(rt, options.address.as_str(), options.bounds.is_verbose) {
         Ok((listener, address)) => Ok(Server {
             plan,
+            journal,
             listener,
             address,
         }),
         Err(fault) => {
             drop(plan);
+            drop(journal);
             Err(fault)
         }
     }
+}
+
+// Runs the meter, with its journal if it has one, and prints its trace. Returns the results of
+// serving, of the journal and of printing.
+fn serve_and_print<R: Threads + Wait + Copy + Drop + Send + 'static>(
+    rt: &HostRuntime,
+    threads: &R,
+    server: (Sockets<HostRuntime>, ConsoleSources<R>, ServerEnd<R>),
+    recorder: Recorder,
+    journal: Option<OpenJournal>,
+    meter: &ClientParameters,
+) -> (Result<(), Fault>, Result<(), Fault>, Result<(), Fault>)
+    requires { length recorder.events ≡ 0 }
+{
+    let (mut sockets, sources, end) = server;
+    let mut output = rt.stdout();
+    let (served, kept, printed) = match journal {
+        Some(journal) => run_journaled(
+            rt,
+            threads,
+            &mut output,
+            &mut sockets,
+            recorder,
+            JournaledParts {
+                sources,
+                journal,
+                end,
+            },
+            meter,
+        ),
+        None => {
+            drop(end);
+            let (served, printed) = run_and_print(
+                threads,
+                rt.alloc(),
+                &mut output,
+                &mut sockets,
+                sources,
+                recorder,
+                meter,
+            );
+            (served, Ok(()), printed)
+        }
+    };
+    (run_fault(served, sockets.has_failed()), kept, printed)
 }
 
 // Serves clients in parallel with the lines of the console, and prints the trace of the meter at
@@ -216,6 +317,7 @@ pub(crate) fn run<R: Threads + Wait + Copy + Drop + Send + 'static>(
 ) -> Result<(), Fault> {
     let Server {
         plan,
+        journal,
         listener,
         address,
     } = server;
@@ -226,29 +328,29 @@ pub(crate) fn run<R: Threads + Wait + Copy + Drop + Send + 'static>(
         input,
     } = plan;
     match start_server(rt, threads, bounds, input, listener, address) {
-        Ok((mut sockets, sources, console)) => {
+        Ok(running) => {
+            let Running {
+                sockets,
+                sources,
+                console,
+                end,
+            } = running;
             let meter = ClientParameters {
                 password,
                 connections: bounds.connections,
             };
-            let (served, printed) = run_and_print(
-                threads,
-                rt.alloc(),
-                &mut rt.stdout(),
-                &mut sockets,
-                sources,
-                recorder,
-                &meter,
-            );
-            let served = run_fault(served, sockets.has_failed());
+            let server = (sockets, sources, end);
+            let (served, kept, printed) =
+                serve_and_print(rt, threads, server, recorder, journal, &meter);
             // (if there was no fault, the sources have ended, and so has the console)
-            let console = if served.is_ok() {
+            let console = if served.is_ok() && kept.is_ok() {
                 Some(console.join(threads))
             } else {
                 None
             };
             Ends {
                 served,
+                journal: kept,
                 console,
                 printed,
             }
@@ -256,6 +358,7 @@ pub(crate) fn run<R: Threads + Wait + Copy + Drop + Send + 'static>(
         }
         Err(fault) => {
             drop(recorder);
+            drop(journal);
             Err(fault)
         }
     }

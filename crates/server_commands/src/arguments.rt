@@ -121,6 +121,17 @@ fn listen<'a>(alloc: Global) -> Arg<'a>
     )
 }
 
+// Returns the option `--journal`, which has no default.
+fn journal<'a>(alloc: Global) -> Arg<'a> {
+    Arg::new(alloc, "journal")
+        .long("journal")
+        .value_name("FILE")
+        .help(
+            "Journal: events are on disk before they are answered; the meter resumes from FILE",
+        )
+        .action(ArgAction::Set)
+}
+
 // Returns the option `--depth`.
 fn depth<'a>(alloc: Global) -> Arg<'a>
     ensures { default_of result ≡ Some (codes "256") }
@@ -188,8 +199,8 @@ fn apdu<'a>(alloc: Global) -> Result<Command<'a>, AllocError> {
         .arg(verbose(alloc))
 }
 
-// Adds the options of `serve` for the meter and its address. `--password` is required unless
-// `has_password`.
+// Adds the options of `serve` for the meter, its address and its journal. `--password` is required
+// unless `has_password`.
 fn with_meter<'a>(
     alloc: Global,
     made: Result<Command<'a>, AllocError>,
@@ -205,7 +216,8 @@ fn with_meter<'a>(
     );
     let made = with_argument(made, password_file(alloc));
     let made = with_argument(made, device(alloc));
-    with_argument(made, listen(alloc))
+    let made = with_argument(made, listen(alloc));
+    with_argument(made, journal(alloc))
 }
 
 // Adds the options of `serve` that limit the trace, the connections and their duration.

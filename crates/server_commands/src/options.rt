@@ -1,6 +1,7 @@
 //! The options of each command.
 ghost use Rattle.std.specs.Prelude.{◌≡◌, true, codes, string_bytes, ℕ, List, Some, None};
 ghost use Rattle.std.specs.Prelude.{IfOk, IfErr};
+ghost use Rattle.std.specs.Option.{option_map};
 ghost use Rattle.clap.specs.Matches.{first_value, found_of};
 ghost use Rattle.program.specs.Passwords.{HasNoLineEnd};
 ghost use Rattle.server_commands.specs.Asking.{is_of_asking};
@@ -56,6 +57,8 @@ pub struct ServeOptions {
     pub device: String,
     /// The address that clients connect to.
     pub address: String,
+    /// The path of the journal, if the meter has one.
+    pub journal: Option<String>,
     /// The limits and flags.
     pub bounds: Bounds,
 }
@@ -79,6 +82,22 @@ fn text_of(alloc: Global, matches: &ArgMatches<'_>, name: &str) -> Result<String
     ensures err { IfErr result (λ fault. is_of_asking fault ≡ true) }
 {
     copy_text(alloc, matches.get_str(name).unwrap_or(""))
+}
+
+// Returns the text of an option, if it is given.
+fn given_text(
+    alloc: Global,
+    matches: &ArgMatches<'_>,
+    name: &str,
+) -> Result<Option<String>, Fault>
+    ensures text { IfOk result (λ text. option_map string_bytes text
+        ≡ first_value (found_of matches.now) name.now) }
+    ensures err { IfErr result (λ fault. is_of_asking fault ≡ true) }
+{
+    match matches.get_str(name) {
+        Some(text) => Ok(Some(copy_text(alloc, text)?)),
+        None => Ok(None),
+    }
 }
 
 // Reads the options of `hex`.
@@ -190,6 +209,8 @@ pub(crate) fn serve_options<R: Env + AllocGlobal + Eprint + Files<File = File>>(
         (λ options. IsText (found_of matches.now) (codes "device") (string_bytes options.device)) }
     ensures address { IfOk result
         (λ options. IsText (found_of matches.now) (codes "listen") (string_bytes options.address)) }
+    ensures journal { IfOk result (λ options. option_map string_bytes options.journal
+        ≡ first_value (found_of matches.now) (codes "journal")) }
     ensures bounds { IfOk result (λ options. IsBounds (found_of matches.now) options.bounds) }
     ensures err { IfErr result (λ fault. is_of_asking fault ≡ true) }
 {
@@ -197,10 +218,12 @@ pub(crate) fn serve_options<R: Env + AllocGlobal + Eprint + Files<File = File>>(
     let password = password_of(rt, matches)?;
     let device = text_of(rt.alloc(), matches, "device")?;
     let address = text_of(rt.alloc(), matches, "listen")?;
+    let journal = given_text(rt.alloc(), matches, "journal")?;
     Ok(ServeOptions {
         password,
         device,
         address,
+        journal,
         bounds,
     })
 }

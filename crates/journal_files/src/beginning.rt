@@ -1,0 +1,51 @@
+//! Begins a journal: its first text, written as a whole.
+ghost use Rattle.std.specs.Prelude.{◌⊎◌, IfOk, OnOk};
+ghost use Rattle.durable_lines.specs.CrashModel.{LeavesOnly};
+ghost use Rattle.durable_lines.specs.Lines.{IsSettled};
+ghost use Rattle.journal_files.specs.Journals.{IsBegun, IsJournalOf};
+
+use crate::fault::StartFault;
+use cosem_axdr::Octets;
+use durable_lines::{Place, is_text, replace};
+use relay_recorder::Recorder;
+use std::alloc::Global;
+use trace_player::write_journal;
+
+// Returns the text of the journal of a recorder.
+fn journal_of(alloc: Global, recorder: &Recorder) -> Result<Octets, StartFault>
+    ensures { IfOk result (IsJournalOf recorder.now) }
+{
+    let trace = recorder.export(alloc)?;
+    let text = write_journal(alloc, &trace);
+    drop(trace);
+    Ok(text?)
+}
+
+/// Writes the journal of a recorder under the name of a place: the state of its meter before the
+/// events that it keeps, and these events. Returns the file, ready for
+/// [`append_lines`](durable_lines::append_lines).
+///
+/// After `Ok` every crash leaves that journal under the name; a crash during the call leaves it, or
+/// what could be left before. Errors: `Memory`; `File` if a call on the place or its file failed,
+/// after which the name has the old file or the new one; `TooLong` if the text is longer than the
+/// file may be.
+pub fn begin_journal<P: Place>(
+    alloc: Global,
+    place: &mut P,
+    recorder: &Recorder,
+) -> Result<P::Draft, StartFault>
+    ensures begun { IfOk result (λ file. P.Draft.acts_as_file
+        → IsBegun recorder.now (P.Draft.seen file) (P.may_leave place.new)) }
+    ensures settled { IfOk result (λ file. P.Draft.acts_as_file
+        → IsSettled P.Draft.seen P.Draft.may_leave P.Draft.stored file) }
+    // A crash at any moment of the call leaves what could be left before, or the new journal.
+    ensures any_moment { P.Draft.acts_as_file
+        → LeavesOnly P.moment P.left_since place.old place.new
+        (λ c. P.may_leave place.old c ⊎ IsJournalOf recorder.now c) }
+{
+    let text = journal_of(alloc, recorder)?;
+    if !is_text(text.as_slice()) {
+        return Err(StartFault::Line(1));
+    }
+    Ok(replace(place, text.as_slice())?)
+}

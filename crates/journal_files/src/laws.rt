@@ -1,0 +1,33 @@
+//! Laws of journals. Each function is a law: its contract states it, and a call makes it known to the
+//! prover.
+ghost use Rattle.std.specs.Prelude.{◌≡◌, ◌≤◌, ◌++◌, ℕ, List, Ok, length};
+ghost use Rattle.journal_files.specs.Journals.{changing};
+ghost use Rattle.relay_core.specs.Runs.{world_after};
+ghost use Rattle.relay_events.specs.declared.event.Event.{Event};
+ghost use Rattle.relay_recorder.specs.declared.trace.Trace.{Trace};
+ghost use Rattle.trace_openings.specs.OpeningTraced.{IsWritable};
+ghost use Rattle.trace_player.specs.Journals.{events_text, journal_text, with_events};
+ghost use Rattle.trace_player.specs.Resuming.{world_of};
+ghost use Rattle.trace_player.specs.Traces.{max_bytes, trace_of};
+ghost use Rattle.trace_player.specs.Written.{AreTraced};
+ghost use Rattle.trace_words.specs.WholeLines.{IsTail};
+
+use trace_player::written_journal_is_read;
+
+/// Proves that a meter that is started again stands where it stood. Its journal was begun with a
+/// trace; since then it got the line of each event that may change the meter, and whatever torn
+/// tail. It is read as the trace with these events, and the meter after that trace is the one after
+/// all events, also those that only read.
+#[tactic(auto, using(crate::proofs::Restarts::goes_on))]
+pub fn restarted_meter_stands_where_it_stood()
+    ensures read { (trace : Trace) (events : List Event) (tail : List ℕ)
+        → IsWritable trace.opening → AreTraced trace.events → AreTraced (changing events)
+        → IsTail tail
+        → length (journal_text trace ++ events_text (changing events) ++ tail) ≤ max_bytes
+        → trace_of (journal_text trace ++ events_text (changing events) ++ tail)
+        ≡ Ok (with_events trace (changing events)) }
+    ensures stands { (trace : Trace) (events : List Event)
+        → world_of (with_events trace (changing events)) ≡ world_after events (world_of trace) }
+{
+    written_journal_is_read();
+}

@@ -1,0 +1,91 @@
+//! Resumes a journal: judges its text, cuts an interrupted line, and goes on where its lines end.
+ghost use Rattle.std.specs.Prelude.{◌≡◌, ◌≤◌, [], Ok, IfOk, IfErr, OnOk};
+ghost use Rattle.durable_lines.specs.Lines.{IsSettled, lines_in, text_of};
+ghost use Rattle.journal_files.specs.Faults.{IsRefusal};
+ghost use Rattle.journal_files.specs.Journals.{Continues};
+ghost use Rattle.relay_core.specs.Opening.{IsFitOpening};
+ghost use Rattle.trace_player.specs.Journals.{IsJournal};
+ghost use Rattle.trace_player.specs.Traces.{trace_of};
+
+use crate::fault::StartFault;
+use cosem_axdr::Octets;
+use durable_lines::{DurableFile, recover};
+use relay_recorder::{Recorder, Trace};
+use std::alloc::Global;
+use trace_player::{is_journal, read_trace, resumed_recorder};
+
+/// A journal that was resumed.
+#[derive(Drop)]
+pub struct Resumed {
+    /// The recorder of the meter, which has no events yet.
+    pub recorder: Recorder,
+    /// The number of bytes of an interrupted write that were cut.
+    pub cut: usize,
+}
+
+// Reads the trace that a journal's text tells of, for the meter of this name.
+fn judged_trace(alloc: Global, text: &[u8], device: &Octets) -> Result<Trace, StartFault>
+    ensures told { IfOk result (λ trace. trace_of text.now ≡ Ok trace) }
+    ensures journal { OnOk result (IsJournal text.now) }
+    ensures fit { IfOk result (λ trace. IsFitOpening trace.opening) }
+    ensures device { IfOk result (λ trace. trace.opening.device ≡ device.now) }
+{
+    let trace = read_trace(alloc, text)?;
+    if !is_journal(text) {
+        drop(trace);
+        return Err(StartFault::Counted);
+    }
+    if trace.opening.device.as_slice() != device.as_slice() {
+        drop(trace);
+        return Err(StartFault::OtherMeter);
+    }
+    Ok(trace)
+}
+
+/// Resumes the journal of the meter with this name: reads it, cuts what an interrupted write has
+/// left after its last whole line, and returns the recorder of a meter that goes on where its lines
+/// end, which keeps at most `depth` events, 1 to 1,024. The file is then ready for
+/// [`append_lines`](durable_lines::append_lines).
+///
+/// Errors, in this order: `File` if a call on the file failed; `TooLong`; `Line`; `Counted`;
+/// `OtherMeter`. After these the file is as it was, unless a call failed after the text was found
+/// right. `Memory` can occur at any point.
+pub fn resume_journal<F: DurableFile>(
+    alloc: Global,
+    file: &mut F,
+    device: &Octets,
+    depth: u16,
+) -> Result<Resumed, StartFault>
+    requires { (1 ≤ depth) × (depth ≤ 1024) }
+    ensures empty { IfOk result (λ resumed. resumed.recorder.events ≡ []) }
+    ensures capacity { IfOk result (λ resumed. resumed.recorder.capacity ≡ depth) }
+    ensures continues { IfOk result (λ resumed. F.acts_as_file
+        → Continues device.now (F.seen file.old) resumed.recorder) }
+    ensures refused { IfErr result (λ fault. IsRefusal fault
+        → F.seen file.new ≡ F.seen file.old) }
+    ensures seen { OnOk result (F.acts_as_file
+        → F.seen file.new ≡ text_of (lines_in (F.seen file.old))) }
+    ensures settled { OnOk result (F.acts_as_file
+        → IsSettled F.seen F.may_leave F.stored file.new) }
+{
+    let bytes = file.read(alloc)?;
+    let judged = judged_trace(alloc, bytes.as_slice(), device);
+    drop(bytes);
+    let trace = judged?;
+    match recover(alloc, file) {
+        Ok(found) => {
+            let cut = found.cut;
+            drop(found);
+            let made = resumed_recorder(alloc, &trace, depth);
+            drop(trace);
+            Ok(Resumed {
+                recorder: made?,
+                cut,
+            })
+        }
+        Err(fault) => {
+            drop(trace);
+            Err(StartFault::from(fault))
+        }
+    }
+}

@@ -1,0 +1,196 @@
+-- What serving did, the journal's worker and the meter in the lock are a run with a journal.
+use Rattle.std.proofs.Common.{◌≡◌, ℕ, zero, suc, ◌+◌, ◌<◌, ◌≤◌, List, [], ◌∷◌, ◌++◌, Option, Some, None}
+use Rattle.std.proofs.Common.{Result, Ok, Err, IfOk, refl, sym, ap, subst, ◌∙◌, arith, inl, inr}
+use Rattle.durable_lines.specs.CrashModel.{LeavesOnly}
+use Rattle.durable_lines.proofs.Moments.{begin}
+use Rattle.durable_lines.specs.Lines.{lines_in, IsSettled}
+use Rattle.meter_journal.specs.Saving.{IsSaved, IsSavedFrom, Keeps}
+use Rattle.meter_journal.proofs.KeepingLemmas.{saved_none}
+use Rattle.meter_journal.proofs.SavingLemmas.{saved_later}
+use Rattle.meter_run.specs.Journaled.{IsJournaledRun, IsStarted, IsFinished}
+use Rattle.meter_run.specs.Runs.{Given, ServesAll}
+use Rattle.meter_run.proofs.RunLemmas.{AreSilent, run_of, run_seen}
+use Rattle.meter_server.proofs.ServingAllLemmas.{acted_on, counted_by, ended_map, joined_on}
+use Rattle.meter_server.proofs.SessionLemmas.{sessions_on}
+use Rattle.meter_server.specs.declared.serving_all.Served.{Served}
+use Rattle.port_threads.proofs.Going.{goes_trans, starts_trans}
+use Rattle.port_threads.specs.Ports.{SplitsOff, child}
+use Rattle.port_threads.specs.Workers.{ComesBack, Ended}
+use Rattle.program.specs.declared.fault.Fault.{Fault}
+use Rattle.relay_core.specs.Opening.{opening_of}
+use Rattle.relay_core.specs.declared.opening.Opening.{Opening}
+use Rattle.relay_events.specs.declared.event.Event.{Event}
+use Rattle.relay_events.specs.declared.reply.Reply.{Reply}
+use Rattle.relay_recorder.specs.Recording.{Recording}
+use Rattle.session_io.specs.declared.fault.ServeFault.{ServeFault}
+use Rattle.shared_meter.specs.Calls.{Calls, IsLegal}
+use Rattle.shared_meter.specs.Handed.{MeterPort}
+use Rattle.turn_lock.specs.Calls.{Watches}
+use Rattle.turn_lock.specs.History.{StartsWith, IsAmong, calls_by}
+use Rattle.turn_lock.specs.Rule.{first_known}
+use Rattle.turn_lock.specs.declared.known.Known.{Known}
+use Rattle.turn_lock.specs.declared.call_fault.CallFault.{CallFault}
+
+-- a worker of a port
+abbrev Did : Type 1
+Did = MeterPort → MeterPort → Result (Unit {0}) CallFault → Type 0
+
+-- the first port that was split off, and the one that it was split off from
+pub started_first : (o : Opening) (p own q : MeterPort) → p.known ≡ first_known o
+    → SplitsOff p own q → IsStarted o own q
+started_first o p own q first off =
+    let number : p.known.number ≡ [] = ap (λ (k : Known Event Reply Opening). k.number) first in
+    record {
+      starts = record {
+        origin_is = off.goes.origin ∙ ap (λ (k : Known Event Reply Opening). k.origin) first;
+        number = off.goes.number ∙ number;
+        splits = off.splits ∙ ap (λ (k : Known Event Reply Opening). k.splits + 1) first;
+        own = off.goes.own [] (inl (sym number))
+            ∙ ap (λ (k : Known Event Reply Opening). calls_by [] k.seen) first;
+      };
+      lock = off.lock ∙ sym off.goes.lock;
+      number = off.number ∙ ap (λ (k : Known Event Reply Opening). child k.number k.splits) first;
+      fresh = off.fresh;
+    }
+
+-- serving is as it was once a port that was split off before is joined in
+serves_joined : (did : Did) (given : Given) (served : Result Served ServeFault)
+    (lent p q after : MeterPort) (end : Option (Result (Unit {0}) CallFault))
+    → ServesAll given p q served → ComesBack did lent end q after → ServesAll given p after served
+serves_joined did given served lent p q after end s back =
+    let on = back.taken.goes in
+    let splits = back.taken.splits in
+    record {
+      goes = goes_trans p q after s.goes on;
+      joined = joined_on q after p.known.splits on splits s.joined;
+      sessions = sessions_on given.password p.known.splits (p.known.splits + 3)
+          (p.known.splits + 3) q after refl (omega arith) on splits s.joined s.sessions;
+      counted = counted_by served _ _ _ _ refl (sym splits) s.counted;
+      blocks = ended_map served _ _ (acted_on q after _ _ on) s.blocks;
+      moments = ended_map served _ _ (acted_on q after _ _ on) s.moments;
+      presses = ended_map served _ _ (acted_on q after _ _ on) s.presses;
+    }
+
+-- the port that was lent made no call
+made_none : (did : Did)
+    → ((p q : MeterPort) (end : Result (Unit {0}) CallFault) → did p q end
+    → Watches IsLegal p.known q.known) → (lent back : MeterPort)
+    (end : Option (Result (Unit {0}) CallFault)) → Ended did lent back end
+    → calls_by lent.known.number back.known.seen ≡ calls_by lent.known.number lent.known.seen
+made_none did quiet lent back None same = ap
+    (λ (p : MeterPort). calls_by lent.known.number p.known.seen) same
+made_none did quiet lent back (Some end) worked =
+    (quiet lent back end worked).sees.own_calls lent.known.number (inl refl)
+
+-- the journal's port is the only one before those of the sources, and has made no call
+silent_first : (did : Did)
+    → ((p q : MeterPort) (end : Result (Unit {0}) CallFault) → did p q end
+    → Watches IsLegal p.known q.known) → (lent before after : MeterPort)
+    (end : Option (Result (Unit {0}) CallFault)) → ComesBack did lent end before after
+    → lent.known.number ≡ 0 ∷ [] → calls_by lent.known.number lent.known.seen ≡ []
+    → AreSilent 1 after
+silent_first did quiet lent before after end back number fresh i below =
+    let first : i ≡ 0 = omega (arith, below) in
+    let named : back.back.known.number ≡ i ∷ [] =
+    back.same.number ∙ number ∙ sym (ap (λ (n : ℕ). n ∷ []) first) in
+    let J : List ℕ → Type 0 = λ n. IsAmong n after.known.joined in
+    let C : List ℕ → Type 0 = λ n. calls_by n after.known.seen ≡ [] in
+    let theirs : calls_by back.back.known.number after.known.seen ≡ [] =
+    back.taken.theirs ∙ ap (λ (n : List ℕ). calls_by n back.back.known.seen) back.same.number
+    ∙ made_none did quiet lent back.back end back.ended ∙ fresh in
+    (subst J named back.taken.joined, subst C named theirs)
+
+-- a crash that leaves the lines of a history leaves those of a longer one
+leaves_later : {F : Type 0} (moment : F → ℕ) (left_since : F → ℕ → List ℕ → Type 0)
+    (began ended : F) (first : List (List ℕ)) (before after : Calls) → StartsWith after before
+    → LeavesOnly moment left_since began ended (IsSavedFrom 0 first before)
+    → LeavesOnly moment left_since began ended (IsSavedFrom 0 first after)
+leaves_later moment left_since began ended first before after longer leaves =
+    let on : (c : List ℕ) → IsSavedFrom 0 first before c → IsSavedFrom 0 first after c =
+    λ c (n, from, saved). (n, from, saved_later first n before after c longer saved) in
+    record {
+      later = leaves.later;
+      each = λ c left. on c (leaves.each c left);
+      before = λ t c early left. elim (leaves.before t c early left) [
+        | inl was ↦ inl was
+        | inr now ↦ inr (on c now)
+      ];
+    }
+
+-- what the worker of a journal did: it made no call, and its file has a front of the lines
+module _ {F : Type 0} (acts : Type 0) (seen : F → List ℕ) (may_leave : F → List ℕ → Type 0)
+    (moment : F → ℕ) (left_since : F → ℕ → List ℕ → Type 0) (file : F) where
+  abbrev JournalDid : Did
+  JournalDid = Keeps acts seen may_leave moment left_since file
+
+  quiet : (p q : MeterPort) (end : Result (Unit {0}) CallFault) → JournalDid p q end
+      → Watches IsLegal p.known q.known
+  quiet p q end worked = worked.watches
+
+  -- the file of a worker that was not started has the lines that it had
+  kept_by : (lent back : MeterPort) (end : Option (Result (Unit {0}) CallFault))
+      → (acts → (calls : Calls)
+      → LeavesOnly moment left_since file file (IsSavedFrom 0 (lines_in (seen file)) calls))
+      → Ended JournalDid lent back end → acts
+      → (ended : F) × LeavesOnly moment left_since file ended
+      (IsSavedFrom 0 (lines_in (seen file)) back.known.seen)
+  kept_by lent back None idle same a = (file, idle a back.known.seen)
+  kept_by lent back (Some end) idle worked a =
+      let kept = worked.leaves a in (kept.0, kept.1.any_moment)
+
+  journaled_run : (recorder : Recording) (given : Given) (served : Result Served ServeFault)
+      (trace : Result (List ℕ) Fault) (lent p q : MeterPort)
+      → (acts → (calls : Calls)
+      → LeavesOnly moment left_since file file (IsSavedFrom 0 (lines_in (seen file)) calls))
+      → IsStarted (opening_of recorder.core) lent p → ServesAll given p q served
+      → IsFinished JournalDid lent q trace
+      → IfOk trace (IsJournaledRun acts seen moment left_since file recorder given served)
+  journaled_run recorder given served (Err fault) lent p q idle started serves finished = tt
+  journaled_run recorder given served (Ok text) lent p q idle started serves finished =
+      let after = finished.after in
+      let back = finished.back in
+      let silent : AreSilent 1 after = silent_first JournalDid quiet lent q after finished.end back
+      started.number started.fresh in
+      let run = run_of 1 recorder given served text p after (opening_of recorder.core)
+      started.starts refl silent
+      (serves_joined JournalDid given served lent p q after finished.end serves back)
+      finished.traces in
+      let longer : StartsWith run.calls back.back.known.seen =
+      starts_trans back.back.known.seen after.known.seen run.calls back.taken.told
+      (run_seen 1 recorder given served text p after (opening_of recorder.core) started.starts refl
+      silent (serves_joined JournalDid given served lent p q after finished.end serves back)
+      finished.traces) in
+      record {
+        run = run;
+        kept = λ a.
+            let kept = kept_by lent back.back finished.end idle back.ended a in
+            (kept.0, leaves_later moment left_since file kept.0 (lines_in (seen file))
+            back.back.known.seen run.calls longer kept.1);
+      }
+
+  -- the file of a worker that has not begun has the lines that it had
+  pub idle_file : (stored : List ℕ → Type 0)
+      → ((c : List ℕ) → left_since file (moment file) c → may_leave file c)
+      → (acts → IsSettled seen may_leave stored file) → acts → (calls : Calls)
+      → LeavesOnly moment left_since file file (IsSavedFrom 0 (lines_in (seen file)) calls)
+  idle_file stored only_now settled a calls =
+      begin moment left_since file (IsSavedFrom 0 (lines_in (seen file)) calls) (may_leave file)
+      only_now (λ c left.
+      let same : c ≡ seen file = (settled a).durable c left in
+      let saved : IsSaved (lines_in (seen file)) 0 calls c =
+      subst (λ (bytes : List ℕ). IsSaved (lines_in (seen file)) 0 calls bytes) (sym same)
+      (saved_none calls (seen file)) in
+      (0, omega arith, saved))
+
+  -- the same for the file of the worker
+  pub journaled_by : (recorder : Recording) (given : Given) (served : Result Served ServeFault)
+      (trace : Result (List ℕ) Fault) (lent p q : MeterPort) (its : F) → its ≡ file
+      → (acts → (calls : Calls)
+      → LeavesOnly moment left_since file file (IsSavedFrom 0 (lines_in (seen file)) calls))
+      → IsStarted (opening_of recorder.core) lent p → ServesAll given p q served
+      → IsFinished (Keeps acts seen may_leave moment left_since its) lent q trace
+      → IfOk trace (IsJournaledRun acts seen moment left_since file recorder given served)
+  journaled_by recorder given served trace lent p q its is idle started serves finished =
+      journaled_run recorder given served trace lent p q idle started serves
+      (subst (λ (f : F). IsFinished (Keeps acts seen may_leave moment left_since f) lent q trace) is
+      finished)

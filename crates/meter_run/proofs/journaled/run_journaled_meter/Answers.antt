@@ -1,0 +1,23 @@
+use denote.Param.Send.{sendable}
+use Rattle.std.proofs.Crossing.{crosses}
+use Rattle.meter_journal.proofs.progress.ProgressState.TheSendSync.{the_sync as state_sync}
+use Rattle.meter_run.proofs.JournaledLemmas.{journaled_by}
+use Rattle.meter_run.proofs.journaled.run_journaled_meter.Goals as goal
+
+pub serve-port-requires-send-D : goal.serve-port-requires-send-D
+serve-port-requires-send-D g c κs within =
+    search (sendable, crosses, state_sync) depth 20 fits 100000
+
+pub returns-clause-run : goal.returns-clause-run
+returns-clause-run g c =
+    let D = g.F.DurableFile in
+    let started = c.in-Some.started in
+    journaled_by D.acts_as_file D.seen D.may_leave D.moment D.left_since c.args.journal.file
+    c.args.recorder (record {
+      blocks = g.B.BlockSource.forecast c.args.sources.blocks;
+      moments = g.M.MomentSource.forecast c.args.sources.moments;
+      presses = g.U.ButtonSource.forecast c.args.sources.buttons;
+      password = c.args.terms.now.password.now;
+    }) c.serve-port.result.1 c.finish-trace.result.0 started.running.promise.port.value
+    started.port c.serve-port.result.0 started.running.promise.worker.value c.in-Some.ensures.file
+    c.file_is_idle.ensures c.in-Some.ensures.starts c.serve-port.ensures.serves c.finish-trace.ensures.finished

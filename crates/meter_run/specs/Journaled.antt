@@ -1,0 +1,53 @@
+-- One run of a meter that has a journal.
+--     IsJournaledRun      a run, and what its journal has of its lines
+--     IsStarted           the port of the journal's worker
+--     IsFinished          how a run ends
+--     fault_of_journal    the fault of a journal
+use Rattle.std.specs.Prelude.{◌≡◌, ℕ, List, [], ◌∷◌, Option, Some, None, Result, Ok, Err, IfOk}
+use Rattle.durable_lines.specs.CrashModel.{LeavesOnly}
+use Rattle.durable_lines.specs.Lines.{lines_in}
+use Rattle.meter_journal.specs.Saving.{IsSavedFrom}
+use Rattle.meter_run.specs.Runs.{Given, IsRunFrom, StartsFrom, Traces}
+use Rattle.meter_server.specs.declared.serving_all.Served.{Served}
+use Rattle.port_threads.specs.Workers.{ComesBack}
+use Rattle.program.specs.declared.fault.Fault.{Fault}
+use Rattle.program.specs.declared.fault.Fault.TheVariants as fault
+use Rattle.relay_core.specs.declared.opening.Opening.{Opening}
+use Rattle.relay_recorder.specs.Recording.{Recording}
+use Rattle.session_io.specs.declared.fault.ServeFault.{ServeFault}
+use Rattle.shared_meter.specs.Handed.{MeterPort}
+use Rattle.turn_lock.specs.History.{calls_by}
+use Rattle.turn_lock.specs.declared.call_fault.CallFault.{CallFault}
+
+-- A run in which the first port that was split off is the journal's; and if the file acts as the
+-- crash model says, a crash at any moment of the run leaves the lines that it had first, followed by
+-- a front of the lines of the run.
+pub record IsJournaledRun {F : Type 0} (acts : Type 0) (seen : F → List ℕ) (moment : F → ℕ)
+    (left_since : F → ℕ → List ℕ → Type 0) (file : F) (recorder : Recording) (given : Given)
+    (served : Result Served ServeFault) (text : List ℕ) : Type 0 where
+  pub run : IsRunFrom 1 recorder given served text
+  pub kept : acts → (ended : F) × LeavesOnly moment left_since file ended
+      (IsSavedFrom 0 (lines_in (seen file)) run.calls)
+
+-- The port `lent`, which has made no call, was split off from the first port of a lock, whose later
+-- state is p, before any other.
+pub record IsStarted (origin : Opening) (lent p : MeterPort) : Type 0 where
+  pub starts : StartsFrom 1 origin p
+  pub lock : lent.lock ≡ p.lock
+  pub number : lent.known.number ≡ 0 ∷ []
+  pub fresh : calls_by lent.known.number lent.known.seen ≡ []
+
+-- The port that was lent to the journal's worker was joined into the port `before`, and then the
+-- trace was written.
+pub record IsFinished (did : MeterPort → MeterPort → Result (Unit {0}) CallFault → Type 0)
+    (lent before : MeterPort) (trace : Result (List ℕ) Fault) : Type 0 where
+  pub end : Option (Result (Unit {0}) CallFault)
+  pub after : MeterPort
+  pub back : ComesBack did lent end before after
+  pub traces : IfOk trace (Traces after.known)
+
+-- the fault of a journal by the end of its worker, or by its absence
+abbrev pub fault_of_journal : Option (Result (Unit {0}) CallFault) → Result (Unit {0}) Fault
+fault_of_journal None = Err fault.Memory
+fault_of_journal (Some (Ok done)) = Ok tt
+fault_of_journal (Some (Err stopped)) = Err fault.Write

@@ -1,0 +1,264 @@
+//! The journal of `serve`: its lock file, its file, and the recorder that goes on where it ends.
+ghost use Rattle.std.specs.Prelude.{◌≡◌, [], None, IfOk, OnOk, length};
+ghost use Rattle.meter_run.specs.Journaled.{IsJournaledRun};
+ghost use Rattle.meter_server_cli.specs.Endings.{PrintsText};
+
+use crate::ending::print_trace;
+use crate::serving::{ClientParameters, meter_sources};
+use durable_lines::{LockFault, LockFile, StoredFile, StoredPlace};
+use journal_files::{Resumed, StartFault, begin_journal, resume_journal};
+use meter_journal::{FailureAction, JournalFault};
+use meter_run::{JournaledRun, MeterJournal, RunTerms, run_journaled_meter};
+use meter_server::{ServeFault, Served};
+use program::Fault;
+use relay_recorder::Recorder;
+use server_commands::ServePlan;
+use server_io::{Closing, ConsoleSources, Sockets, SourcesEnd};
+use std::alloc::AllocError;
+use std::fs::File;
+use std::io::{ErrorKind, Stdin, Write};
+use std::sync::Wait;
+use std::thread::Threads;
+use trace_player::MAX_BYTES;
+
+// What follows the path of the journal in that of its lock file.
+const LOCK_SUFFIX: &str = ".lock";
+
+// What follows the path of the journal in that of the draft by which it is replaced.
+const DRAFT_SUFFIX: &str = ".new";
+
+// An open journal: its path, its file, and the lock that keeps other servers from it.
+#[derive(Drop)]
+pub(crate) struct OpenJournal {
+    path: String,
+    file: StoredFile,
+    lock: LockFile,
+}
+
+// What ends a server whose journal has failed: its listening, and the sources of its own events.
+#[derive(Drop)]
+pub(crate) struct ServerEnd<R> {
+    pub(crate) closing: Closing<HostRuntime>,
+    pub(crate) sources: SourcesEnd<R>,
+}
+
+// What a server with a journal has besides its sockets.
+#[derive(Drop)]
+pub(crate) struct JournaledParts<R> {
+    pub(crate) sources: ConsoleSources<R>,
+    pub(crate) journal: OpenJournal,
+    pub(crate) end: ServerEnd<R>,
+}
+
+// Reports that the journal of a path has failed, and ends its server.
+#[derive(Drop)]
+struct JournalEnd<R> {
+    rt: HostRuntime,
+    path: String,
+    server: ServerEnd<R>,
+}
+
+impl<R: Wait + Copy + Drop + Send> FailureAction for JournalEnd<R> {
+    fn act(self, fault: JournalFault) {
+        let _ = eprintln!(self.rt; "{}: the journal failed: {fault}", self.path);
+        self.server.closing.close();
+        self.server.sources.end();
+    }
+}
+
+// Returns a path with this suffix.
+fn with_suffix(rt: &HostRuntime, path: &str, suffix: &str) -> Result<String, AllocError> {
+    let mut text = String::new(rt.alloc());
+    text.push_str(path)?;
+    text.push_str(suffix)?;
+    Ok(text)
+}
+
+// Returns the path of the folder that a path is in.
+fn folder_of(path: &str) -> &str {
+    match path.rfind('/') {
+        Some(0) => "/",
+        Some(end) => &path[..end],
+        None => ".",
+    }
+}
+
+// Writes the journal of a recorder as a new file.
+fn begin_file(
+    rt: &HostRuntime,
+    path: &str,
+    recorder: &Recorder,
+) -> Result<StoredFile, StartFault> {
+    let Ok(folder) = File::open(rt, folder_of(path)) else {
+        return Err(StartFault::File);
+    };
+    let draft_path = with_suffix(rt, path, DRAFT_SUFFIX)?;
+    let mut place = StoredPlace::new(rt, folder, path, draft_path.as_str(), MAX_BYTES);
+    begin_journal(rt.alloc(), &mut place, recorder)
+}
+
+// Resumes the journal of an open file, for the meter with the name of this recorder.
+fn resume_file(
+    rt: &HostRuntime,
+    file: File,
+    recorder: &Recorder,
+    depth: u16,
+) -> Result<(StoredFile, Resumed), StartFault>
+    ensures { IfOk result (λ r. length r.1.recorder.events ≡ 0) }
+{
+    let Ok(mut file) = StoredFile::try_lock(file, MAX_BYTES) else {
+        return Err(StartFault::File);
+    };
+    let opening = recorder.core().to_opening(rt.alloc())?;
+    let resumed = resume_journal(rt.alloc(), &mut file, &opening.device, depth.clamp(1, 1024));
+    drop(opening);
+    Ok((file, resumed?))
+}
+
+// Opens the journal of a path, or begins it if there is no file. Returns its file, and the recorder
+// that goes on where it ends: the given one if it was begun.
+fn open_file(
+    rt: &HostRuntime,
+    path: &str,
+    recorder: Recorder,
+    depth: u16,
+) -> Result<(StoredFile, Recorder), StartFault>
+    requires { length recorder.events ≡ 0 }
+    ensures { IfOk result (λ r. length r.1.events ≡ 0) }
+{
+    let mut options = File::options();
+    options.read(true).write(true);
+    match options.open(rt, path) {
+        Ok(file) => {
+            let (file, resumed) = resume_file(rt, file, &recorder, depth)?;
+            drop(recorder);
+            if resumed.cut > 0 {
+                let _ = eprintln!(rt; "{path}: cut {} bytes of an interrupted write", resumed.cut);
+            }
+            Ok((file, resumed.recorder))
+        }
+        Err(error) if error.kind() == ErrorKind::NotFound => {
+            let file = begin_file(rt, path, &recorder)?;
+            Ok((file, recorder))
+        }
+        Err(_) => Err(StartFault::File),
+    }
+}
+
+// Returns the lock of a journal, or reports on standard error why it is not held.
+fn lock(rt: &HostRuntime, path: &str) -> Result<LockFile, Fault> {
+    let lock_path = with_suffix(rt, path, LOCK_SUFFIX).map_err(|_| Fault::Memory)?;
+    match LockFile::try_lock(rt, lock_path.as_str()) {
+        Ok(lock) => Ok(lock),
+        Err(LockFault::Held) => {
+            let _ = eprintln!(rt; "{path}: another server has this journal");
+            Err(Fault::Write)
+        }
+        Err(LockFault::Failed) => {
+            let _ = eprintln!(rt; "{lock_path}: the lock file can't be opened and locked");
+            Err(Fault::Write)
+        }
+    }
+}
+
+// Returns the fault of the program for a journal that is not open.
+fn fault_of(fault: StartFault) -> Fault {
+    match fault {
+        StartFault::Line(_)
+        | StartFault::TooLong
+        | StartFault::Counted
+        | StartFault::OtherMeter => Fault::Input,
+        StartFault::File => Fault::Write,
+        StartFault::Memory => Fault::Memory,
+    }
+}
+
+// Opens the journal of a path, whose meter then goes on where it ends. Reports on standard error
+// why it is not open.
+pub(crate) fn open_journal(
+    rt: &HostRuntime,
+    path: &str,
+    plan: ServePlan<Stdin>,
+) -> Result<(ServePlan<Stdin>, OpenJournal), Fault> {
+    if path.is_empty() {
+        let _ = eprintln!(rt; "journal: expected the path of a file");
+        return Err(Fault::Input);
+    }
+    let lock = lock(rt, path)?;
+    let ServePlan {
+        bounds,
+        password,
+        recorder,
+        input,
+    } = plan;
+    match open_file(rt, path, recorder, bounds.depth) {
+        Ok((file, recorder)) => Ok((
+            ServePlan {
+                bounds,
+                password,
+                recorder,
+                input,
+            },
+            OpenJournal {
+                path: with_suffix(rt, path, "").map_err(|_| Fault::Memory)?,
+                file,
+                lock,
+            },
+        )),
+        Err(fault) => {
+            let _ = eprintln!(rt; "{path}: {fault}");
+            Err(fault_of(fault))
+        }
+    }
+}
+
+// Runs a meter with its journal, and prints its trace. Returns the result of its connections, that
+// of the journal, and whether the trace was printed.
+pub(crate) fn run_journaled<R: Threads + Wait + Copy + Drop + Send + 'static, W: Write>(
+    rt: &HostRuntime,
+    threads: &R,
+    output: &mut W,
+    sockets: &mut Sockets<HostRuntime>,
+    recorder: Recorder,
+    parts: JournaledParts<R>,
+    meter: &ClientParameters,
+) -> (Result<Served, ServeFault>, Result<(), Fault>, Result<(), Fault>)
+    requires unused { length recorder.events ≡ 0 }
+    ensures { OnOk result.2
+        (PrintsText (IsJournaledRun ⊥ (λ _. []) (λ _. 0) (λ _ _ _. ⊥) parts.journal.file recorder
+        (record { blocks = None; moments = None; presses = None; password = meter.now.password })
+        result.0)
+        (W.contents output.old) (W.contents output.new)) }
+{
+    let JournaledParts {
+        sources,
+        journal,
+        end,
+    } = parts;
+    let OpenJournal { path, file, lock } = journal;
+    let on_failure = JournalEnd {
+        rt: *rt,
+        path,
+        server: end,
+    };
+    let sources = meter_sources(sources);
+    let terms = RunTerms {
+        password: &meter.password,
+        limit: meter.connections,
+    };
+    let JournaledRun {
+        served,
+        trace,
+        journal,
+    } = run_journaled_meter(
+        threads,
+        rt.alloc(),
+        recorder,
+        sockets,
+        sources,
+        MeterJournal { file, on_failure },
+        &terms,
+    );
+    drop(lock);
+    (served, journal, print_trace(output, trace))
+}
