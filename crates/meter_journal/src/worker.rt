@@ -1,4 +1,5 @@
 //! The worker that writes a journal, in a thread of its own.
+ghost use Rattle.std.specs.Prelude.{◌≡◌, IfOk};
 ghost use Rattle.durable_lines.specs.Lines.{IsSettled};
 
 use crate::fault::JournalFault;
@@ -20,28 +21,23 @@ pub trait FailureAction: Drop + Send {
         Self: Sized;
 }
 
-// A file of whole lines, all of them on the disk. Contracts see the file.
-#[derive(Drop)]
-struct SettledFile<F: DurableFile> {
-    file: F,
-}
-
-impl<F: DurableFile> Model for SettledFile<F> {
-    ghost Value = { F };
-
-    ghost view = { λ s. s.file };
-
-    ghost invariant = { λ s. F.acts_as_file → IsSettled F.seen F.may_leave F.stored s.file };
-}
-
 /// The worker of a journal: it saves the lines of the meter's events to its file, and announces
-/// them, until the journal is stopped or fails.
+/// them, until the journal is stopped or fails. Its file has whole lines, and all of them are on the
+/// disk. Contracts see the file.
 #[derive(Drop)]
 pub struct JournalWorker<F: DurableFile, A: FailureAction> {
-    settled: SettledFile<F>,
+    file: F,
     progress: JournalProgress<F>,
     on_failure: A,
     room: Vec<u8>,
+}
+
+impl<F: DurableFile, A: FailureAction> Model for JournalWorker<F, A> {
+    ghost Value = { F };
+
+    ghost view = { λ w. w.file };
+
+    ghost invariant = { λ w. F.acts_as_file → IsSettled F.seen F.may_leave F.stored w.file };
 }
 
 impl<F: DurableFile, A: FailureAction> JournalWorker<F, A> {
@@ -55,11 +51,12 @@ impl<F: DurableFile, A: FailureAction> JournalWorker<F, A> {
         room: usize,
     ) -> Result<JournalWorker<F, A>, AllocError>
         requires { F.acts_as_file → IsSettled F.seen F.may_leave F.stored file }
+        ensures { IfOk result (λ worker. worker ≡ file) }
     {
         let mut text = Vec::new(alloc);
         text.reserve(room)?;
         Ok(JournalWorker {
-            settled: SettledFile { file },
+            file,
             progress: progress.share()?,
             on_failure,
             room: text,
@@ -71,7 +68,7 @@ impl<F: DurableFile + Send, A: FailureAction> Worker<Port<Kept>> for JournalWork
     ghost use Rattle.meter_journal.specs.Saving.{Keeps};
 
     ghost did = { λ worker p q end. Keeps F.acts_as_file F.seen F.may_leave F.moment F.left_since
-        worker.settled p q end };
+        worker p q end };
 
     /// Saves lines until the journal is stopped. The only error is `Journal`.
     fn work<W: Wait>(
@@ -81,12 +78,11 @@ impl<F: DurableFile + Send, A: FailureAction> Worker<Port<Kept>> for JournalWork
         port: Port<Kept>,
     ) -> (Port<Kept>, Result<(), CallFault>) {
         let JournalWorker {
-            settled,
+            mut file,
             progress,
             on_failure,
             room,
         } = self;
-        let SettledFile { mut file } = settled;
         let mut port = port;
         match keep_lines(rt, alloc, &mut port, &mut file, &progress, room) {
             Ok(()) => {
