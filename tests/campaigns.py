@@ -27,7 +27,7 @@ sys.dont_write_bytecode = True  # importing the modules of tests/ leaves no file
 import serving
 from one_node_slurm import LONG_PATIENCE, Slurm, missing_commands, wait_until
 from scripted_meters import AARQ, CROWD, HOLDING, RELEASE, REQUESTS, SCRIPTS, Crowd, ScriptedMeter, Unheard, does_it
-from serving import MODE, PASSWORD, PATIENCE, PLAYER, SERVER, TOP, Client, Server, check, played, test
+from serving import MODE, PASSWORD, PATIENCE, PLAYER, SERVER, TOP, Client, Server, check, played, shown_of, test
 
 HEAD_END = os.environ.get("HEAD_END") or TOP / "crates" / "head_end_cli" / "out" / "head_end_cli"
 CAMPAIGN = TOP / "bin" / "campaign"
@@ -264,6 +264,23 @@ def a_meter_is_reached_by_its_name(name):
     check(f"{name}: report", made == (0, "m1 done 0\nm2 unknown\n", ""), made)
     check(f"{name}: what it got", [talk.frames for talk in meter.talked(1)] == [[AARQ, REQUESTS["disconnect"], RELEASE]])
     meter.stop()
+
+
+def a_file_has_the_password(name):
+    """A campaign whose password is in a file: the meter is a server with that password, and neither
+    the command line nor the environment of the campaign has it."""
+    with tempfile.TemporaryDirectory(prefix="passwords-") as folder:
+        path = pathlib.Path(folder) / "password"
+        path.touch(0o600)
+        path.write_text("of the file\n")
+        server = Server("--connections", "1", "--password-file", str(path), password=None)
+        campaign = subprocess.Popen([str(HEAD_END), "run", "--password-file", str(path)], stdin=subprocess.PIPE, stdout=subprocess.PIPE, text=True,
+                                    env={**os.environ, "METER_PASSWORD": "of the environment"})
+        shown = shown_of(campaign)
+        check(f"{name}: not shown", b"--password-file" in shown and b"of the environment" in shown and b"of the file" not in shown, shown)
+        report, _ = campaign.communicate(f"m1 127.0.0.1:{server.port} state\n", timeout=LONGEST)
+        check(f"{name}: report", (campaign.returncode, report) == (0, "m1 done 1\n"), campaign.returncode, report)
+        check(f"{name}: end", server.ended()[0] == 0)
 
 
 def text_of_terminal(terminal):
@@ -778,7 +795,7 @@ def main():
             return 1
     _, most = resource.getrlimit(resource.RLIMIT_NOFILE)
     resource.setrlimit(resource.RLIMIT_NOFILE, (most, most))
-    for function in (campaigns_among_running_meters, a_meter_is_reached_by_its_name, progress_is_reported):
+    for function in (campaigns_among_running_meters, a_meter_is_reached_by_its_name, a_file_has_the_password, progress_is_reported):
         test(function)
 
     def campaigns_of_many_jobs(name):

@@ -6,6 +6,7 @@ import os
 import pathlib
 import subprocess
 import sys
+import tempfile
 
 TOP = pathlib.Path(__file__).resolve().parent.parent
 # The environment without a password.
@@ -14,6 +15,49 @@ ENVIRONMENT = {name: value for name, value in os.environ.items() if name != "MET
 FAULT_INPUT = b"fault: input\n"
 FAULT_LISTEN = b"fault: listen\n"
 FAULT_READ = b"fault: read\n"
+
+# What clap prints if a command that needs a password has none.
+NO_PASSWORD = (b"error: the following required arguments were not provided:\n  --password <TEXT>\n\n"
+               b"Usage: %s --password <TEXT>%s\n\nFor more information, try '--help'.\n")
+
+# Files of passwords.
+FOLDER = tempfile.TemporaryDirectory(prefix="passwords-")
+
+
+def password_file(name, text, mode=0o600):
+    path = pathlib.Path(FOLDER.name) / name
+    path.touch(0o600)
+    path.write_bytes(text)
+    path.chmod(mode)
+    return str(path)
+
+
+ENDED_FILE = password_file("ended", b"12345678\n")
+WHOLE_FILE = password_file("whole", b"12345678")
+MISSING_FILE = str(pathlib.Path(FOLDER.name) / "missing")
+# Each file that gives no password, with the end of the line on standard error and the fault.
+EXPOSED = b"expected a file that only its owner may read, as chmod 600 makes it\n" + FAULT_INPUT
+NO_LINE = b"expected one line of text\n" + FAULT_INPUT
+WRONG_FILES = [
+    ("is missing", MISSING_FILE, b"the file can't be read\n" + FAULT_READ, 3),
+    ("is a folder of its owner", FOLDER.name, b"the file can't be read\n" + FAULT_READ, 3),
+    ("all may read", password_file("all", b"12345678\n", 0o644), EXPOSED, 2),
+    ("its group may read", password_file("group", b"12345678\n", 0o640), EXPOSED, 2),
+    ("others may write", password_file("others", b"12345678\n", 0o602), EXPOSED, 2),
+    ("others may read, of two lines", password_file("order", b"1234\n5678\n", 0o604), EXPOSED, 2),
+    ("has two lines", password_file("lines", b"1234\n5678\n"), NO_LINE, 2),
+    ("has an empty line after its line", password_file("empty line", b"12345678\n\n"), NO_LINE, 2),
+    ("is not UTF-8", password_file("bytes", b"1234567\xFF\n"), NO_LINE, 2),
+    ("has 1,025 bytes", password_file("long", b"p" * 1025), NO_LINE, 2),
+]
+# Each file that gives a password of a wrong length.
+WRONG_LENGTHS = [
+    ("is empty", password_file("empty", b"")),
+    ("is a line end", password_file("end", b"\n")),
+    ("has 33 bytes", password_file("33", b"p" * 33)),
+    ("has 33 bytes and a line end", password_file("33 ended", b"p" * 33 + b"\n")),
+    ("has 1,024 bytes", password_file("1024", b"p" * 1024)),
+]
 
 HEX = ["hex", "--password", "12345678"]
 SERVE = ["serve", "--password", "12345678"]
@@ -171,7 +215,10 @@ CASES = [
     ("a password of 33 bytes", "meter_server_cli", ["hex", "--password", "p" * 33], b"", b"", FAULT_INPUT, 2),
     ("an empty device name", "meter_server_cli", HEX + ["--device", ""], b"", b"", FAULT_INPUT, 2),
     ("a device name of 17 bytes", "meter_server_cli", HEX + ["--device", "d" * 17], b"", b"", FAULT_INPUT, 2),
-    ("a server without a password", "meter_server_cli", ["serve"], b"", b"", None, 2),
+    ("a server without a password", "meter_server_cli", ["serve"], b"", b"", NO_PASSWORD % (b"meter_server serve", b""), 2),
+    ("a server without a password, with other options", "meter_server_cli", ["serve", "--verbose", "--listen", "nowhere"], b"", b"",
+     NO_PASSWORD % (b"meter_server serve", b" --verbose --listen <ADDRESS>"), 2),
+    ("a session takes no file of a password", "meter_server_cli", ["hex", "--password-file", ENDED_FILE], b"", b"", None, 2),
     ("a server's password of 33 bytes", "meter_server_cli", ["serve", "--password", "p" * 33], b"", b"", FAULT_INPUT, 2),
     ("a server's empty device name", "meter_server_cli", SERVE + ["--device", ""], b"", b"", FAULT_INPUT, 2),
     ("a server's device name of 17 bytes", "meter_server_cli", SERVE + ["--device", "d" * 17], b"", b"", FAULT_INPUT, 2),
@@ -374,7 +421,9 @@ CASES = [
      b"line 2: warning: the address has no port (expected HOST:PORT)\n", 0),
     ("no worker", "head_end_cli", ["run", "--password", "12345678", "--workers", "0"], b"", b"", None, 2),
     ("17 workers", "head_end_cli", ["run", "--password", "12345678", "--workers", "17"], b"", b"", None, 2),
-    ("a campaign without a password", "head_end_cli", ["run"], b"", b"", None, 2),
+    ("a campaign without a password", "head_end_cli", ["run"], b"", b"", NO_PASSWORD % (b"head_end run", b""), 2),
+    ("a campaign without a password, with other options", "head_end_cli", ["run", "--progress", "--workers", "2"], b"", b"",
+     NO_PASSWORD % (b"head_end run", b" --progress --workers <N>"), 2),
     ("a campaign's password of 33 bytes", "head_end_cli", ["run", "--password", "p" * 33], b"", b"", FAULT_INPUT, 2),
     ("help of the head end", "head_end_cli", ["--help"], b"", None, b"", 0),
     ("help of a campaign", "head_end_cli", ["run", "--help"], b"", None, b"", 0),
@@ -385,6 +434,25 @@ CASES = [
     ("the version of the head end", "head_end_cli", ["--version"], b"", b"head_end 0.1.0\n", b"", 0),
     ("the version of the head end", "head_end_cli", ["-V"], b"", b"head_end 0.1.0\n", b"", 0),
 ]
+# The programs that read a file of a password, with words for which a server ends at once.
+READERS = [("a server", "meter_server_cli", ["serve", "--listen", "nowhere"], FAULT_LISTEN, 3), ("a campaign", "head_end_cli", ["run"], b"", 0)]
+for reader, crate, words, stderr, status in READERS:
+    for what, path in (("with a line end", ENDED_FILE), ("without a line end", WHOLE_FILE),
+                       ("of 32 bytes", password_file("32", b"p" * 32 + b"\n"))):
+        CASES.append((f"{reader}: a password file {what}", crate, [*words, "--password-file", path], b"", b"", stderr, status))
+    CASES.append((f"{reader}: the file after =", crate, [*words, f"--password-file={ENDED_FILE}"], b"", b"", stderr, status))
+    CASES.append((f"{reader}: the file after the password", crate, [*words, "--password", "12345678", "--password-file", MISSING_FILE], b"", b"", stderr, status))
+    CASES.append((f"{reader}: the file before the password", crate, [*words, "--password-file", MISSING_FILE, "--password", "12345678"], b"", b"", stderr, status))
+    CASES.append((f"{reader}: a wrong password goes before the file", crate, [*words, "--password-file", ENDED_FILE, "--password", "p" * 33], b"", b"", FAULT_INPUT, 2))
+    CASES.append((f"{reader}: no file", crate, [*words, "--password-file"], b"", b"", None, 2))
+    for what, path, line, fault_status in WRONG_FILES:
+        for also in ([], ["--verbose"]):
+            CASES.append((f"{reader}: a password file that {what}", crate, [*words, *also, "--password-file", path], b"", b"",
+                          path.encode() + b": " + line, fault_status))
+    for what, path in WRONG_LENGTHS:
+        CASES.append((f"{reader}: a password file that {what}", crate, [*words, "--password-file", path], b"", b"", FAULT_INPUT, 2))
+        CASES.append((f"{reader}: why a password file that {what} is wrong", crate, [*words, "--verbose", "--password-file", path], b"", b"",
+                      b"password: must be 1 to 32 bytes\n" + FAULT_INPUT, 2))
 
 
 def differs(want, got):

@@ -6,6 +6,7 @@
 - `CRATE::NAME` is declared in that crate's sources; a crate of the toolchain's is not looked into.
 - `CRATE/EDIT` and each name in docs/WRONG_BODIES.md's last column is an edit, or a test; its tables are what bin/wrong_page writes, so no edit is missing there.
 - A definition that docs/DEFINITIONS.md names is in a file of its row, and each file of specs/ is linked there.
+- A name in code in the first comment of a source is declared, or is a crate.
 - Each crate has a README, whose example is from a test that is there and has its calls, or is a file that the gate runs.
 """
 import re
@@ -31,6 +32,7 @@ def sources(crate):
 
 SOURCES = {it: sources(it) for it in CRATES}
 ALL_SOURCES = "\n".join(SOURCES.values())
+WORDS_OF_CODE = set(re.findall(r"\w+", re.sub(r"(?m)//.*$", "", ALL_SOURCES)))
 # A function, a type, a constant, a module, or the variant of an enum.
 DECLARED = r"\b(?:fn|struct|enum|trait|const|mod|type) {0}\b|^ +{0}\b(?:[,( {{]|$)"
 EDITS = {crate: {it.stem for part in ("wrong", "wrong/long", "must-fail") for it in (folder / part).glob("*.edit")} for crate, folder in CRATES.items()}
@@ -160,6 +162,17 @@ def missing_calls(text, test):
     return sorted(it for it in calls if not re.search(rf"\b{it}\b", source))
 
 
+def crates_in_heads():
+    """A crate that the first comment of a source names in code: a name of several words that is
+    neither a crate nor declared nor a crate of the toolchain's."""
+    kit = set(re.findall(r"\w+", (TOP / "crates.txt").read_text()))
+    for source in sorted(TOP.glob("crates/*/src/**/*.rt")):
+        for it in CODE.findall("\n".join(re.findall(r"(?m)^//!(.*)$", source.read_text()))):
+            known = it in CRATES or it in kit or (TOP / "bin" / it).exists()
+            if re.fullmatch(r"[a-z][a-z0-9]*(?:_[a-z0-9]+)+", it) and not known and it not in WORDS_OF_CODE:
+                yield f"{source.relative_to(TOP)}: no {it}"
+
+
 def lost():
     for page in pages():
         text = prose(page.read_text())
@@ -170,6 +183,7 @@ def lost():
     yield from (f"docs/WRONG_BODIES.md: {it}" for it in wrong_bodies((TOP / "docs" / "WRONG_BODIES.md").read_text()))
     yield from (f"docs/DEFINITIONS.md: {it}" for it in definitions((TOP / "docs" / "DEFINITIONS.md").read_text()))
     yield from examples()
+    yield from crates_in_heads()
 
 
 def main():

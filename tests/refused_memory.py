@@ -19,7 +19,7 @@ import sys
 sys.dont_write_bytecode = True  # importing the modules of tests/ leaves no files
 
 import serving
-from command_lines import AARE, AARQ, GET_STATE, GOT_STATE, TRACE
+from command_lines import AARE, AARQ, ENDED_FILE, GET_STATE, GOT_STATE, TRACE
 from refusing import Refusing, turns
 from scripted_meters import AARQ as CLIENT_AARQ
 from scripted_meters import REQUESTS, ScriptedMeter
@@ -110,6 +110,26 @@ def programs_are_refused_memory(name):
         check(f"{name}: {title}: ample memory", ample.status == 0 and ample.output, ample)
         check(f"{name}: {title}", found["nothing written"] > 0 and not any("WRONG" in what for what in found), found)
     check(f"{name}: the session is the stored one", refusing.run([SERVER, "hex", "--password", PASSWORD], AARQ + GET_STATE).output == AARE + GOT_STATE)
+
+
+def file_refused(words, number):
+    """The result of a program that reads a file of a password, with a refused allocation."""
+    ran = refusing.run(words, refuse_memory=number)
+    if (ran.status, ran.output, ran.errors) == (0, b"", b""):
+        return "went unnoticed"
+    if ran.status != 4 or ran.output:
+        return f"WRONG: status {ran.status}, {ran.output}"
+    line = ENDED_FILE.encode() + b": out of memory\n"
+    return {MEMORY: "outside the file", line + MEMORY: "in the file"}.get(ran.errors, f"WRONG: {ran.errors}")
+
+
+def a_file_of_a_password_is_refused_memory(name):
+    words = [HEAD_END, "run", "--password-file", ENDED_FILE]
+    ample = refusing.run(words)
+    found = each_refusal(lambda number: file_refused(words, number), ample.allocations, is_each=True)
+    print_counts("a campaign with a file of its password", found)
+    check(f"{name}: ample memory", (ample.status, ample.output, ample.errors) == (0, b"", b""), ample)
+    check(name, found["in the file"] and found["outside the file"] and not any("WRONG" in what for what in found), found)
 
 
 def answers(opening, action=None):
@@ -263,8 +283,9 @@ def main():
             print("0 passed, 1 failed")
             return 1
     refusing = Refusing()
-    for function in (calls_are_refused_memory, a_read_of_thresholds_is_refused_memory, programs_are_refused_memory, a_campaign_is_refused_memory, a_meter_that_serves_is_refused_memory,
-                     a_meter_that_serves_is_refused_threads, a_press_is_not_made_without_its_thread):
+    for function in (calls_are_refused_memory, a_read_of_thresholds_is_refused_memory, programs_are_refused_memory, a_file_of_a_password_is_refused_memory,
+                     a_campaign_is_refused_memory, a_meter_that_serves_is_refused_memory, a_meter_that_serves_is_refused_threads,
+                     a_press_is_not_made_without_its_thread):
         test(function)
     refusing.stop()
     print(f"{serving.passed} passed, {serving.failed} failed")

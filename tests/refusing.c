@@ -1,9 +1,10 @@
 /* Preloaded between a program and the C library, for tests/refusing.py: refuses one allocation or one
-   thread, or fails, shortens or interrupts one read or write. These variables have the number of that call,
-   from 1: REFUSE_MEMORY, REFUSE_THREAD, FAIL_STREAM, SHORT_STREAM, INTERRUPT_STREAM. When standard input
-   ends or fails, and when the program ends, a line of numbers is written to the file REFUSING_REPORT:
-   allocations, reads and writes, writes to the failed stream after its failure, connections, and started
-   threads. Writes to standard error are not counted and never fail. */
+   thread, fails, shortens or interrupts one read or write, or fails one sync of a file. These variables
+   have the number of that call, from 1: REFUSE_MEMORY, REFUSE_THREAD, FAIL_STREAM, SHORT_STREAM,
+   INTERRUPT_STREAM, FAIL_SYNC. When standard input ends or fails, and when the program ends, a line of
+   numbers is written to the file REFUSING_REPORT: allocations, reads and writes, writes to the failed
+   stream or file after its failure, connections, started threads, and syncs. Writes to standard error
+   are not counted and never fail. */
 
 typedef unsigned long size;
 typedef long count;
@@ -16,12 +17,12 @@ extern int *__errno_location(void);
 extern char *getenv(const char *);
 extern void *dlsym(void *, const char *);
 
-enum { READ = 0, WRITE = 1, OPEN = 2, CLOSE = 3, WRITEV = 20, CONNECT = 42, SENDTO = 44, RECVFROM = 45, SENDMSG = 46, EXIT_GROUP = 231 };
+enum { READ = 0, WRITE = 1, OPEN = 2, CLOSE = 3, WRITEV = 20, CONNECT = 42, SENDTO = 44, RECVFROM = 45, SENDMSG = 46, FSYNC = 74, FDATASYNC = 75, EXIT_GROUP = 231 };
 enum { INTERRUPTED = 4, FAILED = 5, TRY_AGAIN = 11, NO_MEMORY = 12 };
 enum { STANDARD_INPUT = 0, STANDARD_ERROR = 2, NONE = -1 };
 
-static size refused, refused_thread, failing, shortened, interrupted;
-static size allocations, streams, late, connections, threads;
+static size refused, refused_thread, failing, shortened, interrupted, failing_sync;
+static size allocations, streams, late, connections, threads, syncs;
 static int failed = NONE;
 
 static size number(const char *name) {
@@ -37,6 +38,7 @@ __attribute__((constructor)) static void begin(void) {
     failing = number("FAIL_STREAM");
     shortened = number("SHORT_STREAM");
     interrupted = number("INTERRUPT_STREAM");
+    failing_sync = number("FAIL_SYNC");
 }
 
 static char *digits(char *end, size value) {
@@ -47,8 +49,10 @@ static char *digits(char *end, size value) {
 
 __attribute__((destructor)) static void report(void) {
     const char *name = getenv("REFUSING_REPORT");
-    char text[120], *end = text + sizeof text, *from = end;
+    char text[140], *end = text + sizeof text, *from = end;
     *--from = '\n';
+    from = digits(from, syncs);
+    *--from = ' ';
     from = digits(from, threads);
     *--from = ' ';
     from = digits(from, connections);
@@ -140,6 +144,17 @@ count writev(int file, const struct part *parts, int number_of_parts) {
 count sendmsg(int file, const void *message, int flags) {
     return allowed(file, 1, 1) < 0 ? -1 : syscall(SENDMSG, file, message, flags);
 }
+
+static int sync_by(count call, int file) {
+    if (__sync_add_and_fetch(&syncs, 1) != failing_sync) return (int)syscall(call, file);
+    failed = file;
+    *__errno_location() = FAILED;
+    return -1;
+}
+
+int fsync(int file) { return sync_by(FSYNC, file); }
+
+int fdatasync(int file) { return sync_by(FDATASYNC, file); }
 
 int connect(int file, const void *peer, unsigned length) {
     __sync_add_and_fetch(&connections, 1);

@@ -1,4 +1,4 @@
-"""Runs programs with one allocation, thread, read or write refused. tests/refusing.c, which the
+"""Runs programs with one allocation, thread, read, write or sync refused. tests/refusing.c, which the
 toolchain's compiler builds, is preloaded between the program and the C library."""
 
 import os
@@ -16,7 +16,7 @@ TARGET = "--target=x86_64-unknown-linux-gnu"
 
 class Ran(NamedTuple):
     """The result of a program, and the numbers of its allocations, reads and writes, writes to a
-    stream that had failed, connections and threads."""
+    stream or file that had failed, connections, threads and syncs."""
 
     status: int
     output: bytes
@@ -26,6 +26,7 @@ class Ran(NamedTuple):
     late: int
     connections: int
     threads: int
+    syncs: int
 
 
 def toolchain():
@@ -55,7 +56,8 @@ class Refusing:
 
     def environment(self, **which):
         """The environment in which one call is refused: `refuse_memory`, `refuse_thread`,
-        `fail_stream`, `short_stream` or `interrupt_stream`, with the number of the call."""
+        `fail_stream`, `short_stream`, `interrupt_stream` or `fail_sync`, with the number of the
+        call."""
         self.report.unlink(missing_ok=True)
         named = {name.upper(): str(number) for name, number in which.items()}
         return {"LD_PRELOAD": str(self.library), "REFUSING_REPORT": str(self.report), **named}
@@ -71,7 +73,7 @@ class Refusing:
         try:
             return [int(number) for number in self.report.read_text().split()]
         except FileNotFoundError:
-            return [0, 0, 0, 0, 0]
+            return [0, 0, 0, 0, 0, 0]
 
     def run(self, words, text=b"", **which):
         environment = {**os.environ, **self.environment(**which)}

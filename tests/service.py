@@ -178,6 +178,33 @@ def a_killed_server_is_not_resumed(name, folder):
 
 
 @in_folder
+def a_killed_server_has_its_journal(name, folder):
+    """A journal begins from the last trace. A killed server resumes from it, and not from the
+    trace, once the marker was removed."""
+    journal = ("--journal", str(folder / "journal"))
+    service = Service(folder)
+    client = service.client()
+    check(f"{name}: mode", client.set(MODE, "1601") == "code 0")
+    client.close()
+    check(f"{name}: a trace", service.ends()[0] == 0)
+    service = Service(folder, *journal)
+    client = service.client()
+    check(f"{name}: from the trace",
+          (client.get(MODE), client.execute(DISCONNECT)) == ("value 1601", "code 0"))
+    os.kill(server_of(service), signal.SIGKILL)
+    status, _, errors = service.ended()
+    check(f"{name}: status", status == 128 + 9 and "stays" in errors, status, errors)
+    client.close()
+    (folder / "running").unlink()
+    service = Service(folder, *journal)
+    client = service.client()
+    check(f"{name}: from the journal", client.get(STATE) == "value 1600")
+    client.close()
+    status, errors = service.ends()
+    check(f"{name}: ends", status == 0 and "stored" in errors, status, errors)
+
+
+@in_folder
 def a_killed_service_is_recovered(name, folder):
     service = Service(folder)
     client = service.client()
@@ -254,11 +281,12 @@ def service_of_runit(folder, port):
     """A copy of the service's folder that runs the script of this repository as this user."""
     service = folder / "meter_server"
     shutil.copytree(RUNIT, service)
-    (service / "env").mkdir()
-    (service / "env" / "METER_PASSWORD").write_text(f"{PASSWORD}\n")
+    (folder / "password").touch(0o600)
+    (folder / "password").write_text(f"{PASSWORD}\n")
     text = (service / "run").read_text()
     for old, new in (("-u meter_server ", ""), ("/usr/local/bin/", f"{TOP}/bin/"),
                      ("/var/lib/meter_server", f"{folder}/state"),
+                     ("/etc/meter_server/password", f"{folder}/password"),
                      ("0.0.0.0:4059", f"127.0.0.1:{port}")):
         assert text.count(old) == 1, old
         text = text.replace(old, new)
@@ -347,6 +375,7 @@ def main():
             return 1
     for function in (a_run_is_stored_and_resumed, the_console_stays_open, open_sessions_end_first,
                      a_silent_client_delays_the_end, a_killed_server_is_not_resumed,
+                     a_killed_server_has_its_journal,
                      a_killed_service_is_recovered, what_serves_nothing_loses_nothing,
                      a_full_disk_keeps_the_marker, command_line, under_runit, under_systemd):
         serving.test(function)

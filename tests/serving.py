@@ -10,6 +10,7 @@ import resource
 import socket
 import subprocess
 import sys
+import tempfile
 import threading
 import time
 
@@ -567,6 +568,37 @@ def the_environment_has_the_password(name):
     check(f"{name}: neither", status == 2 and output == "" and "--password <TEXT>" in errors, errors)
 
 
+def shown_of(process):
+    """The command line and the environment that /proc shows of a process. They are empty until its
+    program has begun."""
+    end = time.monotonic() + PATIENCE
+    while time.monotonic() < end:
+        shown = [pathlib.Path(f"/proc/{process.pid}/{it}").read_bytes() for it in ("cmdline", "environ")]
+        if all(shown):
+            break
+        time.sleep(0.005)
+    return b"".join(shown)
+
+
+def a_file_has_the_password(name):
+    with tempfile.TemporaryDirectory(prefix="passwords-") as folder:
+        path = pathlib.Path(folder) / "password"
+        path.touch(0o600)
+        path.write_text("of the file\n")
+        server = Server("--connections", "1", "--password-file", str(path), password=None, environment={"METER_PASSWORD": "of the environment"})
+        client = Client(server.port)
+        check(f"{name}: taken before that of the environment", client.associate("of the file").startswith(AARE))
+        shown = shown_of(server.process)
+        check(f"{name}: not shown", b"--password-file" in shown and b"of the environment" in shown and b"of the file" not in shown, shown)
+        client.close()
+        check(f"{name}: end", server.ended()[0] == 0)
+        server = Server("--connections", "1", "--password-file", str(path))
+        client = Client(server.port)
+        check(f"{name}: the command line comes first", client.associate().startswith(AARE))
+        client.close()
+        check(f"{name}: its end", server.ended()[0] == 0)
+
+
 def a_client_may_vanish_in_mid_frame(name):
     server = Server("--connections", "3")
     cut = server.client()
@@ -604,7 +636,7 @@ def main():
                      a_client_whose_stream_cannot_be_set_up_is_turned_away,
                      console_lines_act_beside_clients, a_console_that_is_not_read_is_a_fault, a_limit_of_connections_ends_the_server, the_end_of_input_ends_the_server,
                      an_address_in_use_is_a_fault, a_meter_goes_on_from_its_trace, a_wrong_trace_is_not_gone_on_from, wrong_passwords_are_refused,
-                     the_environment_has_the_password, a_client_may_vanish_in_mid_frame, a_silent_client_is_closed):
+                     the_environment_has_the_password, a_file_has_the_password, a_client_may_vanish_in_mid_frame, a_silent_client_is_closed):
         test(function)
     print(f"{passed} passed, {failed} failed")
     return 1 if failed else 0

@@ -1,7 +1,7 @@
-//! Clients of a meter on this machine: `load PORT CLIENTS REQUESTS`. Each client is a thread with
-//! its own connection, which associates once and then sends REQUESTS GETs of the control state,
-//! each after the response to the last one. Prints the nanoseconds from the first GET to the last
-//! response of all clients.
+//! Clients of a meter on this machine: `load PORT CLIENTS REQUESTS [set]`. Each client is a thread
+//! with its own connection, which associates once and then sends REQUESTS GETs of the control
+//! state, each after the response to the last one; with `set` SETs of the control mode. Prints the
+//! nanoseconds from the first request to the last response of all clients.
 use std::io::{Read, Write};
 use std::net::TcpStream;
 use std::sync::Barrier;
@@ -14,6 +14,10 @@ const AARE: &[u8] = b"\x00\x01\x00\x01\x00\x01\x00\x2B\x61\x29\xA1\x09\x06\x07\x
 \xA3\x05\xA1\x03\x02\x01\x00\xBE\x10\x04\x0E\x08\x00\x06\x5F\x1F\x04\x00\x00\x1C\x19\x04\x00\x00\x07";
 const GET: &[u8] = b"\x00\x01\x00\x01\x00\x01\x00\x0D\xC0\x01\xC1\x00\x46\x00\x00\x60\x03\x0A\xFF\x03\x00";
 const STATE: &[u8] = b"\x00\x01\x00\x01\x00\x01\x00\x06\xC4\x01\xC1\x00\x16\x01";
+const SET: &[u8] = b"\x00\x01\x00\x01\x00\x01\x00\x0F\xC1\x01\xC1\x00\x46\x00\x00\x60\x03\x0A\xFF\x04\x00\x16\x02";
+const SUCCESS: &[u8] = b"\x00\x01\x00\x01\x00\x01\x00\x04\xC5\x01\xC1\x00";
+
+type Exchange = (&'static [u8], &'static [u8]);
 
 fn ask(meter: &mut TcpStream, request: &[u8], answer: &[u8]) {
     let mut came = [0; 128];
@@ -22,24 +26,28 @@ fn ask(meter: &mut TcpStream, request: &[u8], answer: &[u8]) {
     assert!(came[..answer.len()] == *answer, "another answer: {:02X?}", &came[..answer.len()]);
 }
 
-fn client(port: u16, requests: u32, begin: &Barrier) -> (Instant, Instant) {
+fn client(port: u16, (request, answer): Exchange, requests: u32, begin: &Barrier) -> (Instant, Instant) {
     let mut meter = TcpStream::connect(("127.0.0.1", port)).expect("a connection");
     meter.set_nodelay(true).expect("no delay");
     ask(&mut meter, AARQ, AARE);
     begin.wait();
     let begun = Instant::now();
     for _ in 0..requests {
-        ask(&mut meter, GET, STATE);
+        ask(&mut meter, request, answer);
     }
     (begun, Instant::now())
 }
 
 fn main() {
-    let words: Vec<u32> = std::env::args().skip(1).map(|word| word.parse().expect("a number")).collect();
-    let [port, clients, requests] = words[..] else { panic!("load PORT CLIENTS REQUESTS") };
+    let mut words: Vec<String> = std::env::args().skip(1).collect();
+    let is_set = words.get(3).is_some_and(|word| word == "set");
+    words.truncate(if is_set { 3 } else { words.len() });
+    let numbers: Vec<u32> = words.iter().map(|word| word.parse().expect("a number")).collect();
+    let [port, clients, requests] = numbers[..] else { panic!("load PORT CLIENTS REQUESTS [set]") };
+    let exchange = if is_set { (SET, SUCCESS) } else { (GET, STATE) };
     let begin = Barrier::new(clients as usize);
     let times: Vec<(Instant, Instant)> = thread::scope(|scope| {
-        let all: Vec<_> = (0..clients).map(|_| scope.spawn(|| client(port as u16, requests, &begin))).collect();
+        let all: Vec<_> = (0..clients).map(|_| scope.spawn(|| client(port as u16, exchange, requests, &begin))).collect();
         all.into_iter().map(|one| one.join().expect("a client")).collect()
     });
     let first = times.iter().map(|one| one.0).min().expect("a client");

@@ -1,6 +1,6 @@
-//! Tests of `xdlms_apdu`: reads and writes texts of the standard. Also tests `byte_reading`, and
-//! the numbers of the faults of `cosem_axdr`, `acse_ber`, `xdlms_apdu`, `wrapper_frame` and
-//! `xdlms_blocks`.
+//! Tests of `xdlms_apdu`: reads and writes texts of the standard. Also tests the cursor of
+//! `wire_bytes`, and the numbers of the faults of `cosem_axdr`, `acse_ber`, `xdlms_apdu`,
+//! `wrapper_frame` and `xdlms_blocks`.
 //!
 //! The tests have a crate of their own because a check of tests also proves the rest of their
 //! crate.

@@ -1,6 +1,5 @@
-//! Tests of the crates for streams, frames, blocks and words: `byte_streams`, `wrapper_frame`,
-//! `xdlms_blocks` and `trace_text`; of `listed`, `program_fault` and `program_start`; and of
-//! `durable_lines`.
+//! Tests of the crates for lists, streams, frames, blocks and words: `wire_bytes`, `counted_io`,
+//! `wrapper_frame`, `xdlms_blocks` and `text_lines`; of `program`, and of `durable_lines`.
 //!
 //! The tests have a crate of their own because a check of tests also proves the rest of their
 //! crate.

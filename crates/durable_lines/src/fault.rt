@@ -22,7 +22,7 @@ pub enum FileFault {
 /// Why a file was not locked.
 #[derive(Clone, Copy, Debug, PartialEq, Eq, Error)]
 pub enum LockFault {
-    /// Another process has locked the file.
+    /// Another process, or another value of this one, has locked the file.
     #[error("another process has locked the file")]
     Held = 1,
     /// The file can't be locked or synced.

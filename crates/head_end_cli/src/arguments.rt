@@ -41,6 +41,15 @@ fn password<'a>(alloc: Global, is_required: bool) -> Arg<'a> {
         .action(ArgAction::Set)
 }
 
+// Returns the option `--password-file`.
+fn password_file<'a>(alloc: Global) -> Arg<'a> {
+    Arg::new(alloc, "password-file")
+        .long("password-file")
+        .value_name("FILE")
+        .help("File whose one line is the password; only its owner may have access to it")
+        .action(ArgAction::Set)
+}
+
 // Returns the option `--workers`.
 fn workers<'a>(alloc: Global) -> Arg<'a> {
     Arg::new(alloc, "workers")
@@ -89,6 +98,7 @@ fn run_command<'a>(alloc: Global, has_password: bool) -> Result<Command<'a>, All
             .after_help(REPORT),
     );
     let made = with_argument(made, password(alloc, !has_password));
+    let made = with_argument(made, password_file(alloc));
     let made = with_argument(made, workers(alloc));
     let made = with_argument(made, timeout(alloc));
     let made = with_argument(made, connect_timeout(alloc));
@@ -116,8 +126,8 @@ fn program<'a>(alloc: Global) -> Result<Command<'a>, AllocError> {
     Ok(program)
 }
 
-/// Returns the program with its commands. `has_password` says whether the environment has the
-/// password of `run`.
+/// Returns the program with its commands. `has_password` says whether the password of `run` is in
+/// the environment or in a file that the command line names.
 pub fn command_line<'a>(alloc: Global, has_password: bool) -> Result<Command<'a>, AllocError> {
     let program = with_subcommand(program(alloc), check_command(alloc));
     with_subcommand(program, run_command(alloc, has_password))

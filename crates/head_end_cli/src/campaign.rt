@@ -1,7 +1,8 @@
 //! The command `head_end run`: its options, its jobs from standard input, and its report.
-ghost use Rattle.std.specs.Prelude.{◌≤◌, codes, IfOk, OnOk};
+ghost use Rattle.std.specs.Prelude.{◌≡◌, ◌≤◌, ℕ, List, Some, None, codes, IfOk, OnOk};
 ghost use Rattle.acse_ber.specs.Password.{IsPassword};
-ghost use Rattle.clap.specs.Matches.{found_of};
+ghost use Rattle.clap.specs.Matches.{first_value, found_of};
+ghost use Rattle.program.specs.Passwords.{HasNoLineEnd};
 ghost use Rattle.head_end_cli.specs.Options.{AreLimits, AreWorkers, IsLimit, IsNumber};
 ghost use Rattle.head_end_cli.specs.Printed.{PrintsReport};
 
@@ -11,9 +12,10 @@ use acse_ber::MAX_PASSWORD;
 use clap::ArgMatches;
 use cosem_axdr::Octets;
 use head_end::{Connector, Jobs, TcpLimits, places_for, report_jobs};
-use program::{Fault, print_text};
+use program::{Fault, print_text, read_password_file};
 use std::alloc::Global;
 use std::env;
+use std::env::VarError;
 use std::io::{IsTerminal, Write};
 use std::thread::Threads;
 use std::time::Duration;
@@ -76,7 +78,8 @@ fn workers(matches: &ArgMatches<'_>) -> u8
 
 // Returns the bytes of a password. Errors: `Input` if they are not 1 to 32, `Memory`.
 fn parse_password(alloc: Global, text: &str) -> Result<Octets, Fault>
-    ensures { IfOk result IsPassword }
+    ensures sized { IfOk result IsPassword }
+    ensures bytes { IfOk result (λ password. password ≡ text.now) }
 {
     let bytes = text.as_bytes();
     if bytes.is_empty() || bytes.len() > MAX_PASSWORD {
@@ -88,18 +91,54 @@ fn parse_password(alloc: Global, text: &str) -> Result<Octets, Fault>
     }
 }
 
-// Returns the password of the command line or, if it has none, of the environment. Errors: `Input`
-// if neither has one of 1 to 32 bytes, `Memory`.
-fn password(rt: &HostRuntime, matches: &ArgMatches<'_>) -> Result<Octets, Fault>
-    ensures { IfOk result IsPassword }
+// Returns the bytes of a password. If they are not 1 to 32 and `is_verbose`, writes a line on
+// standard error that reports it.
+fn check_password(rt: &HostRuntime, text: &str, is_verbose: bool) -> Result<Octets, Fault>
+    ensures sized { IfOk result IsPassword }
+    ensures bytes { IfOk result (λ password. password ≡ text.now) }
+{
+    let password = parse_password(rt.alloc(), text);
+    if is_verbose && matches!(password, Err(Fault::Input)) {
+        let _ = eprintln!(rt; "password: must be 1 to 32 bytes");
+    }
+    password
+}
+
+// Returns the password of the environment. Errors: `Input` if it is not UTF-8, with a line on
+// standard error if `is_verbose`; `Memory`.
+fn environment_password(rt: &HostRuntime, is_verbose: bool) -> Result<String, Fault> {
+    match env::var(rt, PASSWORD_VARIABLE) {
+        Ok(text) => Ok(text),
+        Err(VarError::OutOfMemory) => Err(Fault::Memory),
+        Err(_) => {
+            if is_verbose {
+                let _ = eprintln!(rt; "METER_PASSWORD: expected UTF-8 text");
+            }
+            Err(Fault::Input)
+        }
+    }
+}
+
+// Returns the password of the command line, else that of the file that it names, else that of the
+// environment. Errors: those of a file without a password, with a line on standard error; `Input`
+// if there is none or it does not have 1 to 32 bytes, with a line if `is_verbose`; `Memory`.
+fn password(rt: &HostRuntime, matches: &ArgMatches<'_>, is_verbose: bool) -> Result<Octets, Fault>
+    ensures sized { IfOk result IsPassword }
+    ensures given { IfOk result (λ password. (text : List ℕ)
+        → first_value (found_of matches.now) (codes "password") ≡ Some text → password ≡ text) }
+    ensures of_file { IfOk result (λ password. (path : List ℕ)
+        → first_value (found_of matches.now) (codes "password") ≡ None
+        → first_value (found_of matches.now) (codes "password-file") ≡ Some path
+        → HasNoLineEnd password) }
 {
     if let Some(text) = matches.get_str("password") {
-        return parse_password(rt.alloc(), text);
+        return check_password(rt, text, is_verbose);
     }
-    match env::var(rt, PASSWORD_VARIABLE) {
-        Ok(text) => parse_password(rt.alloc(), text.as_str()),
-        Err(_) => Err(Fault::Input),
-    }
+    let text = match matches.get_str("password-file") {
+        Some(path) => read_password_file(rt, path)?,
+        None => environment_password(rt, is_verbose)?,
+    };
+    check_password(rt, text.as_str(), is_verbose)
 }
 
 // Validates the options and reads the jobs on standard input. If `--verbose` is given, a line on
@@ -110,17 +149,16 @@ pub(crate) fn plan_campaign(
 ) -> Result<CampaignPlan, Fault>
     ensures limits { IfOk result (λ plan. AreLimits (found_of matches.now) plan.limits) }
     ensures workers { IfOk result (λ plan. AreWorkers (found_of matches.now) plan.workers) }
+    ensures password { IfOk result (λ plan. (text : List ℕ)
+        → first_value (found_of matches.now) (codes "password") ≡ Some text
+        → plan.password ≡ text) }
+    ensures of_file { IfOk result (λ plan. (path : List ℕ)
+        → first_value (found_of matches.now) (codes "password") ≡ None
+        → first_value (found_of matches.now) (codes "password-file") ≡ Some path
+        → HasNoLineEnd plan.password) }
 {
     let is_verbose = matches.get_flag("verbose");
-    let password = match password(rt, matches) {
-        Ok(password) => password,
-        Err(fault) => {
-            if is_verbose {
-                let _ = eprintln!(rt; "password: must be 1 to 32 bytes");
-            }
-            return Err(fault);
-        }
-    };
+    let password = password(rt, matches, is_verbose)?;
     let jobs = jobs_of(rt, rt.stdin(), is_verbose)?;
     Ok(CampaignPlan {
         jobs,

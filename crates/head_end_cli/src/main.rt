@@ -19,7 +19,7 @@ use crate::warnings::warn;
 use clap::ArgMatches;
 use counted_io::{Counted, read_to_end_within};
 use head_end::{Jobs, JobsFault, TcpConnector, count_jobs, read_jobs};
-use program::{Fault, exit_code, print_text, without_work, words};
+use program::{Fault, exit_code, has_option, print_text, without_work, words};
 use std::env;
 use std::env::VarError;
 use std::io::Read;
@@ -114,7 +114,9 @@ fn begin_command(rt: &HostRuntime, matches: &ArgMatches<'_>) -> Result<HeadEndCo
 fn begin(rt: &HostRuntime) -> Result<HeadEndCommand, Fault> {
     let alloc = rt.alloc();
     let words = words(rt)?;
-    let has_password = !matches!(env::var(rt, PASSWORD_VARIABLE), Err(VarError::NotPresent));
+    // (clap's `required_unless_present` would print the options of the usage in another order)
+    let has_password = has_option(words.as_slice(), "--password-file")
+        || !matches!(env::var(rt, PASSWORD_VARIABLE), Err(VarError::NotPresent));
     let command = command_line(alloc, has_password).map_err(|_| Fault::Memory)?;
     match command.try_get_matches_from(words.as_slice()) {
         Ok(matches) => begin_command(rt, &matches),

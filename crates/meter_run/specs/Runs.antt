@@ -2,10 +2,12 @@
 -- and its trace is written.
 --     Given       what the meter's own sources give, and the password of the management client
 --     AreOfRun    the calls of a run: which port made which
---     IsRun       a run, from its recorder to the text of its trace
+--     IsRunFrom   a run, from its recorder to the text of its trace
+--     IsRun       a run without a journal
 --     ServesAll   what serving did to the port of the lock
+--     StartsFrom  the port that serving starts from
 --     Traces      the text of the trace of the meter in the lock
-use Rattle.std.specs.Prelude.{◌≡◌, ℕ, ◌+◌, ◌<◌, ◌≤◌, List, [], ◌∷◌, map, Option, IfOk, Result}
+use Rattle.std.specs.Prelude.{◌≡◌, ℕ, ◌+◌, ◌<◌, ◌≤◌, List, [], ◌∷◌, map, Option, Some, IfOk, Result}
 use Rattle.shared_meter.specs.Calls.{Calls, IsLegal, Stands}
 use Rattle.shared_meter.specs.KeptRecorder.{KeptRecorder}
 use Rattle.lane_sampler.specs.Samples.{Samples}
@@ -40,31 +42,39 @@ abbrev pub events_in : List ℕ → Calls → List Event
 events_in number calls = map (λ (call : Entry Event Reply). call.event) (calls_by number calls)
 
 -- The calls of a run, in the order in which the meter applied them. Their replies are those of the
--- meter of the opening. If no worker stopped early, the first port's calls are the blocks of the
--- sampler with its reads, the second port's the moments of the clock, the third port's the presses
--- of the button, all of them. The calls of each further port are what one session requests for its
--- bytes. The port from which these were split off made no call.
-pub record AreOfRun (origin : Opening) (given : Given) (served : Result Served ServeFault)
-    (calls : Calls) : Type 0 where
+-- meter of the opening. If no worker stopped early, the calls of the port with the number `first`
+-- are the blocks of the sampler with its reads, those of the next port the moments of the clock,
+-- those of the port after it the presses of the button, all of them. The calls of each further port
+-- are what one session requests for its bytes. The ports before `first`, and the port from which
+-- all were split off, made no call.
+pub record AreOfRun (first : ℕ) (origin : Opening) (given : Given)
+    (served : Result Served ServeFault) (calls : Calls) : Type 0 where
   pub lawful : IsLegal origin calls
-  pub blocks : OnEnded served (AllBlocks given.blocks (events_in (0 ∷ []) calls))
-  pub moments : OnEnded served (AllMoments given.moments (events_in (1 ∷ []) calls))
-  pub presses : OnEnded served (AllPresses given.presses (events_in (2 ∷ []) calls))
+  pub silent : (i : ℕ) → i < first → calls_by (i ∷ []) calls ≡ []
+  pub blocks : OnEnded served (AllBlocks given.blocks (events_in (first ∷ []) calls))
+  pub moments : OnEnded served (AllMoments given.moments (events_in ((first + 1) ∷ []) calls))
+  pub presses : OnEnded served (AllPresses given.presses (events_in ((first + 2) ∷ []) calls))
   pub ports : ℕ
-  pub sessions : (i : ℕ) → 3 ≤ i → i < ports → AreAsked given.password (events_in (i ∷ []) calls)
-  pub counted : IfOk served (IsServed 3 ports)
+  pub sessions : (i : ℕ) → first + 3 ≤ i → i < ports
+      → AreAsked given.password (events_in (i ∷ []) calls)
+  pub counted : IfOk served (IsServed (first + 3) ports)
   pub own : calls_by [] calls ≡ []
 
 -- A run of the meter with this recorder: its calls, the recorder that represents them at its end,
--- and the text of that recorder's trace, which plays to the replies that were given
-pub record IsRun (recorder : Recording) (given : Given) (served : Result Served ServeFault)
-    (text : List ℕ) : Type 0 where
+-- and the text of that recorder's trace, which plays to the replies that were given. The ports
+-- before `first` are not those of sources and sessions.
+pub record IsRunFrom (first : ℕ) (recorder : Recording) (given : Given)
+    (served : Result Served ServeFault) (text : List ℕ) : Type 0 where
   pub kept : KeptRecorder
   pub begun : kept.origin ≡ opening_of recorder.core
   pub calls : Calls
-  pub of_run : AreOfRun kept.origin given served calls
+  pub of_run : AreOfRun first kept.origin given served calls
   pub stands : Stands kept calls
   pub traced : TellsRun kept.recorder text
+
+-- a run of a meter without a journal
+abbrev pub IsRun : Recording → Given → Result Served ServeFault → List ℕ → Type 0
+IsRun = IsRunFrom 0
 
 -- port p became port q: clients were served and sources passed on
 pub record ServesAll (given : Given) (p q : MeterPort) (served : Result Served ServeFault) : Type 0
@@ -79,6 +89,14 @@ pub record ServesAll (given : Given) (p q : MeterPort) (served : Result Served S
         (Acted q (child p.known.number (p.known.splits + 1)) (AllMoments given.moments))
     pub presses : OnEnded served
         (Acted q (child p.known.number (p.known.splits + 2)) (AllPresses given.presses))
+
+-- Serving starts from the port p: the one of a lock over an opening from which the others are split
+-- off, `first` of them already. Neither it nor those have made a call.
+pub record StartsFrom (first : ℕ) (origin : Opening) (p : MeterPort) : Type 0 where
+  pub origin_is : p.known.origin ≡ Some origin
+  pub number : p.known.number ≡ []
+  pub splits : p.known.splits ≡ first
+  pub own : calls_by [] p.known.seen ≡ []
 
 -- the text is that of the trace of the meter in the lock, by what a port of the lock knows
 pub record Traces (k : Known Event Reply Opening) (text : List ℕ) : Type 0 where

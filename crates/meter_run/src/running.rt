@@ -4,6 +4,7 @@ ghost use Rattle.std.specs.Prelude.{◌≡◌, ◌⊎◌, ⊤, ◌+◌, [], IfOk
 ghost use Rattle.acse_ber.specs.Password.{IsPassword};
 ghost use Rattle.meter_run.specs.Runs.{IsRun, ServesAll, Traces};
 ghost use Rattle.meter_server.specs.ServingAll.{IsLimit, StopsFor};
+ghost use Rattle.shared_meter.specs.Calls.{Stands};
 ghost use Rattle.relay_core.specs.Opening.{opening_of};
 ghost use Rattle.port_threads.specs.Listening.{IsCounted};
 ghost use Rattle.trace_player.specs.RunTraces.{TellsRun};
@@ -13,11 +14,12 @@ ghost use Rattle.program.specs.declared.fault.Fault.TheVariants.{Memory, Turns};
 use crate::closing::close_meter;
 use cosem_axdr::Octets;
 use meter_server::{
-    BlockSource, ButtonSource, Listener, MomentSource, ServeFault, Served, Sources, serve_all,
+    BlockSource, ButtonSource, ClientTerms, Listener, MomentSource, ServeFault, Served, Sources,
+    serve_all_journaled,
 };
 use program::Fault;
 use relay_recorder::Recorder;
-use shared_meter::Kept;
+use shared_meter::{Durability, Kept, NoJournal};
 use std::alloc::{AllocError, Global};
 use std::sync::Wait;
 use std::thread::Threads;
@@ -36,14 +38,17 @@ pub struct MeterRun {
     pub trace: Result<Octets, Fault>,
 }
 
-// Returns a lock for 2^62 calls over a recorder, and its first port.
-fn lock(alloc: Global, recorder: Recorder) -> Result<(Shared<Kept>, Port<Kept>), AllocError>
-    requires { recorder.events ≡ [] }
+// Returns a lock for 2^62 calls over a recorder without calls, and its first port.
+pub(crate) fn lock(
+    alloc: Global,
+    kept: Kept,
+) -> Result<(Shared<Kept>, Port<Kept>), AllocError>
+    requires { Stands kept [] }
     ensures lock { IfOk result (λ r. r.1.lock ≡ r.0) }
     ensures bound { IfOk result (λ r. r.1.bound ≡ 4611686018427387904) }
-    ensures known { IfOk result (λ r. r.1.known ≡ first_known (opening_of recorder.core)) }
+    ensures known { IfOk result (λ r. r.1.known ≡ first_known kept.origin) }
 {
-    match Shared::new(alloc, Kept::new(recorder), MAX_CALLS) {
+    match Shared::new(alloc, kept, MAX_CALLS) {
         Ok(meter) => Ok(meter),
         Err((error, kept)) => {
             drop(kept);
@@ -53,11 +58,12 @@ fn lock(alloc: Global, recorder: Recorder) -> Result<(Shared<Kept>, Port<Kept>),
 }
 
 // Serves clients and passes the events of the sources to the meter. Returns the port.
-fn serve<
+pub(crate) fn serve<
     L: Listener,
     B: BlockSource + Send + 'static,
     M: MomentSource + Send + 'static,
     U: ButtonSource + Send + 'static,
+    D: Durability + Send + 'static,
     R: Threads + Wait + Copy + Send + 'static,
 >(
     rt: &R,
@@ -65,32 +71,24 @@ fn serve<
     listener: &mut L,
     sources: Sources<B, M, U>,
     port: Port<Kept>,
-    password: &Octets,
-    limit: u64,
+    terms: &ClientTerms<'_, D>,
 ) -> (Port<Kept>, Result<Served, ServeFault>)
-    requires { IsPassword password.now }
+    requires { IsPassword terms.now.password.now }
     ensures lock { result.0.lock ≡ port.lock }
     ensures serves { ServesAll
         (record {
           blocks = B.forecast sources.blocks;
           moments = M.forecast sources.moments;
           presses = U.forecast sources.buttons;
-          password = password.now;
+          password = terms.now.password.now;
         })
         port result.0 result.1 }
-    ensures limit { IfOk result.1 (IsLimit limit) }
+    ensures limit { IfOk result.1 (IsLimit terms.now.limit) }
     ensures counted { IfOk result.1 (λ served. IsCounted (L.accepted listener.old)
         (served.served + served.turned_away) (L.accepted listener.new)) }
     ensures fault { IfErr result.1 (StopsFor ⊤ (L.has_failed listener.new)) }
 {
-    let Sources {
-        blocks,
-        moments,
-        buttons,
-    } = sources;
-    match serve_all(
-        rt, alloc, listener, blocks, moments, buttons, port, password, limit,
-    ) {
+    match serve_all_journaled(rt, alloc, listener, sources, port, terms) {
         Ok((port, served)) => (port, Ok(served)),
         Err((port, fault)) => (port, Err(fault)),
     }
@@ -105,7 +103,7 @@ fn kept_trace(alloc: Global, kept: &Kept) -> Result<Octets, AllocError>
 
 // Closes a lock, and returns the text of the trace of its meter. Errors: `Turns` if a call was
 // still in its turn; `Memory`.
-fn trace_text(alloc: Global, shared: Shared<Kept>, port: Port<Kept>) -> Result<Octets, Fault>
+pub(crate) fn trace_text(alloc: Global, shared: Shared<Kept>, port: Port<Kept>) -> Result<Octets, Fault>
     requires { port.lock ≡ shared }
     ensures traces { IfOk result (Traces port.known) }
     ensures err { IfErr result (λ fault. (fault ≡ Turns) ⊎ (fault ≡ Memory)) }
@@ -127,7 +125,8 @@ fn trace_text(alloc: Global, shared: Shared<Kept>, port: Port<Kept>) -> Result<O
 }
 
 /// Runs a meter: puts its recorder, which has no event yet, into a lock for 2^62 calls, serves the
-/// clients of the listener, passes the events of the sources to the meter as [`serve_all`] does,
+/// clients of the listener, passes the events of the sources to the meter as
+/// [`serve_all`](meter_server::serve_all) does,
 /// and then writes the text of the meter's trace. `password`, 1 to 32 bytes, is that of the
 /// management client; `limit` connections are served or turned away, and 0 means no limit.
 ///
@@ -168,9 +167,14 @@ pub fn run_meter<
     ensures fault { IfErr result.served (StopsFor ⊤ (L.has_failed listener.new)) }
     ensures err { IfErr result.trace (λ fault. (fault ≡ Turns) ⊎ (fault ≡ Memory)) }
 {
-    match lock(alloc, recorder) {
+    match lock(alloc, Kept::new(recorder)) {
         Ok((shared, port)) => {
-            let (port, served) = serve(rt, alloc, listener, sources, port, password, limit);
+            let terms: ClientTerms<'_, NoJournal> = ClientTerms {
+                password,
+                limit,
+                journal: None,
+            };
+            let (port, served) = serve(rt, alloc, listener, sources, port, &terms);
             let trace = trace_text(alloc, shared, port);
             MeterRun { served, trace }
         }

@@ -1,3 +1,4 @@
+pub mod JournalLemmas
 pub mod PortLemmas
 pub mod ServingAllLemmas
 pub mod SessionLemmas

@@ -1,5 +1,6 @@
 -- The effect of a session on its port, which passes the session's events on.
-use Rattle.std.proofs.Common.{◌≡◌, ℕ, List, [], ◌∷◌, ◌++◌, Result, Ok, Err, IfOk, refl, sym, ap, ◌∙◌, subst, ⊎_elim}
+use Rattle.std.proofs.Common.{◌≡◌, ◌⊎◌, ℕ, List, [], ◌∷◌, ◌++◌, Result, Ok, Err, IfOk, refl, sym}
+use Rattle.std.proofs.Common.{ap, ◌∙◌, subst, inl, ⊎_elim}
 use Rattle.std.proofs.lemmas.List.{append-nil, append_assoc}
 use Rattle.shared_meter.specs.Calls.{IsLegal, events_and_replies}
 use Rattle.session_io.specs.Meters.{RepliesTo, RefusesLast}
@@ -41,7 +42,8 @@ last_fits w (call ∷ calls) by event reply legal =
     cc in
     last_fits after calls by event reply rest
 
-called_fits : (k : Known Event Reply Opening) (event : Event) (reply : Reply)
+-- a reply to a call has the kind of its event
+pub called_fits : (k : Known Event Reply Opening) (event : Event) (reply : Reply)
     (l : Known Event Reply Opening) → Called IsLegal k event reply l → Fits event reply
 called_fits k event reply l called =
     let legal : IsLegal called.lawful.origin ((k.seen ++ called.seen.0)
@@ -56,6 +58,32 @@ pub port_fits : (k : Known Event Reply Opening) (event : Event) (result : Result
     → IfOk result (λ (reply : Reply). Called IsLegal k event reply l) → IfOk result (Fits event)
 port_fits k event (Ok reply) l called = called_fits k event reply l called
 port_fits k event (Err fault) l called = tt
+
+-- a relation that holds after replies and after a refusal holds between the first and the last
+-- meter of a session
+module _ {M : Type 0} (steps : M → Event → Result Reply CallFault → M → Type 0) (P : M → M → Type 0)
+    (replied : (m : M) (events : List Event) (replies : List Reply) (n : M)
+    → RepliesTo steps m events replies n → P m n)
+    (refused : (m : M) (events : List Event) (replies : List Reply) (fault : CallFault) (n : M)
+    → RefusesLast steps m events replies fault n → P m n) where
+  pub effect_by : (plan : Plan) (seen : List ℕ) (before : Sides M)
+      (result : Result SessionEnd ServeFault) (after : Sides M)
+      → HasEffect steps plan seen before result after → P before.outlets.meter after.outlets.meter
+  effect_by plan seen before (Ok end) after effect =
+      replied before.outlets.meter _ effect.0.replies after.outlets.meter effect.0.replied
+  effect_by plan seen before (Err fault.Read) after effect =
+      replied before.outlets.meter _ effect.0.replies after.outlets.meter effect.0.replied
+  effect_by plan seen before (Err fault.Write) after effect =
+      replied before.outlets.meter effect.asked effect.replies after.outlets.meter effect.replied
+  effect_by plan seen before (Err fault.Memory) after effect =
+      ⊎_elim (replied before.outlets.meter effect.asked effect.replies after.outlets.meter)
+      (refused before.outlets.meter effect.asked effect.replies _ after.outlets.meter)
+      effect.replied
+  effect_by plan seen before (Err fault.Exhausted) after effect = refused before.outlets.meter
+      effect.asked effect.replies _ after.outlets.meter effect.refused
+  effect_by plan seen before (Err fault.Listen) after effect = absurd effect
+  effect_by plan seen before (Err fault.Journal) after effect = refused before.outlets.meter
+      effect.asked effect.replies _ after.outlets.meter effect.refused
 
 -- a relation that is reflexive, holds for each step and is transitive holds between the first and
 -- the last meter of a session
@@ -80,21 +108,7 @@ module _ {M : Type 0} (steps : M → Event → Result Reply CallFault → M → 
   effect_on : (plan : Plan) (seen : List ℕ) (before : Sides M)
       (result : Result SessionEnd ServeFault) (after : Sides M)
       → HasEffect steps plan seen before result after → P before.outlets.meter after.outlets.meter
-  effect_on plan seen before (Ok end) after effect =
-      replied_on before.outlets.meter _ effect.0.replies after.outlets.meter effect.0.replied
-  effect_on plan seen before (Err fault.Read) after effect =
-      replied_on before.outlets.meter _ effect.0.replies after.outlets.meter effect.0.replied
-  effect_on plan seen before (Err fault.Write) after effect =
-      replied_on before.outlets.meter effect.asked effect.replies after.outlets.meter effect.replied
-  effect_on plan seen before (Err fault.Memory) after effect =
-      ⊎_elim (replied_on before.outlets.meter effect.asked effect.replies after.outlets.meter)
-      (refused_on before.outlets.meter effect.asked effect.replies _ after.outlets.meter)
-      effect.replied
-  effect_on plan seen before (Err fault.Exhausted) after effect = refused_on before.outlets.meter
-      effect.asked effect.replies _ after.outlets.meter effect.refused
-  effect_on plan seen before (Err fault.Listen) after effect = absurd effect
-  effect_on plan seen before (Err fault.Journal) after effect = refused_on before.outlets.meter
-      effect.asked effect.replies _ after.outlets.meter effect.refused
+  effect_on = effect_by steps P replied_on refused_on
 
 pub is_same : (p : MeterPort) → IsSame p p
 is_same p = record {
@@ -138,34 +152,73 @@ step_same p event (Err fault) q step =
           step.calls.0.joined;
     }
 
--- a port that served a session is the same port
-pub served_same : (password : List ℕ) (before : Sides MeterPort)
-    (result : Result SessionEnd ServeFault) (after : Sides MeterPort)
-    → ServesSession PortSteps password before result after
-    → IsSame before.outlets.meter after.outlets.meter
-served_same password before result after served =
-    effect_on PortSteps IsSame is_same same_on step_same (plan_of password) served.seen before
-    result after served.effect
-
 -- ports are related if their equals are
 pub between : (P : MeterPort → MeterPort → Type 0) (p m n q : MeterPort) → m ≡ p → q ≡ n
     → P m n → P p q
 between P p m n q first last holds = subst (λ x. P x q) first (subst (P m) (sym last) holds)
 
--- the calls of a port are extended by the events that it passed on
-pub entered : (p : MeterPort) (events : List Event) (replies : List Reply) (q : MeterPort)
-    → RepliesTo PortSteps p events replies q → Enters p events replies q
-entered p [] [] q same = subst (λ (q : MeterPort). Enters p [] [] q) (sym same)
-    (sym (append-nil (calls_by p.known.number p.known.seen)))
-entered p [] (reply ∷ replies) q never = absurd never
-entered p (event ∷ events) [] q never = absurd never
-entered p (event ∷ events) (reply ∷ replies) q (next, step, rest) =
+-- in this history, the port's calls are extended by one call and then by further ones
+pub enters_more : (p : MeterPort) (event : Event) (reply : Reply) (next : MeterPort)
+    (events : List Event) (replies : List Reply) (history : List (Entry Event Reply))
+    → next.known.number ≡ p.known.number → Enters p (event ∷ []) (reply ∷ []) next
+    → calls_by next.known.number history ≡ calls_by next.known.number next.known.seen
+    ++ entries next.known.number events replies
+    → calls_by p.known.number history ≡ calls_by p.known.number p.known.seen
+    ++ entries p.known.number (event ∷ events) (reply ∷ replies)
+enters_more p event reply next events replies history number first rest =
     let by : List ℕ = p.known.number in
-    let P : List ℕ → Type 0 = λ n. calls_by n q.known.seen ≡ calls_by n next.known.seen
+    let P : List ℕ → Type 0 = λ n. calls_by n history ≡ calls_by n next.known.seen
     ++ entries n events replies in
-    let later : P by = subst P step.calls.number (entered next events replies q rest) in
+    let later : P by = subst P number rest in
     later
-    ∙ (ap (λ (calls : List (Entry Event Reply)). calls
-    ++ entries by events replies) step.calls.own_calls
+    ∙ (ap (λ (calls : List (Entry Event Reply)). calls ++ entries by events replies) first
     ∙ append_assoc (calls_by by p.known.seen) (entry by event reply
     ∷ []) (entries by events replies))
+
+-- What the following needs of the steps of a meter that is a port: it remains the same port, a
+-- reply adds the call to the port's calls, and a refusal adds no call or that of its event.
+pub record ArePortSteps (steps : MeterPort → Event → Result Reply CallFault → MeterPort → Type 0)
+    : Type 0 where
+  pub same : (p : MeterPort) (event : Event) (result : Result Reply CallFault) (q : MeterPort)
+      → steps p event result q → IsSame p q
+  pub replied : (p : MeterPort) (event : Event) (reply : Reply) (q : MeterPort)
+      → steps p event (Ok reply) q → Enters p (event ∷ []) (reply ∷ []) q
+  pub refused : (p : MeterPort) (event : Event) (fault : CallFault) (q : MeterPort)
+      → steps p event (Err fault) q
+      → Enters p [] [] q ⊎ ((reply : Reply) × Enters p (event ∷ []) (reply ∷ []) q)
+
+-- a refusal by a port adds no call
+pub refusal_enters : (p : MeterPort) (event : Event) (fault : CallFault) (q : MeterPort)
+    → PortSteps p event (Err fault) q → Enters p [] [] q
+refusal_enters p event fault q step = step.calls.0.sees.own_calls p.known.number (inl refl)
+    ∙ sym (append-nil (calls_by p.known.number p.known.seen))
+
+pub port_steps : ArePortSteps PortSteps
+port_steps = record {
+  same = step_same;
+  replied = λ p event reply q step. step.calls.own_calls;
+  refused = λ p event fault q step. inl (refusal_enters p event fault q step);
+}
+
+module _ (steps : MeterPort → Event → Result Reply CallFault → MeterPort → Type 0)
+    (is_port : ArePortSteps steps) where
+  -- a port that served a session is the same port
+  pub served_same : (password : List ℕ) (before : Sides MeterPort)
+      (result : Result SessionEnd ServeFault) (after : Sides MeterPort)
+      → ServesSession steps password before result after
+      → IsSame before.outlets.meter after.outlets.meter
+  served_same password before result after served =
+      effect_on steps IsSame is_same same_on is_port.same (plan_of password) served.seen before
+      result after served.effect
+
+  -- the calls of a port are extended by the events that it passed on
+  pub entered : (p : MeterPort) (events : List Event) (replies : List Reply) (q : MeterPort)
+      → RepliesTo steps p events replies q → Enters p events replies q
+  entered p [] [] q same = subst (λ (q : MeterPort). Enters p [] [] q) (sym same)
+      (sym (append-nil (calls_by p.known.number p.known.seen)))
+  entered p [] (reply ∷ replies) q never = absurd never
+  entered p (event ∷ events) [] q never = absurd never
+  entered p (event ∷ events) (reply ∷ replies) q (next, step, rest) =
+      enters_more p event reply next events replies q.known.seen
+      (is_port.same p event (Ok reply) next step).number (is_port.replied p event reply next step)
+      (entered next events replies q rest)

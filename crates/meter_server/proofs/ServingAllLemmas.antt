@@ -1,7 +1,7 @@
 -- The calls of a worker once its port was joined in, and that they do not change afterwards.
 use Rattle.std.proofs.Common.{◌≡◌, ℕ, zero, suc, ◌+◌, ◌<◌, ◌≤◌, List, [], ◌++◌, refl, sym, ◌∙◌, ap, subst, inl, inr, arith, Option, Some, None, IfOk, map}
 use Rattle.std.proofs.lemmas.Bool.{cases_eq}
-use Rattle.std.specs.Prelude.{IfErr, OnOk, Result, Ok, Err}
+use Rattle.std.specs.Prelude.{IfErr, IfSome, OnOk, Result, Ok, Err}
 use Rattle.relay_events.specs.declared.event.Event.{Event}
 use Rattle.relay_events.specs.declared.reply.Reply.{Reply}
 use Rattle.turn_lock.specs.declared.turned.Entry.{Entry}
@@ -19,8 +19,9 @@ use Rattle.shared_meter.specs.Sources.{Includes}
 use Rattle.session_io.specs.declared.fault.ServeFault.{ServeFault}
 use Rattle.session_io.specs.declared.fault.ServeFault.TheVariants as fault
 use Rattle.meter_server.specs.declared.serving_all.Served.{Served}
+use Rattle.meter_server.specs.JournaledSessions.{AreJournaled}
 use Rattle.meter_server.specs.Sessions.{AreSessions}
-use Rattle.meter_server.proofs.SessionLemmas.{no_sessions, sessions_on}
+use Rattle.meter_server.proofs.SessionLemmas.{journaled_on, no_sessions, sessions_on}
 use Rattle.meter_server.specs.ServingAll.{events_by, Acted, EndsWith, IsServed, IsSpent, StopsFor, OnEnded, worker_fault, first_of}
 use Rattle.meter_server.specs.WithSources.{ServesWith, first_then}
 
@@ -280,6 +281,25 @@ module _ {W : Type 0} (CanFollow : W → List Event → Type 0) (worker : W)
   acted_each count Others acted (suc i) low =
       acted_beside (lent.known.splits + i) (p.known.splits + suc i) (Others i)
       (omega (arith, off.splits)) (acted i (omega (arith, low)))
+
+  -- the calls of the sessions, served in parallel with the worker alone, or with others too
+  pub journaled_alone : {D : Type 0} (journal : Option D) (IsDurable : ℕ → Type 0)
+      → AreJoined lent.known.splits mid
+      → IfSome journal (λ _. AreJournaled IsDurable lent.known.splits mid)
+      → IfSome journal (λ _. AreJournaled IsDurable (p.known.splits + 1) last)
+  journaled_alone journal IsDurable joined so =
+      journaled_on journal IsDurable lent.known.splits lent.known.splits (p.known.splits + 1) mid
+      last (omega (arith, off.splits)) (omega arith) ends.back.taken.goes ends.back.taken.splits
+      joined so
+
+  pub journaled_beside : {D : Type 0} (journal : Option D) (IsDurable : ℕ → Type 0) (count : ℕ)
+      → AreJoined lent.known.splits mid
+      → IfSome journal (λ _. AreJournaled IsDurable (lent.known.splits + count) mid)
+      → IfSome journal (λ _. AreJournaled IsDurable (p.known.splits + (count + 1)) last)
+  journaled_beside journal IsDurable count joined so =
+      journaled_on journal IsDurable lent.known.splits (lent.known.splits + count)
+      (p.known.splits + (count + 1)) mid last (omega (arith, off.splits)) (omega arith)
+      ends.back.taken.goes ends.back.taken.splits joined so
 
   serves_worker : (password : List ℕ) (count : ℕ) (Others : ℕ → List Event → Type 0)
       → ServesWith password count Others lent mid served

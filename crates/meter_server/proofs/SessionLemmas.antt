@@ -1,5 +1,6 @@
 -- The calls of a session's port are the events of the session.
-use Rattle.std.proofs.Common.{◌≡◌, ℕ, ◌<◌, ◌≤◌, List, [], ◌∷◌, ◌++◌, map, Result, Ok, Err, refl, sym, ap, ◌∙◌, subst, inl, inr, ⊎_elim, arith}
+use Rattle.std.proofs.Common.{◌≡◌, ℕ, ◌<◌, ◌≤◌, List, [], ◌∷◌, ◌++◌, map, Result, Ok, Err, refl}
+use Rattle.std.proofs.Common.{sym, ap, ◌∙◌, subst, inl, inr, ⊎_elim, arith}
 use Rattle.std.proofs.lemmas.List.{append-nil, append_assoc, map-append}
 use Rattle.relay_events.specs.declared.event.Event.{Event}
 use Rattle.relay_events.specs.declared.reply.Reply.{Reply}
@@ -15,112 +16,152 @@ use Rattle.turn_lock.specs.declared.turned.Entry.{Entry}
 use Rattle.turn_lock.specs.History.{calls_by}
 use Rattle.turn_lock.specs.Shown.{IsSame}
 use Rattle.port_threads.specs.Ports.{PortContinues, AreJoined, AreServed, AreCallsOf, child}
-use Rattle.meter_server.specs.Ports.{MeterPort, PortSteps, entries}
+use Rattle.std.proofs.Common.{drop, Option, Some, None}
+use Rattle.std.specs.Prelude.{IfSome}
+use Rattle.meter_server.specs.JournaledSessions.{AreAnswered, AreJournaled, HandsBack}
+use Rattle.meter_server.specs.Ports.{MeterPort, Enters, entries}
 use Rattle.meter_server.specs.ServingAll.{events_by}
 use Rattle.meter_server.specs.Sessions.{AreAsked, AsksThrough, AreSessions}
-use Rattle.meter_server.proofs.PortLemmas.{is_same, same_on, step_same, replied_on, entered}
+use Rattle.meter_server.proofs.PortLemmas.{ArePortSteps, is_same, same_on, replied_on, entered}
 
 abbrev event_of : Entry Event Reply → Event
 event_of call = call.event
 
--- the events of the port's new calls are those that were replied to
-entries_events : (by : List ℕ) (p : MeterPort) (events : List Event) (replies : List Reply)
-    (q : MeterPort)
-    → RepliesTo PortSteps p events replies q → map event_of (entries by events replies) ≡ events
-entries_events by p [] [] q same = refl
-entries_events by p [] (reply ∷ replies) q never = absurd never
-entries_events by p (event ∷ events) [] q never = absurd never
-entries_events by p (event ∷ events) (reply ∷ replies) q (next, step, rest) =
-    ap (λ (es : List Event). event ∷ es) (entries_events by next events replies q rest)
+-- the port's calls are extended by those of these events
+abbrev Adds : MeterPort → List Event → MeterPort → Type 0
+Adds p events q = events_by p.known.number q ≡ events_by p.known.number p ++ events
 
-replied_events : (p : MeterPort) (events : List Event) (replies : List Reply) (q : MeterPort)
-    → RepliesTo PortSteps p events replies q → events_by p.known.number q
-    ≡ events_by p.known.number p ++ events
-replied_events p events replies q replied =
+-- the same port after further calls
+adds_on : (p q r : MeterPort) (events later : List Event) → q.known.number ≡ p.known.number
+    → Adds p events q → Adds q later r → Adds p (events ++ later) r
+adds_on p q r events later number first second =
     let by : List ℕ = p.known.number in
-    ap (map event_of) (entered p events replies q replied)
+    let N : List ℕ → Type 0 = λ n. events_by n r ≡ events_by n q ++ later in
+    subst N number second ∙ (ap (λ (es : List Event). es ++ later) first
+    ∙ append_assoc (events_by by p) events later)
+
+-- the events of the port's new calls
+enters_adds : (p : MeterPort) (events : List Event) (replies : List Reply) (q : MeterPort)
+    → map event_of (entries p.known.number events replies) ≡ events → Enters p events replies q
+    → Adds p events q
+enters_adds p events replies q those enters =
+    let by : List ℕ = p.known.number in
+    ap (map event_of) enters
     ∙ map-append event_of (calls_by by p.known.seen) (entries by events replies)
-    ∙ ap (λ (es : List Event). events_by by p ++ es) (entries_events by p events replies q replied)
+    ∙ ap (λ (es : List Event). events_by by p ++ es) those
 
-by_replied : (password seen : List ℕ) (p : MeterPort) (events later : List Event)
-    (replies : List Reply) (q : MeterPort)
-    → Asks password seen ≡ events ++ later → RepliesTo PortSteps p events replies q
-    → AsksThrough password p q
-by_replied password seen p events later replies q all replied = record {
-  asked = events;
-  are = record { input = seen; later = later; all = all };
-  entered = replied_events p events replies q replied;
-}
+module _ (steps : MeterPort → Event → Result Reply CallFault → MeterPort → Type 0)
+    (is_port : ArePortSteps steps) where
+  -- the events of the port's new calls are those that were replied to
+  entries_events : (by : List ℕ) (p : MeterPort) (events : List Event) (replies : List Reply)
+      (q : MeterPort)
+      → RepliesTo steps p events replies q → map event_of (entries by events replies) ≡ events
+  entries_events by p [] [] q same = refl
+  entries_events by p [] (reply ∷ replies) q never = absurd never
+  entries_events by p (event ∷ events) [] q never = absurd never
+  entries_events by p (event ∷ events) (reply ∷ replies) q (next, step, rest) =
+      ap (λ (es : List Event). event ∷ es) (entries_events by next events replies q rest)
 
-by_refused : (password seen : List ℕ) (p : MeterPort) (events later : List Event)
-    (replies : List Reply) (refusal : CallFault) (q : MeterPort)
-    → Asks password seen ≡ events ++ later → RefusesLast PortSteps p events replies refusal q
-    → AsksThrough password p q
-by_refused password seen p events later replies refusal q all r =
-    let same = replied_on PortSteps IsSame is_same same_on step_same p r.taken replies r.before
-    r.replied in
-    let N : List ℕ → Type 0 = λ n. events_by n q ≡ events_by n r.before in
-    let still : events_by p.known.number q ≡ events_by p.known.number r.before =
-    subst N same.number (ap (map event_of) (r.refused.calls.0.sees.own_calls r.before.known.number
-    (inl refl))) in record {
-      asked = r.taken;
-      are = record {
-        input = seen;
-        later = r.event ∷ later;
-        all = all ∙ ap (λ (es : List Event). es ++ later) r.all
-            ∙ append_assoc r.taken (r.event ∷ []) later;
-      };
-      entered = still ∙ replied_events p r.taken replies r.before r.replied;
-    }
+  replied_events : (p : MeterPort) (events : List Event) (replies : List Reply) (q : MeterPort)
+      → RepliesTo steps p events replies q → Adds p events q
+  replied_events p events replies q replied =
+      enters_adds p events replies q (entries_events p.known.number p events replies q replied)
+      (entered steps is_port p events replies q replied)
 
-effect_asks : (password seen : List ℕ) (before : Sides MeterPort)
-    (result : Result SessionEnd ServeFault) (after : Sides MeterPort)
-    → HasEffect PortSteps (plan_of password) seen before result after
-    → AsksThrough password before.outlets.meter after.outlets.meter
-effect_asks password seen before (Ok end) after effect =
-    by_replied password seen before.outlets.meter _ [] effect.0.replies after.outlets.meter
-    (sym (append-nil (Asks password seen))) effect.0.replied
-effect_asks password seen before (Err fault.Read) after effect =
-    by_replied password seen before.outlets.meter _ [] effect.0.replies after.outlets.meter
-    (sym (append-nil (Asks password seen))) effect.0.replied
-effect_asks password seen before (Err fault.Write) after effect =
-    by_replied password seen before.outlets.meter effect.asked effect.later effect.replies
-    after.outlets.meter effect.all_asked effect.replied
-effect_asks password seen before (Err fault.Memory) after effect =
-    ⊎_elim (by_replied password seen before.outlets.meter effect.asked effect.later effect.replies
-    after.outlets.meter effect.all_asked)
-    (by_refused password seen before.outlets.meter effect.asked effect.later effect.replies _
-    after.outlets.meter effect.all_asked) effect.replied
-effect_asks password seen before (Err fault.Exhausted) after effect =
-    by_refused password seen before.outlets.meter effect.asked effect.later effect.replies _
-    after.outlets.meter effect.all_asked effect.refused
-effect_asks password seen before (Err fault.Listen) after effect = absurd effect
-effect_asks password seen before (Err fault.Journal) after effect =
-    by_refused password seen before.outlets.meter effect.asked effect.later effect.replies _
-    after.outlets.meter effect.all_asked effect.refused
+  by_replied : (password seen : List ℕ) (p : MeterPort) (events later : List Event)
+      (replies : List Reply) (q : MeterPort)
+      → Asks password seen ≡ events ++ later → RepliesTo steps p events replies q
+      → AsksThrough password p q
+  by_replied password seen p events later replies q all replied = record {
+    asked = events;
+    are = record { input = seen; later = later; all = all };
+    entered = replied_events p events replies q replied;
+  }
 
--- a port that served a session made the calls of the session
-pub served_asks : (password : List ℕ) (before : Sides MeterPort)
-    (result : Result SessionEnd ServeFault) (after : Sides MeterPort)
-    → ServesSession PortSteps password before result after
-    → AsksThrough password before.outlets.meter after.outlets.meter
-served_asks password before result after served =
-    effect_asks password served.seen before result after served.effect
+  -- the events of the port's new calls, of which the last was refused
+  by_refused : (password seen : List ℕ) (p : MeterPort) (events later : List Event)
+      (replies : List Reply) (refusal : CallFault) (q : MeterPort)
+      → Asks password seen ≡ events ++ later → RefusesLast steps p events replies refusal q
+      → AsksThrough password p q
+  by_refused password seen p events later replies refusal q all r =
+      let number = (replied_on steps IsSame is_same same_on is_port.same p r.taken replies r.before
+      r.replied).number in
+      let taken = replied_events p r.taken replies r.before r.replied in
+      elim (is_port.refused r.before r.event refusal q r.refused) [
+        | inl none ↦ record {
+          asked = r.taken;
+          are = record {
+            input = seen;
+            later = r.event ∷ later;
+            all = all ∙ ap (λ (es : List Event). es ++ later) r.all
+                ∙ append_assoc r.taken (r.event ∷ []) later;
+          };
+          entered = adds_on p r.before q r.taken [] number taken
+              (enters_adds r.before [] [] q refl none)
+              ∙ ap (λ (es : List Event). events_by p.known.number p ++ es) (append-nil r.taken);
+        }
+        | inr called ↦ record {
+          asked = r.taken ++ r.event ∷ [];
+          are = record {
+            input = seen;
+            later = later;
+            all = all ∙ ap (λ (es : List Event). es ++ later) r.all;
+          };
+          entered = adds_on p r.before q r.taken (r.event ∷ []) number taken
+              (enters_adds r.before (r.event ∷ []) (called.0 ∷ []) q refl called.1);
+        }
+      ]
 
-abbrev Session : List ℕ → MeterPort → MeterPort → Type 0
-Session password p q = IsSame p q × AsksThrough password p q
+  effect_asks : (password seen : List ℕ) (before : Sides MeterPort)
+      (result : Result SessionEnd ServeFault) (after : Sides MeterPort)
+      → HasEffect steps (plan_of password) seen before result after
+      → AsksThrough password before.outlets.meter after.outlets.meter
+  effect_asks password seen before (Ok end) after effect =
+      by_replied password seen before.outlets.meter _ [] effect.0.replies after.outlets.meter
+      (sym (append-nil (Asks password seen))) effect.0.replied
+  effect_asks password seen before (Err fault.Read) after effect =
+      by_replied password seen before.outlets.meter _ [] effect.0.replies after.outlets.meter
+      (sym (append-nil (Asks password seen))) effect.0.replied
+  effect_asks password seen before (Err fault.Write) after effect =
+      by_replied password seen before.outlets.meter effect.asked effect.later effect.replies
+      after.outlets.meter effect.all_asked effect.replied
+  effect_asks password seen before (Err fault.Memory) after effect =
+      ⊎_elim (by_replied password seen before.outlets.meter effect.asked effect.later
+      effect.replies after.outlets.meter effect.all_asked)
+      (by_refused password seen before.outlets.meter effect.asked effect.later effect.replies _
+      after.outlets.meter effect.all_asked) effect.replied
+  effect_asks password seen before (Err fault.Exhausted) after effect =
+      by_refused password seen before.outlets.meter effect.asked effect.later effect.replies _
+      after.outlets.meter effect.all_asked effect.refused
+  effect_asks password seen before (Err fault.Listen) after effect = absurd effect
+  effect_asks password seen before (Err fault.Journal) after effect =
+      by_refused password seen before.outlets.meter effect.asked effect.later effect.replies _
+      after.outlets.meter effect.all_asked effect.refused
+
+  -- a port that served a session made the calls of the session
+  pub served_asks : (password : List ℕ) (before : Sides MeterPort)
+      (result : Result SessionEnd ServeFault) (after : Sides MeterPort)
+      → ServesSession steps password before result after
+      → AsksThrough password before.outlets.meter after.outlets.meter
+  served_asks password before result after served =
+      effect_asks password served.seen before result after served.effect
 
 -- the calls of a new port that served a session, or was returned unused
-calls_asked : (password number : List ℕ) (calls : List (Entry Event Reply))
-    → AreCallsOf (Session password) number calls → AreAsked password (map event_of calls)
-calls_asked password number calls c =
-    let A : List Event → Type 0 = λ es. AreAsked password es in
+calls_asked : (IsDurable : ℕ → Type 0) (terms number : List ℕ) (calls : List (Entry Event Reply))
+    → AreCallsOf (HandsBack IsDurable terms) number calls
+    → AreAsked (drop 1 terms) (map event_of calls)
+calls_asked IsDurable terms number calls c =
+    let A : List Event → Type 0 = λ es. AreAsked (drop 1 terms) es in
     let none : map event_of (calls_by number c.lent.known.seen) ≡ [] = ap (map event_of) c.fresh in
     elim c.returned [
       | inl unused ↦
           let empty : map event_of calls ≡ [] = ap (map event_of) c.calls_are
           ∙ ap (λ (x : MeterPort). events_by number x) unused ∙ none in
-          subst A (sym empty) record { input = []; later = Asks password []; all = refl }
+          subst A (sym empty) record {
+            input = [];
+            later = Asks (drop 1 terms) [];
+            all = refl;
+          }
       | inr session ↦
           let N : List ℕ → Type 0 = λ n. events_by n c.back ≡ events_by n c.lent
           ++ session.1.asked in
@@ -131,26 +172,61 @@ calls_asked password number calls c =
           subst A (sym those) session.1.are
     ]
 
-pub are_sessions : (password : List ℕ) (from : ℕ) (port : MeterPort)
-    → AreServed (Session password) from port → AreSessions password from port
-are_sessions password from port served i low high =
-    calls_asked password (child port.known.number i) _ (served i low high)
+pub are_sessions : (IsDurable : ℕ → Type 0) (terms : List ℕ) (from : ℕ) (port : MeterPort)
+    → AreServed (HandsBack IsDurable terms) from port → AreSessions (drop 1 terms) from port
+are_sessions IsDurable terms from port served i low high =
+    calls_asked IsDurable terms (child port.known.number i) _ (served i low high)
 
--- no port was split off
+-- a property of the calls of each port that was split off
+module _ (P : List ℕ → List (Entry Event Reply) → Type 0) where
+  abbrev Each : ℕ → MeterPort → Type 0
+  Each from port = (i : ℕ) → from ≤ i → i < port.known.splits
+      → P (child port.known.number i) (calls_by (child port.known.number i) port.known.seen)
+
+  -- no port was split off
+  none_each : (from : ℕ) (port : MeterPort) → port.known.splits ≤ from → Each from port
+  none_each from port few i low high = absurd (omega (arith, few, low, high))
+
+  -- facts about joined ports are preserved
+  each_on : (first from before : ℕ) (p q : MeterPort) → from ≡ before → first ≤ from
+      → PortContinues p q → q.known.splits ≡ p.known.splits → AreJoined first p → Each from p
+      → Each before q
+  each_on first from before p q same early goes splits joined each i low high =
+      let within : i < p.known.splits = omega (arith, high, splits) in
+      let late : from ≤ i = omega (arith, low, same) in
+      let number = child p.known.number i in
+      let C : List (Entry Event Reply) → Type 0 = λ calls. P number calls in
+      let N : List ℕ → Type 0 = λ n. P (child n i) (calls_by (child n i) q.known.seen) in
+      let kept : calls_by number q.known.seen ≡ calls_by number p.known.seen =
+      goes.own number (inr (joined i (omega (arith, early, late)) within)) in
+      subst N (sym goes.number) (subst C (sym kept) (each i late within))
+
+abbrev Asked : List ℕ → List ℕ → List (Entry Event Reply) → Type 0
+Asked password number calls = AreAsked password (map event_of calls)
+
 pub no_sessions : (password : List ℕ) (from : ℕ) (port : MeterPort) → port.known.splits ≤ from
     → AreSessions password from port
-no_sessions password from port few i low high = absurd (omega (arith, few, low, high))
+no_sessions password = none_each (Asked password)
 
--- facts about joined ports are preserved
 pub sessions_on : (password : List ℕ) (first from before : ℕ) (p q : MeterPort) → from ≡ before
     → first ≤ from → PortContinues p q → q.known.splits ≡ p.known.splits
     → AreJoined first p → AreSessions password from p → AreSessions password before q
-sessions_on password first from before p q same early goes splits joined sessions i low high =
-    let within : i < p.known.splits = omega (arith, high, splits) in
-    let late : from ≤ i = omega (arith, low, same) in
-    let number = child p.known.number i in
-    let A : List Event → Type 0 = λ es. AreAsked password es in
-    let N : List ℕ → Type 0 = λ n. AreAsked password (events_by (child n i) q) in
-    let kept : events_by number q ≡ events_by number p =
-    ap (map event_of) (goes.own number (inr (joined i (omega (arith, early, late)) within))) in
-    subst N (sym goes.number) (subst A (sym kept) (sessions i late within))
+sessions_on password = each_on (Asked password)
+
+abbrev Answered : (ℕ → Type 0) → List ℕ → List (Entry Event Reply) → Type 0
+Answered IsDurable number calls = AreAnswered IsDurable number [] calls
+
+pub no_journaled : {D : Type 0} (journal : Option D) (IsDurable : ℕ → Type 0) (from : ℕ)
+    (port : MeterPort) → port.known.splits ≤ from
+    → IfSome journal (λ _. AreJournaled IsDurable from port)
+no_journaled None IsDurable from port few = tt
+no_journaled (Some given) IsDurable from port few = none_each (Answered IsDurable) from port few
+
+pub journaled_on : {D : Type 0} (journal : Option D) (IsDurable : ℕ → Type 0)
+    (first from before : ℕ) (p q : MeterPort) → from ≡ before
+    → first ≤ from → PortContinues p q → q.known.splits ≡ p.known.splits
+    → AreJoined first p → IfSome journal (λ _. AreJournaled IsDurable from p)
+    → IfSome journal (λ _. AreJournaled IsDurable before q)
+journaled_on None IsDurable first from before p q same early goes splits joined so = tt
+journaled_on (Some given) IsDurable first from before p q same early goes splits joined so =
+    each_on (Answered IsDurable) first from before p q same early goes splits joined so

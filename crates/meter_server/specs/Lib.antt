@@ -1,3 +1,5 @@
+pub mod Journaled
+pub mod JournaledSessions
 pub mod Ports
 pub mod ServingAll
 pub mod Sessions

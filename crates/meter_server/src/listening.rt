@@ -1,17 +1,23 @@
 //! Sources of clients, and the reporting of the ends of sessions.
-ghost use Rattle.std.specs.Prelude.{◌≡◌, ◌≢◌, ⊤, ℕ, Option, None, Some};
-ghost use Rattle.std.specs.Prelude.{IfSome, IfNone, OnOk, OnErr};
+ghost use Rattle.std.specs.Prelude.{◌≡◌, ◌≢◌, ⊤, ℕ, Option, None, Some, is_some};
+ghost use Rattle.std.specs.Prelude.{IfSome, IfNone, IfOk, OnOk, OnErr};
 ghost use Rattle.acse_ber.specs.Password.{IsPassword};
+ghost use Rattle.meter_server.specs.JournaledSessions.{AnswersCalls, client_steps, client_terms};
+ghost use Rattle.meter_server.specs.Sessions.{AsksThrough};
 ghost use Rattle.port_threads.specs.Listening.{IfReady, RisesBy};
+ghost use Rattle.session_io.specs.Serving.{ServesSession};
+ghost use Rattle.session_io.specs.Sides.{input_of, outlets_of};
+ghost use Rattle.turn_lock.specs.Shown.{IsSame};
 
+use crate::journaled::serve_journaled;
 use crate::ports::serve_port;
 use cosem_axdr::Octets;
-use counted_io::Counted;
+use counted_io::{Counted, Reader, Writer};
 use port_threads::{Arrival, ListenFault, PortConnection};
 use session_core::SessionEnd;
 use session_io::ServeFault;
-use shared_meter::Kept;
-use std::alloc::Global;
+use shared_meter::{Durability, Kept};
+use std::alloc::{AllocError, Global};
 use std::io::{Read, Write};
 use std::net::TcpStream;
 use std::sync::Wait;
@@ -51,77 +57,143 @@ pub trait Listener {
         ensures accepted_err { OnErr result (RisesBy (accepted self.old) 0 (accepted self.new)) };
 }
 
-// An accepted client.
+// Serves one session through a port: with a journal, each answer waits for it.
+fn serve_client<R: Reader, O: Writer, W: Wait, D: Durability>(
+    rt: &W,
+    alloc: Global,
+    reader: &mut R,
+    writer: &mut O,
+    port: Port<Kept>,
+    password: &Octets,
+    journal: &Option<D>,
+) -> (Port<Kept>, Result<SessionEnd, ServeFault>)
+    requires readable { R.can_read reader.now }
+    requires writable { O.can_write writer.now }
+    requires password { IsPassword password.now }
+    ensures served { ServesSession (client_steps D.is_durable journal.now) password.now
+        (record {
+          input = input_of R.remaining R.reads R.failures reader.old;
+          outlets = outlets_of O.contents O.failures writer.old port;
+        })
+        result.1
+        (record {
+          input = input_of R.remaining R.reads R.failures reader.new;
+          outlets = outlets_of O.contents O.failures writer.new result.0;
+        }) }
+    ensures same { IsSame port result.0 }
+    ensures asks { AsksThrough password.now port result.0 }
+    ensures answers { IfSome journal.now (λ _. AnswersCalls D.is_durable port result.0) }
+{
+    match journal {
+        Some(journal) => serve_journaled(rt, alloc, reader, writer, port, password, journal),
+        None => serve_port(rt, alloc, reader, writer, port, password),
+    }
+}
+
+// An accepted client, and a handle of the meter's journal, if the meter has one.
 #[derive(Drop)]
-pub(crate) struct AcceptedClient<I, O> {
+pub(crate) struct AcceptedClient<I, O, D> {
     input: I,
     output: O,
     password: Octets,
+    journal: Option<D>,
     ghost sized: { IsPassword password },
 }
 
-impl<I: Read + Drop + Send, O: Write + Observer + Drop + Send> PortConnection<Port<Kept>>
-    for AcceptedClient<I, O> {
-    ghost use Rattle.turn_lock.specs.Shown.{IsSame};
-    ghost use Rattle.meter_server.specs.Sessions.{AsksThrough};
+impl<I: Read + Drop + Send, O: Write + Observer + Drop + Send, D: Durability + Send> PortConnection<
+    Port<Kept>,
+> for AcceptedClient<I, O, D> {
+    ghost use Rattle.meter_server.specs.JournaledSessions.{HandsBack, client_terms};
 
-    ghost terms = { λ client. client.password };
+    ghost terms = { λ client. client_terms client.journal client.password };
 
-    ghost hands_back = { λ password p q. IsSame p q × AsksThrough password p q };
+    ghost hands_back = { HandsBack D.is_durable };
 
     fn serve<W: Wait>(self, rt: &W, alloc: Global, port: Port<Kept>) -> Port<Kept> {
         let AcceptedClient {
             input,
             output,
             password,
+            journal,
         } = self;
         let mut reader = Counted::new(input);
         let mut writer = Counted::new(output);
-        let (port, end) = serve_port(rt, alloc, &mut reader, &mut writer, port, &password);
+        let (port, end) = serve_client(
+            rt,
+            alloc,
+            &mut reader,
+            &mut writer,
+            port,
+            &password,
+            &journal,
+        );
         writer.into_inner().on_session_end(&end);
         port
     }
 }
 
-// Returns the client of these streams with a copy of the password, `OutOfMemory` if the copy can't
-// be allocated, or `SetupFailed` if there are no streams.
-fn prepare_client<I: Drop, O: Drop>(
+// Returns another handle of the journal, if there is one.
+fn share_journal<D: Durability>(journal: &Option<D>) -> Result<Option<D>, AllocError>
+    ensures { IfOk result (λ shared. is_some shared ≡ is_some journal.now) }
+{
+    match journal {
+        Some(journal) => match journal.share() {
+            Ok(shared) => Ok(Some(shared)),
+            Err(fault) => Err(fault),
+        },
+        None => Ok(None),
+    }
+}
+
+// Returns the client of these streams with a copy of the password and another handle of the
+// journal, `OutOfMemory` if one of these can't be allocated, or `SetupFailed` if there are no
+// streams.
+fn prepare_client<I: Drop, O: Drop, D: Durability>(
     alloc: Global,
     streams: Option<(I, O)>,
     password: &Octets,
-) -> Arrival<AcceptedClient<I, O>>
+    journal: &Option<D>,
+) -> Arrival<AcceptedClient<I, O, D>>
     requires { IsPassword password.now }
-    ensures password { IfReady (λ client. client.password ≡ password.now) result }
+    ensures terms { IfReady (λ client. client_terms client.journal client.password
+        ≡ client_terms journal.now password.now) result }
     ensures some { IfSome streams (λ _. result ≢ Arrival.SetupFailed) }
     ensures none { IfNone streams (result ≡ Arrival.SetupFailed) }
 {
     let Some((input, output)) = streams else {
         return Arrival::SetupFailed;
     };
+    let Ok(journal) = share_journal(journal) else {
+        return Arrival::OutOfMemory;
+    };
     match password.try_clone(alloc) {
         Ok(password) => Arrival::Ready(AcceptedClient {
             input,
             output,
             password,
+            journal,
         }),
         Err(_) => Arrival::OutOfMemory,
     }
 }
 
-// The clients of a listener, with the password of the management client.
+// The clients of a listener, with the password of the management client and the meter's journal, if
+// it has one.
 #[derive(Drop)]
-pub(crate) struct Clients<'a, 'b, L> {
+pub(crate) struct Clients<'a, 'b, L, D> {
     pub(crate) listener: &'a mut L,
     pub(crate) password: &'b Octets,
+    pub(crate) journal: &'b Option<D>,
     ghost sized: { IsPassword password.now },
 }
 
-impl<'a, 'b, L: Listener> port_threads::ConnectionSource<Port<Kept>> for Clients<'a, 'b, L> {
-    type Connection = AcceptedClient<L::Input, L::Output>;
+impl<'a, 'b, L: Listener, D: Durability + Send + 'static> port_threads::ConnectionSource<Port<Kept>>
+    for Clients<'a, 'b, L, D> {
+    type Connection = AcceptedClient<L::Input, L::Output, D>;
 
     ghost has_failed = { λ clients. L.has_failed clients.listener.now };
 
-    ghost terms = { λ clients. clients.password.now };
+    ghost terms = { λ clients. client_terms clients.journal.now clients.password.now };
 
     ghost accepted = { λ clients. L.accepted clients.listener.now };
 
@@ -129,6 +201,6 @@ impl<'a, 'b, L: Listener> port_threads::ConnectionSource<Port<Kept>> for Clients
 
     fn accept(&mut self, alloc: Global) -> Result<Arrival<Self::Connection>, ListenFault> {
         let streams = self.listener.accept()?;
-        Ok(prepare_client(alloc, streams, self.password))
+        Ok(prepare_client(alloc, streams, self.password, self.journal))
     }
 }

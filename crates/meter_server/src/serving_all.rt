@@ -1,9 +1,10 @@
 //! The whole server: sessions of clients, blocks of samples, moments and presses on one meter, each
 //! session and source in a thread of its own.
-ghost use Rattle.std.specs.Prelude.{◌≡◌, ◌+◌, ⊤, [], Err, IfOk, IfErr};
+ghost use Rattle.std.specs.Prelude.{◌≡◌, ◌+◌, ⊤, [], Err, IfOk, IfErr, IfSome};
 ghost use Rattle.acse_ber.specs.Password.{IsPassword};
 ghost use Rattle.shared_meter.specs.Calls.{IsLegal as IsLegalRun};
 ghost use Rattle.meter_server.specs.ServingAll.{Acted, EndsWith, IsLimit, IsServed, IsSpent, StopsFor, OnEnded, worker_fault, first_of};
+ghost use Rattle.meter_server.specs.JournaledSessions.{AreJournaled};
 ghost use Rattle.meter_server.specs.Sessions.{AreSessions};
 ghost use Rattle.meter_server.specs.WithSources.{ServesWith, first_then};
 ghost use Rattle.shared_meter.specs.Blocks.{AllBlocks};
@@ -19,8 +20,8 @@ use cosem_axdr::Octets;
 use port_threads::{Worker, WorkerThread, join_worker, serve_connections, start_worker};
 use session_io::ServeFault;
 use shared_meter::{
-    BlockEvents, BlockSource, ButtonSource, EventSource, Kept, MomentEvents, MomentSource,
-    PressEvents,
+    BlockEvents, BlockSource, ButtonSource, Durability, EventSource, Kept, MomentEvents,
+    MomentSource, NoJournal, PressEvents,
 };
 use std::alloc::Global;
 use std::sync::Wait;
@@ -45,6 +46,19 @@ pub struct Sources<B, M, U> {
     pub buttons: U,
 }
 
+/// The terms on which clients are served.
+#[derive(Drop)]
+pub struct ClientTerms<'a, D> {
+    /// The password of the management client, 1 to 32 bytes.
+    pub password: &'a Octets,
+    /// The number of connections to accept; 0 means no limit.
+    pub limit: u64,
+    /// The meter's journal, which has to be on the disk before each answer; `None` if it has none.
+    /// It must be the journal of a meter that notes its lines (`Kept::with_journal`): with one that
+    /// does not, each session ends at its first event.
+    pub journal: Option<D>,
+}
+
 // Returns the first fault in this order: out of memory, the fault of the worker, the fault of the
 // clients.
 fn first_fault(
@@ -62,28 +76,36 @@ fn first_fault(
 }
 
 // Serves the clients of a listener.
-#[tactic(auto, using(crate::proofs::SessionLemmas::are_sessions))]
-fn serve_clients<L: Listener, R: Threads + Wait + Copy + Send + 'static>(
+fn serve_clients<
+    L: Listener,
+    D: Durability + Send + 'static,
+    R: Threads + Wait + Copy + Send + 'static,
+>(
     rt: &R,
     alloc: Global,
     listener: &mut L,
     port: &mut Port<Kept>,
-    password: &Octets,
-    limit: u64,
+    terms: &ClientTerms<'_, D>,
 ) -> Result<Served, ServeFault>
-    requires { IsPassword password.now }
+    requires { IsPassword terms.now.password.now }
     ensures port_continues { PortContinues port.old port.new }
     ensures joined { AreJoined port.old.known.splits port.new }
-    ensures sessions { AreSessions password.now port.old.known.splits port.new }
-    ensures limit { IfOk result (IsLimit limit) }
+    ensures sessions { AreSessions terms.now.password.now port.old.known.splits port.new }
+    ensures journaled { IfSome terms.now.journal
+        (λ _. AreJournaled D.is_durable port.old.known.splits port.new) }
+    ensures limit { IfOk result (IsLimit terms.now.limit) }
     ensures counted { IfOk result
         (λ served. IsCounted (L.accepted listener.old) (served.served + served.turned_away)
         (L.accepted listener.new)) }
     ensures served { IfOk result (IsServed port.old.known.splits port.new.known.splits) }
     ensures fault { IfErr result (StopsFor ⊥ (L.has_failed listener.new)) }
 {
-    let mut clients = Clients { listener, password };
-    let accepted = serve_connections(rt, alloc, &mut clients, port, limit)?;
+    let mut clients = Clients {
+        listener,
+        password: terms.password,
+        journal: &terms.journal,
+    };
+    let accepted = serve_connections(rt, alloc, &mut clients, port, terms.limit)?;
     if accepted.has_starved {
         return Err(ServeFault::Memory);
     }
@@ -117,6 +139,7 @@ fn join_both<K: Worker<Port<Kept>>, R: Threads>(
 fn serve_with_one<
     L: Listener,
     S: EventSource + Send + 'static,
+    D: Durability + Send + 'static,
     R: Threads + Wait + Copy + Send + 'static,
 >(
     rt: &R,
@@ -124,14 +147,15 @@ fn serve_with_one<
     listener: &mut L,
     source: S,
     port: &mut Port<Kept>,
-    password: &Octets,
-    limit: u64,
+    terms: &ClientTerms<'_, D>,
 ) -> Result<Served, ServeFault>
-    requires { IsPassword password.now }
-    ensures serves { ServesWith password.now 1
+    requires { IsPassword terms.now.password.now }
+    ensures serves { ServesWith terms.now.password.now 1
         (first_then (S.can_follow source) (λ _ _. ⊤))
         port.old port.new result }
-    ensures limit { IfOk result (IsLimit limit) }
+    ensures journaled { IfSome terms.now.journal
+        (λ _. AreJournaled D.is_durable (port.old.known.splits + 1) port.new) }
+    ensures limit { IfOk result (IsLimit terms.now.limit) }
     ensures counted { IfOk result
         (λ served. IsCounted (L.accepted listener.old) (served.served + served.turned_away)
         (L.accepted listener.new)) }
@@ -140,7 +164,7 @@ fn serve_with_one<
     let Some(running) = start_worker(rt, alloc, SourceWorker { source }, port) else {
         return Err(ServeFault::Memory);
     };
-    let served = serve_clients(rt, alloc, listener, port, password, limit);
+    let served = serve_clients(rt, alloc, listener, port, terms);
     join_both(rt, running, port, served)
 }
 
@@ -149,6 +173,7 @@ fn serve_with_two<
     L: Listener,
     S: EventSource + Send + 'static,
     T: EventSource + Send + 'static,
+    D: Durability + Send + 'static,
     R: Threads + Wait + Copy + Send + 'static,
 >(
     rt: &R,
@@ -156,15 +181,16 @@ fn serve_with_two<
     listener: &mut L,
     sources: (S, T),
     port: &mut Port<Kept>,
-    password: &Octets,
-    limit: u64,
+    terms: &ClientTerms<'_, D>,
 ) -> Result<Served, ServeFault>
-    requires { IsPassword password.now }
-    ensures serves { ServesWith password.now 2
+    requires { IsPassword terms.now.password.now }
+    ensures serves { ServesWith terms.now.password.now 2
         (first_then (S.can_follow sources.0)
         (first_then (T.can_follow sources.1) (λ _ _. ⊤)))
         port.old port.new result }
-    ensures limit { IfOk result (IsLimit limit) }
+    ensures journaled { IfSome terms.now.journal
+        (λ _. AreJournaled D.is_durable (port.old.known.splits + 2) port.new) }
+    ensures limit { IfOk result (IsLimit terms.now.limit) }
     ensures counted { IfOk result
         (λ served. IsCounted (L.accepted listener.old) (served.served + served.turned_away)
         (L.accepted listener.new)) }
@@ -174,7 +200,7 @@ fn serve_with_two<
     let Some(running) = start_worker(rt, alloc, SourceWorker { source }, port) else {
         return Err(ServeFault::Memory);
     };
-    let served = serve_with_one(rt, alloc, listener, other, port, password, limit);
+    let served = serve_with_one(rt, alloc, listener, other, port, terms);
     join_both(rt, running, port, served)
 }
 
@@ -184,6 +210,7 @@ fn serve_with_three<
     S: EventSource + Send + 'static,
     T: EventSource + Send + 'static,
     U: EventSource + Send + 'static,
+    D: Durability + Send + 'static,
     R: Threads + Wait + Copy + Send + 'static,
 >(
     rt: &R,
@@ -191,16 +218,17 @@ fn serve_with_three<
     listener: &mut L,
     sources: (S, (T, U)),
     port: &mut Port<Kept>,
-    password: &Octets,
-    limit: u64,
+    terms: &ClientTerms<'_, D>,
 ) -> Result<Served, ServeFault>
-    requires { IsPassword password.now }
-    ensures serves { ServesWith password.now 3
+    requires { IsPassword terms.now.password.now }
+    ensures serves { ServesWith terms.now.password.now 3
         (first_then (S.can_follow sources.0)
         (first_then (T.can_follow sources.1.0)
         (first_then (U.can_follow sources.1.1) (λ _ _. ⊤))))
         port.old port.new result }
-    ensures limit { IfOk result (IsLimit limit) }
+    ensures journaled { IfSome terms.now.journal
+        (λ _. AreJournaled D.is_durable (port.old.known.splits + 3) port.new) }
+    ensures limit { IfOk result (IsLimit terms.now.limit) }
     ensures counted { IfOk result
         (λ served. IsCounted (L.accepted listener.old) (served.served + served.turned_away)
         (L.accepted listener.new)) }
@@ -210,8 +238,90 @@ fn serve_with_three<
     let Some(running) = start_worker(rt, alloc, SourceWorker { source }, port) else {
         return Err(ServeFault::Memory);
     };
-    let served = serve_with_two(rt, alloc, listener, others, port, password, limit);
+    let served = serve_with_two(rt, alloc, listener, others, port, terms);
     join_both(rt, running, port, served)
+}
+
+/// Serves clients on these terms, and passes blocks of samples, moments and presses to one meter as
+/// [`serve_all`] does, with its results and its errors. If the meter has a journal, each session
+/// has a handle of it, and writes an answer only after the lines of all calls that its port has
+/// seen are on the disk. Of the calls of a session's port, all but at most the last one were then
+/// answered once they were on the disk. Sources do not wait for the journal.
+///
+/// A connection for which no handle of the journal is available is closed without a byte sent,
+/// counted as turned away, and leads to the fault `Memory`. A failure of the journal ends each
+/// session that waits for it or would change the meter, and is not a fault of the server.
+pub fn serve_all_journaled<
+    L: Listener,
+    B: BlockSource + Send + 'static,
+    M: MomentSource + Send + 'static,
+    U: ButtonSource + Send + 'static,
+    D: Durability + Send + 'static,
+    R: Threads + Wait + Copy + Send + 'static,
+>(
+    rt: &R,
+    alloc: Global,
+    listener: &mut L,
+    sources: Sources<B, M, U>,
+    mut port: Port<Kept>,
+    terms: &ClientTerms<'_, D>,
+) -> Result<(Port<Kept>, Served), (Port<Kept>, ServeFault)>
+    requires { IsPassword terms.now.password.now }
+    ensures port_continues { IfOk result (λ r. PortContinues port r.0 × IsLegal IsLegalRun r.0.known
+        × AreJoined port.known.splits r.0) }
+    ensures goes_err { IfErr result (λ r. PortContinues port r.0 × IsLegal IsLegalRun r.0.known
+        × AreJoined port.known.splits r.0) }
+    ensures sessions { IfOk result (λ r. AreSessions terms.now.password.now
+        (port.known.splits + 3) r.0) }
+    ensures sessions_err { IfErr result (λ r. AreSessions terms.now.password.now
+        (port.known.splits + 3) r.0) }
+    ensures journaled { IfOk result (λ r. IfSome terms.now.journal
+        (λ _. AreJournaled D.is_durable (port.known.splits + 3) r.0)) }
+    ensures journaled_err { IfErr result (λ r. IfSome terms.now.journal
+        (λ _. AreJournaled D.is_durable (port.known.splits + 3) r.0)) }
+    ensures limit { IfOk result (λ r. IsLimit terms.now.limit r.1) }
+    ensures counted { IfOk result
+        (λ r. IsCounted (L.accepted listener.old) (r.1.served + r.1.turned_away)
+        (L.accepted listener.new)) }
+    ensures served { IfOk result (λ r. IsServed (port.known.splits + 3) r.0.known.splits r.1) }
+    ensures blocks { IfOk result
+        (λ r. Acted r.0 (child port.known.number port.known.splits)
+        (AllBlocks (B.forecast sources.blocks))) }
+    ensures moments { IfOk result
+        (λ r. Acted r.0 (child port.known.number (port.known.splits + 1))
+        (AllMoments (M.forecast sources.moments))) }
+    ensures presses { IfOk result
+        (λ r. Acted r.0 (child port.known.number (port.known.splits + 2))
+        (AllPresses (U.forecast sources.buttons))) }
+    ensures fault { IfErr result (λ r. StopsFor (IsSpent r.0) (L.has_failed listener.new) r.1) }
+    ensures blocks_err { IfErr result
+        (λ r. OnEnded (Err r.1)
+        (Acted r.0 (child port.known.number port.known.splits)
+        (AllBlocks (B.forecast sources.blocks)))) }
+    ensures moments_err { IfErr result
+        (λ r. OnEnded (Err r.1)
+        (Acted r.0 (child port.known.number (port.known.splits + 1))
+        (AllMoments (M.forecast sources.moments)))) }
+    ensures presses_err { IfErr result
+        (λ r. OnEnded (Err r.1)
+        (Acted r.0 (child port.known.number (port.known.splits + 2))
+        (AllPresses (U.forecast sources.buttons)))) }
+{
+    let Sources {
+        blocks,
+        moments,
+        buttons,
+    } = sources;
+    let blocks = BlockEvents::new(blocks);
+    let moments = MomentEvents { source: moments };
+    let presses = PressEvents { source: buttons };
+    let events = (blocks, (moments, presses));
+    let served = serve_with_three(rt, alloc, listener, events, &mut port, terms);
+    port.has_a_legal_history();
+    match served {
+        Ok(served) => Ok((port, served)),
+        Err(fault) => Err((port, fault)),
+    }
 }
 
 /// Serves clients, and passes blocks of samples, moments and presses to one meter: in a thread for
@@ -249,7 +359,7 @@ pub fn serve_all<
     blocks: B,
     moments: M,
     buttons: U,
-    mut port: Port<Kept>,
+    port: Port<Kept>,
     password: &Octets,
     limit: u64,
 ) -> Result<(Port<Kept>, Served), (Port<Kept>, ServeFault)>
@@ -288,14 +398,16 @@ pub fn serve_all<
         (Acted r.0 (child port.known.number (port.known.splits + 2))
         (AllPresses (U.forecast buttons)))) }
 {
-    let blocks = BlockEvents::new(blocks);
-    let moments = MomentEvents { source: moments };
-    let presses = PressEvents { source: buttons };
-    let sources = (blocks, (moments, presses));
-    let served = serve_with_three(rt, alloc, listener, sources, &mut port, password, limit);
-    port.has_a_legal_history();
-    match served {
-        Ok(served) => Ok((port, served)),
-        Err(fault) => Err((port, fault)),
-    }
+    let sources = Sources {
+        blocks,
+        moments,
+        buttons,
+    };
+    let journal: Option<NoJournal> = None;
+    let terms = ClientTerms {
+        password,
+        limit,
+        journal,
+    };
+    serve_all_journaled(rt, alloc, listener, sources, port, &terms)
 }

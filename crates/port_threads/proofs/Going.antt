@@ -12,7 +12,7 @@ use Rattle.port_threads.specs.Ports.{PortContinues}
 starts_itself : {A : Type 0} (xs : List A) → StartsWith xs xs
 starts_itself xs = ([], sym (append-nil xs))
 
-starts_trans : {A : Type 0} (xs ys zs : List A) → StartsWith ys xs → StartsWith zs ys
+pub starts_trans : {A : Type 0} (xs ys zs : List A) → StartsWith ys xs → StartsWith zs ys
     → StartsWith zs xs
 starts_trans xs ys zs s t = (s.0 ++ t.0, t.1 ∙ ap (λ ws. ws ++ t.0) s.1 ∙ append_assoc xs s.0 t.0)
 

@@ -10,10 +10,12 @@ pub enum Fault {
     /// `input`: standard input, a password or a name is not valid for the command. Exit status 2.
     #[error("input")]
     Input,
-    /// `read`: standard input could not be read. Exit status 3.
+    /// `read`: standard input or a file that the command line names could not be read. Exit
+    /// status 3.
     #[error("read")]
     Read,
-    /// `write`: standard output could not be written. Exit status 3.
+    /// `write`: standard output or a file that the command line names could not be written. Exit
+    /// status 3.
     #[error("write")]
     Write,
     /// `listen`: listening for connections failed. Exit status 3.

@@ -1,7 +1,8 @@
 //! The beginning and the end of each program: the words of its command line, a command line without
 //! work, and the exit status.
-ghost use Rattle.std.specs.Prelude.{◌≡◌, true, IfOk, IfErr, IsOk, OnOk};
+ghost use Rattle.std.specs.Prelude.{◌≡◌, true, IfOk, IfErr, IsOk, OnOk, nat_eq, string_bytes};
 ghost use Rattle.std.specs.Io.KnownBytes.{Appends};
+ghost use Rattle.std.specs.List.{list_any, starts_with};
 ghost use Rattle.std.specs.Process.{exit_status};
 ghost use Rattle.clap.specs.Words.{AddsArg, AddsSubcommand, kind_of};
 ghost use Rattle.program.specs.Ends.{is_of_words, is_of_texts, status_without_work, status_by, fault_line, first_of};
@@ -39,6 +40,20 @@ pub fn words<R: Env + AllocGlobal>(rt: &R) -> Result<Vec<String>, Fault>
         Ok(words) => Ok(words),
         Err(_) => Err(Fault::Memory),
     }
+}
+
+/// Returns whether a word of the command line begins with this one, the name of an option. clap
+/// reports a longer word, unless `=` and the value of the option follow.
+pub fn has_option(words: &[String], name: &str) -> bool
+    ensures { result
+        ≡ list_any (λ word. starts_with nat_eq (string_bytes word) name.now) words.now }
+{
+    for word in words {
+        if word.as_bytes().starts_with(name.as_bytes()) {
+            return true;
+        }
+    }
+    false
 }
 
 /// Adds an argument to a command. On an error of `made`, or if out of memory, drops the argument

@@ -3,6 +3,7 @@ use Rattle.std.proofs.Common.{◌≡◌, refl, true}
 use Rattle.program.specs.declared.fault.Fault.{Fault}
 use Rattle.program.specs.declared.fault.Fault.TheVariants.{Input, Read, Write, Listen, Memory, Turns}
 use Rattle.program.specs.Ends.{is_of_words, is_of_texts}
+use Rattle.program.specs.Passwords.{is_of_files}
 use Rattle.server_commands.specs.Asking.{is_of_asking}
 
 -- a fault of reading the words
@@ -22,3 +23,12 @@ texts_told Write e = refl
 texts_told Listen e = absurd cc
 texts_told Memory e = refl
 texts_told Turns e = absurd cc
+
+-- a fault of a file without a password
+pub files_told : (fault : Fault) → is_of_files fault ≡ true → is_of_asking fault ≡ true
+files_told Input e = refl
+files_told Read e = refl
+files_told Write e = absurd cc
+files_told Listen e = absurd cc
+files_told Memory e = refl
+files_told Turns e = absurd cc

@@ -230,7 +230,7 @@ pub no_head : (left : Option (List ℕ)) → ((text rest : List ℕ) → left �
 no_head None never = tt
 no_head (Some bytes) never = λ head.
     never head.text head.rest (ap (λ (b : List ℕ). Some b) head.cut)
-    (small_text head.text head.trace head.told) (laid_out head.text head.trace head.told)
+    (small_text head.text head.trace head.told) (laid_out head.text head.trace head.counted head.told)
 
 -- nor has an input whose first lines are not a trace
 pub wrong_head : (left : Option (List ℕ)) (read : List ℕ) (fault : TraceFault)
@@ -241,7 +241,7 @@ wrong_head None read fault is fails other = tt
 wrong_head (Some bytes) read fault is (inl memory) other = absurd (other memory)
 wrong_head (Some bytes) read fault is (inr e) other = λ head.
     let same : read ≡ head.text = is head.text head.rest (ap (λ (b : List ℕ). Some b) head.cut)
-    (laid_out head.text head.trace head.told) in
+    (laid_out head.text head.trace head.counted head.told) in
     let told : trace_of read ≡ Ok head.trace = ap trace_of same ∙ head.told in
     absurd cc
 

@@ -6,13 +6,16 @@ use Rattle.wire_bytes.proofs.OutcomeLemmas.{bind_ok, ok_is, refused_ok}
 use Rattle.relay_core.specs.declared.opening.Opening.{Opening}
 use Rattle.relay_recorder.specs.declared.trace.Trace.{Trace}
 use Rattle.trace_openings.specs.OpeningFields.{version_from}
+use Rattle.trace_lines.proofs.CountLemmas.{count_back}
 use Rattle.trace_lines.specs.Events.{events_from}
+use Rattle.trace_lines.specs.OpenCount.{count_at}
 use Rattle.trace_openings.specs.OpeningReading.{opening_in, opening_from}
 use Rattle.trace_words.specs.Places.{Place, ReadLines, place_of, line_as, value_at_end, ended_at}
 use Rattle.trace_words.specs.Rows.{Row}
 use Rattle.trace_words.specs.declared.version.Version.{Version}
 use Rattle.trace_words.specs.declared.version.Version.TheVariants.{One, Two}
 use Rattle.trace_player.specs.Traces.{events_at, trace_from, trace_of}
+use Rattle.trace_player.specs.Versions.{IsCounted}
 use Rattle.server_commands.specs.Heads.{IsLaidOut, lines_before}
 use Rattle.trace_openings.proofs.OpeningTakes.{lines_behind, opening_in_takes}
 use Rattle.trace_words.proofs.LinesTaken.{Takes, takes_then, takes_none, takes_line}
@@ -84,14 +87,17 @@ end_found : {X : Type 0} (p : Place) (x y : X) → ended_at p x ≡ Ok y → (p.
 unfolding ended_at
 end_found p x y e = nothing_is_left p.number p.rows p.unended x y e
 
-trace_laid : (text : List ℕ) (trace : Trace) → trace_from (place_of text) ≡ Ok trace
-    → IsLaidOut text
+trace_laid : (text : List ℕ) (trace : Trace) → IsCounted text
+    → trace_from (place_of text) ≡ Ok trace → IsLaidOut text
 unfolding trace_from
-trace_laid text trace e =
+trace_laid text trace closed e =
     let a = bind_ok (opening_from (place_of text)) _ trace e in
     let opened = opening_laid (place_of text) a.0.0.0 a.0.0.1 a.0.1 a.1 in
-    let b = bind_ok (line_as events_from a.0.1) _ trace a.2 in
-    let line = line_read ℕ events_from a.0.1 b.0.0 b.0.1 b.1 in
+    let b = bind_ok (count_at a.0.1) _ trace a.2 in
+    let counted = count_back a.0.1 b.0.0 b.0.1 (λ (after : List Row) is.
+    closed (opened.first ∷ opened.opening) after
+    (opened.rows ∙ ap (λ (rows : List Row). opened.first ∷ (opened.opening ++ rows)) is)) b.1 in
+    let line = line_read ℕ events_from a.0.1 b.0.0 b.0.1 counted in
     let c = bind_ok (events_at a.0.0.0 b.0.0 b.0.1) _ trace b.2 in
     let events = events_takes a.0.0.0 b.0.0 b.0.1 c.0.0 c.0.1 c.1 in
     let end = end_found c.0.1 _ trace c.2 in record {
@@ -111,8 +117,9 @@ trace_laid text trace e =
       all = events.long;
     }
 
--- the text of a trace has as many lines as a trace has
-pub laid_out : (text : List ℕ) (trace : Trace) → trace_of text ≡ Ok trace → IsLaidOut text
+-- the text of a trace that states the number of its events has as many lines as a trace has
+pub laid_out : (text : List ℕ) (trace : Trace) → IsCounted text → trace_of text ≡ Ok trace
+    → IsLaidOut text
 unfolding trace_of
-laid_out text trace e = trace_laid text trace
+laid_out text trace closed e = trace_laid text trace closed
     (refused_ok _ _ (trace_from (place_of text)) trace e).1

@@ -1,6 +1,6 @@
 -- The trace at the head of an input.
 --     TakesHead     the trace was read, and no more
---     HasHead       the input begins with a trace
+--     HasHead       the input begins with a trace that states the number of its events
 --     IsHeadFault   why no trace was read
 --     Grows         a text grew by the bytes that were read
 --     IsLine        bytes that are one line
@@ -20,6 +20,7 @@ use Rattle.trace_words.specs.declared.fault.TraceFault.TheVariants as trace_faul
 use Rattle.trace_words.specs.declared.version.Version.{Version}
 use Rattle.trace_words.specs.declared.version.Version.TheVariants.{One, Two}
 use Rattle.trace_player.specs.Traces.{trace_of}
+use Rattle.trace_player.specs.Versions.{IsCounted}
 use Rattle.text_lines.specs.Lines.{rows_of, unended_of}
 use Rattle.text_lines.specs.Words.{words_of}
 
@@ -31,11 +32,12 @@ pub record TakesHead (left : Option (List ℕ)) (trace : Trace) (left' : Option 
     pub told : trace_of text ≡ Ok trace
     pub fit : IsFitOpening trace.opening
 
--- the first of these bytes are the text of a trace
+-- the first of these bytes are the text of a trace that states the number of its events
 pub record HasHead (bytes : List ℕ) : Type 0 where
   pub text : List ℕ
   pub rest : List ℕ
   pub cut : bytes ≡ text ++ rest
+  pub counted : IsCounted text
   pub trace : Trace
   pub told : trace_of text ≡ Ok trace
 

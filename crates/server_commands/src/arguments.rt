@@ -34,6 +34,15 @@ fn password<'a>(alloc: Global, is_required: bool, help: &'a str) -> Arg<'a> {
         .action(ArgAction::Set)
 }
 
+// Returns the option `--password-file`.
+fn password_file<'a>(alloc: Global) -> Arg<'a> {
+    Arg::new(alloc, "password-file")
+        .long("password-file")
+        .value_name("FILE")
+        .help("File whose one line is the password; only its owner may have access to it")
+        .action(ArgAction::Set)
+}
+
 // Returns an option whose value is a text, with its default.
 fn text<'a>(
     alloc: Global,
@@ -179,8 +188,8 @@ fn apdu<'a>(alloc: Global) -> Result<Command<'a>, AllocError> {
         .arg(verbose(alloc))
 }
 
-// Adds the options of `serve` for the meter and its address. The password is required if the
-// environment has none.
+// Adds the options of `serve` for the meter and its address. `--password` is required unless
+// `has_password`.
 fn with_meter<'a>(
     alloc: Global,
     made: Result<Command<'a>, AllocError>,
@@ -194,6 +203,7 @@ fn with_meter<'a>(
             "Password of the management client, 1 to 32 bytes; default: METER_PASSWORD",
         ),
     );
+    let made = with_argument(made, password_file(alloc));
     let made = with_argument(made, device(alloc));
     with_argument(made, listen(alloc))
 }
@@ -244,7 +254,7 @@ fn with_flags<'a>(
     )
 }
 
-// Returns the command `serve`. The password is required if the environment has none.
+// Returns the command `serve`. Its option `--password` is required unless `has_password`.
 fn serve<'a>(alloc: Global, has_password: bool) -> Result<Command<'a>, AllocError> {
     let made = Ok(
         Command::new(alloc, "serve")
@@ -267,8 +277,8 @@ fn program<'a>(alloc: Global) -> Result<Command<'a>, AllocError> {
     Ok(program)
 }
 
-// Returns the program's command with its subcommands. `has_password`: the environment has the
-// password of `serve`.
+// Returns the program's command with its subcommands. `has_password`: the password of `serve` is in
+// the environment or in a file that the command line names.
 pub(crate) fn command_line<'a>(
     alloc: Global,
     has_password: bool,

@@ -142,8 +142,9 @@ fn head_fault(fault: TraceFault) -> Fault
 /// Reads the trace at the head of an input, up to the line of its last event. The input after that
 /// line is not read.
 ///
-/// Errors: `Input` if the input does not begin with a trace of at most 33,554,432 bytes, `Read` if
-/// a read fails, `Memory`. After an error a part of the input has been read.
+/// Errors: `Input` if the input does not begin with a trace of at most 33,554,432 bytes that states
+/// the number of its events, `Read` if a read fails, `Memory`. After an error a part of the input
+/// has been read.
 pub fn read_head<I: Read>(
     alloc: Global,
     input: &mut BufReader<Monitored<I>>,

@@ -1,14 +1,17 @@
 //! The options of each command.
-ghost use Rattle.std.specs.Prelude.{◌≡◌, true, codes, string_bytes, ℕ, List, Some, IfOk, IfErr};
+ghost use Rattle.std.specs.Prelude.{◌≡◌, true, codes, string_bytes, ℕ, List, Some, None};
+ghost use Rattle.std.specs.Prelude.{IfOk, IfErr};
 ghost use Rattle.clap.specs.Matches.{first_value, found_of};
+ghost use Rattle.program.specs.Passwords.{HasNoLineEnd};
 ghost use Rattle.server_commands.specs.Asking.{is_of_asking};
 ghost use Rattle.server_commands.specs.Options.{IsText, IsNumber, IsFlag, IsBounds};
 
 use clap::ArgMatches;
-use program::Fault;
+use program::{Fault, read_password_file};
 use std::alloc::{AllocGlobal, Global};
 use std::env;
 use std::env::VarError;
+use std::fs::{File, Files};
 use std::rt::Env;
 
 // The environment variable of the password.
@@ -98,16 +101,28 @@ pub(crate) fn hex_options(alloc: Global, matches: &ArgMatches<'_>) -> Result<Hex
     })
 }
 
-// Returns the password of the command line, else that of the environment. Errors: `Memory`, and
-// `Input` if neither has one.
-fn password_of<R: Env + AllocGlobal>(rt: &R, matches: &ArgMatches<'_>) -> Result<String, Fault>
+// Returns the password of the command line, else that of the file that it names, else that of the
+// environment. Errors: those of a file without a password, with a line on standard error; `Memory`,
+// and `Input` if there is no password.
+#[tactic(auto, using(crate::proofs::Faults::files_told))]
+fn password_of<R: Env + AllocGlobal + Eprint + Files<File = File>>(
+    rt: &R,
+    matches: &ArgMatches<'_>,
+) -> Result<String, Fault>
     ensures given { IfOk result (λ password. (text : List ℕ)
         → first_value (found_of matches.now) (codes "password") ≡ Some text
         → string_bytes password ≡ text) }
+    ensures of_file { IfOk result (λ password. (path : List ℕ)
+        → first_value (found_of matches.now) (codes "password") ≡ None
+        → first_value (found_of matches.now) (codes "password-file") ≡ Some path
+        → HasNoLineEnd (string_bytes password)) }
     ensures err { IfErr result (λ fault. is_of_asking fault ≡ true) }
 {
     if let Some(text) = matches.get_str("password") {
         return copy_text(rt.alloc(), text);
+    }
+    if let Some(path) = matches.get_str("password-file") {
+        return read_password_file(rt, path);
     }
     match env::var(rt, PASSWORD_VARIABLE) {
         Ok(text) => Ok(text),
@@ -160,13 +175,17 @@ fn bounds_of(matches: &ArgMatches<'_>) -> Bounds
 }
 
 // Reads the options of `serve`.
-pub(crate) fn serve_options<R: Env + AllocGlobal>(
+pub(crate) fn serve_options<R: Env + AllocGlobal + Eprint + Files<File = File>>(
     rt: &R,
     matches: &ArgMatches<'_>,
 ) -> Result<ServeOptions, Fault>
     ensures password { IfOk result (λ options. (text : List ℕ)
         → first_value (found_of matches.now) (codes "password") ≡ Some text
         → string_bytes options.password ≡ text) }
+    ensures of_file { IfOk result (λ options. (path : List ℕ)
+        → first_value (found_of matches.now) (codes "password") ≡ None
+        → first_value (found_of matches.now) (codes "password-file") ≡ Some path
+        → HasNoLineEnd (string_bytes options.password)) }
     ensures device { IfOk result
         (λ options. IsText (found_of matches.now) (codes "device") (string_bytes options.device)) }
     ensures address { IfOk result

@@ -5,10 +5,11 @@ ghost use Rattle.server_commands.specs.Asking.{is_of_asking};
 use crate::arguments::command_line;
 use crate::options::{HexOptions, PASSWORD_VARIABLE, ServeOptions, hex_options, serve_options};
 use clap::ArgMatches;
-use program::{Fault, without_work, words};
+use program::{Fault, has_option, without_work, words};
 use std::alloc::{AllocGlobal, Global};
 use std::env;
 use std::env::VarError;
+use std::fs::{File, Files};
 use std::rt::Env;
 
 /// The work that a command line requests.
@@ -26,7 +27,10 @@ pub enum Work {
 }
 
 // Returns the work of a command.
-fn parse_command<R: Env + AllocGlobal>(rt: &R, matches: &ArgMatches<'_>) -> Result<Work, Fault>
+fn parse_command<R: Env + AllocGlobal + Eprint + Files<File = File>>(
+    rt: &R,
+    matches: &ArgMatches<'_>,
+) -> Result<Work, Fault>
     ensures { IfErr result (λ fault. is_of_asking fault ≡ true) }
 {
     match matches.subcommand() {
@@ -37,9 +41,10 @@ fn parse_command<R: Env + AllocGlobal>(rt: &R, matches: &ArgMatches<'_>) -> Resu
     }
 }
 
-// Returns the work of a command line. `has_password`: the environment has the password of `serve`.
+// Returns the work of a command line. `has_password`: the password of `serve` is in the environment
+// or in a file that the command line names.
 #[tactic(auto, using(crate::proofs::Faults::texts_told))]
-fn asked_in<R: Env + AllocGlobal + Print + Eprint>(
+fn asked_in<R: Env + AllocGlobal + Print + Eprint + Files<File = File>>(
     rt: &R,
     words: &[String],
     has_password: bool,
@@ -55,17 +60,23 @@ fn asked_in<R: Env + AllocGlobal + Print + Eprint>(
     }
 }
 
-/// Returns the work of the command line. The password of `serve` may be in the environment variable
-/// METER_PASSWORD.
+/// Returns the work of the command line. The password of `serve` is that of its option
+/// `--password`, else that of the file that its option `--password-file` names, else that of the
+/// environment variable METER_PASSWORD.
 ///
 /// Errors: `Memory`; `Input` if a word or the password of the environment is not UTF-8; `Write` if
-/// help,
-/// the version or why the command line is wrong could not be printed.
+/// help, the version or why the command line is wrong could not be printed; `Read` if the file of
+/// the password can't be read, `Input` if it is exposed or is not one line of UTF-8 text, each with
+/// a line on standard error.
 #[tactic(auto, using(crate::proofs::Faults::words_told))]
-pub fn parse_command_line<R: Env + AllocGlobal + Print + Eprint>(rt: &R) -> Result<Work, Fault>
+pub fn parse_command_line<R: Env + AllocGlobal + Print + Eprint + Files<File = File>>(
+    rt: &R,
+) -> Result<Work, Fault>
     ensures { IfErr result (λ fault. is_of_asking fault ≡ true) }
 {
     let words = words(rt)?;
-    let has_password = !matches!(env::var(rt, PASSWORD_VARIABLE), Err(VarError::NotPresent));
+    // (clap's `required_unless_present` would print the options of the usage in another order)
+    let has_password = has_option(words.as_slice(), "--password-file")
+        || !matches!(env::var(rt, PASSWORD_VARIABLE), Err(VarError::NotPresent));
     asked_in(rt, words.as_slice(), has_password)
 }

@@ -1,4 +1,5 @@
-//! The channels between the console's thread and the meter's workers.
+//! The channels between the console's thread and the meter's workers. `None` in a channel ends its
+//! source.
 ghost use Rattle.std.specs.Prelude.{List, Option, None};
 ghost use Rattle.server_io.specs.Queues.{Gains, Sorts};
 
@@ -17,12 +18,12 @@ const MAX_WAITING: usize = 64;
 #[derive(Drop)]
 pub struct ConsoleBlocks<R> {
     rt: R,
-    blocks: Receiver<Block>,
+    blocks: Receiver<Option<Block>>,
 }
 
 impl<R: Wait + Drop + Send> BlockSource for ConsoleBlocks<R> {
     fn next_block(&mut self) -> Option<Block> {
-        self.blocks.recv(&self.rt).ok()
+        self.blocks.recv(&self.rt).unwrap_or(None)
     }
 }
 
@@ -30,12 +31,12 @@ impl<R: Wait + Drop + Send> BlockSource for ConsoleBlocks<R> {
 #[derive(Drop)]
 pub struct ConsoleMoments<R> {
     rt: R,
-    moments: Receiver<u32>,
+    moments: Receiver<Option<u32>>,
 }
 
 impl<R: Wait + Drop + Send> MomentSource for ConsoleMoments<R> {
     fn next_moment(&mut self) -> Option<u32> {
-        self.moments.recv(&self.rt).ok()
+        self.moments.recv(&self.rt).unwrap_or(None)
     }
 }
 
@@ -43,16 +44,17 @@ impl<R: Wait + Drop + Send> MomentSource for ConsoleMoments<R> {
 #[derive(Drop)]
 pub struct ConsolePresses<R> {
     rt: R,
-    presses: Receiver<()>,
+    presses: Receiver<Option<()>>,
 }
 
 impl<R: Wait + Drop + Send> ButtonSource for ConsolePresses<R> {
     fn pressed(&mut self) -> bool {
-        self.presses.recv(&self.rt).is_ok()
+        matches!(self.presses.recv(&self.rt), Ok(Some(())))
     }
 }
 
-/// The sources that the workers read. Each ends once the console's channels are dropped.
+/// The sources that the workers read. Each ends once the console has ended, or a [`SourcesEnd`]
+/// ends it.
 #[derive(Drop)]
 pub struct ConsoleSources<R> {
     pub blocks: ConsoleBlocks<R>,
@@ -74,13 +76,29 @@ trait Queue<T> {
 #[derive(Drop)]
 pub(crate) struct Sending<R, T> {
     rt: R,
-    sender: Sender<T>,
+    sender: Sender<Option<T>>,
 }
 
 impl<R: Wait, T: Drop> Queue<T> for Sending<R, T> {
     // (if the worker has ended, the value is dropped)
     fn put(&mut self, value: T) {
-        let _ = self.sender.send(&self.rt, value);
+        let _ = self.sender.send(&self.rt, Some(value));
+    }
+}
+
+impl<R: Wait + Copy, T: Drop> Sending<R, T> {
+    // Returns a second sending end.
+    fn share(&self) -> Result<Sending<R, T>, AllocError> {
+        let sender = self.sender.clone()?;
+        Ok(Sending {
+            rt: self.rt,
+            sender,
+        })
+    }
+
+    // Ends the source at the other end, after the values that were sent.
+    fn end(&self) {
+        let _ = self.sender.send(&self.rt, None);
     }
 }
 
@@ -125,6 +143,40 @@ impl<B: Queue<Block>, M: Queue<u32>, P: Queue<()>> EventSink for Channels<B, M, 
 
 // The channels of a console whose threads block by `R`.
 pub(crate) type WorkerChannels<R> = Channels<Sending<R, Block>, Sending<R, u32>, Sending<R, ()>>;
+
+// Ends the source of each channel.
+pub(crate) fn end_sources<R: Wait + Copy>(channels: &WorkerChannels<R>) {
+    channels.blocks.end();
+    channels.moments.end();
+    channels.presses.end();
+}
+
+/// Ends the sources of a console from another thread, whether or not its input has ended.
+#[derive(Drop)]
+pub struct SourcesEnd<R> {
+    channels: WorkerChannels<R>,
+}
+
+impl<R: Wait + Copy> SourcesEnd<R> {
+    // Returns what ends the sources of these channels.
+    pub(crate) fn of(channels: &WorkerChannels<R>) -> Result<SourcesEnd<R>, AllocError> {
+        let blocks = channels.blocks.share()?;
+        let moments = channels.moments.share()?;
+        let presses = channels.presses.share()?;
+        Ok(SourcesEnd {
+            channels: Channels {
+                blocks,
+                moments,
+                presses,
+            },
+        })
+    }
+
+    /// Ends each source once its worker has received all that was sent before.
+    pub fn end(&self) {
+        end_sources(&self.channels);
+    }
+}
 
 // Opens a channel for each worker, and allocates all the memory of the channels.
 pub(crate) fn open_channels<R: Wait + Copy>(

@@ -1,4 +1,4 @@
-//! Ends the listening when the console ends.
+//! Ends the listening when the console ends or the journal fails.
 use crate::listening::Stopped;
 use crate::reading::Ended;
 use crate::running::ConsoleEnd;
@@ -10,11 +10,11 @@ use std::time::{Clock, Duration};
 // The maximum number of attempts to wake the blocked `accept` by connecting to it.
 const MAX_WAKE_ATTEMPTS: u32 = 100;
 
-/// Ends the listening when the console ends, if this is enabled.
+/// Ends the listening, when the console ends or the journal fails, if this is enabled.
 #[derive(Drop)]
 pub struct Closing<R> {
     pub rt: R,
-    /// Whether the console has ended.
+    /// Whether the listening was ended.
     pub stopped: Stopped,
     /// The address at which the listener waits for a client, or `None` if it continues to listen.
     pub address: Option<SocketAddr>,
@@ -30,11 +30,18 @@ fn wake<R: Net + Clock>(rt: &R, address: SocketAddr) {
     }
 }
 
-impl<R: Net + Clock> Ended for Closing<R> {
-    fn on_console_end(&self, _end: ConsoleEnd) {
+impl<R: Net + Clock> Closing<R> {
+    /// Ends the listening, if this is enabled: no further client is accepted.
+    pub fn close(&self) {
         if let Some(address) = self.address {
             self.stopped.store(true, Ordering::SeqCst);
             wake(&self.rt, address);
         }
+    }
+}
+
+impl<R: Net + Clock> Ended for Closing<R> {
+    fn on_console_end(&self, _end: ConsoleEnd) {
+        self.close();
     }
 }

@@ -1,5 +1,5 @@
 //! The console: the buffer for its lines, and the channels to the meter's own workers.
-use crate::channels::{ConsoleSources, WorkerChannels, open_channels};
+use crate::channels::{ConsoleSources, SourcesEnd, WorkerChannels, end_sources, open_channels};
 use crate::lines::LineBuffer;
 use crate::running::{ConsoleEnd, run_console};
 use std::alloc::{AllocError, Global};
@@ -22,6 +22,11 @@ impl<R: Wait + Copy + Drop> Console<R> {
         Ok((Console { buffer, channels }, sources))
     }
 
+    /// Returns what ends the sources from another thread. Errors: `AllocError`.
+    pub fn sources_end(&self) -> Result<SourcesEnd<R>, AllocError> {
+        SourcesEnd::of(&self.channels)
+    }
+
     // Passes the events of an input's lines to the workers, as [`run_console`] does. The sources
     // end when it returns.
     pub(crate) fn run<B: BufRead, E: Eprint>(
@@ -34,6 +39,8 @@ impl<R: Wait + Copy + Drop> Console<R> {
             buffer,
             mut channels,
         } = self;
-        run_console(alloc, input, buffer, &mut channels, errors)
+        let end = run_console(alloc, input, buffer, &mut channels, errors);
+        end_sources(&channels);
+        end
     }
 }

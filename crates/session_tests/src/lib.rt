@@ -1,4 +1,4 @@
-//! Tests of `session_serving`: requests and sessions.
+//! Tests of `session_io`: requests and sessions.
 //!
 //! Tests are in a crate of their own because a check of tests proves their whole crate again.
 #![tactic(auto)]

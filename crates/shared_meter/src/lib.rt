@@ -20,7 +20,7 @@ pub use blocks::BlockEvents;
 pub use kept::Kept;
 pub use pending::{Finding, PendingLines, Question};
 pub use running::run_source;
-pub use settling::{Durability, settle};
+pub use settling::{Durability, NoJournal, settle};
 pub use sources::{
     BlockSource, ButtonSource, EventSource, MomentEvents, MomentSource, PressEvents,
 };

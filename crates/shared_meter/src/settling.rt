@@ -1,5 +1,5 @@
 //! Waits until the journal has reached the disk.
-ghost use Rattle.std.specs.Prelude.{ℕ, IsTrue};
+ghost use Rattle.std.specs.Prelude.{ℕ, ⊤, IsTrue};
 ghost use Rattle.turn_lock.specs.Calls.{Watches};
 ghost use Rattle.turn_lock.specs.Shown.{IsSame};
 ghost use Rattle.shared_meter.specs.Calls.{IsLegal};
@@ -22,14 +22,35 @@ pub trait Durability: Drop {
     fn wait<W: Wait>(&self, rt: &W, lines: u64) -> bool
         ensures { IsTrue result → is_durable lines };
 
+    /// Returns whether the journal has failed. Once it has, this does not change.
+    fn has_failed(&self) -> bool;
+
     /// Returns another handle of the same journal, for another thread. Returns `AllocError` if out
     /// of memory; this handle is unchanged.
     fn share(&self) -> Result<Self, AllocError>
     where
         Self: Sized;
+}
 
-    /// Returns whether the journal has failed. Once it has, it stays so.
-    fn has_failed(&self) -> bool;
+/// A journal that claims nothing about the disk and never waits: the type to name for a meter
+/// without a journal. Does not allocate.
+#[derive(Debug, Drop)]
+pub struct NoJournal;
+
+impl Durability for NoJournal {
+    ghost is_durable = { λ _. ⊤ };
+
+    fn wait<W: Wait>(&self, _rt: &W, _lines: u64) -> bool {
+        true
+    }
+
+    fn has_failed(&self) -> bool {
+        false
+    }
+
+    fn share(&self) -> Result<NoJournal, AllocError> {
+        Ok(NoJournal)
+    }
 }
 
 /// Waits until the lines of all calls that the port has seen are on the disk. Returns false if this

@@ -1,4 +1,4 @@
-//! What no contract of `session_threads` states: that sessions run in parallel, and which clients
+//! What no contract of `port_threads` states: that sessions run in parallel, and which clients
 //! are served.
 mod guests;
 

@@ -1,4 +1,4 @@
-//! Two workers of `session_threads` at once.
+//! Two workers of `port_threads` at once.
 ghost use Rattle.std.specs.Prelude.{◌≡◌};
 ghost use Rattle.turn_lock.specs.Shown.{IsSame};
 

@@ -1,4 +1,5 @@
 pub mod Events
+pub mod OpenCount
 pub mod Parts
 pub mod Reading
 pub mod Replies

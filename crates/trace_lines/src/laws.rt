@@ -1,13 +1,15 @@
 //! Laws of the lines of events. Each function is a law: its contract states it, and a call makes it
 //! known to the prover.
-ghost use Rattle.std.specs.Prelude.{◌≡◌, ℕ, ◌≤◌, suc, List, ◌∷◌, codes, IsTrue, Ok};
+ghost use Rattle.std.specs.Prelude.{◌≡◌, ℕ, ◌≤◌, suc, List, ◌∷◌, codes, false, IsTrue, Ok, Some, None};
 ghost use Rattle.text_lines.specs.Lines.{is_row};
 ghost use Rattle.text_lines.specs.Words.{words_of, line_of};
 ghost use Rattle.relay_events.specs.declared.event.Event.{Event};
 ghost use Rattle.trace_lines.specs.Events.{event_of, events_from};
+ghost use Rattle.trace_lines.specs.OpenCount.{count_from, open_row};
 ghost use Rattle.trace_words.specs.Labels.{number_row};
 ghost use Rattle.trace_words.specs.Places.{line_as};
 ghost use Rattle.trace_words.specs.Rows.{Row};
+ghost use Rattle.trace_words.specs.WholeLines.{has_zero};
 ghost use Rattle.trace_lines.specs.Traced.{IsTraced};
 ghost use Rattle.trace_lines.specs.Writing.{event_row};
 ghost use Rattle.trace_words.specs.declared.version.Version.{Version};
@@ -55,4 +57,23 @@ pub fn written_event_count_is_read()
         ≡ Ok (count, record { number = suc number; rows = rows; unended = unended }) }
     ensures row { (count : ℕ) → count ≤ 65536
         → IsTrue (is_row (number_row (codes "events") count)) }
+{}
+
+/// Proves that the line of an event that is read back has no byte 0.
+#[tactic(auto, using(crate::proofs::NoZeros::event_plain))]
+pub fn written_event_has_no_zero()
+    ensures { (event : Event) → IsTraced event → has_zero (line_of (event_row event)) ≡ false }
+{}
+
+/// Proves that the line `events -`, and no other, is read as one that states no number of events,
+/// and that any other line is read as the number that it states.
+#[tactic(auto, using(crate::proofs::CountLemmas::counts))]
+pub fn open_count_is_read()
+    ensures opened { count_from open_row ≡ Ok None }
+    ensures only { (row : Row) → count_from row ≡ Ok None → row ≡ open_row }
+    ensures stated { (row : Row) (count : ℕ) → events_from row ≡ Ok count
+        → count_from row ≡ Ok (Some count) }
+    ensures back { (row : Row) (count : ℕ) → count_from row ≡ Ok (Some count)
+        → events_from row ≡ Ok count }
+    ensures row { IsTrue (is_row open_row) }
 {}

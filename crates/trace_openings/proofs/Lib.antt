@@ -7,6 +7,7 @@ pub mod OpeningFieldsBack
 pub mod OpeningIsRows
 pub mod OpeningLaws
 pub mod OpeningLemmas
+pub mod OpeningLocal
 pub mod OpeningTables
 pub mod OpeningTakes
 pub mod OpeningText

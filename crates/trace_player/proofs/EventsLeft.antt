@@ -7,6 +7,8 @@ use Rattle.trace_words.specs.Labels.{number_row}
 use Rattle.trace_openings.specs.OpeningRows.{opening_rows}
 use Rattle.trace_words.specs.Rows.{Row}
 use Rattle.trace_lines.specs.Writing.{event_row}
+use Rattle.trace_lines.specs.OpenCount.{open_row}
+use Rattle.trace_player.specs.Journals.{journal_text}
 use Rattle.trace_player.specs.Traces.{trace_text}
 use Rattle.text_lines.proofs.LinesLemmas.{rows_text-cons, rows_text-nil, rows_text-append}
 use Rattle.text_lines.specs.Lines.{rows_text}
@@ -56,6 +58,23 @@ pub text_joined : (trace : Trace) (a b c : List ℕ) → a ≡ []
 text_joined trace a b c first second third =
     let rows : List Row = opening_rows trace.opening in
     let count : List Row = number_row (codes "events") (length trace.events) ∷ [] in
+    let events : List Row = map event_row trace.events in
+    let whole : rows_text (rows ++ (count ++ events)) ≡ rows_text rows ++ rows_text count
+    ++ rows_text events =
+    rows_text-append rows (count ++ events)
+    ∙ ap (λ (bs : List ℕ). rows_text rows ++ bs) (rows_text-append count events)
+    ∙ sym (append_assoc (rows_text rows) (rows_text count) (rows_text events)) in
+    third ∙ ap (λ (bs : List ℕ). bs ++ rows_text events) (second
+    ∙ ap (λ (bs : List ℕ). bs ++ rows_text count) first) ∙ sym whole
+
+-- the parts of a journal make all of it
+pub journal_joined : (trace : Trace) (a b c : List ℕ) → a ≡ []
+    ++ rows_text (opening_rows trace.opening)
+    → b ≡ a ++ rows_text (open_row ∷ []) → c ≡ b
+    ++ rows_text (map event_row trace.events) → c ≡ journal_text trace
+journal_joined trace a b c first second third =
+    let rows : List Row = opening_rows trace.opening in
+    let count : List Row = open_row ∷ [] in
     let events : List Row = map event_row trace.events in
     let whole : rows_text (rows ++ (count ++ events)) ≡ rows_text rows ++ rows_text count
     ++ rows_text events =

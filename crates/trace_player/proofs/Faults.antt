@@ -4,6 +4,7 @@ use Rattle.std.proofs.lemmas.Bool.Decides.{nat_tests}
 use Rattle.wire_bytes.specs.Outcome.{◌>>=◌}
 use Rattle.cosem_names.specs.declared.objects.Which.{Which}
 use Rattle.cosem_names.specs.declared.objects.Which.TheVariants.{Import, Export}
+use Rattle.trace_lines.specs.OpenCount.{count_at}
 use Rattle.trace_openings.specs.OpeningReading.{settings_from, limiter_from, export_from, schedules_from, opening_with, opening_in, opening_from}
 use Rattle.trace_words.specs.Places.{Place, place_of, line_as, line_result, first_as, value_at_end, ended_at}
 use Rattle.trace_words.specs.Rows.{Row}
@@ -120,11 +121,16 @@ events_other version (suc count) place =
     then_other _ _ (line_other _ place) (λ event. then_other _ _
     (events_other version count event.1) (λ others. value_other _))
 
+-- the result of the line of the number of events
+count_other : (place : Place) → IsOther (count_at place)
+unfolding count_at
+count_other place = then_other _ _ (line_other _ place) (λ counted. value_other _)
+
 -- the result of the lines of a trace
 trace_other : (place : Place) → IsOther (trace_from place)
 unfolding trace_from
 trace_other place =
-    then_other _ _ (opening_other place) (λ opening. then_other _ _ (line_other _ opening.1)
+    then_other _ _ (opening_other place) (λ opening. then_other _ _ (count_other opening.1)
     (λ count. then_other _ _ (events_other opening.0.0 count.0 count.1)
     (λ events. ended_other events.1 _)))
 

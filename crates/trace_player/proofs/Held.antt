@@ -1,5 +1,5 @@
 -- The lines after an opening, in the text that contains them.
-use Rattle.std.proofs.Common.{◌≡◌, ℕ, ◌+◌, ◌-◌, ◌<◌, ◌≤◌, ◌^◌, List, [], ◌∷◌, ◌++◌, length, length-append, drop, Ok, refl, sym, ap, ◌∙◌, arith, inl, inr}
+use Rattle.std.proofs.Common.{◌≡◌, ℕ, ◌+◌, ◌-◌, ◌<◌, ◌≤◌, ◌^◌, List, [], ◌∷◌, ◌++◌, length, length-append, drop, Option, Ok, refl, sym, ap, ◌∙◌, arith, inl, inr}
 use Rattle.wire_bytes.specs.Outcome.{◌>>=◌, Fails}
 use Rattle.relay_core.specs.declared.opening.Opening.{Opening}
 use Rattle.text_lines.specs.Lines.{rows_text}
@@ -13,38 +13,38 @@ use Rattle.trace_words.specs.declared.fault.TraceFault.TheVariants.{Memory}
 use Rattle.trace_words.specs.declared.version.Version.{Version}
 use Rattle.trace_openings.proofs.OpeningTakes.{opening_stands}
 use Rattle.trace_openings.specs.OpeningReading.{opening_from}
-use Rattle.trace_lines.specs.Events.{events_from}
-use Rattle.trace_player.specs.Traces.{max_bytes, trace_behind, trace_from}
+use Rattle.trace_lines.specs.OpenCount.{count_at, count_from}
+use Rattle.trace_player.specs.Traces.{max_bytes, trace_after, trace_from}
 
 -- the events of a trace are in the last bytes of its text
-pub record IsHeld (text rest : List ℕ) (version : Version) (count : ℕ) (opening : Opening)
+pub record IsHeld (text rest : List ℕ) (version : Version) (counted : Option ℕ) (opening : Opening)
     (number : ℕ) : Type 0 where
   pub within : length rest ≤ length text
-  pub counted : number + length text < 2 ^ 64
-  pub is : trace_behind version count opening
+  pub few : number + length text < 2 ^ 64
+  pub is : trace_after version counted opening
       (place_at number (drop (length text - length rest) text)) ≡ trace_from (place_of text)
 
 -- an opening and the number of the events were read, and the trace is that of the events that
 -- follow
-trace_is : (start middle behind : Place) (version : Version) (opening : Opening) (count : ℕ)
-    → opening_from start ≡ Ok ((version, opening), middle) → line_as events_from middle
-    ≡ Ok (count, behind)
-    → trace_behind version count opening behind ≡ trace_from start
-unfolding trace_from
-trace_is start middle behind version opening count opened counted = rw (opened, counted) refl
+trace_is : (start middle behind : Place) (version : Version) (opening : Opening)
+    (counted : Option ℕ) → opening_from start ≡ Ok ((version, opening), middle)
+    → line_as count_from middle ≡ Ok (counted, behind)
+    → trace_after version counted opening behind ≡ trace_from start
+unfolding trace_from count_at
+trace_is start middle behind version opening counted opened stated = rw (opened, stated) refl
 
 pub held_behind : (text bytes rest : List ℕ) (version : Version) (opening : Opening)
-    (count number : ℕ) (start middle behind : Place) → length text ≤ max_bytes → start
-    ≡ place_of bytes → bytes ≡ text
-    → opening_from start ≡ Ok ((version, opening), middle) → line_as events_from middle
-    ≡ Ok (count, behind) → number ≡ behind.number → place_at behind.number rest ≡ behind
-    → IsHeld text rest version count opening number
-held_behind text bytes rest version opening count number start middle behind short is_start is_text
-    opened counted numbered at =
+    (counted : Option ℕ) (number : ℕ) (start middle behind : Place) → length text ≤ max_bytes
+    → start ≡ place_of bytes → bytes ≡ text
+    → opening_from start ≡ Ok ((version, opening), middle) → line_as count_from middle
+    ≡ Ok (counted, behind) → number ≡ behind.number → place_at behind.number rest ≡ behind
+    → IsHeld text rest version counted opening number
+held_behind text bytes rest version opening counted number start middle behind short is_start
+    is_text opened stated numbered at =
     let place : start ≡ place_of text = is_start ∙ ap place_of is_text in
     let from_text = ap opening_from (sym place) ∙ opened in
     let front = opening_stands (place_of text) (version, opening) middle from_text in
-    let line = line_read ℕ events_from middle count behind counted in
+    let line = line_read (Option ℕ) count_from middle counted behind stated in
     let rows : List Row = front.0 ++ line.row ∷ [] in
     let took : Took rows (place_of text) behind =
     then front.0 (line.row ∷ []) (place_of text) middle behind front.1 line.took in
@@ -56,20 +56,20 @@ held_behind text bytes rest version opening count number start middle behind sho
     let lines = took.number in
     record {
       within = end.0;
-      counted = omega (arith, short, long, few, lines, numbered);
-      is = ap (trace_behind version count opening)
+      few = omega (arith, short, long, few, lines, numbered);
+      is = ap (trace_after version counted opening)
           (ap (λ (n : ℕ). place_at n (drop (length text - length rest) text)) numbered
           ∙ ap (place_at behind.number) end.1 ∙ at)
-          ∙ trace_is (place_of text) middle behind version opening count from_text counted;
+          ∙ trace_is (place_of text) middle behind version opening counted from_text stated;
     }
 
 -- the number of the events cannot be read
 pub count_fails : (text bytes : List ℕ) (version : Version) (opening : Opening)
     (start middle : Place) (fault : TraceFault) → start ≡ place_of bytes → bytes ≡ text
     → opening_from start ≡ Ok ((version, opening), middle)
-    → Fails Memory fault (line_as events_from middle)
+    → Fails Memory fault (line_as count_from middle)
     → Fails Memory fault (trace_from (place_of text))
-unfolding trace_from
+unfolding trace_from count_at
 count_fails text bytes version opening start middle fault is_start is_text opened
     (inl memory) = inl memory
 count_fails text bytes version opening start middle fault is_start is_text opened (inr fails) =

@@ -6,11 +6,13 @@ pub mod EventsRead
 pub mod ExportedRuns
 pub mod Faults
 pub mod Held
+pub mod JournalAgain
 pub mod Outputs
 pub mod RangeLemmas
 pub mod ScriptRanges
+pub mod Recovered
 pub mod RunTraceLemmas
 pub mod ShortTraces
 pub mod Taking
-mod TraceAgain
+pub mod TraceAgain
 pub mod TraceBack

@@ -6,7 +6,8 @@ use Rattle.std.specs.List.{list_all}
 use Rattle.relay_events.specs.declared.event.Event.{Event}
 use Rattle.relay_core.specs.declared.opening.Opening.{Opening}
 use Rattle.relay_recorder.specs.declared.trace.Trace.{Trace}
-use Rattle.trace_lines.proofs.EventLaws.{event_again, event_is_row, event_count_again}
+use Rattle.trace_lines.proofs.CountLemmas.{count_again}
+use Rattle.trace_lines.proofs.EventLaws.{event_again, event_is_row}
 use Rattle.trace_lines.proofs.EventLaws.{event_count_is_row}
 use Rattle.trace_openings.specs.OpeningReading.{opening_from}
 use Rattle.trace_words.specs.Labels.{number_row}
@@ -34,11 +35,11 @@ HasRows = (opening : Opening) → IsWritable opening → list_all is_row (openin
 
 -- ---- rows
 
-both_true : (a b : Bool) → a ≡ true → b ≡ true → (a && b) ≡ true
+pub both_true : (a b : Bool) → a ≡ true → b ≡ true → (a && b) ≡ true
 both_true a b ea eb = rw (ea, eb) refl
 
 -- the lines of events are lines of words
-are_rows : (events : List Event) → AreTraced events → list_all is_row (map event_row events) ≡ true
+pub are_rows : (events : List Event) → AreTraced events → list_all is_row (map event_row events) ≡ true
 are_rows [] are = refl
 are_rows (event ∷ events) (one, are) = both_true (is_row (event_row event))
     (list_all is_row (map event_row events)) (event_is_row event one) (are_rows events are)
@@ -58,14 +59,14 @@ rows_are has trace is =
 -- ---- reading
 
 -- the number of the line after those of events, the first of which has this number
-abbrev behind_events : ℕ → List Event → ℕ
+abbrev pub behind_events : ℕ → List Event → ℕ
 behind_events number [] = number
 behind_events number (event ∷ events) = behind_events (suc number) events
 
-abbrev events_place : ℕ → List Event → Place
+abbrev pub events_place : ℕ → List Event → Place
 events_place number events = record { number = number; rows = map event_row events; unended = [] }
 
-events_again : (events : List Event) (number : ℕ) → AreTraced events
+pub events_again : (events : List Event) (number : ℕ) → AreTraced events
     → events_at Two (length events) (events_place number events)
     ≡ Ok (events, events_place (behind_events number events) [])
 unfolding events_at line_as
@@ -81,7 +82,7 @@ unfolding trace_from ended_at
 from_again opens trace is =
     let h = opens trace.opening (number_row (codes "events") (length trace.events)
     ∷ map event_row trace.events) [] is.opening in
-    let count = event_count_again (length trace.events) 31 (map event_row trace.events) [] is.few in
+    let count = count_again (length trace.events) 31 (map event_row trace.events) [] is.few in
     let events = events_again trace.events 32 is.events in
     rw (h, count, events) refl
 
@@ -98,7 +99,7 @@ place_is has trace is =
     ap₂ made (rows_whole (trace_rows trace) (rows_are has trace is))
     (rows_ended (trace_rows trace) (rows_are has trace is))
 
-short_enough : (n : ℕ) → n ≤ max_bytes → nat_lt max_bytes n ≡ false
+pub short_enough : (n : ℕ) → n ≤ max_bytes → nat_lt max_bytes n ≡ false
 short_enough n le = grind (arith, nat_tests)
 
 pub trace_again : OpensAgain → HasRows → (trace : Trace) → IsWritableTrace trace

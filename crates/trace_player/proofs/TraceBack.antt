@@ -5,11 +5,13 @@ use Rattle.wire_bytes.proofs.OutcomeLemmas.{ok_is, bind_ok, refused_ok}
 use Rattle.relay_events.specs.declared.event.Event.{Event}
 use Rattle.relay_core.specs.declared.opening.Opening.{Opening}
 use Rattle.relay_recorder.specs.declared.trace.Trace.{Trace}
+use Rattle.trace_lines.proofs.CountLemmas.{count_back}
 use Rattle.trace_lines.proofs.EventLaws.{event_back, events_back}
 use Rattle.trace_openings.proofs.OpeningBack.{opening_back, opening_lines, written_rows}
 use Rattle.trace_openings.proofs.OpeningFieldLaws.{version_again}
 use Rattle.trace_words.proofs.PlacesBack.{Took, then, line_read, line_back}
 use Rattle.trace_lines.specs.Events.{event_of, events_from}
+use Rattle.trace_lines.specs.OpenCount.{count_at, open_row}
 use Rattle.trace_openings.specs.OpeningFields.{version_from}
 use Rattle.trace_openings.specs.OpeningForms.{Forms, AreFormsOf, written_forms, rows_with}
 use Rattle.trace_openings.specs.OpeningReading.{opening_in, opening_from}
@@ -21,7 +23,7 @@ use Rattle.trace_words.specs.declared.fault.TraceFault.TheVariants.{TooLong}
 use Rattle.trace_words.specs.declared.version.Version.{Version}
 use Rattle.trace_words.specs.declared.version.Version.TheVariants.{Two}
 use Rattle.trace_player.specs.Traces.{max_bytes, events_at, trace_from, trace_of, trace_text}
-use Rattle.trace_player.specs.Versions.{IsOfVersionTwo, text_with}
+use Rattle.trace_player.specs.Versions.{IsCounted, IsOfVersionTwo, text_with}
 use Rattle.text_lines.proofs.LinesLemmas.{rows_text-rows_of}
 use Rattle.text_lines.specs.Lines.{rows_of, rows_text, unended_of}
 
@@ -72,7 +74,7 @@ ended_back place x y e = none_left place.number place.rows place.unended x y e
 first_is : (a b : Row) (rows others : List Row) → a ∷ rows ≡ b ∷ others → a ≡ b
 first_is a b rows others e = cc
 
-version_two : (place : Place) (rows : List Row) (version : Version) (o : Opening) (behind : Place)
+pub version_two : (place : Place) (rows : List Row) (version : Version) (o : Opening) (behind : Place)
     → place.rows ≡ number_row (codes "RELAYTRACE") 2 ∷ rows
     → opening_from place ≡ Ok ((version, o), behind) → version ≡ Two
 unfolding opening_from
@@ -106,14 +108,14 @@ text_is text front middle others last events count a b c is_front is_count is_ev
     ∙ ap₂ (λ (rows : List Row) (unended : List ℕ). rows_text rows ++ unended) rows unended
     ∙ append-nil (rows_text (front ++ count ∷ events))
 
-pub trace_back : (text : List ℕ) (trace : Trace) → IsOfVersionTwo text → trace_of text ≡ Ok trace
-    → (forms : Forms) × AreFormsOf trace.opening forms × (text ≡ text_with trace forms)
+pub trace_back : (text : List ℕ) (trace : Trace) → IsOfVersionTwo text → IsCounted text
+    → trace_of text ≡ Ok trace → (forms : Forms) × AreFormsOf trace.opening forms × (text ≡ text_with trace forms)
 unfolding trace_of trace_from
-trace_back text trace two e =
+trace_back text trace two closed e =
     let short = refused_ok (nat_lt max_bytes (length text)) TooLong
     (trace_from (place_of text)) trace e in
     let opening = bind_ok (opening_from (place_of text)) _ trace short.1 in
-    let count = bind_ok (line_as events_from opening.0.1) _ trace opening.2 in
+    let count = bind_ok (count_at opening.0.1) _ trace opening.2 in
     let events = bind_ok (events_at opening.0.0.0 count.0.0 count.0.1) _ trace count.2 in
     let o = opening.0.0.1 in
     let end = ended_back events.0.1 (record { opening = o; events = events.0.0 }) trace events.2 in
@@ -122,8 +124,11 @@ trace_back text trace two e =
     ≡ Ok ((v, o), opening.0.1)) version opening.1 in
     let front = opening_back (place_of text) o opening.0.1 read in
     let kept = opening_lines (place_of text) o opening.0.1 read in
+    let counted = count_back opening.0.1 count.0.0 count.0.1 (λ (after : List Row) is.
+    closed (rows_with o front.0) after
+    (front.2 ∙ ap (λ (rows : List Row). rows_with o front.0 ++ rows) is)) count.1 in
     let line = line_back ℕ events_from (number_row (codes "events")) events_back opening.0.1
-    count.0.0 count.0.1 count.1 in
+    count.0.0 count.0.1 counted in
     let them = all_events_back opening.0.0.0 count.0.0 count.0.1 events.0.0 events.0.1 events.1 in
     let whole =
     text_is text (rows_with o front.0) opening.0.1.rows count.0.1.rows events.0.1.rows

@@ -1,5 +1,6 @@
 pub mod Exported
 pub mod Faults
+pub mod Journals
 pub mod Numbers
 pub mod Playing
 pub mod Plays

@@ -1,14 +1,16 @@
 -- A trace as text: an opening, the number of its events, and the line of each.
 --     events_at        a number of events, read from their lines
 --     trace_behind     a trace of an opening and a number of events, after which nothing is left
+--     trace_after      a trace of an opening and of the events after the line of their number
 --     trace_of         the trace of a text, or its fault
 --     trace_text       the text that is written for a trace, in version 2
-use Rattle.std.specs.Prelude.{ℕ, zero, suc, nat_lt, if◌then◌else◌, codes, List, [], ◌∷◌, ◌++◌, length, map, Result, Ok, Err}
+use Rattle.std.specs.Prelude.{ℕ, zero, suc, nat_lt, if◌then◌else◌, codes, List, [], ◌∷◌, ◌++◌, length, map, Option, Result, Ok, Err}
 use Rattle.wire_bytes.specs.Outcome.{◌>>=◌}
 use Rattle.relay_events.specs.declared.event.Event.{Event}
 use Rattle.relay_core.specs.declared.opening.Opening.{Opening}
 use Rattle.relay_recorder.specs.declared.trace.Trace.{Trace}
-use Rattle.trace_lines.specs.Events.{event_of, events_from}
+use Rattle.trace_lines.specs.Events.{event_of}
+use Rattle.trace_lines.specs.OpenCount.{count_at, events_behind}
 use Rattle.trace_openings.specs.OpeningReading.{opening_from}
 use Rattle.trace_words.specs.Labels.{number_row}
 use Rattle.trace_openings.specs.OpeningRows.{opening_rows}
@@ -38,11 +40,17 @@ trace_behind version count opening place = do
   events ← events_at version count place
   ended_at events.1 (record { opening = opening; events = events.0 })
 
+-- a trace of this opening and of the events after the line of their number, which states a number
+-- or none
+abbrev pub trace_after : Version → Option ℕ → Opening → Place → Result Trace TraceFault
+trace_after version counted opening place =
+    trace_behind version (events_behind counted place).0 opening (events_behind counted place).1
+
 -- a trace: the opening, the number of the events, the events, and nothing more
 unfoldable pub trace_from : Place → Result Trace TraceFault
 trace_from place = do
   opening ← opening_from place
-  count ← line_as events_from opening.1
+  count ← count_at opening.1
   events ← events_at opening.0.0 count.0 count.1
   ended_at events.1 (record { opening = opening.0.1; events = events.0 })
 

@@ -1,7 +1,11 @@
 -- The texts of version 2, and what they contain apart from the Datas in the lines of their opening.
+--     IsOfVersionTwo    a text of version 2
+--     IsCounted         a text that states the number of its events
+--     text_with         the text of a trace with other Datas
 use Rattle.std.specs.Prelude.{◌≡◌, ℕ, codes, List, ◌∷◌, ◌++◌, length, map}
 use Rattle.relay_recorder.specs.declared.trace.Trace.{Trace}
 use Rattle.trace_openings.specs.OpeningForms.{Forms, rows_with}
+use Rattle.trace_lines.specs.OpenCount.{open_row}
 use Rattle.trace_words.specs.Labels.{number_row}
 use Rattle.trace_words.specs.Rows.{Row}
 use Rattle.trace_lines.specs.Writing.{event_row}
@@ -10,6 +14,10 @@ use Rattle.text_lines.specs.Lines.{rows_of, rows_text}
 -- the first line of a text has version 2
 abbrev pub IsOfVersionTwo : List ℕ → Type 0
 IsOfVersionTwo text = (rows : List Row) × (rows_of text ≡ number_row (codes "RELAYTRACE") 2 ∷ rows)
+
+-- no line of a text is `events -`
+abbrev pub IsCounted : List ℕ → Type 0
+IsCounted text = (before after : List Row) → rows_of text ≡ before ++ open_row ∷ after → ⊥
 
 -- the text that is written for a trace, but with these Datas in the lines of its opening
 abbrev pub text_with : Trace → Forms → List ℕ

@@ -1,15 +1,19 @@
 //! Laws of traces and their texts. Each function is a law: its contract states it, and a call makes
 //! it known to the prover.
-ghost use Rattle.std.specs.Prelude.{◌≡◌, ℕ, List, Ok};
+ghost use Rattle.std.specs.Prelude.{◌≡◌, ◌≤◌, ◌++◌, ◌∷◌, ℕ, false, List, Ok, length};
 ghost use Rattle.relay_core.specs.Opening.{world_of_opening};
+ghost use Rattle.relay_events.specs.declared.event.Event.{Event};
 ghost use Rattle.relay_recorder.specs.Recording.{Recording};
 ghost use Rattle.relay_recorder.specs.Replaying.{Replays};
 ghost use Rattle.relay_recorder.specs.declared.trace.Trace.{Trace};
 ghost use Rattle.trace_openings.specs.OpeningForms.{Forms, AreFormsOf, written_forms};
+ghost use Rattle.trace_openings.specs.OpeningTraced.{IsWritable};
+ghost use Rattle.trace_words.specs.WholeLines.{IsTail, has_end, whole_text};
 ghost use Rattle.trace_player.specs.Exported.{PrintsTheEnd};
-ghost use Rattle.trace_player.specs.Traces.{trace_of, trace_text};
-ghost use Rattle.trace_player.specs.Versions.{IsOfVersionTwo, text_with};
-ghost use Rattle.trace_player.specs.Written.{IsWritableTrace};
+ghost use Rattle.trace_player.specs.Journals.{IsJournal, events_text, journal_text, with_events};
+ghost use Rattle.trace_player.specs.Traces.{max_bytes, trace_of, trace_text};
+ghost use Rattle.trace_player.specs.Versions.{IsCounted, IsOfVersionTwo, text_with};
+ghost use Rattle.trace_player.specs.Written.{AreTraced, IsWritableTrace};
 
 use trace_openings::written_opening_is_read;
 
@@ -21,13 +25,44 @@ pub fn written_trace_is_read()
     written_opening_is_read();
 }
 
-/// Proves that the text of version 2 that a trace is read from is the text that is written for it,
-/// except that the script table and the entries of the schedules may be other Datas that are read
-/// as the same table or entries. With the Datas that are written, it is the text that is written.
+/// Proves that a journal is read back: as the trace that it was begun with, and after it has grown
+/// as that trace with all further events, whatever torn tail follows the last whole line.
+pub fn written_journal_is_read()
+    ensures whole { (trace : Trace) → IsWritable trace.opening → AreTraced trace.events
+        → length (journal_text trace) ≤ max_bytes → trace_of (journal_text trace) ≡ Ok trace }
+    ensures grown { (trace : Trace) (more : List Event) (tail : List ℕ)
+        → IsWritable trace.opening → AreTraced trace.events → AreTraced more → IsTail tail
+        → length (journal_text trace ++ events_text more ++ tail) ≤ max_bytes
+        → trace_of (journal_text trace ++ events_text more ++ tail)
+        ≡ Ok (with_events trace more) }
+{
+    written_opening_is_read();
+}
+
+/// Proves that a journal that is read is read as the same trace once all that follows its last whole
+/// line before its first byte 0 is cut, as recovery does.
+#[tactic(auto, using(crate::proofs::Recovered::recovered_again))]
+pub fn recovered_journal_is_read()
+    ensures { (text : List ℕ) (trace : Trace) → IsJournal text → trace_of text ≡ Ok trace
+        → trace_of (whole_text text) ≡ Ok trace }
+{}
+
+/// Proves which bytes are a torn tail: bytes without a byte 0A, and bytes whose first byte 0 comes
+/// before any byte 0A, whatever follows it.
+#[tactic(auto, using(trace_words::proofs::TailLemmas::tails))]
+pub fn torn_tails_have_no_line()
+    ensures unended { (tail : List ℕ) → has_end tail ≡ false → IsTail tail }
+    ensures zero { (front rest : List ℕ) → has_end front ≡ false → IsTail (front ++ 0 ∷ rest) }
+{}
+
+/// Proves that the text of version 2 that a trace is read from is the text that is written for it
+/// if it states the number of events, except that the script table and the entries of the schedules
+/// may be other Datas that are read as the same table or entries. With the Datas that are written,
+/// it is the text that is written.
 #[tactic(auto, using(crate::proofs::TraceBack::trace_back, crate::proofs::TraceBack::written_text))]
 pub fn read_trace_is_written()
-    ensures text { (text : List ℕ) (trace : Trace) → IsOfVersionTwo text → trace_of text ≡ Ok trace
-        → (forms : Forms) × AreFormsOf trace.opening forms × (text ≡ text_with trace forms) }
+    ensures text { (text : List ℕ) (trace : Trace) → IsOfVersionTwo text → IsCounted text
+        → trace_of text ≡ Ok trace → (forms : Forms) × AreFormsOf trace.opening forms × (text ≡ text_with trace forms) }
     ensures written { (trace : Trace)
         → text_with trace (written_forms trace.opening) ≡ trace_text trace }
 {}

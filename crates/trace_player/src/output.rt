@@ -1,17 +1,18 @@
 //! Plays the text of a trace and collects the output before any of it is written.
-ghost use Rattle.std.specs.Prelude.{◌+◌, ◌-◌, ◌<◌, ◌≤◌, ◌^◌, drop, length, IfErr, IfOk, IsErrOf};
+ghost use Rattle.std.specs.Prelude.{◌≡◌, ◌+◌, ◌-◌, ◌<◌, ◌≤◌, ◌^◌, drop, length, IfErr, IfOk, IsErrOf};
 ghost use Rattle.trace_words.specs.Places.{place_at, place_of};
 ghost use Rattle.wire_bytes.specs.Outcome.{Fails};
 ghost use Rattle.relay_core.specs.Opening.{IsFitOpening};
+ghost use Rattle.trace_lines.specs.OpenCount.{events_behind};
 ghost use Rattle.trace_words.specs.declared.fault.TraceFault.TheVariants as trace_fault;
 ghost use Rattle.trace_player.specs.Playing.{PlaysTrace};
-ghost use Rattle.trace_player.specs.Traces.{max_bytes, trace_behind, trace_from, trace_of};
+ghost use Rattle.trace_player.specs.Traces.{max_bytes, trace_after, trace_behind, trace_from, trace_of};
 
 use crate::playing::play_events;
 use crate::reading::MAX_BYTES;
 use relay_core::{Opening, RelayCore};
 use std::alloc::Global;
-use trace_lines::read_event_count;
+use trace_lines::read_stated_count;
 use trace_openings::read_opening;
 use trace_words::{HeldLines, TraceFault, TraceLines, Version};
 
@@ -19,7 +20,7 @@ use trace_words::{HeldLines, TraceFault, TraceLines, Version};
 #[derive(Debug, Drop)]
 pub(crate) struct PlayedLines {
     pub(crate) lines: Vec<u8>,
-    pub(crate) count: u32,
+    pub(crate) count: u64,
 }
 
 // Plays the `count` events after an opening. Errors: `Line` if anything follows them, among
@@ -27,7 +28,7 @@ pub(crate) struct PlayedLines {
 fn play_behind(
     alloc: Global,
     version: Version,
-    count: u32,
+    count: u64,
     opening: &Opening,
     lines: &mut HeldLines,
 ) -> Result<PlayedLines, TraceFault>
@@ -50,12 +51,24 @@ fn play_behind(
     Ok(output)
 }
 
+// Returns the number of events. If none is stated, they are all whole lines, and what follows these
+// is dropped.
+fn count_behind(counted: Option<u32>, lines: &mut HeldLines) -> u64
+    ensures { events_behind counted lines.old ≡ (result, lines.new) }
+{
+    match counted {
+        Some(count) => u64::from(count),
+        None => lines.keep_whole_lines(),
+    }
+}
+
 // Plays the events in the last `left` bytes of a text; the first line of these has the number
-// `number`. Text that has been read is dropped.
+// `number`, and `counted` is the number of events, if one is stated. Text that has been read is
+// dropped.
 fn play_held(
     alloc: Global,
     version: Version,
-    count: u32,
+    counted: Option<u32>,
     opening: &Opening,
     text: Vec<u8>,
     number: u64,
@@ -66,16 +79,17 @@ fn play_held(
     requires counted { number + length text.items < 2 ^ 64 }
     ensures ok { IfOk result
         (λ output. PlaysTrace
-        (trace_behind version count opening.now
+        (trace_after version counted opening.now
         (place_at number (drop (length text.items - left) text.items))) output.lines.items
         output.count) }
     ensures err { IfErr result
         (λ fault. Fails trace_fault.Memory fault
-        (trace_behind version count opening.now
+        (trace_after version counted opening.now
         (place_at number (drop (length text.items - left) text.items)))) }
 {
     let taken = text.len() - left;
     let mut lines = HeldLines::new(text, taken, number);
+    let count = count_behind(counted, &mut lines);
     let played = play_behind(alloc, version, count, opening, &mut lines);
     drop(lines);
     played
@@ -92,10 +106,10 @@ fn play_lines(alloc: Global, text: Vec<u8>) -> Result<PlayedLines, TraceFault>
 {
     let mut lines = TraceLines::new(text.as_slice());
     let (version, opening) = read_opening(alloc, &mut lines)?;
-    let counted = read_event_count(&mut lines);
+    let stated = read_stated_count(&mut lines);
     let (number, left) = (lines.number(), lines.rest().len());
-    let played = match counted {
-        Ok(count) => play_held(alloc, version, count, &opening, text, number, left),
+    let played = match stated {
+        Ok(counted) => play_held(alloc, version, counted, &opening, text, number, left),
         Err(fault) => {
             drop(text);
             Err(fault)

@@ -44,7 +44,7 @@ pub fn play<R: Reader, W: Writer>(
 {
     let PlayedLines { lines, count } = play_input(alloc, reader)?;
     match writer.write_all(lines.as_slice()) {
-        Ok(()) => Ok(u64::from(count)),
+        Ok(()) => Ok(count),
         Err(_) => Err(PlayFault::Write),
     }
 }

@@ -71,7 +71,7 @@ fn play_next(
 pub(crate) fn play_events(
     alloc: Global,
     version: Version,
-    count: u32,
+    count: u64,
     lines: &mut HeldLines,
     core: &mut RelayCore,
 ) -> Result<Vec<u8>, TraceFault>
@@ -82,7 +82,7 @@ pub(crate) fn play_events(
 {
     let mut out = Vec::new(alloc);
     'events: for i in 0..count {
-        play_next(alloc, version, u64::from(i) + 1, lines, core, &mut out)?;
+        play_next(alloc, version, i + 1, lines, core, &mut out)?;
     }
     Ok(out)
 }

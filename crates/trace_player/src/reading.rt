@@ -9,7 +9,7 @@ ghost use Rattle.trace_player.specs.Traces.{max_bytes, events_at, trace_from, tr
 use relay_events::Events;
 use relay_recorder::Trace;
 use std::alloc::Global;
-use trace_lines::{next_event, read_event_count};
+use trace_lines::{count_events, next_event};
 use trace_openings::read_opening;
 use trace_words::{TraceFault, TraceLines, Version};
 
@@ -20,7 +20,7 @@ pub const MAX_BYTES: usize = 33_554_432;
 fn read_events(
     alloc: Global,
     version: Version,
-    count: u32,
+    count: u64,
     lines: &mut TraceLines,
 ) -> Result<Events, TraceFault>
     ensures { ReadsLines (λ events. events) result lines.new (events_at version count lines.old) }
@@ -54,7 +54,7 @@ fn read_lines(alloc: Global, lines: &mut TraceLines) -> Result<Trace, TraceFault
     ensures fit { IfOk result (λ trace. IsFitOpening trace.opening) }
 {
     let (version, opening) = read_opening(alloc, lines)?;
-    let read = match read_event_count(lines) {
+    let read = match count_events(lines) {
         Ok(count) => read_events(alloc, version, count, lines),
         Err(fault) => Err(fault),
     };
@@ -67,8 +67,10 @@ fn read_lines(alloc: Global, lines: &mut TraceLines) -> Result<Trace, TraceFault
     }
 }
 
-/// Reads the text of a trace, in version 1 or 2. Errors: `TooLong`; `Line` with the number of the
-/// first line that is missing or malformed; `Memory`.
+/// Reads the text of a trace, in version 1 or 2. If its line of the number of events is `events -`,
+/// the events are all whole lines that follow before the first byte 0, and the text after the last
+/// of them is skipped. Errors: `TooLong`; `Line` with the number of the first line that is missing
+/// or malformed; `Memory`.
 #[tactic(auto, unfolding(crate::specs::Traces::trace_of), using(crate::proofs::Faults::told_too_long))]
 pub fn read_trace(alloc: Global, text: &[u8]) -> Result<Trace, TraceFault>
     ensures exact { Gives trace_fault.Memory (λ trace. trace) result (trace_of text.now) }

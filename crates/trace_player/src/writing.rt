@@ -25,7 +25,11 @@ fn add_event(alloc: Global, out: &mut Vec<u8>, event: &Event) -> Result<(), Allo
 }
 
 // Appends the lines of events.
-fn add_events(alloc: Global, out: &mut Vec<u8>, events: &[Event]) -> Result<(), AllocError>
+pub(crate) fn add_events(
+    alloc: Global,
+    out: &mut Vec<u8>,
+    events: &[Event],
+) -> Result<(), AllocError>
     ensures { OnOk result (out.new.items ≡ out.old.items ++ rows_text (map event_row events.now)) }
 {
     'events: for event in events {

@@ -7,7 +7,8 @@ use Rattle.wire_bytes.proofs.OutcomeLemmas.{done}
 use Rattle.relay_core.specs.declared.opening.Opening.{Opening}
 use Rattle.relay_events.specs.declared.event.Event.{Event}
 use Rattle.relay_recorder.specs.declared.trace.Trace.{Trace}
-use Rattle.trace_lines.specs.Events.{event_of, events_from}
+use Rattle.trace_lines.specs.Events.{event_of}
+use Rattle.trace_lines.specs.OpenCount.{count_at}
 use Rattle.trace_openings.specs.OpeningReading.{opening_from}
 use Rattle.trace_player.specs.Traces.{events_at, max_bytes, trace_from, trace_of}
 use Rattle.trace_words.specs.Places.{Place, ReadLines, line_as, ended_at, place_of, value_at_end}
@@ -119,12 +120,12 @@ trace_whole place = by (opening_from place)
     counted version opening (Err fault) = refl
 
     by : (read : ReadLines (Version × Opening))
-        → (read >>= λ opening. line_as events_from opening.1 >>= λ count.
+        → (read >>= λ opening. count_at opening.1 >>= λ count.
         events_at opening.0.0 count.0 count.1 >>= λ events.
         ended_at events.1 (front_with opening.0.1 (events.0, done TraceFault tt)).0)
-        ≡ trace_by (read >>= λ opening. line_as events_from opening.1 >>= λ count.
+        ≡ trace_by (read >>= λ opening. count_at opening.1 >>= λ count.
         done TraceFault (front_with opening.0.1 (events_front opening.0.0 count.0 count.1)))
-    by (Ok opening) = counted opening.0.0 opening.0.1 (line_as events_from opening.1)
+    by (Ok opening) = counted opening.0.0 opening.0.1 (count_at opening.1)
     by (Err fault) = refl
 
 -- the trace of a text

@@ -11,7 +11,8 @@ use Rattle.wire_bytes.specs.Outcome.{◌>>=◌, ◌>>◌}
 use Rattle.relay_core.specs.declared.opening.Opening.{Opening}
 use Rattle.relay_events.specs.declared.event.Event.{Event}
 use Rattle.relay_recorder.specs.declared.trace.Trace.{Trace}
-use Rattle.trace_lines.specs.Events.{event_of, events_from}
+use Rattle.trace_lines.specs.Events.{event_of}
+use Rattle.trace_lines.specs.OpenCount.{count_at}
 use Rattle.trace_openings.specs.OpeningReading.{opening_from}
 use Rattle.trace_player.specs.Traces.{max_bytes}
 use Rattle.trace_words.specs.Places.{Place, ReadLines, line_as, ended_at, place_of}
@@ -55,7 +56,7 @@ front_with opening front = (record { opening = opening; events = front.0 }, fron
 unfoldable pub front_from : Place → Result (Trace × End) TraceFault
 front_from place = do
   opening ← opening_from place
-  count ← line_as events_from opening.1
+  count ← count_at opening.1
   Ok (front_with opening.0.1 (events_front opening.0.0 count.0 count.1))
 
 -- the front of a text; a text that is too long, or whose opening or number of events is wrong, has

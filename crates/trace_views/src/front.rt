@@ -9,7 +9,7 @@ ghost use Rattle.trace_views.specs.Fronts.{IsLine, ReadsEvent, events_front, fro
 
 use relay_events::{Event, Events};
 use std::alloc::{AllocError, Global};
-use trace_lines::{next_event, read_event_count};
+use trace_lines::{count_events, next_event};
 use trace_openings::read_opening;
 use trace_player::{MAX_BYTES, Trace, TraceFault};
 use trace_words::{TraceLines, Version};
@@ -59,7 +59,7 @@ fn end_of(lines: &TraceLines) -> Result<(), TraceFault>
 fn read_events(
     alloc: Global,
     version: Version,
-    count: u32,
+    count: u64,
     lines: &mut TraceLines,
 ) -> Result<(Events, Result<(), TraceFault>), AllocError>
     ensures exact { IfOk result (λ front. front ≡ events_front version count lines.old) }
@@ -84,7 +84,7 @@ fn read_lines(alloc: Global, lines: &mut TraceLines) -> Result<Front, TraceFault
     ensures line { IfOk result (λ front. IfErr front.end IsLine) }
 {
     let (version, opening) = read_opening(alloc, lines)?;
-    let read = match read_event_count(lines) {
+    let read = match count_events(lines) {
         Ok(count) => read_events(alloc, version, count, lines).map_err(TraceFault::from),
         Err(fault) => Err(fault),
     };

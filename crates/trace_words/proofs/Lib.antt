@@ -3,11 +3,17 @@ pub mod HeldLemmas
 pub mod LabelsBack
 pub mod LineLaws
 pub mod LinesTaken
+pub mod LocalReads
 pub mod PartLaws
 pub mod PlaceLemmas
 pub mod PlacesBack
+pub mod PlainReads
+pub mod PlainWords
 pub mod Steps
+pub mod TailLemmas
 pub mod TextBytes
+pub mod WholeAgain
+pub mod WholeLemmas
 pub mod WordLaws
 pub mod WordsBack
 pub mod ShortRows

@@ -1,7 +1,8 @@
 pub mod Labels
+pub mod Numbers
 pub mod Parts
 pub mod Places
 pub mod Reading
 pub mod Rows
+pub mod WholeLines
 pub mod Writing
-pub mod Numbers

@@ -2,10 +2,12 @@
 ghost use Rattle.std.specs.Prelude.{◌≡◌, ◌+◌, ◌<◌, ◌≤◌, ◌^◌, Result, drop, length};
 ghost use Rattle.trace_words.specs.Places.{IsLineReader, ReadsLines, line_as, ended_at, place_at};
 ghost use Rattle.trace_words.specs.Rows.{Row};
+ghost use Rattle.trace_words.specs.WholeLines.{whole_lines};
 ghost use Rattle.trace_words.specs.declared.fault.RowFault.{RowFault};
 
 use crate::fault::{RowFault, TraceFault};
 use crate::place::{TraceLines, at_line};
+use crate::whole::whole_lines;
 use std::marker::Model;
 use text_lines::split_line;
 
@@ -80,6 +82,17 @@ impl HeldLines {
             }
             None => Err(TraceFault::Line(number)),
         }
+    }
+
+    /// Keeps the whole lines before the first byte 0, drops the text after them, and returns the
+    /// number of these lines.
+    pub fn keep_whole_lines(&mut self) -> u64
+        ensures kept { self.new ≡ whole_lines self.old }
+        ensures count { result ≡ length self.new.rows }
+    {
+        let (len, count) = whole_lines(&self.text.as_slice()[self.taken..]);
+        self.text.truncate(self.taken + len);
+        count
     }
 
     /// Checks that nothing is left. Errors: `Line` with the number of the next line if any text is

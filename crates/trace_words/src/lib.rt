@@ -15,6 +15,7 @@ mod labels;
 mod place;
 mod spelling;
 mod version;
+mod whole;
 mod words;
 mod writing;
 

@@ -1,11 +1,13 @@
 //! `TraceLines`: reads a trace line by line, and reports each fault with the line's number.
-ghost use Rattle.std.specs.Prelude.{◌≡◌, Result, Ok, IfOk};
+ghost use Rattle.std.specs.Prelude.{◌≡◌, Result, Ok, IfOk, length};
 ghost use Rattle.std.specs.Fn.{FnOnceReturnsAtMut};
 ghost use Rattle.trace_words.specs.Places.{ReadsLines, IsRowReader, line_as, at_line, ended_at, place_at, place_of};
 ghost use Rattle.trace_words.specs.Rows.{Row};
+ghost use Rattle.trace_words.specs.WholeLines.{whole_lines};
 ghost use Rattle.trace_words.specs.declared.fault.RowFault.{RowFault};
 
 use crate::fault::{RowFault, TraceFault};
+use crate::whole::whole_lines;
 use std::marker::Model;
 use text_lines::{TextLines, Words};
 
@@ -89,6 +91,18 @@ impl<'a> TraceLines<'a> {
         let number = self.number();
         let mut words = self.next_words()?;
         at_line(number, row(&mut words))
+    }
+
+    /// Keeps the whole lines before the first byte 0, drops the text after them, and returns the
+    /// number of these lines.
+    pub fn keep_whole_lines(&mut self) -> u64
+        ensures kept { self.new ≡ whole_lines self.old }
+        ensures count { result ≡ length self.new.rows }
+    {
+        let text = self.lines.rest();
+        let (len, count) = whole_lines(text);
+        self.lines = TextLines::new(&text[..len]);
+        count
     }
 
     /// Checks that nothing is left. Errors: `Line` with the number of the next line if any text is

@@ -1,3 +1,5 @@
+use Rattle.std.proofs.Common.{◌∙◌, ap}
+use Rattle.turn_lock.specs.Rule.{first_known}
 use Rattle.meter_run.proofs.RunLemmas.{run_if}
 use Rattle.meter_run.proofs.running.run_meter.Goals as goal
 
@@ -9,4 +11,4 @@ returns-in-Ok-clause-run g c =
       presses = g.U.ButtonSource.forecast c.args.sources.buttons;
       password = c.args.password.now;
     }) c.serve-port.result.1 c.trace_text-trace.result c.in-Ok.port c.serve-port.result.0
-    c.in-Ok.ensures.known c.serve-port.ensures.serves c.trace_text-trace.ensures.traces
+    (c.in-Ok.ensures.known ∙ ap first_known c.new.ensures.origin) c.serve-port.ensures.serves c.trace_text-trace.ensures.traces

@@ -1,14 +1,29 @@
 use denote.Param.Send.{sendable}
+use Rattle.std.proofs.Common.{arith}
 use Rattle.std.proofs.Crossing.{crosses}
 use Rattle.shared_meter.proofs.Sent.{kept_send}
 use Rattle.session_io.proofs.Sent.{event_send, reply_send}
-use Rattle.meter_server.proofs.ServingAllLemmas.{ok_beside, serves_beside, serves_none, stops_beside}
+use Rattle.meter_server.proofs.ServingAllLemmas.{journaled_beside, ok_beside, serves_beside}
+use Rattle.meter_server.proofs.ServingAllLemmas.{serves_none, stops_beside}
+use Rattle.meter_server.proofs.SessionLemmas.{no_journaled}
 use Rattle.meter_server.proofs.serving_all.serve_with_three.Goals as goal
 
 pub returns-clause-serves : goal.returns-clause-serves
 returns-clause-serves g c =
     serves_beside (λ w. g.S.EventSource.can_follow w.source) c.in-Some.ensures.worker
     c.in-Some.ensures.port c.join_both.ensures c.serve_with_two-served.ensures.serves
+
+pub returns-clause-journaled : goal.returns-clause-journaled
+returns-clause-journaled g c =
+    journaled_beside (λ w. g.S.EventSource.can_follow w.source)
+    c.in-Some.running.promise.worker.value c.in-Some.ensures.port c.join_both.ensures
+    c.args.terms.now.journal g.D.Durability.is_durable 2
+    c.serve_with_two-served.ensures.serves.joined c.serve_with_two-served.ensures.journaled
+
+pub returns-in_default-clause-journaled : goal.returns-in_default-clause-journaled
+returns-in_default-clause-journaled g c =
+    no_journaled c.args.terms.now.journal g.D.Durability.is_durable _
+    c.start_worker.new.port (omega (arith, c.in_default.ensures.most))
 
 pub returns-clause-limit : goal.returns-clause-limit
 returns-clause-limit g c = ok_beside c.join_both.ensures _ c.serve_with_two-served.ensures.limit

@@ -1,4 +1,4 @@
-use Rattle.std.proofs.Common.{rules, ◌≡◌, ◌+◌, List, ℕ, ap, subst, sym}
+use Rattle.std.proofs.Common.{◌+◌, List, ℕ, refl, subst, sym}
 use Rattle.std.proofs.lemmas.Result.{err_from_is_err_and}
 use Rattle.trace_player.specs.Traces.{events_at}
 use Rattle.trace_player.proofs.EventsPlayed.{Underway, none_played, event_played, events_played}
@@ -21,11 +21,10 @@ returns-in_err-play_next-clause-err c =
 
 pub events-preserved : goal.events-preserved
 events-preserved c =
-    let same : c.from.result ≡ c.events.i = search rules in
-    event_played c.args.version c.args.count c.events.i (c.from.result
+    event_played c.args.version c.args.count c.events.i (c.events.i
     + 1) c.args.lines.now c.events.lines c.play_next.new.lines c.args.core.now c.events.core
     c.play_next.new.core c.events.out.items c.play_next.new.out.items
-    c.events-test.true (ap (λ (n : ℕ). n + 1) same) c.in_ok-play_next.ensures.ok c.events.invariant
+    c.events-test.true refl c.in_ok-play_next.ensures.ok c.events.invariant
 
 pub returns-clause-ok : goal.returns-clause-ok
 returns-clause-ok c =

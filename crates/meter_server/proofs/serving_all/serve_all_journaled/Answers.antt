@@ -1,6 +1,6 @@
 use Rattle.std.proofs.Common.{arith}
 use Rattle.meter_server.proofs.ServingAllLemmas.{acted_at}
-use Rattle.meter_server.proofs.serving_all.serve_all.Goals as goal
+use Rattle.meter_server.proofs.serving_all.serve_all_journaled.Goals as goal
 
 pub returns-in-Ok-clause-blocks : goal.returns-in-Ok-clause-blocks
 returns-in-Ok-clause-blocks g c =

@@ -1,0 +1,252 @@
+-- A port that waits for its journal: how it takes an event, and what is on the disk once it has
+-- returned replies.
+use Rattle.std.proofs.Common.{◌≡◌, ◌⊎◌, ℕ, zero, suc, ◌<◌, ◌≤◌, List, [], ◌∷◌, ◌++◌, length, take}
+use Rattle.std.proofs.Common.{Option, Some, None, Result, Ok, Err, refl, sym, ap, subst, ◌∙◌}
+use Rattle.std.proofs.Common.{inl, inr, arith}
+use Rattle.std.proofs.lemmas.List.{append-nil, append_assoc}
+use Rattle.std.specs.Prelude.{IfSome}
+use Rattle.meter_server.specs.Journaled.{AreWritten, HasCalled, IsHeldBack, IsOnDisk, JournalSteps}
+use Rattle.meter_server.specs.JournaledSessions.{AnswersCalls, AreAnswered, AreJournaled, HandsBack}
+use Rattle.meter_server.specs.JournaledSessions.{HasJournal, client_terms}
+use Rattle.meter_server.specs.Ports.{Enters, MeterPort, entries}
+use Rattle.meter_server.proofs.PortLemmas.{ArePortSteps, effect_by, entered, enters_more, is_same}
+use Rattle.meter_server.proofs.PortLemmas.{refusal_enters, replied_on, same_on, step_same}
+use Rattle.port_threads.specs.Ports.{AreCallsOf, AreServed, child}
+use Rattle.relay_events.specs.declared.event.Event.{Event}
+use Rattle.relay_events.specs.declared.reply.Reply.{Reply}
+use Rattle.session_core.specs.declared.end.SessionEnd.{SessionEnd}
+use Rattle.session_io.specs.Meters.{RepliesTo, RefusesLast}
+use Rattle.session_io.specs.Serving.{ServesSession, plan_of}
+use Rattle.session_io.specs.Sides.{Sides}
+use Rattle.session_io.specs.declared.fault.ServeFault.{ServeFault}
+use Rattle.shared_meter.specs.Calls.{Calls}
+use Rattle.turn_lock.proofs.Lists.{starts_refl, starts_trans}
+use Rattle.turn_lock.specs.History.{StartsWith, calls_by, entry}
+use Rattle.turn_lock.specs.Shown.{IsSame}
+use Rattle.turn_lock.specs.declared.call_fault.CallFault.{CallFault}
+use Rattle.turn_lock.specs.declared.call_fault.CallFault.TheVariants as call
+
+-- the port remains the same one
+called_same : (p : MeterPort) (event : Event) (reply : Reply) (q : MeterPort)
+    → HasCalled p event reply q → IsSame p q
+called_same p event reply q called = same_on p called.between q
+    (step_same p event (Ok reply) called.between called.call) called.same
+
+-- its calls are extended by this one
+called_enters : (p : MeterPort) (event : Event) (reply : Reply) (q : MeterPort)
+    → HasCalled p event reply q → Enters p (event ∷ []) (reply ∷ []) q
+called_enters p event reply q called =
+    called.watches.sees.own_calls p.known.number (inl (sym called.call.calls.number))
+    ∙ called.call.calls.own_calls
+
+-- the history that it knows begins with the one that it knew before
+called_seen : (p : MeterPort) (event : Event) (reply : Reply) (q : MeterPort)
+    → HasCalled p event reply q → StartsWith q.known.seen p.known.seen
+called_seen p event reply q called =
+    let seen = called.call.calls.seen in
+    let last = entry p.known.number event reply in
+    starts_trans q.known.seen called.between.known.seen p.known.seen called.watches.sees.seen
+    (seen.0 ++ last ∷ [], seen.1 ∙ append_assoc p.known.seen seen.0 (last ∷ []))
+
+-- what holds of an event that was not passed on
+held_same : (p : MeterPort) (event : Event) (q : MeterPort) → IsHeldBack p event q → IsSame p q
+held_same p event q held = subst (λ x. IsSame p x) (sym held.1) (is_same p)
+
+held_enters : (p : MeterPort) (event : Event) (q : MeterPort) → IsHeldBack p event q
+    → Enters p [] [] q
+held_enters p event q held = subst (λ x. Enters p [] [] x) (sym held.1)
+    (sym (append-nil (calls_by p.known.number p.known.seen)))
+
+held_seen : (p : MeterPort) (event : Event) (q : MeterPort) → IsHeldBack p event q
+    → StartsWith q.known.seen p.known.seen
+held_seen p event q held =
+    subst (λ x. StartsWith x.known.seen p.known.seen) (sym held.1) (starts_refl p.known.seen)
+
+-- there are replies if there are calls
+some_replies : (by : List ℕ) (events : List Event) (replies : List Reply)
+    → 0 < length (entries by events replies) → 0 < length replies
+some_replies by [] [] low = low
+some_replies by (event ∷ events) [] low = low
+some_replies by [] (reply ∷ replies) low = omega arith
+some_replies by (event ∷ events) (reply ∷ replies) low = omega arith
+
+module _ (IsDurable : ℕ → Type 0) where
+  journal_same : (p : MeterPort) (event : Event) (result : Result Reply CallFault) (q : MeterPort)
+      → JournalSteps IsDurable p event result q → IsSame p q
+  journal_same p event (Ok reply) q step = called_same p event reply q step.0
+  journal_same p event (Err call.Memory) q step = step_same p event (Err call.Memory) q step
+  journal_same p event (Err call.Exhausted) q step = step_same p event (Err call.Exhausted) q step
+  journal_same p event (Err call.Journal) q step = elim step [
+    | inl held ↦ held_same p event q held
+    | inr called ↦ called_same p event called.0 q called.1
+  ]
+
+  journal_refused : (p : MeterPort) (event : Event) (fault : CallFault) (q : MeterPort)
+      → JournalSteps IsDurable p event (Err fault) q
+      → Enters p [] [] q ⊎ ((reply : Reply) × Enters p (event ∷ []) (reply ∷ []) q)
+  journal_refused p event call.Memory q step = inl (refusal_enters p event call.Memory q step)
+  journal_refused p event call.Exhausted q step =
+      inl (refusal_enters p event call.Exhausted q step)
+  journal_refused p event call.Journal q step = elim step [
+    | inl held ↦ inl (held_enters p event q held)
+    | inr called ↦ inr (called.0, called_enters p event called.0 q called.1)
+  ]
+
+  pub journal_steps : ArePortSteps (JournalSteps IsDurable)
+  journal_steps = record {
+    same = journal_same;
+    replied = λ p event reply q step. called_enters p event reply q step.0;
+    refused = journal_refused;
+  }
+
+  journal_seen : (p : MeterPort) (event : Event) (result : Result Reply CallFault) (q : MeterPort)
+      → JournalSteps IsDurable p event result q → StartsWith q.known.seen p.known.seen
+  journal_seen p event (Ok reply) q step = called_seen p event reply q step.0
+  journal_seen p event (Err call.Memory) q step = step.calls.0.sees.seen
+  journal_seen p event (Err call.Exhausted) q step = step.calls.0.sees.seen
+  journal_seen p event (Err call.Journal) q step = elim step [
+    | inl held ↦ held_seen p event q held
+    | inr called ↦ called_seen p event called.0 q called.1
+  ]
+
+  -- the history that the port knows begins with the one that it knew before it replied
+  replied_seen : (p : MeterPort) (events : List Event) (replies : List Reply) (q : MeterPort)
+      → RepliesTo (JournalSteps IsDurable) p events replies q
+      → StartsWith q.known.seen p.known.seen
+  replied_seen = replied_on (JournalSteps IsDurable)
+      (λ p q. StartsWith q.known.seen p.known.seen) (λ p. starts_refl p.known.seen)
+      (λ a b c one two. starts_trans c.known.seen b.known.seen a.known.seen two one) journal_seen
+
+  -- each reply has the history up to it on the disk
+  pub written : (p : MeterPort) (events : List Event) (replies : List Reply) (q : MeterPort)
+      → RepliesTo (JournalSteps IsDurable) p events replies q
+      → AreWritten IsDurable p events replies q
+  written p [] [] q same n low high = absurd (omega (arith, low, high))
+  written p [] (reply ∷ replies) q never n low high = absurd never
+  written p (event ∷ events) [] q never n low high = absurd never
+  written p (event ∷ events) (reply ∷ replies) q step zero low high =
+      absurd (omega (arith, low))
+  written p (event ∷ events) (reply ∷ replies) q (next, step, rest) (suc zero) low high = record {
+    history = next.known.seen;
+    begins = replied_seen next events replies q rest;
+    entered = called_enters p event reply next step.0;
+    on_disk = step.1;
+  }
+  written p (event ∷ events) (reply ∷ replies) q (next, step, rest) (suc (suc n)) low high =
+      let later = written next events replies q rest (suc n) (omega arith) (omega (arith, high)) in
+      record {
+        history = later.history;
+        begins = later.begins;
+        entered = enters_more p event reply next (take (suc n) events)
+            (take (suc n) replies) later.history
+            (called_same p event reply next step.0).number
+            (called_enters p event reply next step.0) later.entered;
+        on_disk = later.on_disk;
+      }
+
+  -- after the last of some replies, all lines that the port has seen are on the disk
+  last_on_disk : (p : MeterPort) (events : List Event) (replies : List Reply) (q : MeterPort)
+      → RepliesTo (JournalSteps IsDurable) p events replies q → 0 < length replies
+      → IsOnDisk IsDurable q.known.seen
+  last_on_disk p [] [] q same low = absurd (omega (arith, low))
+  last_on_disk p [] (reply ∷ replies) q never low = absurd never
+  last_on_disk p (event ∷ events) [] q never low = absurd never
+  last_on_disk p (event ∷ []) (reply ∷ []) q (next, step, same) low =
+      subst (λ (x : MeterPort). IsOnDisk IsDurable x.known.seen) (sym same) step.1
+  last_on_disk p (event ∷ []) (reply ∷ later ∷ replies) q (next, step, never) low = absurd never
+  last_on_disk p (event ∷ other ∷ events) (reply ∷ []) q (next, step, never) low = absurd never
+  last_on_disk p (event ∷ other ∷ events) (reply ∷ later ∷ replies) q (next, step, rest) low =
+      last_on_disk next (other ∷ events) (later ∷ replies) q rest (omega arith)
+
+  -- some replies were returned, and then at most one call was made that was not answered
+  answered_by : (p : MeterPort) (taken : List Event) (replies : List Reply) (mid : MeterPort)
+      (last : Calls) (q : MeterPort)
+      → RepliesTo (JournalSteps IsDurable) p taken replies mid
+      → StartsWith q.known.seen mid.known.seen → length last ≤ 1
+      → calls_by mid.known.number q.known.seen ≡ calls_by mid.known.number mid.known.seen ++ last
+      → AnswersCalls IsDurable p q
+  answered_by p taken replies mid last q replied begins most adds =
+      let by : List ℕ = p.known.number in
+      let A : List ℕ → Type 0 = λ n. calls_by n q.known.seen ≡ calls_by n mid.known.seen ++ last in
+      let same = replied_on (JournalSteps IsDurable) IsSame is_same same_on journal_same p taken
+      replies mid replied in
+      let enters = entered (JournalSteps IsDurable) journal_steps p taken replies mid replied in (
+        record {
+          answered = entries by taken replies;
+          unanswered = last;
+          all = subst A same.number adds ∙ ap (λ (calls : Calls). calls ++ last) enters;
+          most = most;
+          history = mid.known.seen;
+          entered = enters;
+          on_disk = λ low. last_on_disk p taken replies mid replied (some_replies by taken replies
+              low);
+        },
+        begins,
+      )
+
+  replied_answered : (p : MeterPort) (events : List Event) (replies : List Reply) (q : MeterPort)
+      → RepliesTo (JournalSteps IsDurable) p events replies q → AnswersCalls IsDurable p q
+  replied_answered p events replies q replied =
+      answered_by p events replies q [] q replied (starts_refl q.known.seen) (omega arith)
+      (sym (append-nil (calls_by q.known.number q.known.seen)))
+
+  refused_answered : (p : MeterPort) (events : List Event) (replies : List Reply)
+      (fault : CallFault) (q : MeterPort)
+      → RefusesLast (JournalSteps IsDurable) p events replies fault q → AnswersCalls IsDurable p q
+  refused_answered p events replies fault q r =
+      let begins = journal_seen r.before r.event (Err fault) q r.refused in
+      elim (journal_refused r.before r.event fault q r.refused) [
+        | inl none ↦ answered_by p r.taken replies r.before [] q r.replied begins (omega arith) none
+        | inr called ↦ answered_by p r.taken replies r.before
+            (entry r.before.known.number r.event called.0 ∷ []) q r.replied begins (omega arith)
+            called.1
+      ]
+
+  -- a session that waits for the journal has answered its calls once they were on the disk
+  pub served_answered : (password : List ℕ) (before : Sides MeterPort)
+      (result : Result SessionEnd ServeFault) (after : Sides MeterPort)
+      → ServesSession (JournalSteps IsDurable) password before result after
+      → AnswersCalls IsDurable before.outlets.meter after.outlets.meter
+  served_answered password before result after served =
+      effect_by (JournalSteps IsDurable) (AnswersCalls IsDurable) replied_answered
+      refused_answered (plan_of password) served.seen before result after served.effect
+
+  -- the calls of a new port that served a session with a journal, or was returned unused
+  calls_answered : (terms number : List ℕ) (calls : Calls) → HasJournal terms
+      → AreCallsOf (HandsBack IsDurable terms) number calls
+      → AreAnswered IsDurable number [] calls
+  calls_answered terms number calls has c = elim c.returned [
+    | inl unused ↦ record {
+      answered = [];
+      unanswered = [];
+      all = c.calls_are ∙ ap (λ (x : MeterPort). calls_by number x.known.seen) unused ∙ c.fresh;
+      most = omega arith;
+      history = [];
+      entered = refl;
+      on_disk = λ low. absurd (omega (arith, low));
+    }
+    | inr session ↦
+        let N : List ℕ → Type 0 = λ n. AreAnswered IsDurable n (calls_by n c.lent.known.seen)
+        (calls_by n c.back.known.seen) in
+        let E : Calls → Type 0 = λ earlier. AreAnswered IsDurable number earlier
+        (calls_by number c.back.known.seen) in
+        let C : Calls → Type 0 = λ all. AreAnswered IsDurable number [] all in
+        subst C (sym c.calls_are) (subst E c.fresh (subst N c.named (session.2 has).0))
+  ]
+
+  pub are_journaled : (terms : List ℕ) (from : ℕ) (port : MeterPort)
+      → AreServed (HandsBack IsDurable terms) from port → HasJournal terms
+      → AreJournaled IsDurable from port
+  are_journaled terms from port served has i low high =
+      calls_answered terms (child port.known.number i) _ has (served i low high)
+
+-- a fact that holds if the terms have a journal, and one that holds if there is a journal
+pub by_terms : {D : Type 0} (journal : Option D) (password : List ℕ) (A : Type 0)
+    → IfSome journal (λ _. A) → HasJournal (client_terms journal password) → A
+by_terms None password A so has = absurd (cc has)
+by_terms (Some given) password A so has = so
+
+pub if_journal : {D : Type 0} (journal : Option D) (password : List ℕ) (A : Type 0)
+    → (HasJournal (client_terms journal password) → A) → IfSome journal (λ _. A)
+if_journal None password A so = tt
+if_journal (Some given) password A so = so refl

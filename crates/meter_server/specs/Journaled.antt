@@ -1,0 +1,62 @@
+-- A port that waits for its journal, as a meter.
+--     IsOnDisk        the lines of a history are on the disk
+--     HasCalled       the port passed an event on and made no further call
+--     IsHeldBack      the event was not passed on
+--     JournalSteps    a step of the port: passing an event on, and waiting
+--     AreWritten      what is on the disk once replies were returned
+use Rattle.std.specs.Prelude.{◌≡◌, ◌⊎◌, ℕ, false, ◌<◌, ◌≤◌, List, ◌++◌, length, take, Result, Ok}
+use Rattle.std.specs.Prelude.{Err}
+use Rattle.meter_server.specs.Ports.{MeterPort, PortSteps, entries}
+use Rattle.relay_events.specs.Kinds.{is_read}
+use Rattle.relay_events.specs.declared.event.Event.{Event}
+use Rattle.relay_events.specs.declared.reply.Reply.{Reply}
+use Rattle.shared_meter.specs.Calls.{Calls, IsLegal}
+use Rattle.shared_meter.specs.Pending.{lines_of_calls}
+use Rattle.turn_lock.specs.Calls.{Watches}
+use Rattle.turn_lock.specs.History.{StartsWith, calls_by}
+use Rattle.turn_lock.specs.Shown.{IsSame}
+use Rattle.turn_lock.specs.declared.call_fault.CallFault.{CallFault}
+use Rattle.turn_lock.specs.declared.call_fault.CallFault.TheVariants.{Memory, Exhausted, Journal}
+
+-- as many lines as these calls have are on the disk
+abbrev pub IsOnDisk : (IsDurable : ℕ → Type 0) → Calls → Type 0
+IsOnDisk IsDurable calls = IsDurable (length (lines_of_calls calls))
+
+-- The port passed the event on, had this reply, and made no further call.
+pub record HasCalled (p : MeterPort) (event : Event) (reply : Reply) (q : MeterPort) : Type 0 where
+  pub between : MeterPort
+  pub call : PortSteps p event (Ok reply) between
+  pub same : IsSame between q
+  pub watches : Watches IsLegal between.known q.known
+
+-- an event that may change the meter was not passed on
+abbrev pub IsHeldBack : MeterPort → Event → MeterPort → Type 0
+IsHeldBack p event q = (is_read event ≡ false) × (q ≡ p)
+
+-- a step of a port that waits for its journal: after a reply, the lines of all calls that the port
+-- has seen are on the disk; if the journal has failed, the event was not passed on, or it was and
+-- its reply is not returned
+abbrev pub JournalSteps : (IsDurable : ℕ → Type 0) → MeterPort → Event → Result Reply CallFault
+    → MeterPort → Type 0
+JournalSteps IsDurable p event (Ok reply) q = HasCalled p event reply q
+    × IsOnDisk IsDurable q.known.seen
+JournalSteps IsDurable p event (Err Memory) q = PortSteps p event (Err Memory) q
+JournalSteps IsDurable p event (Err Exhausted) q = PortSteps p event (Err Exhausted) q
+JournalSteps IsDurable p event (Err Journal) q = IsHeldBack p event q
+    ⊎ ((reply : Reply) × HasCalled p event reply q)
+
+-- The history that port q knows begins with one that has the calls of these events, with these
+-- replies, as the new calls of port p; the lines of that one are on the disk.
+pub record IsWritten (IsDurable : ℕ → Type 0) (p : MeterPort) (events : List Event)
+    (replies : List Reply) (q : MeterPort) : Type 0 where
+  pub history : Calls
+  pub begins : StartsWith q.known.seen history
+  pub entered : calls_by p.known.number history ≡ calls_by p.known.number p.known.seen
+      ++ entries p.known.number events replies
+  pub on_disk : IsOnDisk IsDurable history
+
+-- each reply has the history up to it on the disk
+abbrev pub AreWritten : (IsDurable : ℕ → Type 0) → MeterPort → List Event → List Reply → MeterPort
+    → Type 0
+AreWritten IsDurable p events replies q = (n : ℕ) → 0 < n → n ≤ length replies
+    → IsWritten IsDurable p (take n events) (take n replies) q

@@ -1,0 +1,65 @@
+-- Sessions of a server whose meter may have a journal.
+--     client_terms    the terms on which a client is served
+--     client_steps    a step of a client's port
+--     AreAnswered     the calls of a session, of which all but at most the last were answered
+--     HandsBack       what the session of a client did with its port
+--     AreJournaled    the calls of all sessions
+use Rattle.std.specs.Prelude.{◌≡◌, ℕ, ◌<◌, ◌≤◌, List, [], ◌∷◌, ◌++◌, length, take, drop}
+use Rattle.std.specs.Prelude.{Option, Some, None, is_some, if◌then◌else◌, Result}
+use Rattle.meter_server.specs.Journaled.{IsOnDisk, JournalSteps}
+use Rattle.meter_server.specs.Ports.{MeterPort, PortSteps}
+use Rattle.meter_server.specs.Sessions.{AsksThrough}
+use Rattle.port_threads.specs.Ports.{child}
+use Rattle.relay_events.specs.declared.event.Event.{Event}
+use Rattle.relay_events.specs.declared.reply.Reply.{Reply}
+use Rattle.shared_meter.specs.Calls.{Calls}
+use Rattle.turn_lock.specs.History.{StartsWith, calls_by}
+use Rattle.turn_lock.specs.Shown.{IsSame}
+use Rattle.turn_lock.specs.declared.call_fault.CallFault.{CallFault}
+
+-- the terms on which a client is served: 1 if the meter has a journal, and 0 if it has none; then
+-- the password of the management client
+abbrev pub client_terms : {D : Type 0} → Option D → List ℕ → List ℕ
+client_terms journal password = (if is_some journal then 1 else 0) ∷ password
+
+-- by these terms the meter has a journal
+abbrev pub HasJournal : List ℕ → Type 0
+HasJournal terms = take 1 terms ≡ 1 ∷ []
+
+-- a step of a client's port: it waits if the meter has a journal
+abbrev pub client_steps : {D : Type 0} → (IsDurable : ℕ → Type 0) → Option D → MeterPort → Event
+    → Result Reply CallFault → MeterPort → Type 0
+client_steps IsDurable None = PortSteps
+client_steps IsDurable (Some journal) = JournalSteps IsDurable
+
+-- The calls of the port with this number are the earlier ones, then some that were answered, and at
+-- most one that was not. If any was answered, the lines of a history are on the disk that has all
+-- these calls but the one without an answer.
+pub record AreAnswered (IsDurable : ℕ → Type 0) (number : List ℕ) (earlier calls : Calls) : Type 0
+  where
+    pub answered : Calls
+    pub unanswered : Calls
+    pub all : calls ≡ (earlier ++ answered) ++ unanswered
+    pub most : length unanswered ≤ 1
+    pub history : Calls
+    pub entered : calls_by number history ≡ earlier ++ answered
+    pub on_disk : 0 < length answered → IsOnDisk IsDurable history
+
+-- the new calls of a port were answered once they were on the disk; the history that it knows
+-- begins with the one that is on the disk
+abbrev pub AnswersCalls : (IsDurable : ℕ → Type 0) → (p q : MeterPort) → Type 0
+AnswersCalls IsDurable p q = (are : AreAnswered IsDurable p.known.number
+    (calls_by p.known.number p.known.seen) (calls_by p.known.number q.known.seen))
+    × StartsWith q.known.seen are.history
+
+-- a session on these terms made its calls through this port
+abbrev pub HandsBack : (IsDurable : ℕ → Type 0) → (terms : List ℕ) → (p q : MeterPort) → Type 0
+HandsBack IsDurable terms p q = IsSame p q × AsksThrough (drop 1 terms) p q
+    × (HasJournal terms → AnswersCalls IsDurable p q)
+
+-- the calls of each port that was split off, from the count `from` on, were answered once they were
+-- on the disk
+abbrev pub AreJournaled : (IsDurable : ℕ → Type 0) → (from : ℕ) → MeterPort → Type 0
+AreJournaled IsDurable from port = (i : ℕ) → from ≤ i → i < port.known.splits
+    → AreAnswered IsDurable (child port.known.number i) []
+    (calls_by (child port.known.number i) port.known.seen)

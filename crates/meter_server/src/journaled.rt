@@ -1,0 +1,162 @@
+//! A session on a meter whose journal has to be on the disk before each reply.
+ghost use Rattle.std.specs.Prelude.{◌≡◌, List, IfOk};
+ghost use Rattle.acse_ber.specs.Password.{IsPassword};
+ghost use Rattle.session_io.specs.Meters.{RepliesTo};
+ghost use Rattle.meter_server.specs.Journaled.{AreWritten, JournalSteps};
+ghost use Rattle.meter_server.specs.JournaledSessions.{AnswersCalls};
+ghost use Rattle.meter_server.specs.Ports.{MeterPort};
+ghost use Rattle.meter_server.specs.Sessions.{AsksThrough};
+ghost use Rattle.session_io.specs.Serving.{ServesSession};
+ghost use Rattle.session_io.specs.Sides.{input_of, outlets_of};
+ghost use Rattle.relay_events.specs.Kinds.{Fits};
+ghost use Rattle.relay_events.specs.declared.event.Event.{Event};
+ghost use Rattle.relay_events.specs.declared.reply.Reply.{Reply};
+ghost use Rattle.turn_lock.specs.Shown.{IsSame};
+
+use cosem_axdr::Octets;
+use counted_io::{Reader, Writer};
+use relay_events::{Event, Reply};
+use session_core::SessionEnd;
+use session_io::{Meter, ServeFault, serve_session};
+use shared_meter::{Durability, Kept, settle};
+use std::alloc::Global;
+use std::marker::Model;
+use std::sync::Wait;
+use turn_lock::{CallFault, Port};
+
+/// A port of a shared meter that waits for its journal, as a [`Meter`]: each event is a call of the
+/// port, and its reply is returned once the lines of all calls that the port has seen are on the
+/// disk. A read waits as well, so that no reply shows what a crash could undo.
+///
+/// Once the journal has failed, an event that may change the meter is refused before it is passed
+/// on, and a read is answered if all lines that the port has seen are on the disk. Contracts refer
+/// to the port.
+pub struct JournaledPort<'a, W: Wait, D: Durability> {
+    rt: &'a W,
+    journal: &'a D,
+    port: Port<Kept>,
+}
+
+impl<'a, W: Wait, D: Durability> Model for JournaledPort<'a, W, D> {
+    ghost use Rattle.std.specs.Coded.{codes};
+    ghost use Rattle.meter_server.specs.Ports.{MeterPort};
+    ghost use Rattle.relay_events.specs.contracts.event.Event as event_row;
+    ghost use Rattle.relay_events.specs.contracts.reply.Reply as reply_row;
+    ghost use Rattle.relay_core.specs.contracts.opening.Opening as opening_row;
+
+    ghost Value = { MeterPort };
+
+    ghost coded = { Prim.hlevel (
+      codes,
+      event_row.the_row.coded,
+      reply_row.the_row.coded,
+      opening_row.the_row.coded,
+    ) };
+
+    ghost view = { λ meter. meter.port };
+}
+
+impl<'a, W: Wait, D: Durability> JournaledPort<'a, W, D> {
+    /// Returns the meter of this port. Its calls wait for their turns by `rt`, and for the disk by
+    /// `journal`.
+    pub fn new(rt: &'a W, journal: &'a D, port: Port<Kept>) -> JournaledPort<'a, W, D>
+        ensures { result ≡ port }
+    {
+        JournaledPort { rt, journal, port }
+    }
+
+    /// Returns the port, with all calls that it has seen.
+    pub fn into_port(self) -> Port<Kept>
+        ensures { result ≡ self.entry }
+    {
+        let JournaledPort {
+            rt: _,
+            journal: _,
+            port,
+        } = self;
+        port
+    }
+}
+
+// Calls the port, and returns the reply once the lines of all calls that the port has seen are on
+// the disk. If the journal has failed, an event that may change the meter is not passed on. If it
+// fails after the call, the reply is dropped.
+fn ask<W: Wait, D: Durability>(
+    rt: &W,
+    alloc: Global,
+    port: &mut Port<Kept>,
+    journal: &D,
+    event: Event,
+) -> Result<Reply, CallFault>
+    ensures step { JournalSteps D.is_durable port.old event result port.new }
+    ensures fits { IfOk result (Fits event) }
+{
+    if !event.is_read() && journal.has_failed() {
+        drop(event);
+        return Err(CallFault::Journal);
+    }
+    let reply = port.call(rt, alloc, event)?;
+    if settle(rt, alloc, port, journal) {
+        return Ok(reply);
+    }
+    drop(reply);
+    Err(CallFault::Journal)
+}
+
+impl<'a, W: Wait, D: Durability> Meter for JournaledPort<'a, W, D> {
+    ghost steps = { JournalSteps D.is_durable };
+
+    fn call(&mut self, alloc: Global, event: Event) -> Result<Reply, CallFault> {
+        ask(self.rt, alloc, &mut self.port, self.journal, event)
+    }
+}
+
+/// Proves that each reply that a [`JournaledPort`] returned has the history up to it on the disk:
+/// the history that the port then knows begins with one that has the calls up to this reply, and
+/// whose lines are all on the disk.
+pub fn answers_are_durable<D: Durability>()
+    ensures { (p : MeterPort) (events : List Event) (replies : List Reply) (q : MeterPort)
+        → RepliesTo (JournalSteps D.is_durable) p events replies q
+        → AreWritten D.is_durable p events replies q }
+{}
+
+/// Serves one session as [`serve_port`](crate::serve_port) does, and waits for the journal before
+/// each answer: an answer is written only after the lines of all calls that the port has seen are
+/// on the disk. Returns the port in every case.
+///
+/// Of the port's calls in the session, all but at most the last one were answered, and the history
+/// that it then knows begins with one that has the answered calls and is on the disk.
+///
+/// Returns the errors of [`serve_session`], of which `Journal` is returned if the journal has
+/// failed: then no answer to the last event is written. It was passed on if it is a read or the
+/// journal failed later, and otherwise it was not.
+pub fn serve_journaled<R: Reader, O: Writer, W: Wait, D: Durability>(
+    rt: &W,
+    alloc: Global,
+    reader: &mut R,
+    writer: &mut O,
+    port: Port<Kept>,
+    password: &Octets,
+    journal: &D,
+) -> (Port<Kept>, Result<SessionEnd, ServeFault>)
+    requires readable { R.can_read reader.now }
+    requires writable { O.can_write writer.now }
+    requires password { IsPassword password.now }
+    ensures served { ServesSession (JournalSteps D.is_durable) password.now
+        (record {
+          input = input_of R.remaining R.reads R.failures reader.old;
+          outlets = outlets_of O.contents O.failures writer.old port;
+        })
+        result.1
+        (record {
+          input = input_of R.remaining R.reads R.failures reader.new;
+          outlets = outlets_of O.contents O.failures writer.new result.0;
+        }) }
+    ensures same { IsSame port result.0 }
+    ensures asks { AsksThrough password.now port result.0 }
+    ensures answers { AnswersCalls D.is_durable port result.0 }
+{
+    let mut meter = JournaledPort::new(rt, journal, port);
+    let result = serve_session(alloc, reader, writer, &mut meter, password);
+    (meter.into_port(), result)
+}

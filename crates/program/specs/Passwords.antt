@@ -1,0 +1,77 @@
+-- A password in a file.
+--     HasNoLineEnd     a text that is one line
+--     SplitsLineEnd    bytes without the byte 0A that may end them
+--     IsFileOf         the bytes of a file that has one line
+--     IsExposed        the permissions of a file that others than its owner may use
+--     IsLineFault      why the bytes of a file are not one line
+--     ReadsLine        a file was read to its end, and has one line
+--     IsFileFault      why a file gave no password
+--     fault_of         the program's fault for a file without a password
+--     is_of_files      the program's faults that a file without a password can have
+use Rattle.std.specs.Prelude.{◌≡◌, ◌≢◌, ◌⊎◌, ◌<◌, ◌%◌, ℕ, Bool, true, false, Option, ⊤}
+use Rattle.std.specs.Prelude.{List, [], ◌∷◌, ◌++◌, All, length, IsUtf8}
+use Rattle.std.specs.Io.KnownBytes.{Consumes, IsAtEnd}
+use Rattle.program.specs.declared.fault.Fault.{Fault}
+use Rattle.program.specs.declared.fault.Fault.TheVariants as fault
+use Rattle.program.specs.declared.password.PasswordFault.{PasswordFault}
+use Rattle.program.specs.declared.password.PasswordFault.TheVariants as password
+
+-- no byte of the text is the byte 0A, which ends a line
+abbrev pub HasNoLineEnd : List ℕ → Type 0
+HasNoLineEnd text = All (λ byte. byte ≢ 10) text
+
+-- the bytes end with the byte 0A, and this is what is before it; or they do not, and it is all
+abbrev pub SplitsLineEnd : List ℕ → List ℕ → Type 0
+SplitsLineEnd bytes line = (bytes ≡ line ++ 10 ∷ [])
+    ⊎ ((bytes ≡ line) × ((front : List ℕ) → bytes ≢ front ++ 10 ∷ []))
+
+-- the bytes of a file are this one line, with or without the byte 0A at its end
+pub record IsFileOf (text bytes : List ℕ) : Type 0 where
+  pub one_line : HasNoLineEnd text
+  pub bytes_are : (bytes ≡ text) ⊎ (bytes ≡ text ++ 10 ∷ [])
+
+-- others than the file's owner may read, change or run it: in a mode of POSIX the six lowest bits
+-- are the permissions of the group and of all others
+abbrev pub IsExposed : ℕ → Type 0
+IsExposed mode = mode % 64 ≢ 0
+
+-- why these bytes of a file gave no line: they are not one line of UTF-8 text, or out of memory
+abbrev pub IsLineFault : List ℕ → PasswordFault → Type 0
+IsLineFault bytes password.Read = ⊥
+IsLineFault bytes password.Exposed = ⊥
+IsLineFault bytes password.Line = (text : List ℕ) → IsUtf8 text → ¬ (IsFileOf text bytes)
+IsLineFault bytes password.Memory = ⊤
+
+-- a file was read to its end, and its bytes are this one line
+pub record ReadsLine (left left' : Option (List ℕ)) (text : List ℕ) : Type 0 where
+  pub bytes : List ℕ
+  pub read : Consumes left left' bytes
+  pub at_end : IsAtEnd left'
+  pub is_file : IsFileOf text bytes
+
+-- the bytes that were read of a file are more than 1,024, or they are all and not one line
+pub record HasNoLine (left left' : Option (List ℕ)) : Type 0 where
+  pub bytes : List ℕ
+  pub read : Consumes left left' bytes
+  pub cause : (1024 < length bytes) ⊎ (IsAtEnd left' × IsLineFault bytes password.Line)
+
+-- why an open file of this mode gave no password; `failed` reads had failed before, `failed'` after
+abbrev pub IsFileFault : ℕ → Option (List ℕ) → ℕ → Option (List ℕ) → ℕ → PasswordFault → Type 0
+IsFileFault mode left failed left' failed' password.Read = failed < failed'
+IsFileFault mode left failed left' failed' password.Exposed = IsExposed mode
+IsFileFault mode left failed left' failed' password.Line = HasNoLine left left'
+IsFileFault mode left failed left' failed' password.Memory = ⊤
+
+-- a file that can't be read, one that is exposed or has no password, and no memory
+abbrev pub fault_of : PasswordFault → Fault
+fault_of password.Read = fault.Read
+fault_of password.Exposed = fault.Input
+fault_of password.Line = fault.Input
+fault_of password.Memory = fault.Memory
+
+-- whether a fault can result from a file without a password
+abbrev pub is_of_files : Fault → Bool
+is_of_files fault.Input = true
+is_of_files fault.Read = true
+is_of_files fault.Memory = true
+is_of_files _ = false

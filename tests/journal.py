@@ -1,0 +1,614 @@
+#!/usr/bin/env python3
+"""Tests `meter_server serve --journal FILE`. The server is killed at random times while clients and
+the console change the meter, and is restarted on the same file: each answer that a client got must
+be in the journal, in order and once, and the restarted meter must answer as a model of the switch
+(tests/switch_model.py) that ran over the lines of the journal and never stopped. Also tested: torn
+ends of the file, files that are refused, a full disk, and each read, write and sync failing. Every
+wait has a time limit.
+
+usage: tests/journal.py [--long] [--seed N]
+
+  --long     2,000 runs that end with a kill instead of 200, and more of the other failures
+  --seed N   the seed of the random choices; the times are never the same twice"""
+
+import argparse
+import collections
+import os
+import pathlib
+import random
+import re
+import subprocess
+import sys
+import tempfile
+import threading
+import time
+
+sys.dont_write_bytecode = True  # importing the modules of tests/ leaves no files
+
+import serving
+from journal_history import (GONE, OPEN_COUNT, Console, Explanation, Journal, Talker, end_of_a_run,
+                             journal_with_events, journaled, lines_played, model_lines, restart,
+                             torn_tail, whole_lines)
+from refusing import Refusing, turns
+from serving import (DEVICE, DISCONNECT, MANAGEMENT, MODE, PASSWORD, PATIENCE, PLAYER, PUBLIC,
+                     RECONNECT, SERVER, STATE, Client, Server, check, free_port, played, run_with,
+                     stands_in, test)
+
+KILLS, LONG_KILLS = 200, 2_000
+STARTS, LONG_STARTS = 20, 200
+START = 0.015  # a server has begun to serve after about this time, in seconds
+SEED = 48
+JOURNAL_FAILED = "{}: the journal failed: "
+is_long, seed = False, SEED
+
+
+def in_folder(function):
+    """A test with an empty folder."""
+    def tested(name):
+        with tempfile.TemporaryDirectory(prefix="journal-") as folder:
+            function(name, pathlib.Path(folder))
+    tested.__name__ = function.__name__
+    return tested
+
+
+def clients_of_a_run(server, first, choose, number, answered):
+    """One to three clients, of which `first` is connected already."""
+    sources = [choose.choice((MANAGEMENT, MANAGEMENT, MANAGEMENT, PUBLIC))
+               for _ in range(choose.randrange(3))]
+    pace = choose.choice((0, 0.002, 0.008))
+    return [Talker(client, random.Random(f"{seed} {number} {which}"), number << 20 | which << 18,
+                   answered, pace)
+            for which, client in enumerate([first, *map(server.client, sources)])]
+
+
+def run_and_kill(journal, number, totals):
+    """One run on a journal, which a kill ends. Before some runs a torn end is added, as a crash of
+    the machine may leave it."""
+    choose = random.Random(f"{seed} {number}")
+    is_torn = journal.model is not None and choose.random() < 0.25
+    if is_torn:
+        with open(journal.path, "ab") as file:
+            file.write(torn_tail(choose))
+    server, first = restart(journal)
+    meanwhile, answered = None, threading.Event()
+    try:
+        talkers = clients_of_a_run(server, first, choose, number, answered)
+        console = Console(server, random.Random(f"{seed} {number} console"), journal.model.now or 0)
+        for thread in (*talkers, console):
+            thread.start()
+        assert answered.wait(PATIENCE), "no answer"
+        if choose.random() < 0.2:
+            meanwhile = lines_played(journal.path, journal.count)
+        time.sleep(choose.uniform(0.002, 0.060))
+        assert server.process.poll() is None, f"the server ended: {server.errors}"
+    finally:
+        server.stop()
+    for thread in (*talkers, console):
+        thread.join(PATIENCE)
+    compare(journal, talkers, console, meanwhile, totals)
+    totals.update({"torn ends added": is_torn, "runs": 1})
+    for talker in talkers:
+        talker.client.close()
+
+
+def compare(journal, talkers, console, meanwhile, totals):
+    """Fails if the journal that a killed server left does not fit what its clients saw."""
+    faults = [talker.fault for talker in talkers if talker.fault]
+    assert not faults, faults
+    before, lines = journal.count, journal.new_lines()
+    explanation = Explanation(journal, talkers, console)
+    expected = [explanation.take(line) for line in lines]
+    unanswered = explanation.end()
+    printed = lines_played(journal.path, before)
+    assert printed == expected, f"played: {printed}, not {expected}"
+    is_front = meanwhile is None or meanwhile == expected[:len(meanwhile)]
+    assert is_front, f"played while it ran: {meanwhile}, not {expected}"
+    seen = [event for talker in talkers for event, _ in talker.client.seen]
+    changing = [event for event in seen if not event.startswith("get ")]
+    totals.update({"answers": len(seen), "answered events": len(changing),
+                   "events without an answer": unanswered,
+                   "lines of the console": sum(explanation.heard.values())})
+
+
+@in_folder
+def killed_servers_lose_no_answer(name, folder):
+    runs, totals = LONG_KILLS if is_long else KILLS, collections.Counter()
+    journal = Journal(folder / "journal")
+    for number in range(1, runs + 1):
+        try:
+            run_and_kill(journal, number, totals)
+        except (AssertionError, LookupError, ValueError, *GONE, subprocess.TimeoutExpired) as error:
+            what = f"{type(error).__name__} {error}"
+            check(f"{name}: run {number} of seed {seed}", False, what)
+            return
+    end_in_order(name, journal)
+    figures = ", ".join(f"{count} {what}" for what, count in sorted(totals.items()))
+    print(f"{name}, seed {seed}: {figures}; {journal.count} lines")
+    check(f"{name}: all runs of seed {seed}",
+          totals["runs"] == runs and totals["answered events"] >= runs // 2, totals)
+
+
+def end_in_order(name, journal):
+    """A last run on a journal, which ends in order."""
+    server, client = restart(journal)
+    check(f"{name}: the last run", client.set(MODE, "1602") == "code 0")
+    check(f"{name}: its mode", client.get(MODE) == "value 1602")
+    client.close()
+    status, trace, errors = server.ended()
+    check(f"{name}: it ends in order", status == 0 and "fault" not in errors, status, errors)
+    check(f"{name}: its trace",
+          stands_in(client.seen, played(trace)) and "events 6\n" in trace, trace)
+    check(f"{name}: its line",
+          journal.follow() == [client.seen[0][0]] and journal.tail() == b"")
+
+
+def start_and_kill(path, choose):
+    server = Server.__new__(Server)
+    server.start([str(SERVER), "serve", "--password", PASSWORD,
+                  "--listen", f"127.0.0.1:{free_port()}", "--journal", str(path)])
+    time.sleep(choose.uniform(0, START))
+    server.stop()
+
+
+@in_folder
+def a_start_may_be_killed(name, folder):
+    """A kill while the journal is created, or while its torn end is cut, loses nothing."""
+    choose = random.Random(f"{seed} starts")
+    new, old = folder / "new", journal_with_events(folder / "old")
+    made = 0
+    for number in range(LONG_STARTS if is_long else STARTS):
+        new.unlink(missing_ok=True)
+        start_and_kill(new, choose)
+        held = new.read_bytes() if new.exists() else None
+        made += held is not None
+        check(f"{name}: seed {seed}, new journal {number}",
+              held is None or held.endswith(f"\n{OPEN_COUNT}\n".encode()), held)
+        old.path.write_bytes(old.text + torn_tail(choose))
+        start_and_kill(old.path, choose)
+        held = old.path.read_bytes()
+        check(f"{name}: seed {seed}, old journal {number}", whole_lines(held) == old.text, held)
+    print(f"{name}: {made} of {number + 1} new journals were there after the kill")
+    check(f"{name}: then both serve", end_of_a_run(Journal(new)) and end_of_a_run(old))
+
+
+@in_folder
+def an_answer_has_its_line(name, folder):
+    """With one client and no console, the file ends with the event of each answer."""
+    journal = Journal(folder / "journal")
+    server = journaled(journal.path)
+    talker = Talker(server.client(), random.Random(f"{seed} lines"))
+    check(f"{name}: the opening", journal.new_lines() == [] and journal.tail() == b"")
+    for turn in range(60):
+        before = len(talker.client.seen)
+        talker.ask()
+        wanted = [it for it in talker.client.seen[before:] if not it[0].startswith("get ")]
+        lines = [(line, journal.apply(line)[0]) for line in journal.new_lines()]
+        check(f"{name}: seed {seed}, request {turn}", lines == wanted, lines, wanted)
+        if turn % 15 == 0:
+            check(f"{name}: played while the server runs",
+                  lines_played(journal.path) == model_lines(journal.text))
+    talker.client.close()
+    check(f"{name}: end", server.ended()[0] == 0)
+
+
+LINE, HALF = b"set 1 70 000060030AFF 4 0 1602\n", b"set 1 70 000060030AFF 4"
+TAILS = {
+    "nothing": b"",
+    "half a line": HALF,
+    "a line without its end": LINE[:-1],
+    "zeros": bytes(700),
+    "half a line and zeros": HALF + bytes(9),
+    "a line with zeros in it": LINE[:12] + bytes(3) + LINE[15:],
+    "a whole line after zeros": bytes(2) + b"\n" + LINE,
+    "wrong bytes": b"\xff\r\t",
+}
+
+
+@in_folder
+def a_torn_end_is_cut(name, folder):
+    journal = journal_with_events(folder / "journal")
+    for what, tail in TAILS.items():
+        with open(journal.path, "ab") as file:
+            file.write(tail)
+        check(f"{name}: {what}, played", lines_played(journal.path) == model_lines(journal.text))
+        server, client = restart(journal)
+        replies = client.execute(RECONNECT), client.execute(DISCONNECT)
+        check(f"{name}: {what}, continued", replies == ("code 0", "code 0"), replies)
+        client.close()
+        check(f"{name}: {what}, end", server.ended()[0] == 0)
+        lines = journal.follow()
+        check(f"{name}: {what}, its lines",
+              lines == [event for event, _ in client.seen] and journal.tail() == b"", lines)
+
+
+def start_on(path, *options):
+    """Starts a server that must be refused its journal."""
+    return run_with("--password", PASSWORD, "--verbose", "--listen", f"127.0.0.1:{free_port()}",
+                    "--journal", str(path), *options)
+
+
+def is_fault(made, status, word):
+    has_word = made[2].endswith(f"fault: {word}\n") and "listening on" not in made[2]
+    return made[:2] == (status, "") and has_word
+
+
+@in_folder
+def a_wrong_journal_is_refused(name, folder):
+    """Nothing of a file that is refused is changed: not even its torn end is cut."""
+    journal = journal_with_events(folder / "journal")
+    lines = journal.text.split(b"\n")
+    first = lines.index(OPEN_COUNT.encode()) + 1  # (of the lines from 0, that of event 1)
+    for what, at, line in (
+            ("a wrong event", first + 1, b"get 17 70 000060030AFF 3 0"),
+            ("no event", first + 3, b"nonsense"),
+            ("an empty line", first, b""),
+            ("a carriage return", first, lines[first] + b"\r"),
+            ("an unfit state", 2, b"state 3"),
+            ("no trace", 0, b"button")):
+        held = b"\n".join((*lines[:at], line, *lines[at + 1:])) + HALF
+        journal.path.write_bytes(held)
+        made = start_on(journal.path)
+        has_place = re.search(rf"^{re.escape(str(journal.path))}: line {at + 1}\b", made[2])
+        check(f"{name}: {what}", is_fault(made, 2, "input") and has_place, made)
+        check(f"{name}: {what}, unchanged", journal.path.read_bytes() == held)
+    for what, held in (("an empty file", b""), ("a trace of counted events", trace_of_a_run())):
+        journal.path.write_bytes(held)
+        made = start_on(journal.path)
+        check(f"{name}: {what}",
+              is_fault(made, 2, "input") and journal.path.read_bytes() == held, made)
+
+
+@in_folder
+def another_meter_is_refused(name, folder):
+    path = folder / "journal"
+    for _ in range(2):
+        server = journaled(path, "--device", "METER7")
+        client = server.client()
+        check(f"{name}: its own", client.get(DEVICE) == "value 0906" + b"METER7".hex().upper())
+        client.close()
+        check(f"{name}: end", server.ended()[0] == 0)
+    held = path.read_bytes()
+    made = start_on(path, "--device", "METER8")
+    check(name, is_fault(made, 2, "input") and path.read_bytes() == held, made)
+
+
+@in_folder
+def one_server_has_a_journal(name, folder):
+    journal = journal_with_events(folder / "journal")
+    server = journaled(journal.path)
+    made = start_on(journal.path)
+    check(f"{name}: a second server",
+          is_fault(made, 3, "write") and journal.path.read_bytes() == journal.text, made)
+    client = server.client()
+    check(f"{name}: the first serves", client.execute(RECONNECT) == "code 0")
+    check(f"{name}: its line", len(journal.follow()) == 1)
+    client.close()
+    server.stop()
+    check(f"{name}: once it was killed, another", end_of_a_run(journal))
+
+
+@in_folder
+def a_journal_needs_its_folder(name, folder):
+    made = start_on(folder / "none" / "journal")
+    check(f"{name}: not there", is_fault(made, 3, "write") and not (folder / "none").exists(), made)
+    inner = folder / "inner"
+    inner.mkdir()
+    made = start_on(inner)
+    is_refused = is_fault(made, 3, "write") or is_fault(made, 3, "read")
+    check(f"{name}: a folder as the file", is_refused and not list(inner.iterdir()), made)
+
+
+def trace_of_a_run():
+    """A trace of mode 4, disconnected, 70 W and second 300."""
+    server = Server("--stop-with-input")
+    client = server.client()
+    assert (client.set(MODE, "1604"), client.execute(DISCONNECT)) == ("code 0", "code 0")
+    client.close()
+    server.say("samples 10 70", "moment 300")
+    trace = server.ended()[1]
+    assert "\nsamples 10 70\n" in trace and "\nmoment 300\n" in trace, trace
+    return trace.encode()
+
+
+@in_folder
+def a_journal_begins_from_a_trace(name, folder):
+    """With --resume a new journal begins from the trace. A journal that is there has precedence:
+    the trace is read, and none of its lines reaches the console."""
+    trace, journal = trace_of_a_run(), Journal(folder / "journal")
+    server, client = restart(journal, "--resume", console=trace)
+    model = journal.model
+    check(f"{name}: the opening",
+          (model.state, model.mode, model.value, model.now) == (0, 4, 70, 300), vars(model))
+    check(f"{name}: the state", client.get(STATE) == "value 1600")
+    check(f"{name}: reconnect", client.execute(RECONNECT) == "code 0")
+    client.close()
+    server.say("moment 400")
+    check(f"{name}: end", server.ended()[0] == 0)
+    check(f"{name}: its lines",
+          sorted(journal.follow()) == sorted([client.seen[1][0], "moment 400"]), journal.text)
+    server, client = restart(journal, "--resume", console=trace)
+    check(f"{name}: the journal has precedence", client.get(STATE) == "value 1601")
+    client.close()
+    check(f"{name}: its end", server.ended()[0] == 0 and journal.follow() == [], journal.text)
+
+
+@in_folder
+def a_journal_changes_no_answer(name, folder):
+    """Without a journal all is as before; with one the answers and the printed trace are the
+    same."""
+    serving.requests_of_every_kind(f"{name}: without")
+    traces = []
+    for options in ((), ("--journal", str(folder / "journal"))):
+        server = Server("--stop-with-input", *options)
+        talker = Talker(server.client(), random.Random(f"{seed} answers"))
+        for _ in range(40):
+            talker.ask()
+        talker.client.close()
+        status, trace, errors = server.ended()
+        check(f"{name}: end", status == 0 and "fault" not in errors, status, errors)
+        check(f"{name}: played", played(trace) == talker.client.seen, trace)
+        traces.append(trace)
+    check(f"{name}: the same trace", traces[0] == traces[1], *traces)
+    found = {it.name for it in folder.iterdir()}
+    check(f"{name}: the folder", found - {"journal.lock"} == {"journal"}, found)
+
+
+class SmallDisk:
+    """A tmpfs of 64 KiB in a mount namespace of its own, which `path` leads into. It is gone once
+    its process has ended."""
+
+    MOUNT = 'mount -t tmpfs -o size=64k none "$1" && echo mounted && exec cat'
+
+    def __init__(self, folder):
+        mapped = ["--map-root-user"] if os.geteuid() else []
+        words = ["unshare", "--mount", *mapped, "sh", "-c", self.MOUNT, "sh", str(folder)]
+        self.holder = subprocess.Popen(words, stdin=subprocess.PIPE, stdout=subprocess.PIPE,
+                                       stderr=subprocess.DEVNULL)
+        self.is_mounted = self.holder.stdout.readline() == b"mounted\n"
+        self.path = pathlib.Path(f"/proc/{self.holder.pid}/root{folder}")
+
+    def fill(self, file, room):
+        """Has a file take all but `room` bytes of the disk."""
+        (self.path / file).unlink(missing_ok=True)
+        space = os.statvfs(self.path)
+        (self.path / file).write_bytes(bytes(space.f_bavail * space.f_frsize - room))
+
+    def stop(self):
+        self.holder.stdin.close()
+        self.holder.wait(PATIENCE)
+
+
+def answer_of(call, *words):
+    """The reply to a request, or None if there was no answer or another one."""
+    try:
+        return call(*words)
+    except (AssertionError, *GONE):
+        return None
+
+
+@in_folder
+def a_full_disk_ends_the_server(name, folder):
+    try:
+        disk = SmallDisk(folder)
+    except FileNotFoundError:
+        print("SKIPPED a full disk: unshare is not installed (Debian: apt-get install util-linux)")
+        return
+    try:
+        if not disk.is_mounted:
+            print("SKIPPED a full disk: no tmpfs can be mounted in a mount namespace")
+            return
+        disk.fill("filler", 0)
+        made = start_on(disk.path / "journal")
+        check(f"{name}: a new journal",
+              is_fault(made, 3, "write") and not (disk.path / "journal").exists(), made)
+        disk.fill("filler", 16_384)
+        journal = Journal(disk.path / "journal")
+        a_journal_fills_its_disk(name, journal)
+        (disk.path / "filler").unlink()
+        server, client = restart(journal)
+        check(f"{name}: with space it continues", client.set(MODE, "1604") == "code 0")
+        check(f"{name}: its line", journal.follow() == [client.seen[0][0]])
+        client.close()
+        check(f"{name}: and ends in order", server.ended()[0] == 0)
+    finally:
+        disk.stop()
+
+
+def later_client(server):
+    """A client of a server that may not serve it any more: it waits for a second at most."""
+    client = Client(server.port)
+    client.socket.settimeout(1)
+    client.associate()
+    return client
+
+
+def a_journal_fills_its_disk(name, journal):
+    server, client = restart(journal)
+    sent, told = 0, JOURNAL_FAILED.format(journal.path).encode()
+    while sent < 2_000 and answer_of(client.set, MODE, f"160{1 + sent % 6}") == "code 0":
+        sent += 1
+    check(f"{name}: reported at once", server.wait_for(told), server.errors)
+    later = answer_of(later_client, server)
+    replies = [answer_of(one.set, MODE, "1601") for one in (client, client, later) if one]
+    check(f"{name}: no success afterwards", "code 0" not in replies, replies)
+    for one in (client, later):
+        if one:
+            one.close()
+    status, trace, errors = server.ended()
+    check(f"{name}: end", status == 3 and errors.endswith("fault: write\n"), status, errors)
+    check(f"{name}: the trace is printed", stands_in(client.seen[-100:], played(trace)), trace)
+    lines, answered = journal.follow(), [event for event, _ in client.seen]
+    check(f"{name}: each answer has its line",
+          len(answered) > 200 and lines[:len(answered)] == answered
+          and len(lines) <= len(answered) + 1, len(lines), len(answered))
+    print(f"{name}: {sent} answers before it was full, {len(journal.tail())} torn bytes")
+
+
+REQUESTS = ((MODE, "1604"), (DISCONNECT, "0F01"), (RECONNECT, "0F02"), (MODE, "1602"),
+            (DISCONNECT, "0F03"))
+STREAMS, SYNCS = 1, 5  # the places of these numbers in the counts of tests/refusing.c
+NOTHING_FAILED = "nothing failed"
+
+
+class FailingRuns:
+    """Runs of a server on a journal, each with one failing call, and a restart after each. The
+    number of the call is passed as the argument `fail_sync`, `fail_stream` or the like."""
+
+    def __init__(self, folder, refusing, start):
+        """`start` is the text of the journal at the start of each run; None: a new one."""
+        self.path, self.refusing, self.start = folder / "journal", refusing, start
+
+    def begin(self, which):
+        """Starts a server. Its console has ended when the first client connects."""
+        self.path.unlink(missing_ok=True)
+        if self.start is not None:
+            self.path.write_bytes(self.start)
+        server = Server("--journal", str(self.path), "--connections", "1",
+                        environment=self.refusing.environment(**which))
+        server.end_input()
+        self.refusing.wait_for_end_of_input()
+        return server
+
+    def run(self, **which):
+        """What happened in a run, in words that begin with WRONG if it must not."""
+        server = self.begin(which)
+        seen, replies = self.talk(server)
+        status, trace, errors = server.ended()
+        self.counts = self.refusing.counts()
+        wrong = self.wrong(seen, replies, which, status, errors)
+        if wrong:
+            return f"WRONG: {wrong}"
+        return self.judge(seen, status, trace, errors)
+
+    def talk(self, server):
+        """Serves a client. Returns what it saw, and its replies to the changing requests, None for
+        each that was not answered."""
+        if b"listening on" not in server.errors:
+            return [], []
+        client = answer_of(Client, server.port)
+        if not client:
+            return [], []
+        replies = []
+        if answer_of(client.associate):
+            for place, data in REQUESTS:
+                change = client.set if place == MODE else client.execute
+                replies.append(answer_of(change, place, data))
+            answer_of(client.get, STATE)
+        client.close()
+        return client.seen, replies
+
+    def wrong(self, seen, replies, which, status, errors):
+        """What must not happen, or None."""
+        if None in replies and any(replies[replies.index(None):]):
+            return f"a success after the failure: {replies}, {errors}"
+        if self.counts[2]:
+            return f"a write after the failure: {errors}"
+        if status not in (0, 3) or (status == 3) != ("fault: " in errors):
+            return f"status {status}, {errors}"
+        if status and self.counts[SYNCS] > which.get("fail_sync", self.counts[SYNCS]):
+            return f"{self.counts[SYNCS]} syncs, {which}"
+        if JOURNAL_FAILED.format(self.path) in errors and not errors.endswith("fault: write\n"):
+            return f"the journal failed: {errors}"
+        return None if self.is_kept(seen) else f"{seen}, and the journal {self.path.read_bytes()}"
+
+    def is_kept(self, seen):
+        """Whether the journal has the answered events and at most one more, and whether a server
+        restarts on it and answers as the model."""
+        journal = Journal(self.path)
+        if not self.path.exists():
+            return self.start is None and seen == [] and end_of_a_run(journal)
+        lines = journal.follow()[len(model_lines(self.start)) if self.start else 0:]
+        answered = [event for event, _ in seen if not event.startswith("get ")]
+        is_front = lines[:len(answered)] == answered and len(lines) <= len(answered) + 1
+        return is_front and end_of_a_run(journal)
+
+    def judge(self, seen, status, trace, errors):
+        last = errors.splitlines()[-1] if errors else ""
+        if "listening on" not in errors:
+            return f"no start, {last}"
+        if status == 3 and not trace.endswith("\n"):
+            return f"the output failed, {last}"
+        if not stands_in(seen, played(trace)):
+            return f"WRONG: {seen}, and the trace {trace}"
+        if JOURNAL_FAILED.format(self.path) in errors:
+            return "the journal failed"
+        if status:
+            return last
+        return NOTHING_FAILED if len(seen) == len(REQUESTS) + 1 else "one session ended"
+
+
+def all_calls(count):
+    return range(1, count + 1)
+
+
+def some_calls(count):
+    return turns(count, is_long)
+
+
+def each_call_fails(name, how, place, wanted, chosen=all_calls):
+    """Lets each chosen call fail in turn, on a new journal and on an old one with a torn end.
+    `place` is that of its number in the counts. For each of `wanted` something must happen that
+    begins with it; if only NOTHING_FAILED is wanted, nothing else may."""
+    refusing = Refusing()
+    with tempfile.TemporaryDirectory(prefix="journal-") as folder:
+        folder = pathlib.Path(folder)
+        old = journal_with_events(folder / "journal").text + HALF
+        for title, start in ((f"{name}, a new journal", None), (f"{name}, an old journal", old)):
+            runs = FailingRuns(folder, refusing, start)
+            ample = runs.run()
+            count = runs.counts[place]
+            check(f"{title}: nothing fails", ample == NOTHING_FAILED and count > 0, ample, count)
+            found = collections.Counter(runs.run(**{how: call}) for call in chosen(count))
+            figures = ", ".join(f"{times} {what}" for what, times in sorted(found.items()))
+            print(f"{title}: {count} calls; {figures}")
+            is_met = all(any(what.startswith(word) for what in found) for word in wanted)
+            is_wrong = any(what.startswith("WRONG") for what in found)
+            is_other = wanted == (NOTHING_FAILED,) and len(found) > 1
+            check(title, is_met and not is_wrong and not is_other, found)
+    refusing.stop()
+
+
+def a_failed_sync_is_never_answered(name):
+    wanted = ("no start, fault: write", "the journal failed")
+    each_call_fails(name, "fail_sync", SYNCS, wanted)
+
+
+def a_failed_read_or_write_loses_no_answer(name):
+    wanted = ("no start", "the journal failed", "one session ended", "the output failed")
+    each_call_fails(name, "fail_stream", STREAMS, wanted)
+
+
+def a_short_or_interrupted_call_changes_nothing(name):
+    for how in ("short_stream", "interrupt_stream"):
+        title = f"{name}, {how.split('_')[0]}"
+        each_call_fails(title, how, STREAMS, (NOTHING_FAILED,), some_calls)
+
+
+TESTS = (a_journal_changes_no_answer, an_answer_has_its_line, a_torn_end_is_cut,
+         a_wrong_journal_is_refused, another_meter_is_refused, one_server_has_a_journal,
+         a_journal_needs_its_folder, a_journal_begins_from_a_trace, a_start_may_be_killed,
+         killed_servers_lose_no_answer, a_full_disk_ends_the_server,
+         a_failed_sync_is_never_answered, a_failed_read_or_write_loses_no_answer,
+         a_short_or_interrupted_call_changes_nothing)
+
+
+def main():
+    global is_long, seed
+    parser = argparse.ArgumentParser(description=__doc__,
+                                     formatter_class=argparse.RawDescriptionHelpFormatter)
+    parser.add_argument("--long", action="store_true")
+    parser.add_argument("--seed", type=int, default=SEED)
+    given = parser.parse_args()
+    is_long, seed = given.long, given.seed
+    for executable in (SERVER, PLAYER):
+        if not os.access(executable, os.X_OK):
+            print(f"{executable} is missing: run bin/build or bin/test\n0 passed, 1 failed")
+            return 1
+    for function in TESTS:
+        test(function)
+    print(f"{serving.passed} passed, {serving.failed} failed")
+    return 1 if serving.failed else 0
+
+
+if __name__ == "__main__":
+    sys.exit(main())
