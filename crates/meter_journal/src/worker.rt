@@ -22,8 +22,8 @@ pub trait FailureAction: Drop + Send {
 }
 
 /// The worker of a journal: it saves the lines of the meter's events to its file, and announces
-/// them, until the journal is stopped or fails. Its file has whole lines, and all of them are on the
-/// disk. Contracts see the file.
+/// them, until the journal is stopped or fails. Its file has whole lines, and all of them are on
+/// the disk. Contracts see the file.
 #[derive(Drop)]
 pub struct JournalWorker<F: DurableFile, A: FailureAction> {
     file: F,
