@@ -22,8 +22,8 @@ pub trait FailureAction: Drop + Send {
 }
 
 /// The worker of a journal: it saves the lines of the meter's events to its file, and announces
-/// them, until the journal is stopped or fails. Contracts see its file, which has whole lines, all of
-/// them on the disk.
+/// them, until the journal is stopped or fails. Its file has whole lines, and all of them are on
+/// the disk. Contracts see the file.
 #[derive(Drop)]
 pub struct JournalWorker<F: DurableFile, A: FailureAction> {
     file: F,
@@ -35,10 +35,9 @@ pub struct JournalWorker<F: DurableFile, A: FailureAction> {
 impl<F: DurableFile, A: FailureAction> Model for JournalWorker<F, A> {
     ghost Value = { F };
 
-    ghost view = { λ worker. worker.file };
+    ghost view = { λ w. w.file };
 
-    ghost invariant = { λ worker. F.acts_as_file
-        → IsSettled F.seen F.may_leave F.stored worker.file };
+    ghost invariant = { λ w. F.acts_as_file → IsSettled F.seen F.may_leave F.stored w.file };
 }
 
 impl<F: DurableFile, A: FailureAction> JournalWorker<F, A> {
