@@ -1,5 +1,5 @@
 -- The line of an event that a trace can hold has no byte 0.
-use Rattle.std.proofs.Common.{◌≡◌, ◌≤◌, ℕ, false, Option, Some, None, refl, arith}
+use Rattle.std.proofs.Common.{◌≡◌, ◌≤◌, false, Option, Some, None, refl, arith}
 use Rattle.std.specs.Prelude.{IfSome}
 use Rattle.wire_bytes.specs.Format.{◌&◌}
 use Rattle.cosem_axdr.specs.declared.value.Data.{Data}

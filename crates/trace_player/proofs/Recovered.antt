@@ -1,12 +1,14 @@
 -- A journal is read as the same trace after all that follows its last whole line was cut.
-use Rattle.std.proofs.Common.{◌≡◌, ℕ, suc, ◌+◌, ◌≤◌, Bool, true, false, nat_lt, if◌then◌else◌, codes}
-use Rattle.std.proofs.Common.{decimal, List, [], ◌∷◌, ◌++◌, length, map, take, drop, Result, Ok, Err}
+use Rattle.std.proofs.Common.{◌≡◌, ℕ, suc, ◌+◌, ◌≤◌, Bool, true, false, nat_lt, if◌then◌else◌}
+use Rattle.std.proofs.Common.{codes, decimal, List, [], ◌∷◌, ◌++◌, length, map, take, drop, Result}
+use Rattle.std.proofs.Common.{Ok, Err}
 use Rattle.std.proofs.Common.{refl, sym, ap, ap₂, subst, ◌∙◌, arith}
 use Rattle.std.proofs.lemmas.Bool.Decides.{nat_tests}
 use Rattle.std.proofs.lemmas.Fmt.{decimal_digit}
-use Rattle.std.proofs.lemmas.List.{length-drop, length-map, length-take, map-append, take-append-drop}
+use Rattle.std.proofs.lemmas.List.{length-drop, length-map, length-take, map-append}
+use Rattle.std.proofs.lemmas.List.{take-append-drop}
 use Rattle.wire_bytes.specs.Outcome.{◌>>=◌}
-use Rattle.wire_bytes.proofs.OutcomeLemmas.{bind_ok, done, ok_is, refused_ok}
+use Rattle.wire_bytes.proofs.OutcomeLemmas.{bind_ok, ok_is, refused_ok}
 use Rattle.relay_core.specs.declared.opening.Opening.{Opening}
 use Rattle.relay_events.specs.declared.event.Event.{Event}
 use Rattle.relay_recorder.specs.declared.trace.Trace.{Trace}
@@ -30,7 +32,6 @@ use Rattle.trace_words.specs.WholeLines.{before_zero, has_zero, whole_text}
 use Rattle.trace_words.specs.declared.fault.TraceFault.{TraceFault}
 use Rattle.trace_words.specs.declared.fault.TraceFault.TheVariants.{TooLong}
 use Rattle.trace_words.specs.declared.version.Version.{Version}
-use Rattle.trace_words.specs.declared.version.Version.TheVariants.{Two}
 use Rattle.trace_player.proofs.TraceAgain.{short_enough}
 use Rattle.trace_player.proofs.TraceBack.{version_two}
 use Rattle.trace_player.specs.Journals.{IsJournal, StartsWith}
@@ -197,8 +198,9 @@ from_recovered rows unended trace head e =
         unended = [];
       },
     ) (sym count.1 ∙ counted) in
-    let events = subst (λ (c : ℕ × Place). (events_at version c.0 c.1 >>= λ (es : List Event × Place).
-    ended_at es.1 (record { opening = o; events = es.0 })) ≡ Ok trace) same count.2 in
+    let events = subst (λ (c : ℕ × Place). (events_at version c.0 c.1
+    >>= λ (es : List Event × Place). ended_at es.1 (record { opening = o; events = es.0 }))
+    ≡ Ok trace) same count.2 in
     let lines : before_zero rows ≡ read.front ++ open_row ∷ kept =
     ap before_zero read.took.lines ∙ plain_kept read.front behind.rows read.each
     ∙ ap (λ (rs : List Row). read.front ++ before_zero rs) rest

@@ -39,8 +39,8 @@ pub fn written_journal_is_read()
     written_opening_is_read();
 }
 
-/// Proves that a journal that is read is read as the same trace once all that follows its last whole
-/// line before its first byte 0 is cut, as recovery does.
+/// Proves that a journal that is read is read as the same trace once all that follows its last
+/// whole line before its first byte 0 is cut, as recovery does.
 #[tactic(auto, using(crate::proofs::Recovered::recovered_again))]
 pub fn recovered_journal_is_read()
     ensures { (text : List ℕ) (trace : Trace) → IsJournal text → trace_of text ≡ Ok trace
@@ -62,7 +62,8 @@ pub fn torn_tails_have_no_line()
 #[tactic(auto, using(crate::proofs::TraceBack::trace_back, crate::proofs::TraceBack::written_text))]
 pub fn read_trace_is_written()
     ensures text { (text : List ℕ) (trace : Trace) → IsOfVersionTwo text → IsCounted text
-        → trace_of text ≡ Ok trace → (forms : Forms) × AreFormsOf trace.opening forms × (text ≡ text_with trace forms) }
+        → trace_of text ≡ Ok trace
+        → (forms : Forms) × AreFormsOf trace.opening forms × (text ≡ text_with trace forms) }
     ensures written { (trace : Trace)
         → text_with trace (written_forms trace.opening) ≡ trace_text trace }
 {}
