@@ -36,7 +36,7 @@ traced_append (event ∷ events) more (one, are) others =
     (one, traced_append events more are others)
 
 -- the lines of events have no byte 0, so they are kept
-events_kept : (events : List Event) (others : List Row) → AreTraced events
+pub events_kept : (events : List Event) (others : List Row) → AreTraced events
     → before_zero (map event_row events ++ others) ≡ map event_row events ++ before_zero others
 events_kept [] others are = refl
 events_kept (event ∷ events) others (one, are) =

@@ -40,7 +40,7 @@ use Rattle.trace_player.specs.Traces.{events_at, max_bytes, trace_from, trace_of
 -- ---- the lines before the first byte 0
 
 -- lines without a byte 0 are kept
-plain_kept : (front others : List Row) → Each IsPlainRow front
+pub plain_kept : (front others : List Row) → Each IsPlainRow front
     → before_zero (front ++ others) ≡ front ++ before_zero others
 plain_kept [] others each = refl
 plain_kept (row ∷ front) others each =
@@ -57,20 +57,20 @@ kept_again (row ∷ rows) = by (has_zero (line_of row)) refl (kept_again rows)
     by true is others = refl
     by false is others = rw is (ap (λ (rest : List Row). row ∷ rest) others)
 
-open_plain : has_zero (line_of open_row) ≡ false
+pub open_plain : has_zero (line_of open_row) ≡ false
 unfolding line_of
 open_plain = refl
 
 -- ---- the lines of a journal
 
 -- the lines of a text of version 2 whose line 31 is `events -`
-record HasHead (rows : List Row) : Type 0 where
-  others : List Row
-  first : rows ≡ number_row (codes "RELAYTRACE") 2 ∷ others
-  front : List Row
-  long : length front ≡ 30
-  after : List Row
-  split : rows ≡ front ++ open_row ∷ after
+pub record HasHead (rows : List Row) : Type 0 where
+  pub others : List Row
+  pub first : rows ≡ number_row (codes "RELAYTRACE") 2 ∷ others
+  pub front : List Row
+  pub long : length front ≡ 30
+  pub after : List Row
+  pub split : rows ≡ front ++ open_row ∷ after
 
 -- the words of the two lines
 version_words : words_of (codes "RELAYTRACE 2") ≡ number_row (codes "RELAYTRACE") 2
@@ -125,14 +125,14 @@ has_head lines version opened =
           ∙ ap (λ (rows : List Row). map words_of (take 30 lines) ++ rows) last.1;
     }
 
-text_has_head : (text : List ℕ) → IsJournal text → HasHead (rows_of text)
+pub text_has_head : (text : List ℕ) → IsJournal text → HasHead (rows_of text)
 unfolding rows_of
 text_has_head text is = has_head (lines_of text) is.0 is.1
 
 -- ---- the opening
 
 -- the number of the line after an opening
-number_behind : (p : Place) (version : Version) (opening : Opening) (q : Place)
+pub number_behind : (p : Place) (version : Version) (opening : Opening) (q : Place)
     → opening_from p ≡ Ok ((version, opening), q) → q.number ≡ p.number + suc (lines_behind version)
 unfolding opening_from
 number_behind p version opening q e =
@@ -148,7 +148,7 @@ number_behind p version opening q e =
     omega (arith, line.took.number, behind.took.number, behind.long, number_is, long)
 
 -- two ends of a list after fronts of the same length
-ends_same : (a b x y : List Row) → a ++ x ≡ b ++ y → length a ≡ length b → x ≡ y
+pub ends_same : (a b x y : List Row) → a ++ x ≡ b ++ y → length a ≡ length b → x ≡ y
 ends_same [] [] x y e long = e
 ends_same [] (row ∷ b) x y e long = absurd (omega (arith, long))
 ends_same (row ∷ a) [] x y e long = absurd (omega (arith, long))

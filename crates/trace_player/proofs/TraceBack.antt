@@ -64,7 +64,7 @@ none_left number [] [] x y e = (refl, refl, ok_is x y e)
 none_left number [] (byte ∷ bytes) x y e = absurd cc
 none_left number (row ∷ rows) unended x y e = absurd cc
 
-ended_back : (place : Place) (x y : Trace) → ended_at place x ≡ Ok y → (place.rows ≡ [])
+pub ended_back : (place : Place) (x y : Trace) → ended_at place x ≡ Ok y → (place.rows ≡ [])
     × (place.unended ≡ []) × (x ≡ y)
 unfolding ended_at
 ended_back place x y e = none_left place.number place.rows place.unended x y e

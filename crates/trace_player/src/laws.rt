@@ -47,6 +47,16 @@ pub fn recovered_journal_is_read()
         → trace_of (whole_text text) ≡ Ok trace }
 {}
 
+/// Proves that a journal that is read, and has no torn tail, is read with the events whose lines
+/// are appended to it, whatever torn tail follows them.
+#[tactic(auto, using(crate::proofs::Appended::appended_again))]
+pub fn appended_journal_is_read()
+    ensures { (text : List ℕ) (trace : Trace) (more : List Event) (tail : List ℕ)
+        → IsJournal text → trace_of text ≡ Ok trace → whole_text text ≡ text → AreTraced more
+        → IsTail tail → length (text ++ events_text more ++ tail) ≤ max_bytes
+        → trace_of (text ++ events_text more ++ tail) ≡ Ok (with_events trace more) }
+{}
+
 /// Proves which bytes are a torn tail: bytes without a byte 0A, and bytes whose first byte 0 comes
 /// before any byte 0A, whatever follows it.
 #[tactic(auto, using(trace_words::proofs::TailLemmas::tails))]

@@ -94,7 +94,7 @@ alone line none = record {
   ended = unended_of-line line [] none ∙ unended_of-nil;
 }
 
-rows_joined : (text rest : List ℕ) → unended_of text ≡ []
+pub rows_joined : (text rest : List ℕ) → unended_of text ≡ []
     → rows_of (text ++ rest) ≡ rows_of text ++ rows_of rest
 unfolding rows_of
 rows_joined text rest ended = ap (map words_of) (lines_joined text rest ended)
