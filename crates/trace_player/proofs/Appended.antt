@@ -10,7 +10,9 @@ use Rattle.relay_recorder.specs.declared.trace.Trace.{Trace}
 use Rattle.std.specs.Prelude.{nat_lt}
 use Rattle.text_lines.proofs.JoinedTexts.{unended_joined}
 use Rattle.text_lines.proofs.LinesLemmas.{rows_again, unended_again}
-use Rattle.text_lines.specs.Lines.{rows_of, unended_of}
+use Rattle.std.specs.List.{list_all}
+use Rattle.text_lines.proofs.Known.{rows_whole}
+use Rattle.text_lines.specs.Lines.{is_row, rows_of, rows_text, unended_of}
 use Rattle.text_lines.specs.Words.{line_of}
 use Rattle.trace_lines.proofs.CountLemmas.{open_count_again}
 use Rattle.trace_lines.specs.Events.{event_of}
@@ -19,6 +21,7 @@ use Rattle.trace_lines.specs.Writing.{event_row}
 use Rattle.trace_openings.proofs.OpeningLocal.{opening_local}
 use Rattle.trace_openings.proofs.OpeningTakes.{lines_behind}
 use Rattle.trace_openings.specs.OpeningReading.{opening_from}
+use Rattle.trace_openings.specs.OpeningTraced.{IsWritable}
 use Rattle.trace_words.proofs.PlaceLemmas.{line_again, place}
 use Rattle.trace_words.proofs.PlacesBack.{line_read}
 use Rattle.trace_words.proofs.WholeAgain.{whole_ended, whole_rows}
@@ -30,12 +33,14 @@ use Rattle.trace_words.specs.declared.fault.TraceFault.{TraceFault}
 use Rattle.trace_words.specs.declared.fault.TraceFault.TheVariants.{TooLong}
 use Rattle.trace_words.specs.declared.version.Version.{Version}
 use Rattle.trace_words.specs.declared.version.Version.TheVariants.{Two}
-use Rattle.trace_player.proofs.JournalAgain.{events_kept}
+use Rattle.trace_player.proofs.JournalAgain.{events_kept, journal_rows_are}
 use Rattle.trace_player.proofs.Recovered.{HasHead, ends_same, number_behind, open_plain, plain_kept}
 use Rattle.trace_player.proofs.Recovered.{text_has_head}
+use Rattle.trace_player.proofs.TraceAgain.{HasRows, OpensAgain}
 use Rattle.trace_player.proofs.TraceAgain.{are_rows, behind_events, events_again, short_enough}
 use Rattle.trace_player.proofs.TraceBack.{ended_back, version_two}
-use Rattle.trace_player.specs.Journals.{IsJournal, events_text, with_events}
+use Rattle.trace_player.specs.Journals.{IsJournal, events_text, journal_rows, journal_text}
+use Rattle.trace_player.specs.Journals.{with_events}
 use Rattle.trace_player.specs.Traces.{events_at, max_bytes, trace_from, trace_of}
 use Rattle.trace_player.specs.Written.{AreTraced}
 
@@ -217,3 +222,38 @@ appended_again text trace more tail is e whole are is_tail le =
     ap choice short ∙ ap trace_from (appended_place text more tail ended are)
     ∙ from_appended (rows_of text) trace more (rows_of tail) (unended_of tail)
     (text_has_head text is) kept are is_tail from
+
+-- ---- what is written is whole
+
+-- lines of words without a byte 0 are their own whole text
+whole_is : (rows : List Row) → list_all is_row rows ≡ true → before_zero rows ≡ rows
+    → whole_text (rows_text rows) ≡ rows_text rows
+whole_is rows are kept =
+    ap (λ (rs : List Row). rows_text (before_zero rs)) (rows_whole rows are) ∙ ap rows_text kept
+
+pub events_whole : (events : List Event) → AreTraced events
+    → whole_text (events_text events) ≡ events_text events
+events_whole events are =
+    let rows = map event_row events in
+    let all = append-nil rows in
+    whole_is rows (are_rows events are)
+    (ap before_zero (sym all) ∙ events_kept events [] are ∙ all)
+
+pub journal_whole : OpensAgain → HasRows → (trace : Trace) → IsWritable trace.opening
+    → AreTraced trace.events → whole_text (journal_text trace) ≡ journal_text trace
+journal_whole opens has trace writable are =
+    let events : List Row = map event_row trace.events in
+    let rows : List Row = open_row ∷ events in
+    let start : Place = place 1 (journal_rows trace) [] in
+    let behind : Place = place 31 rows [] in
+    let read = opening_local start (Two, trace.opening) behind
+    (opens trace.opening rows [] writable) in
+    let all = append-nil events in
+    let events_are : before_zero events ≡ events =
+    ap before_zero (sym all) ∙ events_kept trace.events [] are ∙ all in
+    let rows_kept : before_zero rows ≡ rows =
+    ap (λ (zero : Bool). if zero then [] else open_row ∷ before_zero events) open_plain
+    ∙ ap (λ (rs : List Row). open_row ∷ rs) events_are in
+    whole_is (journal_rows trace) (journal_rows_are has trace writable are)
+    (ap before_zero read.took.lines ∙ plain_kept read.front rows read.each
+    ∙ ap (λ (rs : List Row). read.front ++ rs) rows_kept ∙ sym read.took.lines)

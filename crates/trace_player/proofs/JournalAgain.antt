@@ -48,7 +48,7 @@ empty_tail = unended_is_tail [] refl
 
 -- ---- the lines of a journal
 
-journal_rows_are : HasRows → (trace : Trace) → IsWritable trace.opening → AreTraced trace.events
+pub journal_rows_are : HasRows → (trace : Trace) → IsWritable trace.opening → AreTraced trace.events
     → list_all is_row (journal_rows trace) ≡ true
 journal_rows_are has trace opening are =
     let others : List Row = map event_row trace.events in

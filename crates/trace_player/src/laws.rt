@@ -57,6 +57,17 @@ pub fn appended_journal_is_read()
         → trace_of (text ++ events_text more ++ tail) ≡ Ok (with_events trace more) }
 {}
 
+/// Proves that a journal that is written, and the lines of events that are appended to it, are
+/// whole lines without a byte 0: recovery keeps all of them.
+pub fn written_journal_is_whole()
+    ensures journal { (trace : Trace) → IsWritable trace.opening → AreTraced trace.events
+        → whole_text (journal_text trace) ≡ journal_text trace }
+    ensures events { (events : List Event) → AreTraced events
+        → whole_text (events_text events) ≡ events_text events }
+{
+    written_opening_is_read();
+}
+
 /// Proves which bytes are a torn tail: bytes without a byte 0A, and bytes whose first byte 0 comes
 /// before any byte 0A, whatever follows it.
 #[tactic(auto, using(trace_words::proofs::TailLemmas::tails))]
