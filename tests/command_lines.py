@@ -94,6 +94,9 @@ LIMITER = (b"normal 4294967295\nemergency 4294967295\nminover 0\nminunder 0\npro
            b"groups\nactions 0 0\nover 0 0\nunder 0 0\n")
 EXPORT = b"xvalue 0\n" + b"".join(b"x" + line + b"\n" for line in LIMITER.splitlines())
 OPENING_2 = OPENING.replace(b"RELAYTRACE 1", b"RELAYTRACE 2").replace(b"scripts ", EXPORT + b"scripts ")
+# The same events as a journal.
+JOURNAL = OPENING_2 + b"events -\n" + TRACE.split(b"events 9\n")[1]
+LEFT_OUT = b"standard input: bytes after the last whole line that were left out: %d\n"
 LONG_RUN = OPENING.replace(b"value 0", b"value 5001").replace(b"normal 4294967295", b"normal 5000").replace(
     b"minover 0", b"minover 4294967295")
 
@@ -245,6 +248,7 @@ CASES = [
     ("help of apdu", "meter_server_cli", ["apdu", "--help"], b"", None, b"", 0),
     ("help of hex", "meter_server_cli", ["hex", "--help"], b"", None, b"", 0),
     ("help of serve", "meter_server_cli", ["serve", "--help"], b"", None, b"", 0),
+    ("a journal to resume from", "meter_server_cli", SERVE + ["--resume", "--listen", "nowhere"], JOURNAL, b"", FAULT_INPUT, 2),
     ("a trace", "trace_player_cli", [], TRACE, PLAYED, b"", 0),
     ("the same in version 2", "trace_player_cli", [], OPENING_2 + TRACE[len(OPENING):], PLAYED, b"", 0),
     ("no event", "trace_player_cli", [], with_events(OPENING), b"", b"", 0),
@@ -302,6 +306,29 @@ CASES = [
      b"line 22: unknown event\n" + FAULT_INPUT, 2),
     ("where a trace is too long", "trace_player_cli", ["--verbose"], LARGEST + b"\n", b"",
      b"byte 33554433: the trace has more than 33,554,432 bytes\n" + FAULT_INPUT, 2),
+    ("a journal", "trace_player_cli", [], JOURNAL, PLAYED, b"", 0),
+    ("a journal in version 1", "trace_player_cli", [], TRACE.replace(b"events 9", b"events -"), PLAYED, b"", 0),
+    ("a journal with a torn line", "trace_player_cli", [], JOURNAL + b"moment 9", PLAYED, b"", 0),
+    ("a journal with zeros after its last line", "trace_player_cli", [], JOURNAL + b"\0" * 4096 + b"button\n", PLAYED, b"", 0),
+    ("a journal with a zero in its last line", "trace_player_cli", [], JOURNAL + b"mom\0nt 9\nbutton\n", PLAYED, b"", 0),
+    ("a journal of no event", "trace_player_cli", [], OPENING_2 + b"events -\n", b"", b"", 0),
+    ("a journal of a torn line alone", "trace_player_cli", [], OPENING_2 + b"events -\nbut", b"", b"", 0),
+    ("a journal of 65,537 events", "trace_player_cli", [], OPENING + b"events -\n" + b"button\n" * 65537,
+     b"".join(b"%d: code 2; state 1; supply on\n" % number for number in range(1, 65538)), b"", 0),
+    ("a journal of a byte more than the largest trace", "trace_player_cli", [], JOURNAL + b"\0" * (33_554_433 - len(JOURNAL)), b"", FAULT_INPUT, 2),
+    ("a wrong line in a journal", "trace_player_cli", ["--verbose"], JOURNAL.replace(b"button\n", b"press\n", 1), b"",
+     b"line 34: unknown event `press`\n" + FAULT_INPUT, 2),
+    ("the lines before a wrong one in a journal", "trace_player_cli", ["--partial"], JOURNAL.replace(b"button\n", b"press\n", 1),
+     b"".join(PLAYED.splitlines(keepends=True)[:2]), b"line 34: unknown event `press`\n" + FAULT_INPUT, 2),
+    ("an empty line in a journal", "trace_player_cli", ["--verbose"], JOURNAL + b"\nbutton\n", b"",
+     b"line 41: unknown event\n" + FAULT_INPUT, 2),
+    ("a word after the hyphen of a journal", "trace_player_cli", ["--verbose"], JOURNAL.replace(b"events -", b"events - 9"), b"",
+     b"line 31: expected `events COUNT`: unexpected extra word\n" + FAULT_INPUT, 2),
+    ("a whole journal has no message", "trace_player_cli", ["--verbose"], JOURNAL, PLAYED, b"", 0),
+    ("a torn line is reported", "trace_player_cli", ["--verbose"], JOURNAL + b"moment 9", PLAYED, LEFT_OUT % 8, 0),
+    ("zeros after the last line are reported", "trace_player_cli", ["--verbose"], JOURNAL + b"\0\0\0button\n", PLAYED, LEFT_OUT % 10, 0),
+    ("what follows a counted trace is wrong", "trace_player_cli", ["--verbose"], TRACE + b"moment 9", b"",
+     b"line 31: expected a whole line, found the end of the trace\n" + FAULT_INPUT, 2),
     ("a trace of a file", "trace_player_cli", [TRACE_FILE], b"", PLAYED, b"", 0),
     ("a trace of a file, with messages", "trace_player_cli", ["--verbose", TRACE_FILE], TRACE[:-1], PLAYED, b"", 0),
     ("a trace of standard input by its name", "trace_player_cli", ["-"], TRACE, PLAYED, b"", 0),

@@ -230,7 +230,8 @@ pub no_head : (left : Option (List ℕ)) → ((text rest : List ℕ) → left �
 no_head None never = tt
 no_head (Some bytes) never = λ head.
     never head.text head.rest (ap (λ (b : List ℕ). Some b) head.cut)
-    (small_text head.text head.trace head.told) (laid_out head.text head.trace head.counted head.told)
+    (small_text head.text head.trace head.told)
+    (laid_out head.text head.trace head.counted head.told)
 
 -- nor has an input whose first lines are not a trace
 pub wrong_head : (left : Option (List ℕ)) (read : List ℕ) (fault : TraceFault)

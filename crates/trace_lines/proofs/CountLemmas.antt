@@ -4,9 +4,10 @@ use Rattle.std.proofs.Common.{length, Option, Some, None, Result, Ok, Err, refl,
 use Rattle.std.proofs.Common.{inl, inr}
 use Rattle.std.specs.Cmp.Lexicographic.{pointwise}
 use Rattle.wire_bytes.specs.Outcome.{◌>>=◌}
-use Rattle.wire_bytes.proofs.OutcomeLemmas.{bind_ok, chosen, done, ok_is}
-use Rattle.text_lines.specs.Lines.{is_row}
+use Rattle.wire_bytes.proofs.OutcomeLemmas.{bind_ok, chosen, done}
+use Rattle.text_lines.specs.Lines.{is_row, rows_text, text_of}
 use Rattle.text_lines.specs.Numbers.{number_of}
+use Rattle.text_lines.specs.Words.{line_of}
 use Rattle.trace_words.proofs.LabelsBack.{labelled_read}
 use Rattle.trace_words.proofs.PlaceLemmas as place
 use Rattle.trace_words.proofs.WordLaws.{labelled_again}
@@ -90,6 +91,11 @@ open_again = labelled_again (codes "events") count_in (codes "-") None refl
 
 pub open_is_row : is_row open_row ≡ true
 open_is_row = refl
+
+-- its text
+pub open_text : rows_text (open_row ∷ []) ≡ codes "events -\n"
+unfolding rows_text text_of line_of
+open_text = refl
 
 pub ruleset counts = (open_again, open_back, stated_again, stated_back, open_is_row)
 

@@ -1,5 +1,5 @@
--- The line of the number of events: a number, or `-` if the events are all whole lines up to the end
--- of the text or its first byte 0. What follows the last whole line is then left out.
+-- The line of the number of events: a number, or `-` if the events are all whole lines up to the
+-- end of the text or its first byte 0. What follows the last whole line is then left out.
 --     count_from       the number of events that a line states, or none
 --     open_row         the line `events -`
 --     events_behind    the number of events, and the place of their lines

@@ -10,7 +10,7 @@ ghost use Rattle.trace_lines.specs.Events.{events_from};
 ghost use Rattle.trace_lines.specs.OpenCount.{count_at, count_from, count_in, open_row};
 
 use std::alloc::AllocError;
-use text_lines::{Words, end_line};
+use text_lines::Words;
 use trace_words::{RowFault, TraceFault, TraceLines, number_in, read_labelled, write_number_line};
 
 /// The maximum number of events of a trace.
@@ -73,12 +73,11 @@ pub fn count_events(lines: &mut TraceLines) -> Result<u64, TraceFault>
 
 /// Appends the line `events -`, with the byte 0A that ends it. On an error a part of it may have
 /// been appended.
-#[tactic(auto, unfolding(text_lines::specs::Lines::rows_text, text_lines::specs::Lines::text_of, text_lines::specs::Words::line_of))]
+#[tactic(auto, using(crate::proofs::CountLemmas::open_text))]
 pub fn write_open_count(out: &mut Vec<u8>) -> Result<(), AllocError>
     ensures { OnOk result (out.new.items ≡ out.old.items ++ rows_text (open_row ∷ [])) }
 {
-    out.extend_from_slice(b"events -")?;
-    end_line(out)
+    out.extend_from_slice(b"events -\n")
 }
 
 /// Appends the line of the number of events, with the byte 0A that ends it. On an error a part of

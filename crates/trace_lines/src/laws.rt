@@ -1,6 +1,7 @@
 //! Laws of the lines of events. Each function is a law: its contract states it, and a call makes it
 //! known to the prover.
-ghost use Rattle.std.specs.Prelude.{◌≡◌, ℕ, ◌≤◌, suc, List, ◌∷◌, codes, false, IsTrue, Ok, Some, None};
+ghost use Rattle.std.specs.Prelude.{◌≡◌, ℕ, ◌≤◌, suc, List, ◌∷◌, codes, false, IsTrue};
+ghost use Rattle.std.specs.Prelude.{Ok, Some, None};
 ghost use Rattle.text_lines.specs.Lines.{is_row};
 ghost use Rattle.text_lines.specs.Words.{words_of, line_of};
 ghost use Rattle.relay_events.specs.declared.event.Event.{Event};

@@ -6,12 +6,12 @@
 //! decimal, bytes in hexadecimal capitals, a value of type Data as its A-XDR encoding in
 //! hexadecimal. Version 1 of the format has no `pairs`.
 //!
-//! `count_events` reads the number of events, and `next_event` each event, from the lines of a trace
-//! (`trace_words::TraceLines`). The line `events -` states no number: the events are then all whole
-//! lines of the text, as in a journal. `next_held_event` reads an event from lines that own their
-//! text (`HeldLines`), and `read_event` from a single line. `write_event_count` and `write_event`
-//! write these lines, in version 2; `write_line` writes the line of a reply. An event that is
-//! written is read back if `fits_line` accepts it.
+//! `count_events` reads the number of events, and `next_event` each event, from the lines of a
+//! trace (`trace_words::TraceLines`). The line `events -` states no number: the events are then all
+//! whole lines of the text, as in a journal. `next_held_event` reads an event from lines that own
+//! their text (`HeldLines`), and `read_event` from a single line. `write_event_count` and
+//! `write_event` write these lines, in version 2; `write_line` writes the line of a reply. An event
+//! that is written is read back if `fits_line` accepts it.
 #![tactic(auto)]
 
 mod event_counts;

@@ -1,15 +1,13 @@
--- An opening is read from its own lines alone, whatever follows them, and none of them has a byte 0.
-use Rattle.std.proofs.Common.{◌≡◌, ℕ, Bool, true, false, nat_eq, ◌==◌, codes, List, [], ◌∷◌, Option}
-use Rattle.std.proofs.Common.{Some, None, Result, Ok, refl, sym, ap, subst, inl, inr}
+-- An opening is read from its own lines alone, whatever follows them, and they have no byte 0.
+use Rattle.std.proofs.Common.{◌≡◌, ℕ, false, nat_eq, ◌==◌, codes}
+use Rattle.std.proofs.Common.{Some, None, Ok, refl, sym, ap, subst, inl, inr}
 use Rattle.std.specs.Cmp.Lexicographic.{pointwise}
 use Rattle.wire_bytes.specs.Format.{◌&◌}
 use Rattle.wire_bytes.specs.Outcome.{◌>>=◌}
 use Rattle.wire_bytes.proofs.OutcomeLemmas.{bind_ok, chosen, done, guard_ok}
 use Rattle.cosem_names.specs.declared.objects.Which.{Which}
 use Rattle.cosem_names.specs.declared.objects.Which.TheVariants.{Import, Export}
-use Rattle.action_schedule.specs.Schedule.{Schedule}
 use Rattle.limiter_core.specs.Counting.{cap}
-use Rattle.limiter_core.specs.State.{are_fit}
 use Rattle.limiter_core.specs.declared.count.Count.{Count}
 use Rattle.trace_words.proofs.LabelsBack.{behind_back}
 use Rattle.trace_words.proofs.LocalReads.{IsLocal, local_line, local_none, local_then}
@@ -21,18 +19,18 @@ use Rattle.trace_words.proofs.PlainWords.{ArePlain}
 use Rattle.trace_words.proofs.WordsBack.{last_read, same_is}
 use Rattle.trace_words.specs.Labels.{behind, labelled_value}
 use Rattle.trace_words.specs.Parts.{flag_part, labelled_part, number_part}
-use Rattle.trace_words.specs.Reading.{data_in, next_as, number_in, value_in}
-use Rattle.trace_words.specs.Rows.{Row, Word}
+use Rattle.trace_words.specs.Reading.{next_as, number_in, value_in}
+use Rattle.trace_words.specs.Rows.{Word}
 use Rattle.trace_words.specs.WholeLines.{has_zero}
 use Rattle.trace_words.specs.declared.fault.RowFault.{RowFault}
 use Rattle.trace_words.specs.declared.fault.RowFault.TheVariants.{Wrong}
 use Rattle.trace_words.specs.declared.version.Version.{Version}
 use Rattle.trace_words.specs.declared.version.Version.TheVariants.{One, Two}
 use Rattle.trace_openings.specs.OpeningFields.{actions_from, actions_part, count_from, count_part}
-use Rattle.trace_openings.specs.OpeningFields.{device_in, entries_in, groups_from, groups_part, label}
+use Rattle.trace_openings.specs.OpeningFields.{device_in, entries_in, groups_from, groups_part}
 use Rattle.trace_openings.specs.OpeningFields.{mode_in, moment_in, over_from, profile_from}
 use Rattle.trace_openings.specs.OpeningFields.{profile_part, schedule_from, start_in, start_part}
-use Rattle.trace_openings.specs.OpeningFields.{state_in, table_in, type_in, under_from, version_from}
+use Rattle.trace_openings.specs.OpeningFields.{label, state_in, table_in, type_in, under_from}
 use Rattle.trace_openings.specs.OpeningFields.{version_in}
 use Rattle.disconnect_control.specs.declared.state.ControlState.{ControlState}
 use Rattle.trace_openings.specs.OpeningReading.{export_from, limiter_from, opening_from, opening_in}
@@ -225,7 +223,8 @@ schedules_local =
 opening_in_local : (version : Version) → IsLocal IsPlainRow (opening_in version)
 unfolding opening_in opening_with
 opening_in_local version =
-    local_then _ _ _ (local_line _ _ (labelled_plain (codes "device") device_in refl device_in_plain))
+    local_then _ _ _
+    (local_line _ _ (labelled_plain (codes "device") device_in refl device_in_plain))
     (λ device. local_then _ _ _
     (local_line _ _ (labelled_plain (codes "state") state_in refl state_in_plain))
     (λ state. local_then _ _ _

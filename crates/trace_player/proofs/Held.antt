@@ -1,6 +1,7 @@
 -- The lines after an opening, in the text that contains them.
-use Rattle.std.proofs.Common.{◌≡◌, ℕ, ◌+◌, ◌-◌, ◌<◌, ◌≤◌, ◌^◌, List, [], ◌∷◌, ◌++◌, length, length-append, drop, Option, Ok, refl, sym, ap, ◌∙◌, arith, inl, inr}
-use Rattle.wire_bytes.specs.Outcome.{◌>>=◌, Fails}
+use Rattle.std.proofs.Common.{◌≡◌, ℕ, ◌+◌, ◌-◌, ◌<◌, ◌≤◌, ◌^◌, List, [], ◌∷◌, ◌++◌, length, length-append, drop}
+use Rattle.std.proofs.Common.{Option, Ok, refl, sym, ap, ◌∙◌, arith, inl, inr}
+use Rattle.wire_bytes.specs.Outcome.{Fails}
 use Rattle.relay_core.specs.declared.opening.Opening.{Opening}
 use Rattle.text_lines.specs.Lines.{rows_text}
 use Rattle.trace_words.proofs.HeldLemmas.{behind_front, text_behind}

@@ -1,14 +1,13 @@
 -- A journal is read back, also after it has grown and with a torn tail.
-use Rattle.std.proofs.Common.{◌≡◌, ℕ, ◌≤◌, Bool, true, false, nat_lt, if◌then◌else◌, List, [], ◌∷◌}
+use Rattle.std.proofs.Common.{◌≡◌, ℕ, ◌≤◌, Bool, true, if◌then◌else◌, List, [], ◌∷◌}
 use Rattle.std.proofs.Common.{◌++◌, length, map, Result, Ok, Err, refl, sym, ap, ap₂, ◌∙◌, arith}
 use Rattle.std.proofs.Common.{append_assoc, append-nil}
 use Rattle.std.proofs.lemmas.List.{length-map, map-append}
 use Rattle.std.proofs.lemmas.List.Folds.{list_all-append}
 use Rattle.std.specs.List.{list_all}
-use Rattle.relay_core.specs.declared.opening.Opening.{Opening}
 use Rattle.relay_events.specs.declared.event.Event.{Event}
 use Rattle.relay_recorder.specs.declared.trace.Trace.{Trace}
-use Rattle.text_lines.proofs.LinesLemmas.{rows_again, rows_text-append, rows_text-nil, unended_again}
+use Rattle.text_lines.proofs.LinesLemmas.{rows_again, rows_text-append, unended_again}
 use Rattle.text_lines.specs.Lines.{is_row, rows_of, rows_text, unended_of}
 use Rattle.trace_lines.proofs.CountLemmas.{open_count_again}
 use Rattle.trace_lines.proofs.NoZeros.{event_plain}
@@ -22,7 +21,6 @@ use Rattle.trace_words.specs.Rows.{Row}
 use Rattle.trace_words.specs.WholeLines.{IsTail, before_zero}
 use Rattle.trace_words.specs.declared.fault.TraceFault.{TraceFault}
 use Rattle.trace_words.specs.declared.fault.TraceFault.TheVariants.{TooLong}
-use Rattle.trace_words.specs.declared.version.Version.TheVariants.{Two}
 use Rattle.trace_player.proofs.TraceAgain.{HasRows, OpensAgain, are_rows, both_true, events_again}
 use Rattle.trace_player.proofs.TraceAgain.{short_enough}
 use Rattle.trace_player.specs.Journals.{events_text, journal_rows, journal_text, with_events}
@@ -38,7 +36,7 @@ traced_append (event ∷ events) more (one, are) others =
     (one, traced_append events more are others)
 
 -- the lines of events have no byte 0, so they are kept
-events_kept : (events : List Event) (others : List Row) → AreTraced events
+pub events_kept : (events : List Event) (others : List Row) → AreTraced events
     → before_zero (map event_row events ++ others) ≡ map event_row events ++ before_zero others
 events_kept [] others are = refl
 events_kept (event ∷ events) others (one, are) =
@@ -50,7 +48,7 @@ empty_tail = unended_is_tail [] refl
 
 -- ---- the lines of a journal
 
-journal_rows_are : HasRows → (trace : Trace) → IsWritable trace.opening → AreTraced trace.events
+pub journal_rows_are : HasRows → (trace : Trace) → IsWritable trace.opening → AreTraced trace.events
     → list_all is_row (journal_rows trace) ≡ true
 journal_rows_are has trace opening are =
     let others : List Row = map event_row trace.events in
@@ -103,7 +101,8 @@ journal_place has trace tail writable are =
       rows = rows;
       unended = unended;
     } in
-    ap₂ made (rows_again (journal_rows trace) tail all) (unended_again (journal_rows trace) tail all)
+    ap₂ made (rows_again (journal_rows trace) tail all)
+    (unended_again (journal_rows trace) tail all)
 
 journal_again : OpensAgain → HasRows → (trace : Trace) (tail : List ℕ) → IsWritable trace.opening
     → AreTraced trace.events → IsTail tail → length (journal_text trace ++ tail) ≤ max_bytes

@@ -1,4 +1,5 @@
 pub mod Alike
+pub mod Appended
 pub mod Ends
 pub mod EventsLeft
 pub mod EventsPlayed

@@ -39,7 +39,7 @@ pub is_short : (trace : Trace) → (IsFitOpening trace.opening → IsWritable tr
 is_short trace opening events fits few = few_are_short trace (opening fits.fit)
     (are_traced trace.events events fits.events) few
 
--- what the law of journals says of this trace
+-- what the law of journals states for this trace
 abbrev ReadsWhole : Trace → Type 0
 ReadsWhole trace = IsWritable trace.opening → AreTraced trace.events
     → length (journal_text trace) ≤ max_bytes → trace_of (journal_text trace) ≡ Ok trace
@@ -65,3 +65,5 @@ pub journal_grown : (trace : Trace) → (IsFitOpening trace.opening → IsWritab
 journal_grown trace opening events again fits more tail others is_tail short =
     again more tail (opening fits.fit) (are_traced trace.events events fits.events) others is_tail
     short
+
+pub ruleset journals = (journal_whole, journal_grown)

@@ -1,12 +1,14 @@
 -- A journal is read as the same trace after all that follows its last whole line was cut.
-use Rattle.std.proofs.Common.{◌≡◌, ℕ, suc, ◌+◌, ◌≤◌, Bool, true, false, nat_lt, if◌then◌else◌, codes}
-use Rattle.std.proofs.Common.{decimal, List, [], ◌∷◌, ◌++◌, length, map, take, drop, Result, Ok, Err}
+use Rattle.std.proofs.Common.{◌≡◌, ℕ, suc, ◌+◌, ◌≤◌, Bool, true, false, nat_lt, if◌then◌else◌}
+use Rattle.std.proofs.Common.{codes, decimal, List, [], ◌∷◌, ◌++◌, length, map, take, drop, Result}
+use Rattle.std.proofs.Common.{Ok, Err}
 use Rattle.std.proofs.Common.{refl, sym, ap, ap₂, subst, ◌∙◌, arith}
 use Rattle.std.proofs.lemmas.Bool.Decides.{nat_tests}
 use Rattle.std.proofs.lemmas.Fmt.{decimal_digit}
-use Rattle.std.proofs.lemmas.List.{length-drop, length-map, length-take, map-append, take-append-drop}
+use Rattle.std.proofs.lemmas.List.{length-drop, length-map, length-take, map-append}
+use Rattle.std.proofs.lemmas.List.{take-append-drop}
 use Rattle.wire_bytes.specs.Outcome.{◌>>=◌}
-use Rattle.wire_bytes.proofs.OutcomeLemmas.{bind_ok, done, ok_is, refused_ok}
+use Rattle.wire_bytes.proofs.OutcomeLemmas.{bind_ok, ok_is, refused_ok}
 use Rattle.relay_core.specs.declared.opening.Opening.{Opening}
 use Rattle.relay_events.specs.declared.event.Event.{Event}
 use Rattle.relay_recorder.specs.declared.trace.Trace.{Trace}
@@ -30,7 +32,6 @@ use Rattle.trace_words.specs.WholeLines.{before_zero, has_zero, whole_text}
 use Rattle.trace_words.specs.declared.fault.TraceFault.{TraceFault}
 use Rattle.trace_words.specs.declared.fault.TraceFault.TheVariants.{TooLong}
 use Rattle.trace_words.specs.declared.version.Version.{Version}
-use Rattle.trace_words.specs.declared.version.Version.TheVariants.{Two}
 use Rattle.trace_player.proofs.TraceAgain.{short_enough}
 use Rattle.trace_player.proofs.TraceBack.{version_two}
 use Rattle.trace_player.specs.Journals.{IsJournal, StartsWith}
@@ -39,7 +40,7 @@ use Rattle.trace_player.specs.Traces.{events_at, max_bytes, trace_from, trace_of
 -- ---- the lines before the first byte 0
 
 -- lines without a byte 0 are kept
-plain_kept : (front others : List Row) → Each IsPlainRow front
+pub plain_kept : (front others : List Row) → Each IsPlainRow front
     → before_zero (front ++ others) ≡ front ++ before_zero others
 plain_kept [] others each = refl
 plain_kept (row ∷ front) others each =
@@ -56,20 +57,20 @@ kept_again (row ∷ rows) = by (has_zero (line_of row)) refl (kept_again rows)
     by true is others = refl
     by false is others = rw is (ap (λ (rest : List Row). row ∷ rest) others)
 
-open_plain : has_zero (line_of open_row) ≡ false
+pub open_plain : has_zero (line_of open_row) ≡ false
 unfolding line_of
 open_plain = refl
 
 -- ---- the lines of a journal
 
 -- the lines of a text of version 2 whose line 31 is `events -`
-record HasHead (rows : List Row) : Type 0 where
-  others : List Row
-  first : rows ≡ number_row (codes "RELAYTRACE") 2 ∷ others
-  front : List Row
-  long : length front ≡ 30
-  after : List Row
-  split : rows ≡ front ++ open_row ∷ after
+pub record HasHead (rows : List Row) : Type 0 where
+  pub others : List Row
+  pub first : rows ≡ number_row (codes "RELAYTRACE") 2 ∷ others
+  pub front : List Row
+  pub long : length front ≡ 30
+  pub after : List Row
+  pub split : rows ≡ front ++ open_row ∷ after
 
 -- the words of the two lines
 version_words : words_of (codes "RELAYTRACE 2") ≡ number_row (codes "RELAYTRACE") 2
@@ -124,14 +125,14 @@ has_head lines version opened =
           ∙ ap (λ (rows : List Row). map words_of (take 30 lines) ++ rows) last.1;
     }
 
-text_has_head : (text : List ℕ) → IsJournal text → HasHead (rows_of text)
+pub text_has_head : (text : List ℕ) → IsJournal text → HasHead (rows_of text)
 unfolding rows_of
 text_has_head text is = has_head (lines_of text) is.0 is.1
 
 -- ---- the opening
 
 -- the number of the line after an opening
-number_behind : (p : Place) (version : Version) (opening : Opening) (q : Place)
+pub number_behind : (p : Place) (version : Version) (opening : Opening) (q : Place)
     → opening_from p ≡ Ok ((version, opening), q) → q.number ≡ p.number + suc (lines_behind version)
 unfolding opening_from
 number_behind p version opening q e =
@@ -147,7 +148,7 @@ number_behind p version opening q e =
     omega (arith, line.took.number, behind.took.number, behind.long, number_is, long)
 
 -- two ends of a list after fronts of the same length
-ends_same : (a b x y : List Row) → a ++ x ≡ b ++ y → length a ≡ length b → x ≡ y
+pub ends_same : (a b x y : List Row) → a ++ x ≡ b ++ y → length a ≡ length b → x ≡ y
 ends_same [] [] x y e long = e
 ends_same [] (row ∷ b) x y e long = absurd (omega (arith, long))
 ends_same (row ∷ a) [] x y e long = absurd (omega (arith, long))
@@ -197,8 +198,9 @@ from_recovered rows unended trace head e =
         unended = [];
       },
     ) (sym count.1 ∙ counted) in
-    let events = subst (λ (c : ℕ × Place). (events_at version c.0 c.1 >>= λ (es : List Event × Place).
-    ended_at es.1 (record { opening = o; events = es.0 })) ≡ Ok trace) same count.2 in
+    let events = subst (λ (c : ℕ × Place). (events_at version c.0 c.1
+    >>= λ (es : List Event × Place). ended_at es.1 (record { opening = o; events = es.0 }))
+    ≡ Ok trace) same count.2 in
     let lines : before_zero rows ≡ read.front ++ open_row ∷ kept =
     ap before_zero read.took.lines ∙ plain_kept read.front behind.rows read.each
     ∙ ap (λ (rs : List Row). read.front ++ before_zero rs) rest

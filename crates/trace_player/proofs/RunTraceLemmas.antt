@@ -1,5 +1,5 @@
 -- The text of a recorder's trace represents its run.
-use Rattle.std.proofs.Common.{◌≡◌, ◌≤◌, List, ℕ, All, length, Result, Ok, Err, IfOk, ap, sym, subst, arith}
+use Rattle.std.proofs.Common.{◌≡◌, ◌≤◌, List, ℕ, All, length, Result, Ok, Err, IfOk, sym, subst, arith}
 use Rattle.trace_player.specs.RunTraces.{TellsRun}
 use Rattle.relay_core.specs.Opening.{IsFitOpening, world_of_opening, opening_of}
 use Rattle.relay_events.specs.declared.event.Event.{Event}

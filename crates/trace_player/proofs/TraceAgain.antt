@@ -39,7 +39,8 @@ pub both_true : (a b : Bool) → a ≡ true → b ≡ true → (a && b) ≡ true
 both_true a b ea eb = rw (ea, eb) refl
 
 -- the lines of events are lines of words
-pub are_rows : (events : List Event) → AreTraced events → list_all is_row (map event_row events) ≡ true
+pub are_rows : (events : List Event) → AreTraced events
+    → list_all is_row (map event_row events) ≡ true
 are_rows [] are = refl
 are_rows (event ∷ events) (one, are) = both_true (is_row (event_row event))
     (list_all is_row (map event_row events)) (event_is_row event one) (are_rows events are)

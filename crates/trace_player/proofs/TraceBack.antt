@@ -11,7 +11,7 @@ use Rattle.trace_openings.proofs.OpeningBack.{opening_back, opening_lines, writt
 use Rattle.trace_openings.proofs.OpeningFieldLaws.{version_again}
 use Rattle.trace_words.proofs.PlacesBack.{Took, then, line_read, line_back}
 use Rattle.trace_lines.specs.Events.{event_of, events_from}
-use Rattle.trace_lines.specs.OpenCount.{count_at, open_row}
+use Rattle.trace_lines.specs.OpenCount.{count_at}
 use Rattle.trace_openings.specs.OpeningFields.{version_from}
 use Rattle.trace_openings.specs.OpeningForms.{Forms, AreFormsOf, written_forms, rows_with}
 use Rattle.trace_openings.specs.OpeningReading.{opening_in, opening_from}
@@ -64,7 +64,7 @@ none_left number [] [] x y e = (refl, refl, ok_is x y e)
 none_left number [] (byte ∷ bytes) x y e = absurd cc
 none_left number (row ∷ rows) unended x y e = absurd cc
 
-ended_back : (place : Place) (x y : Trace) → ended_at place x ≡ Ok y → (place.rows ≡ [])
+pub ended_back : (place : Place) (x y : Trace) → ended_at place x ≡ Ok y → (place.rows ≡ [])
     × (place.unended ≡ []) × (x ≡ y)
 unfolding ended_at
 ended_back place x y e = none_left place.number place.rows place.unended x y e
@@ -74,7 +74,8 @@ ended_back place x y e = none_left place.number place.rows place.unended x y e
 first_is : (a b : Row) (rows others : List Row) → a ∷ rows ≡ b ∷ others → a ≡ b
 first_is a b rows others e = cc
 
-pub version_two : (place : Place) (rows : List Row) (version : Version) (o : Opening) (behind : Place)
+pub version_two : (place : Place) (rows : List Row) (version : Version) (o : Opening)
+    (behind : Place)
     → place.rows ≡ number_row (codes "RELAYTRACE") 2 ∷ rows
     → opening_from place ≡ Ok ((version, o), behind) → version ≡ Two
 unfolding opening_from
@@ -109,7 +110,8 @@ text_is text front middle others last events count a b c is_front is_count is_ev
     ∙ append-nil (rows_text (front ++ count ∷ events))
 
 pub trace_back : (text : List ℕ) (trace : Trace) → IsOfVersionTwo text → IsCounted text
-    → trace_of text ≡ Ok trace → (forms : Forms) × AreFormsOf trace.opening forms × (text ≡ text_with trace forms)
+    → trace_of text ≡ Ok trace
+    → (forms : Forms) × AreFormsOf trace.opening forms × (text ≡ text_with trace forms)
 unfolding trace_of trace_from
 trace_back text trace two closed e =
     let short = refused_ok (nat_lt max_bytes (length text)) TooLong

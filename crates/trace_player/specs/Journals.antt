@@ -1,5 +1,5 @@
--- A journal: a trace that is still being written. Its line of the number of events is `events -`, so
--- that lines may be appended; its events are all whole lines up to its first byte 0.
+-- A journal: a trace that is still being written. Its line of the number of events is `events -`,
+-- so that lines may be appended; its events are all whole lines up to its first byte 0.
 --     journal_text    the text of a journal
 --     events_text     the lines of events that are appended to it
 --     with_events     a trace with further events

@@ -4,7 +4,8 @@
 --     trace_after      a trace of an opening and of the events after the line of their number
 --     trace_of         the trace of a text, or its fault
 --     trace_text       the text that is written for a trace, in version 2
-use Rattle.std.specs.Prelude.{ℕ, zero, suc, nat_lt, if◌then◌else◌, codes, List, [], ◌∷◌, ◌++◌, length, map, Option, Result, Ok, Err}
+use Rattle.std.specs.Prelude.{ℕ, zero, suc, nat_lt, if◌then◌else◌, codes, List, [], ◌∷◌, ◌++◌}
+use Rattle.std.specs.Prelude.{length, map, Option, Result, Ok, Err}
 use Rattle.wire_bytes.specs.Outcome.{◌>>=◌}
 use Rattle.relay_events.specs.declared.event.Event.{Event}
 use Rattle.relay_core.specs.declared.opening.Opening.{Opening}

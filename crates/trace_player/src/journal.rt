@@ -85,9 +85,9 @@ fn starts_with(text: &[u8], line: &[u8]) -> bool
     }
 }
 
-/// Returns whether a text begins as a journal: its version is 2, and `events -` follows the 30 lines
-/// of its opening. Lines of events may be appended to a text that is read as a trace only if it is a
-/// journal: any other trace states the number of its events, or is of version 1.
+/// Returns whether a text begins as a journal: its version is 2, and `events -` follows the 30
+/// lines of its opening. Lines of events may be appended to a text that is read as a trace only if
+/// it is a journal: any other trace states the number of its events, or is of version 1.
 pub fn is_journal(text: &[u8]) -> bool
     ensures { IsTrue result ↔ IsJournal text.now }
 {

@@ -39,13 +39,34 @@ pub fn written_journal_is_read()
     written_opening_is_read();
 }
 
-/// Proves that a journal that is read is read as the same trace once all that follows its last whole
-/// line before its first byte 0 is cut, as recovery does.
+/// Proves that a journal that is read is read as the same trace once all that follows its last
+/// whole line before its first byte 0 is cut, as recovery does.
 #[tactic(auto, using(crate::proofs::Recovered::recovered_again))]
 pub fn recovered_journal_is_read()
     ensures { (text : List ℕ) (trace : Trace) → IsJournal text → trace_of text ≡ Ok trace
         → trace_of (whole_text text) ≡ Ok trace }
 {}
+
+/// Proves that a journal that is read, and has no torn tail, is read with the events whose lines
+/// are appended to it, whatever torn tail follows them.
+#[tactic(auto, using(crate::proofs::Appended::appended_again))]
+pub fn appended_journal_is_read()
+    ensures { (text : List ℕ) (trace : Trace) (more : List Event) (tail : List ℕ)
+        → IsJournal text → trace_of text ≡ Ok trace → whole_text text ≡ text → AreTraced more
+        → IsTail tail → length (text ++ events_text more ++ tail) ≤ max_bytes
+        → trace_of (text ++ events_text more ++ tail) ≡ Ok (with_events trace more) }
+{}
+
+/// Proves that a journal that is written, and the lines of events that are appended to it, are
+/// whole lines without a byte 0: recovery keeps all of them.
+pub fn written_journal_is_whole()
+    ensures journal { (trace : Trace) → IsWritable trace.opening → AreTraced trace.events
+        → whole_text (journal_text trace) ≡ journal_text trace }
+    ensures events { (events : List Event) → AreTraced events
+        → whole_text (events_text events) ≡ events_text events }
+{
+    written_opening_is_read();
+}
 
 /// Proves which bytes are a torn tail: bytes without a byte 0A, and bytes whose first byte 0 comes
 /// before any byte 0A, whatever follows it.
@@ -62,7 +83,8 @@ pub fn torn_tails_have_no_line()
 #[tactic(auto, using(crate::proofs::TraceBack::trace_back, crate::proofs::TraceBack::written_text))]
 pub fn read_trace_is_written()
     ensures text { (text : List ℕ) (trace : Trace) → IsOfVersionTwo text → IsCounted text
-        → trace_of text ≡ Ok trace → (forms : Forms) × AreFormsOf trace.opening forms × (text ≡ text_with trace forms) }
+        → trace_of text ≡ Ok trace
+        → (forms : Forms) × AreFormsOf trace.opening forms × (text ≡ text_with trace forms) }
     ensures written { (trace : Trace)
         → text_with trace (written_forms trace.opening) ≡ trace_text trace }
 {}

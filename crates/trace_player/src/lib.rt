@@ -22,8 +22,9 @@ pub use exporting::recorder_trace;
 pub use fault::PlayFault;
 pub use journal::{is_journal, write_journal};
 pub use laws::{
-    exported_run_is_played, read_trace_is_written, recovered_journal_is_read,
-    torn_tails_have_no_line, written_journal_is_read, written_trace_is_read,
+    appended_journal_is_read, exported_run_is_played, read_trace_is_written,
+    recovered_journal_is_read, torn_tails_have_no_line, written_journal_is_read,
+    written_journal_is_whole, written_trace_is_read,
 };
 pub use player::play;
 pub use reading::{MAX_BYTES, read_trace};

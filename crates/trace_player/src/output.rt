@@ -1,12 +1,14 @@
 //! Plays the text of a trace and collects the output before any of it is written.
-ghost use Rattle.std.specs.Prelude.{◌≡◌, ◌+◌, ◌-◌, ◌<◌, ◌≤◌, ◌^◌, drop, length, IfErr, IfOk, IsErrOf};
+ghost use Rattle.std.specs.Prelude.{◌≡◌, ◌+◌, ◌-◌, ◌<◌, ◌≤◌, ◌^◌, drop, length};
+ghost use Rattle.std.specs.Prelude.{IfErr, IfOk, IsErrOf};
 ghost use Rattle.trace_words.specs.Places.{place_at, place_of};
 ghost use Rattle.wire_bytes.specs.Outcome.{Fails};
 ghost use Rattle.relay_core.specs.Opening.{IsFitOpening};
 ghost use Rattle.trace_lines.specs.OpenCount.{events_behind};
 ghost use Rattle.trace_words.specs.declared.fault.TraceFault.TheVariants as trace_fault;
 ghost use Rattle.trace_player.specs.Playing.{PlaysTrace};
-ghost use Rattle.trace_player.specs.Traces.{max_bytes, trace_after, trace_behind, trace_from, trace_of};
+ghost use Rattle.trace_player.specs.Traces.{max_bytes, trace_after, trace_behind, trace_from};
+ghost use Rattle.trace_player.specs.Traces.{trace_of};
 
 use crate::playing::play_events;
 use crate::reading::MAX_BYTES;

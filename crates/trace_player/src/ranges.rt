@@ -40,7 +40,7 @@ pub(crate) fn trace_is_read_again(trace: &Trace)
 
 // Makes known that a journal with an opening and events that fit it is read back, also after it has
 // grown and with a torn tail, if the text has at most 33,554,432 bytes.
-#[tactic(auto, using(crate::proofs::RangeLemmas::journal_whole, crate::proofs::RangeLemmas::journal_grown))]
+#[tactic(auto, using(crate::proofs::RangeLemmas::journals))]
 pub(crate) fn journal_is_read_again(trace: &Trace)
     ensures whole { FitsJournal trace.now → length (journal_text trace.now) ≤ max_bytes
         → trace_of (journal_text trace.now) ≡ Ok trace.now }

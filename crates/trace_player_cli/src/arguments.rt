@@ -5,7 +5,7 @@ use std::alloc::{AllocError, Global};
 
 // The last lines of `--help`.
 const LIMITS_AND_STATUSES: &str = "\
-Limits: a trace has at most 33,554,432 bytes and 65,536 events.
+Limits: a trace has at most 33,554,432 bytes and 65,536 events, a journal any number of events.
 A fault is the line `fault: WORD` on standard error. \
 With --verbose, a line before it says what was expected and what was found.
 Exit status: 0 success; 2 the command line or the input is wrong; \
@@ -87,7 +87,7 @@ fn verbose<'a>(alloc: Global) -> Arg<'a> {
     flag(
         alloc,
         "verbose",
-        "On a fault, report what was expected and what was found on standard error",
+        "Report on standard error what is wrong, or how many bytes of a journal were left out",
     )
 }
 

@@ -15,7 +15,7 @@ mod telling;
 use crate::arguments::command_line;
 use crate::opening::not_opened;
 use crate::options::{Options, is_in_order, options_of};
-use crate::telling::tell;
+use crate::telling::{tell, tell_left_out};
 use clap::error::ErrorKind;
 use counted_io::{Counted, read_to_end_within};
 use program::{Fault, exit_code, without_work, words};
@@ -85,7 +85,12 @@ fn play_text(
         play_view(rt.alloc(), text, &options.view, &mut writer)
     };
     match played {
-        Ok(()) => Ok(()),
+        Ok(()) => {
+            if options.is_verbose {
+                tell_left_out(rt, name, text);
+            }
+            Ok(())
+        }
         Err(fault) => Err(report(rt, name, text, fault, options)),
     }
 }

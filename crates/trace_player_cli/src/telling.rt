@@ -1,4 +1,5 @@
-//! The message that `--verbose` writes if a text is not a trace.
+//! The messages that `--verbose` writes: why a text is not a trace, and how many bytes a journal
+//! has after its last whole line.
 use text_lines::{TextLines, Words, read_number};
 use thiserror::Error;
 use trace_player::{MAX_BYTES, PlayFault};
@@ -148,11 +149,44 @@ fn why_wrong(text: &[u8], number: u64) -> Why {
     }
 }
 
-// Returns the number of the last line that the line `events COUNT` announces, or `None` if that
-// line is missing.
-fn last_line(text: &[u8]) -> Option<u64> {
+// Writes to standard error, in one line, how many bytes of a journal were left out, if any. `text`
+// is a trace that was read from `name`.
+pub(crate) fn tell_left_out(rt: &HostRuntime, name: &str, text: &[u8]) {
+    let count = left_out(text);
+    if count > 0 {
+        let _ = eprintln!(rt;
+            "{name}: bytes after the last whole line that were left out: {count}"
+        );
+    }
+}
+
+// Returns the number of bytes of a journal after its last whole line before the first byte 0.
+// Returns 0 for a text without the line `events -`.
+fn left_out(text: &[u8]) -> usize {
+    let mut lines = TextLines::new(text);
+    if lines.nth(head_len(text).saturating_sub(1) as usize) != Some(b"events -".as_slice()) {
+        return 0;
+    }
+    let mut left = lines.rest().len();
+    'lines: for line in lines {
+        if line.contains(&0) {
+            break 'lines;
+        }
+        left = left.saturating_sub(line.len()).saturating_sub(1);
+    }
+    left
+}
+
+// Returns the number of the line of the number of events.
+fn head_len(text: &[u8]) -> u64 {
     let export = if is_version_1(text) { EXPORT_LINES } else { 0 };
-    let head = (OPENING.len() as u64).saturating_sub(export);
+    (OPENING.len() as u64).saturating_sub(export)
+}
+
+// Returns the number of the last line that the line `events COUNT` announces. Returns `None` if
+// that line is missing, or announces no number.
+fn last_line(text: &[u8]) -> Option<u64> {
+    let head = head_len(text);
     let mut words = Words::new(line_of(text, head)?);
     if words.next()? != b"events".as_slice() {
         return None;

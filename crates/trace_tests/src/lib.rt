@@ -8,6 +8,8 @@
 #[cfg(test)]
 mod exports;
 #[cfg(test)]
+mod journals;
+#[cfg(test)]
 mod lines;
 #[cfg(test)]
 mod openings;

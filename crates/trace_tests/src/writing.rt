@@ -10,7 +10,7 @@ use trace_openings::write_opening;
 use wire_bytes::Listed;
 
 // The lines of a new meter with the name RELAY1.
-const NEW: &[u8] = b"RELAYTRACE 2\n\
+pub(crate) const NEW: &[u8] = b"RELAYTRACE 2\n\
     device 52454C415931\n\
     state 1\n\
     mode 0\n\

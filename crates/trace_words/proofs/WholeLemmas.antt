@@ -1,6 +1,7 @@
 -- The whole lines of a text before its first byte 0, and the text of these lines alone.
 use Rattle.std.proofs.Common.{◌≡◌, ℕ, ◌+◌, ◌-◌, ◌<◌, ◌≤◌, ◌^◌, Bool, true, false, cond, List}
-use Rattle.std.proofs.Common.{[], ◌∷◌, ◌++◌, length, map, take, drop, refl, sym, ap, ap₂, ◌∙◌, subst}
+use Rattle.std.proofs.Common.{[], ◌∷◌, ◌++◌, length, map, take, drop, refl, sym, ap, ap₂, ◌∙◌}
+use Rattle.std.proofs.Common.{subst}
 use Rattle.std.proofs.Common.{arith, append_assoc, append-nil, length-append}
 use Rattle.std.specs.List.{onto_first}
 use Rattle.std.specs.Prelude.{if◌then◌else◌}
@@ -66,7 +67,8 @@ lines_have_none text = first_lines_have_none (parts_at 10 text) (have_none text)
 line_has_no_end : (text line : List ℕ) (lines : List (List ℕ)) → lines_of text ≡ line ∷ lines
     → HasNo 10 line
 unfolding lines_of
-line_has_no_end text line lines is = first_has_none (parts_at 10 text) line lines is (have_none text)
+line_has_no_end text line lines is =
+    first_has_none (parts_at 10 text) line lines is (have_none text)
 
 -- ---- the first line, alone
 
@@ -92,7 +94,7 @@ alone line none = record {
   ended = unended_of-line line [] none ∙ unended_of-nil;
 }
 
-rows_joined : (text rest : List ℕ) → unended_of text ≡ []
+pub rows_joined : (text rest : List ℕ) → unended_of text ≡ []
     → rows_of (text ++ rest) ≡ rows_of text ++ rows_of rest
 unfolding rows_of
 rows_joined text rest ended = ap (map words_of) (lines_joined text rest ended)
