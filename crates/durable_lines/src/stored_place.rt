@@ -13,8 +13,8 @@ use std::fs::{File, Files};
 /// failed, every later call fails, too.
 ///
 /// As for a [`StoredFile`], nothing is claimed of the bytes: that such a name acts as the crash
-/// model says is a premise. Hold a [`LockFile`](crate::LockFile) of the name as long as its file may
-/// be replaced.
+/// model says is a premise. Hold a [`LockFile`](crate::LockFile) of the name as long as its file
+/// may be replaced.
 #[derive(Drop)]
 pub struct StoredPlace<'a, R: Files<File = File>> {
     files: &'a R,

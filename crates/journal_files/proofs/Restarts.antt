@@ -1,4 +1,4 @@
--- A journal tells of its meter's run: the events that only read have no line, and change nothing.
+-- A journal has its meter's run: the events that only read have no line, and change nothing.
 use Rattle.std.proofs.Common.{◌≡◌, List, [], ◌∷◌, ◌++◌, refl, ◌∙◌}
 use Rattle.relay_core.proofs.RunLemmas.{world_after-append}
 use Rattle.relay_core.specs.Machine.{at_event}
@@ -7,7 +7,8 @@ use Rattle.relay_core.specs.Runs.{world_after}
 use Rattle.relay_core.specs.World.{World}
 use Rattle.relay_events.specs.Kinds.{is_read}
 use Rattle.relay_events.specs.declared.event.Event.{Event}
-use Rattle.relay_events.specs.declared.event.Event.TheVariants.{Get, GetList, Set, Execute, Button, Samples, Moment}
+use Rattle.relay_events.specs.declared.event.Event.TheVariants.{Get, GetList, Set, Execute}
+use Rattle.relay_events.specs.declared.event.Event.TheVariants.{Button, Samples, Moment}
 use Rattle.relay_recorder.specs.declared.trace.Trace.{Trace}
 use Rattle.trace_player.specs.Journals.{with_events}
 use Rattle.trace_player.specs.Resuming.{world_of}

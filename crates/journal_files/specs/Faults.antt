@@ -10,13 +10,13 @@ use Rattle.journal_files.specs.declared.fault.StartFault.TheVariants as journal
 use Rattle.trace_words.specs.declared.fault.TraceFault.{TraceFault}
 use Rattle.trace_words.specs.declared.fault.TraceFault.TheVariants as trace
 
--- the same line, length or want of memory
+-- the same line or length, or out of memory
 abbrev pub of_trace : TraceFault → StartFault
 of_trace (trace.Line number) = journal.Line number
 of_trace trace.TooLong = journal.TooLong
 of_trace trace.Memory = journal.Memory
 
--- a failed call, the length or want of memory
+-- a failed call, the length, or out of memory
 abbrev pub of_file : FileFault → StartFault
 of_file file.Failed = journal.File
 of_file file.TooLong = journal.TooLong

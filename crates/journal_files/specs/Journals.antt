@@ -26,8 +26,8 @@ pub record IsBegun (recorder : Recording) (seen : List ℕ) (may_leave : List �
     pub journal : IsJournalOf recorder seen
     pub durable : Only seen may_leave
 
--- The recorder goes on where the run ends that a text tells of: its core stands for the meter at
--- the end of that run, and whatever comes next it answers as the meter that wrote the text.
+-- The recorder goes on where the run of a text ends: its core stands for the meter at the end of
+-- that run, and whatever comes next it answers as the meter that wrote the text.
 pub record Continues (device text : List ℕ) (recorder : Recording) : Type 0 where
   pub trace : Trace
   pub journal : IsJournal text

@@ -1,5 +1,5 @@
-//! Laws of journals. Each function is a law: its contract states it, and a call makes it known to the
-//! prover.
+//! Laws of journals. Each function is a law: its contract states it, and a call makes it known to
+//! the prover.
 ghost use Rattle.std.specs.Prelude.{◌≡◌, ◌≤◌, ◌++◌, ℕ, List, Ok, length};
 ghost use Rattle.journal_files.specs.Journals.{changing};
 ghost use Rattle.relay_core.specs.Runs.{world_after};

@@ -23,7 +23,7 @@ pub struct Resumed {
     pub cut: usize,
 }
 
-// Reads the trace that a journal's text tells of, for the meter of this name.
+// Reads the trace of a journal's text, for the meter of this name.
 fn judged_trace(alloc: Global, text: &[u8], device: &Octets) -> Result<Trace, StartFault>
     ensures told { IfOk result (λ trace. trace_of text.now ≡ Ok trace) }
     ensures journal { OnOk result (IsJournal text.now) }

@@ -1,5 +1,6 @@
 -- What serving did, the journal's worker and the meter in the lock are a run with a journal.
-use Rattle.std.proofs.Common.{◌≡◌, ℕ, zero, suc, ◌+◌, ◌<◌, ◌≤◌, List, [], ◌∷◌, ◌++◌, Option, Some, None}
+use Rattle.std.proofs.Common.{◌≡◌, ℕ, zero, suc, ◌+◌, ◌<◌, ◌≤◌, List, [], ◌∷◌, ◌++◌}
+use Rattle.std.proofs.Common.{Option, Some, None}
 use Rattle.std.proofs.Common.{Result, Ok, Err, IfOk, refl, sym, ap, subst, ◌∙◌, arith, inl, inr}
 use Rattle.durable_lines.specs.CrashModel.{LeavesOnly}
 use Rattle.durable_lines.proofs.Moments.{begin}
@@ -163,9 +164,11 @@ module _ {F : Type 0} (acts : Type 0) (seen : F → List ℕ) (may_leave : F →
       record {
         run = run;
         kept = λ a.
-            let kept = kept_by lent back.back finished.end idle back.ended a in
-            (kept.0, leaves_later moment left_since file kept.0 (lines_in (seen file))
-            back.back.known.seen run.calls longer kept.1);
+            let kept = kept_by lent back.back finished.end idle back.ended a in (
+              kept.0,
+              leaves_later moment left_since file kept.0 (lines_in (seen file))
+                  back.back.known.seen run.calls longer kept.1,
+            );
       }
 
   -- the file of a worker that has not begun has the lines that it had

@@ -20,8 +20,8 @@ use Rattle.turn_lock.specs.History.{calls_by}
 use Rattle.turn_lock.specs.declared.call_fault.CallFault.{CallFault}
 
 -- A run in which the first port that was split off is the journal's; and if the file acts as the
--- crash model says, a crash at any moment of the run leaves the lines that it had first, followed by
--- a front of the lines of the run.
+-- crash model says, a crash at any moment of the run leaves the lines that it had first, followed
+-- by a front of the lines of the run.
 pub record IsJournaledRun {F : Type 0} (acts : Type 0) (seen : F → List ℕ) (moment : F → ℕ)
     (left_since : F → ℕ → List ℕ → Type 0) (file : F) (recorder : Recording) (given : Given)
     (served : Result Served ServeFault) (text : List ℕ) : Type 0 where

@@ -4,7 +4,8 @@ ghost use Rattle.acse_ber.specs.Password.{IsPassword};
 ghost use Rattle.durable_lines.specs.CrashModel.{LeavesOnly};
 ghost use Rattle.durable_lines.specs.Lines.{lines_in, IsSettled};
 ghost use Rattle.meter_journal.specs.Saving.{IsSavedFrom, Keeps};
-ghost use Rattle.meter_run.specs.Journaled.{IsFinished, IsJournaledRun, IsStarted, fault_of_journal};
+ghost use Rattle.meter_run.specs.Journaled.{IsFinished, IsJournaledRun, IsStarted};
+ghost use Rattle.meter_run.specs.Journaled.{fault_of_journal};
 ghost use Rattle.meter_server.specs.ServingAll.{IsLimit, StopsFor};
 ghost use Rattle.port_threads.specs.Listening.{IsCounted};
 ghost use Rattle.program.specs.declared.fault.Fault.TheVariants.{Memory, Turns};
@@ -16,7 +17,7 @@ use crate::running::{lock, serve, trace_text};
 use cosem_axdr::Octets;
 use durable_lines::DurableFile;
 use meter_journal::{
-    FailureAction, JournalThread, JournalWorker, JournalProgress, start_journal, stop_journal,
+    FailureAction, JournalProgress, JournalThread, JournalWorker, start_journal, stop_journal,
 };
 use meter_server::{
     BlockSource, ButtonSource, ClientTerms, Listener, MomentSource, ServeFault, Served, Sources,
@@ -179,8 +180,8 @@ fn finish<F: DurableFile + Send, A: FailureAction, R: Threads>(
 
 /// Runs a meter with a journal: puts its recorder, which has no event yet, into a lock for 2^62
 /// calls, starts the journal's worker, serves the clients of the listener, passes the events of the
-/// sources to the meter as [`serve_all_journaled`](meter_server::serve_all_journaled) does, and then
-/// writes the lines that are left to the journal and the text of the meter's trace.
+/// sources to the meter as [`serve_all_journaled`](meter_server::serve_all_journaled) does, and
+/// then writes the lines that are left to the journal and the text of the meter's trace.
 ///
 /// An answer is written only after the lines of all calls that its session has seen are on the
 /// disk. If the journal fails, `on_failure` is called at once, and no event is answered any more

@@ -39,10 +39,7 @@ pub struct MeterRun {
 }
 
 // Returns a lock for 2^62 calls over a recorder without calls, and its first port.
-pub(crate) fn lock(
-    alloc: Global,
-    kept: Kept,
-) -> Result<(Shared<Kept>, Port<Kept>), AllocError>
+pub(crate) fn lock(alloc: Global, kept: Kept) -> Result<(Shared<Kept>, Port<Kept>), AllocError>
     requires { Stands kept [] }
     ensures lock { IfOk result (λ r. r.1.lock ≡ r.0) }
     ensures bound { IfOk result (λ r. r.1.bound ≡ 4611686018427387904) }
@@ -103,7 +100,11 @@ fn kept_trace(alloc: Global, kept: &Kept) -> Result<Octets, AllocError>
 
 // Closes a lock, and returns the text of the trace of its meter. Errors: `Turns` if a call was
 // still in its turn; `Memory`.
-pub(crate) fn trace_text(alloc: Global, shared: Shared<Kept>, port: Port<Kept>) -> Result<Octets, Fault>
+pub(crate) fn trace_text(
+    alloc: Global,
+    shared: Shared<Kept>,
+    port: Port<Kept>,
+) -> Result<Octets, Fault>
     requires { port.lock ≡ shared }
     ensures traces { IfOk result (Traces port.known) }
     ensures err { IfErr result (λ fault. (fault ≡ Turns) ⊎ (fault ≡ Memory)) }

@@ -84,11 +84,7 @@ fn folder_of(path: &str) -> &str {
 }
 
 // Writes the journal of a recorder as a new file.
-fn begin_file(
-    rt: &HostRuntime,
-    path: &str,
-    recorder: &Recorder,
-) -> Result<StoredFile, StartFault> {
+fn begin_file(rt: &HostRuntime, path: &str, recorder: &Recorder) -> Result<StoredFile, StartFault> {
     let Ok(folder) = File::open(rt, folder_of(path)) else {
         return Err(StartFault::File);
     };
@@ -164,10 +160,8 @@ fn lock(rt: &HostRuntime, path: &str) -> Result<LockFile, Fault> {
 // Returns the fault of the program for a journal that is not open.
 fn fault_of(fault: StartFault) -> Fault {
     match fault {
-        StartFault::Line(_)
-        | StartFault::TooLong
-        | StartFault::Counted
-        | StartFault::OtherMeter => Fault::Input,
+        StartFault::Line(_) | StartFault::TooLong | StartFault::Counted | StartFault::OtherMeter =>
+            Fault::Input,
         StartFault::File => Fault::Write,
         StartFault::Memory => Fault::Memory,
     }
@@ -222,7 +216,11 @@ pub(crate) fn run_journaled<R: Threads + Wait + Copy + Drop + Send + 'static, W:
     recorder: Recorder,
     parts: JournaledParts<R>,
     meter: &ClientParameters,
-) -> (Result<Served, ServeFault>, Result<(), Fault>, Result<(), Fault>)
+) -> (
+    Result<Served, ServeFault>,
+    Result<(), Fault>,
+    Result<(), Fault>,
+)
     requires unused { length recorder.events ≡ 0 }
     ensures { OnOk result.2
         (PrintsText (IsJournaledRun ⊥ (λ _. []) (λ _. 0) (λ _ _ _. ⊥) parts.journal.file recorder

@@ -5,9 +5,7 @@ ghost use Rattle.meter_run.specs.Runs.{IsRun};
 ghost use Rattle.meter_server_cli.specs.Endings.{PrintsText};
 
 use crate::ending::{Ends, print_trace, run_fault};
-use crate::journal::{
-    JournaledParts, OpenJournal, ServerEnd, open_journal, run_journaled,
-};
+use crate::journal::{JournaledParts, OpenJournal, ServerEnd, open_journal, run_journaled};
 use crate::messages::{why_not_listening, why_wrong_input};
 use cosem_axdr::Octets;
 use counted_io::Monitored;
@@ -340,8 +338,9 @@ pub(crate) fn run<R: Threads + Wait + Copy + Drop + Send + 'static>(
                 connections: bounds.connections,
             };
             let server = (sockets, sources, end);
-            let (served, kept, printed) =
-                serve_and_print(rt, threads, server, recorder, journal, &meter);
+            let (served, kept, printed) = serve_and_print(
+                rt, threads, server, recorder, journal, &meter,
+            );
             // (if there was no fault, the sources have ended, and so has the console)
             let console = if served.is_ok() && kept.is_ok() {
                 Some(console.join(threads))

@@ -126,9 +126,7 @@ fn journal<'a>(alloc: Global) -> Arg<'a> {
     Arg::new(alloc, "journal")
         .long("journal")
         .value_name("FILE")
-        .help(
-            "Journal: events are on disk before they are answered; the meter resumes from FILE",
-        )
+        .help("Journal: events are on disk before they are answered; the meter resumes from FILE")
         .action(ArgAction::Set)
 }
 

@@ -85,11 +85,7 @@ fn text_of(alloc: Global, matches: &ArgMatches<'_>, name: &str) -> Result<String
 }
 
 // Returns the text of an option, if it is given.
-fn given_text(
-    alloc: Global,
-    matches: &ArgMatches<'_>,
-    name: &str,
-) -> Result<Option<String>, Fault>
+fn given_text(alloc: Global, matches: &ArgMatches<'_>, name: &str) -> Result<Option<String>, Fault>
     ensures text { IfOk result (λ text. option_map string_bytes text
         ≡ first_value (found_of matches.now) name.now) }
     ensures err { IfErr result (λ fault. is_of_asking fault ≡ true) }

@@ -21,9 +21,7 @@ mod sink;
 #[cfg(test)]
 mod tests;
 
-pub use channels::{
-    ConsoleBlocks, ConsoleMoments, ConsolePresses, ConsoleSources, SourcesEnd,
-};
+pub use channels::{ConsoleBlocks, ConsoleMoments, ConsolePresses, ConsoleSources, SourcesEnd};
 pub use closing::Closing;
 pub use console::Console;
 pub use deadline_stream::DeadlineStream;

@@ -77,6 +77,7 @@ unfolding line_of
 line_is_plain [] plain = tt
 line_is_plain (word ∷ []) plain = plain.0
 line_is_plain (word ∷ next ∷ words) plain =
-    plain_append word (32 ∷ join_with_byte 32 (next ∷ words)) plain.0
-    (((λ e. absurd (omega (arith, e))), (λ e. absurd (omega (arith, e)))),
-    line_is_plain (next ∷ words) plain.1)
+    plain_append word (32 ∷ join_with_byte 32 (next ∷ words)) plain.0 (
+      ((λ e. absurd (omega (arith, e))), (λ e. absurd (omega (arith, e)))),
+      line_is_plain (next ∷ words) plain.1,
+    )

@@ -1,12 +1,12 @@
 use denote.Param.Send.{sendable}
 use Rattle.std.proofs.Crossing.{crosses}
-use Rattle.meter_journal.proofs.progress.ProgressState.TheSendSync.{the_sync as state_sync}
+use Rattle.meter_journal.proofs.progress.ProgressState.TheSendSync.{the_sync}
 use Rattle.meter_run.proofs.JournaledLemmas.{journaled_by}
 use Rattle.meter_run.proofs.journaled.run_journaled_meter.Goals as goal
 
 pub serve-port-requires-send-D : goal.serve-port-requires-send-D
 serve-port-requires-send-D g c κs within =
-    search (sendable, crosses, state_sync) depth 20 fits 100000
+    search (sendable, crosses, the_sync) depth 20 fits 100000
 
 pub returns-clause-run : goal.returns-clause-run
 returns-clause-run g c =
@@ -20,4 +20,5 @@ returns-clause-run g c =
       password = c.args.terms.now.password.now;
     }) c.serve-port.result.1 c.finish-trace.result.0 started.running.promise.port.value
     started.port c.serve-port.result.0 started.running.promise.worker.value c.in-Some.ensures.file
-    c.file_is_idle.ensures c.in-Some.ensures.starts c.serve-port.ensures.serves c.finish-trace.ensures.finished
+    c.file_is_idle.ensures c.in-Some.ensures.starts c.serve-port.ensures.serves
+    c.finish-trace.ensures.finished

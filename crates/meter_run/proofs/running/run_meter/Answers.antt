@@ -11,4 +11,5 @@ returns-in-Ok-clause-run g c =
       presses = g.U.ButtonSource.forecast c.args.sources.buttons;
       password = c.args.password.now;
     }) c.serve-port.result.1 c.trace_text-trace.result c.in-Ok.port c.serve-port.result.0
-    (c.in-Ok.ensures.known ∙ ap first_known c.new.ensures.origin) c.serve-port.ensures.serves c.trace_text-trace.ensures.traces
+    (c.in-Ok.ensures.known ∙ ap first_known c.new.ensures.origin) c.serve-port.ensures.serves
+    c.trace_text-trace.ensures.traces
