@@ -6,4 +6,6 @@
 #[cfg(test)]
 mod lines;
 #[cfg(test)]
+mod restarts;
+#[cfg(test)]
 mod saving;

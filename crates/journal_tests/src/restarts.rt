@@ -17,7 +17,7 @@ scripts 0100\nschedule 0 0 5 0100\nschedule 1 0 5 0100\nschedule 2 0 5 0100\n\
 schedule 3 0 5 0100\nevents -\n";
 
 // A write of mode 1, and a remote disconnection.
-const EVENTS: &[u8] = b"set 1 70 0000600300FF 4 0 1601\nexecute 1 70 0000600300FF 1 0F00\n";
+const EVENTS: &[u8] = b"set 1 70 000060030AFF 4 0 1601\nexecute 1 70 000060030AFF 1 0F00\n";
 
 // Returns the texts, one after the other.
 fn joined(alloc: Global, texts: &[&[u8]]) -> Result<Vec<u8>, StartFault> {
