@@ -1,13 +1,13 @@
 //! The lines of a journal: each event that may change the meter is noted behind its lock, in the
-//! order of the calls, and is taken once. A port settles once all lines are on the disk.
-ghost use Rattle.std.specs.Prelude.{◌≡◌, ◌<◌, ◌≤◌, ⊤, [], IfOk};
+//! order of the calls, and is taken once.
+ghost use Rattle.std.specs.Prelude.{◌≡◌, ◌<◌, ◌≤◌, [], IfOk};
 ghost use Rattle.shared_meter.specs.Calls.{Stands};
 
 use cosem_axdr::{Data, Octets};
 use cosem_names::{AttrRef, ClassId, Level, Obis};
 use relay_events::Event;
 use relay_recorder::Recorder;
-use shared_meter::{Durability, Finding, Kept, PendingLines, Question, settle};
+use shared_meter::{Finding, Kept, PendingLines, Question};
 use std::alloc::{AllocError, Global};
 use std::sync::Wait;
 use std::test::Fail;
@@ -30,7 +30,7 @@ fn read_mode() -> Event {
 }
 
 /// Returns a management client's write of mode 1.
-pub(crate) fn write_mode() -> Event {
+fn write_mode() -> Event {
     Event::Set {
         level: Level::Management,
         attr: MODE,
@@ -68,10 +68,7 @@ fn lock_over(
 }
 
 /// Returns a lock over a new meter with a journal, and its first port.
-pub(crate) fn new_journal(
-    alloc: Global,
-    bound: u64,
-) -> Result<(Shared<Kept>, Port<Kept>), AllocError>
+fn new_journal(alloc: Global, bound: u64) -> Result<(Shared<Kept>, Port<Kept>), AllocError>
     requires { (0 < bound) × (bound ≤ 1000) }
 {
     let pending = PendingLines::new(alloc, 64)?;
@@ -81,28 +78,6 @@ pub(crate) fn new_journal(
             drop(pending);
             Err(error)
         }
-    }
-}
-
-/// A journal whose first lines, of this number, are on the disk. It fails for any further line.
-#[derive(Drop)]
-struct DiskOf {
-    lines: u64,
-}
-
-impl Durability for DiskOf {
-    ghost is_durable = { λ _. ⊤ };
-
-    fn wait<W: Wait>(&self, _rt: &W, lines: u64) -> bool {
-        lines <= self.lines
-    }
-
-    fn has_failed(&self) -> bool {
-        false
-    }
-
-    fn share(&self) -> Result<DiskOf, AllocError> {
-        Ok(DiskOf { lines: self.lines })
     }
 }
 
@@ -144,7 +119,7 @@ fn takes<W: Wait>(
 }
 
 /// Calls the meter, and returns whether it replied.
-pub(crate) fn ask<W: Wait>(rt: &W, alloc: Global, port: &mut Port<Kept>, event: Event) -> bool {
+fn ask<W: Wait>(rt: &W, alloc: Global, port: &mut Port<Kept>, event: Event) -> bool {
     port.call(rt, alloc, event).is_ok()
 }
 
@@ -215,37 +190,5 @@ fn a_question_uses_up_a_turn(rt: HostRuntime) -> Result<(), Fail> {
     drop(port);
     drop(shared);
     assert!(rt; is_reply && one == Some(1) && over);
-    Ok(())
-}
-
-#[test]
-fn a_port_settles_if_all_lines_are_on_the_disk(rt: HostRuntime) -> Result<(), Fail> {
-    let alloc = rt.alloc();
-    let (shared, mut port) = new_journal(alloc, 100)?;
-    let journal = DiskOf { lines: 2 };
-    let none = settle(&rt, alloc, &mut port, &journal);
-    let are_replies = ask(&rt, alloc, &mut port, write_mode())
-        && ask(&rt, alloc, &mut port, Event::Button)
-        && ask(&rt, alloc, &mut port, read_mode());
-    let two = settle(&rt, alloc, &mut port, &journal);
-    let is_reply = ask(&rt, alloc, &mut port, Event::Moment(5));
-    let three = settle(&rt, alloc, &mut port, &journal);
-    drop(port);
-    drop(shared);
-    assert!(rt; none && are_replies && two);
-    assert!(rt; is_reply && !three);
-    Ok(())
-}
-
-#[test]
-fn a_port_of_a_meter_without_a_journal_does_not_settle(rt: HostRuntime) -> Result<(), Fail> {
-    let alloc = rt.alloc();
-    let recorder = new_recorder(alloc)?;
-    let (shared, mut port) = lock_over(alloc, Kept::new(recorder), 100)?;
-    let is_reply = ask(&rt, alloc, &mut port, Event::Button);
-    let settles = settle(&rt, alloc, &mut port, &DiskOf { lines: u64::MAX });
-    drop(port);
-    drop(shared);
-    assert!(rt; is_reply && !settles);
     Ok(())
 }
