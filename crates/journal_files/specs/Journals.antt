@@ -1,7 +1,7 @@
 -- The journal of a meter in a file.
 --     IsJournalOf    the text of a recorder's journal
 --     IsBegun        a file with that text, on the disk
---     Continues      a recorder that goes on where a journal's lines end
+--     Continues      a recorder that continues where a journal's lines end
 --     changing       the events that have a line
 use Rattle.std.specs.Prelude.{◌≡◌, ℕ, not, List, filter, Ok}
 use Rattle.durable_lines.specs.CrashModel.{Only}
@@ -26,7 +26,7 @@ pub record IsBegun (recorder : Recording) (seen : List ℕ) (may_leave : List �
     pub journal : IsJournalOf recorder seen
     pub durable : Only seen may_leave
 
--- The recorder goes on where the run of a text ends: its core stands for the meter at the end of
+-- The recorder continues where the run of a text ends: its core stands for the meter at the end of
 -- that run, and whatever comes next it answers as the meter that wrote the text.
 pub record Continues (device text : List ℕ) (recorder : Recording) : Type 0 where
   pub trace : Trace

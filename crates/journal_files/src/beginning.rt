@@ -28,7 +28,7 @@ fn journal_of(alloc: Global, recorder: &Recorder) -> Result<Octets, StartFault>
 /// After `Ok` every crash leaves that journal under the name; a crash during the call leaves it, or
 /// what could be left before. Errors: `Memory`; `File` if a call on the place or its file failed,
 /// after which the name has the old file or the new one; `TooLong` if the text is longer than the
-/// file may be.
+/// file may be; `Line(1)` if the text has a byte 0, which is tested, since no contract excludes it.
 pub fn begin_journal<P: Place>(
     alloc: Global,
     place: &mut P,

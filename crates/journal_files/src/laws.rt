@@ -14,8 +14,8 @@ ghost use Rattle.trace_words.specs.WholeLines.{IsTail};
 
 use trace_player::written_journal_is_read;
 
-/// Proves that a meter that is started again stands where it stood. Its journal was begun with a
-/// trace; since then it got the line of each event that may change the meter, and whatever torn
+/// Proves that a meter that is started again has the state that it had. Its journal was begun with
+/// a trace; since then it got the line of each event that may change the meter, and whatever torn
 /// tail. It is read as the trace with these events, and the meter after that trace is the one after
 /// all events, also those that only read.
 #[tactic(auto, using(crate::proofs::Restarts::goes_on))]

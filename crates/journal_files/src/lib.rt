@@ -3,8 +3,8 @@
 //! A journal is the text of a trace whose number of events is left open (`events -`): the state of
 //! the meter at its beginning, then a line for each event that was appended since.
 //! [`begin_journal`] writes the first text under the journal's name. [`resume_journal`] judges what
-//! a crash has left, cuts an interrupted line, and returns the recorder of a meter that goes on
-//! where the lines end.
+//! a crash has left, cuts an interrupted line, and returns the recorder of a meter that
+//! continues where the lines end.
 #![tactic(auto)]
 
 mod beginning;

@@ -1,4 +1,4 @@
-//! Resumes a journal: judges its text, cuts an interrupted line, and goes on where its lines end.
+//! Resumes a journal: judges its text, cuts an interrupted line, and continues where its lines end.
 ghost use Rattle.std.specs.Prelude.{◌≡◌, ◌≤◌, [], Ok, IfOk, IfErr, OnOk};
 ghost use Rattle.durable_lines.specs.Lines.{IsSettled, lines_in, text_of};
 ghost use Rattle.journal_files.specs.Faults.{IsRefusal};
@@ -43,8 +43,8 @@ fn judged_trace(alloc: Global, text: &[u8], device: &Octets) -> Result<Trace, St
 }
 
 /// Resumes the journal of the meter with this name: reads it, cuts what an interrupted write has
-/// left after its last whole line, and returns the recorder of a meter that goes on where its lines
-/// end, which keeps at most `depth` events, 1 to 1,024. The file is then ready for
+/// left after its last whole line, and returns the recorder of a meter that continues where its
+/// lines end, which keeps at most `depth` events, 1 to 1,024. The file is then ready for
 /// [`append_lines`](durable_lines::append_lines).
 ///
 /// Errors, in this order: `File` if a call on the file failed; `TooLong`; `Line`; `Counted`;
