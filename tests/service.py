@@ -179,8 +179,8 @@ def a_killed_server_is_not_resumed(name, folder):
 
 @in_folder
 def a_killed_server_has_its_journal(name, folder):
-    """A journal begins from the last trace. A killed server resumes from it, and not from the
-    trace, once the marker was removed."""
+    """A journal begins from the last trace. After a kill the meter resumes from it, and not from
+    the trace; without it, and with another one, it does not start."""
     journal = ("--journal", str(folder / "journal"))
     service = Service(folder)
     client = service.client()
@@ -195,8 +195,11 @@ def a_killed_server_has_its_journal(name, folder):
     status, _, errors = service.ended()
     check(f"{name}: status", status == 128 + 9 and "stays" in errors, status, errors)
     client.close()
-    (folder / "running").unlink()
-    service = Service(folder, *journal)
+    for others in ((), ("--journal", str(folder / "other"))):
+        status, _, errors = Service(folder, *others).ended()
+        check(f"{name}: refused with {others}", status == 2 and journal[1] in errors
+              and errors.count("\n") == 1 and "listening" not in errors, status, errors)
+    service = Service(folder, "--journal=" + journal[1])
     client = service.client()
     check(f"{name}: from the journal", client.get(STATE) == "value 1600")
     client.close()
