@@ -86,7 +86,7 @@ class Meter(Server):
     def begin(self):
         """Waits until the meter listens, and writes its mode."""
         self.wait_for(b"\n")
-        line = re.match(rb"listening on 127\.0\.0\.1:(\d+)\n", self.errors)
+        line = re.match(rb"\S+ listening on 127\.0\.0\.1:(\d+)\n", self.errors)
         assert line, f"{self.name} does not listen: {self.errors}"
         self.port = int(line[1])
         if self.writes:

@@ -407,6 +407,17 @@ def again_served(server):
     raise Vanished
 
 
+# What the server reports of the lines of the test below: the first one of each reason.
+SKIPPED = [
+    "console: line 2: skipped: expected button, samples, pairs or moment, found `nonsense`",
+    "console: line 7: skipped: expected the line of an event as a trace has it, found `button 2`",
+    "console: line 8: skipped: expected a line that ends with LF alone, found `moment 100\\x0D`",
+    "console: line 9: skipped: expected at most 8,191 bytes, found `" + "x" * 60 + "..`",
+    "console: line 12: skipped: expected a line end, found `moment 300`",
+    "console: skipped 6 lines in all",
+]
+
+
 def console_lines_act_beside_clients(name):
     server = Server("--connections", "1")
     client = server.client()
@@ -419,7 +430,9 @@ def console_lines_act_beside_clients(name):
     check(f"{name}: the last sample", client.get(REGISTER) == "value 060000001E")
     client.close()
     server.say_bytes(b"moment 200\nmoment 300")  # the last line has no line end
-    status, trace, _ = server.ended()
+    status, trace, errors = server.ended()
+    skipped = [line for line in errors.splitlines() if "console: " in line]
+    check(f"{name}: what was skipped", skipped == SKIPPED, skipped)
     history = played(trace)
     own = [event for event, _ in history if event.split()[0] in ("samples", "pairs", "moment", "button")]
     check(f"{name}: each good line once", sorted(own) == sorted(["moment 100", "samples 10 20", "pairs 30 40", "button", "samples", "moment 200"]), own)
@@ -551,6 +564,35 @@ def wrong_passwords_are_refused(name):
         check(f"{name}: length", made == (2, "", "fault: input\n"), words, made)
 
 
+# The time at the head of a line of the log.
+TIME = r"\d{4}-\d\d-\d\dT\d\d:\d\d:\d\d\.\d{3}Z"
+
+
+def the_log_reports_each_client(name):
+    server = Server("--connections", "3")
+    client = Client(server.port)
+    check(f"{name}: refused", client.associate("1234567") == REFUSED + "0D")
+    client.close()
+    check(f"{name}: one has ended", server.wait_for(b"client 1, ") and server.wait_for(b"session ended", 1))
+    client = server.client()
+    found = client.get(STATE), client.set(MODE, "1607"), client.set(MODE, "1601")
+    check(f"{name}: served, refused, served", found == ("value 1601", "code 250", "code 0"), found)
+    client.close()
+    check(f"{name}: two have ended", server.wait_for(b"session ended", 2))
+    client = server.client(PUBLIC)
+    check(f"{name}: the public client is refused", client.set(MODE, "1602") == "code 3")
+    client.release()
+    client.close()
+    status, _, errors = server.ended()
+    reasons = ("connected", "association refused: wrong password (diagnostic 13)", "session ended: the client closed the connection; 0 requests, 0 refused",
+               "connected", "associated as the management client", "session ended: the client closed the connection; 3 requests, 1 refused",
+               "connected", "associated as the public client", "session ended: the client closed the connection; 1 requests, 1 refused")
+    wanted = [f"{TIME} listening on 127\\.0\\.0\\.1:\\d+"]
+    wanted += [f"{TIME} client {i // 3 + 1}, 127\\.0\\.0\\.1:\\d+: {re.escape(reason)}" for i, reason in enumerate(reasons)]
+    lines = errors.splitlines()
+    check(f"{name}: lines", status == 0 and len(lines) == len(wanted) and all(map(re.fullmatch, wanted, lines)), errors)
+
+
 def the_environment_has_the_password(name):
     server = Server("--connections", "1", password=None, environment={"METER_PASSWORD": "of the environment"})
     client = Client(server.port)
@@ -636,6 +678,7 @@ def main():
                      a_client_whose_stream_cannot_be_set_up_is_turned_away,
                      console_lines_act_beside_clients, a_console_that_is_not_read_is_a_fault, a_limit_of_connections_ends_the_server, the_end_of_input_ends_the_server,
                      an_address_in_use_is_a_fault, a_meter_goes_on_from_its_trace, a_wrong_trace_is_not_gone_on_from, wrong_passwords_are_refused,
+                     the_log_reports_each_client,
                      the_environment_has_the_password, a_file_has_the_password, a_client_may_vanish_in_mid_frame, a_silent_client_is_closed):
         test(function)
     print(f"{passed} passed, {failed} failed")

@@ -32,7 +32,7 @@ def begun(has_journal, clients):
         (work / name).unlink(missing_ok=True)
     words = [proved, "serve", *OPTIONS, "--connections", str(clients), *["--journal", work / "journal"] * has_journal]
     server = subprocess.Popen(words, stdin=subprocess.PIPE, stdout=subprocess.DEVNULL, stderr=subprocess.PIPE)
-    return server, int(re.fullmatch(rb"listening on .*:(\d+)\n", server.stderr.readline())[1])
+    return server, int(re.fullmatch(rb"\S+ listening on .*:(\d+)\n", server.stderr.readline())[1])
 
 def run(has_journal, clients, each, kind):
     """The time of a run, and the processor time of the server, in microseconds per request."""

@@ -30,7 +30,7 @@ def begun(name, clients):
         return server, int(server.stdout.readline())
     words = [proved, "serve", *OPTIONS, "--connections", str(clients)]
     server = subprocess.Popen(words, stdin=subprocess.PIPE, stdout=subprocess.DEVNULL, stderr=subprocess.PIPE)
-    return server, int(re.fullmatch(rb"listening on .*:(\d+)\n", server.stderr.readline())[1])
+    return server, int(re.fullmatch(rb"\S+ listening on .*:(\d+)\n", server.stderr.readline())[1])
 
 def run(name, clients):
     """The time of a run, and the processor time of the server, in microseconds per request."""

@@ -1,5 +1,5 @@
 //! Tests of the crates for lists, streams, frames, blocks and words: `wire_bytes`, `counted_io`,
-//! `wrapper_frame`, `xdlms_blocks` and `text_lines`; of `program`, and of `durable_lines`.
+//! `wrapper_frame`, `xdlms_blocks` and `text_lines`; and of `program`.
 //!
 //! The tests have a crate of their own because a check of tests also proves the rest of their
 //! crate.
@@ -17,9 +17,5 @@ mod frames;
 mod input_lines;
 #[cfg(test)]
 mod lists;
-#[cfg(test)]
-mod replaced_files;
-#[cfg(test)]
-mod torn_lines;
 #[cfg(test)]
 mod words;

@@ -143,7 +143,7 @@ fn handed<R: Wait + Eprint + Copy>(
 {
     let mut input = text;
     let errors = sink.rt;
-    run_console(alloc, &mut input, buffer, sink, &errors)
+    run_console(alloc, &mut input, buffer, sink, &errors, true)
 }
 
 /// A text, and the letters of the events that are passed on.
@@ -220,7 +220,7 @@ fn a_failed_read_ends_the_console(rt: HostRuntime) -> Result<(), Fail> {
     let mut input = BufReader::new(rt.alloc(), failing)?;
     let mut sink = Listing::new(rt, rt.alloc());
     let buffer = LineBuffer::new(rt.alloc())?;
-    let end = run_console(rt.alloc(), &mut input, buffer, &mut sink, &rt);
+    let end = run_console(rt.alloc(), &mut input, buffer, &mut sink, &rt, false);
     assert!(rt; sink.has("bm"));
     assert!(rt; end.has_failed() && end.lost() == 0);
     Ok(())
@@ -260,6 +260,7 @@ fn each_worker_gets_its_own_events(rt: HostRuntime) -> Result<(), Fail> {
         input: b"moment 5\nsamples 10 20\nbutton\n".as_slice(),
         console,
         errors: rt,
+        is_verbose: false,
         ended: Silent,
     };
     let thread = start(&rt, rt.alloc(), reading).ok_or("no thread")?;

@@ -1,5 +1,5 @@
 //! The journal of `serve`: its lock file, its file, and the recorder that goes on where it ends.
-ghost use Rattle.std.specs.Prelude.{◌≡◌, [], None, IfOk, OnOk, length};
+ghost use Rattle.std.specs.Prelude.{◌≡◌, [], None, IfOk, IfSome, OnOk, length};
 ghost use Rattle.meter_run.specs.Journaled.{IsJournaledRun};
 ghost use Rattle.meter_server_cli.specs.Endings.{PrintsText};
 
@@ -12,11 +12,10 @@ use meter_run::{JournaledRun, MeterJournal, RunTerms, run_journaled_meter};
 use meter_server::{ServeFault, Served};
 use program::Fault;
 use relay_recorder::Recorder;
-use server_commands::ServePlan;
 use server_io::{Closing, ConsoleSources, Sockets, SourcesEnd};
 use std::alloc::AllocError;
 use std::fs::File;
-use std::io::{ErrorKind, Stdin, Write};
+use std::io::{ErrorKind, Write};
 use std::sync::Wait;
 use std::thread::Threads;
 use trace_player::MAX_BYTES;
@@ -102,40 +101,41 @@ fn resume_file(
 ) -> Result<(StoredFile, Resumed), StartFault>
     ensures { IfOk result (λ r. length r.1.recorder.events ≡ 0) }
 {
+    let opening = recorder.core().to_opening(rt.alloc())?;
     let Ok(mut file) = StoredFile::try_lock(file, MAX_BYTES) else {
+        drop(opening);
         return Err(StartFault::File);
     };
-    let opening = recorder.core().to_opening(rt.alloc())?;
     let resumed = resume_journal(rt.alloc(), &mut file, &opening.device, depth.clamp(1, 1024));
     drop(opening);
-    Ok((file, resumed?))
+    match resumed {
+        Ok(resumed) => Ok((file, resumed)),
+        Err(fault) => Err(fault),
+    }
 }
 
-// Opens the journal of a path, or begins it if there is no file. Returns its file, and the recorder
-// that goes on where it ends: the given one if it was begun.
+// Opens the journal of a path, or begins it with this recorder if there is no file. Returns its
+// file, and the recorder that goes on where it ends, or `None` if it was begun.
 fn open_file(
     rt: &HostRuntime,
     path: &str,
-    recorder: Recorder,
+    recorder: &Recorder,
     depth: u16,
-) -> Result<(StoredFile, Recorder), StartFault>
-    requires { length recorder.events ≡ 0 }
-    ensures { IfOk result (λ r. length r.1.events ≡ 0) }
+) -> Result<(StoredFile, Option<Recorder>), StartFault>
+    ensures { IfOk result (λ r. IfSome r.1 (λ resumed. length resumed.events ≡ 0)) }
 {
     let mut options = File::options();
     options.read(true).write(true);
     match options.open(rt, path) {
         Ok(file) => {
-            let (file, resumed) = resume_file(rt, file, &recorder, depth)?;
-            drop(recorder);
-            if resumed.cut > 0 {
-                let _ = eprintln!(rt; "{path}: cut {} bytes of an interrupted write", resumed.cut);
+            let (file, Resumed { recorder, cut }) = resume_file(rt, file, recorder, depth)?;
+            if cut > 0 {
+                let _ = eprintln!(rt; "{path}: cut {cut} bytes of an interrupted write");
             }
-            Ok((file, resumed.recorder))
+            Ok((file, Some(recorder)))
         }
         Err(error) if error.kind() == ErrorKind::NotFound => {
-            let file = begin_file(rt, path, &recorder)?;
-            Ok((file, recorder))
+            Ok((begin_file(rt, path, recorder)?, None))
         }
         Err(_) => Err(StartFault::File),
     }
@@ -167,41 +167,69 @@ fn fault_of(fault: StartFault) -> Fault {
     }
 }
 
-// Opens the journal of a path, whose meter then goes on where it ends. Reports on standard error
-// why it is not open.
-pub(crate) fn open_journal(
+// Returns the journal of a path with its open file and its lock.
+fn journal_with(
     rt: &HostRuntime,
     path: &str,
-    plan: ServePlan<Stdin>,
-) -> Result<(ServePlan<Stdin>, OpenJournal), Fault> {
+    file: StoredFile,
+    lock: LockFile,
+) -> Result<OpenJournal, Fault> {
+    match with_suffix(rt, path, "") {
+        Ok(path) => Ok(OpenJournal { path, file, lock }),
+        Err(_) => Err(Fault::Memory),
+    }
+}
+
+// Opens the journal of a path. Returns it, and the recorder that goes on where it ends, or `None`
+// if it was begun with the given one. Reports on standard error why it is not open.
+fn open_with_lock(
+    rt: &HostRuntime,
+    path: &str,
+    recorder: &Recorder,
+    depth: u16,
+) -> Result<(OpenJournal, Option<Recorder>), Fault>
+    ensures { IfOk result (λ r. IfSome r.1 (λ resumed. length resumed.events ≡ 0)) }
+{
     if path.is_empty() {
         let _ = eprintln!(rt; "journal: expected the path of a file");
         return Err(Fault::Input);
     }
     let lock = lock(rt, path)?;
-    let ServePlan {
-        bounds,
-        password,
-        recorder,
-        input,
-    } = plan;
-    match open_file(rt, path, recorder, bounds.depth) {
-        Ok((file, recorder)) => Ok((
-            ServePlan {
-                bounds,
-                password,
-                recorder,
-                input,
-            },
-            OpenJournal {
-                path: with_suffix(rt, path, "").map_err(|_| Fault::Memory)?,
-                file,
-                lock,
-            },
-        )),
+    match open_file(rt, path, recorder, depth) {
+        Ok((file, resumed)) => match journal_with(rt, path, file, lock) {
+            Ok(journal) => Ok((journal, resumed)),
+            Err(fault) => {
+                drop(resumed);
+                Err(fault)
+            }
+        },
         Err(fault) => {
             let _ = eprintln!(rt; "{path}: {fault}");
             Err(fault_of(fault))
+        }
+    }
+}
+
+// Opens the journal of a path. Returns it, and the recorder of the meter: the one that goes on
+// where the journal ends, or the given one if the journal was begun with it.
+pub(crate) fn open_journal(
+    rt: &HostRuntime,
+    path: &str,
+    recorder: Recorder,
+    depth: u16,
+) -> Result<(OpenJournal, Recorder), Fault>
+    requires { length recorder.events ≡ 0 }
+    ensures { IfOk result (λ r. length r.1.events ≡ 0) }
+{
+    match open_with_lock(rt, path, &recorder, depth) {
+        Ok((journal, None)) => Ok((journal, recorder)),
+        Ok((journal, Some(resumed))) => {
+            drop(recorder);
+            Ok((journal, resumed))
+        }
+        Err(fault) => {
+            drop(recorder);
+            Err(fault)
         }
     }
 }

@@ -18,6 +18,7 @@ use server_io::{
     Closing, Console, ConsoleBlocks, ConsoleEnd, ConsoleMoments, ConsolePresses, ConsoleSources,
     Reading, Sockets, Stopped, StreamLimits,
 };
+use session_log::LogTime;
 use std::alloc::{AllocError, Global};
 use std::io::{BufReader, Stdin, Write};
 use std::net::{SocketAddr, TcpListener};
@@ -45,7 +46,7 @@ fn sockets_of(
     let second = Arc::try_clone(&stopped)?;
     let theirs = Arc::try_clone(&stopped)?;
     let limits = StreamLimits::from_seconds(bounds.inactivity, bounds.session);
-    let sockets = Sockets::new(*rt, listener, limits, theirs, bounds.is_verbose);
+    let sockets = Sockets::new(*rt, rt.alloc(), listener, limits, theirs, bounds.is_verbose);
     Ok((sockets, stopped, second))
 }
 
@@ -135,6 +136,7 @@ fn prepare<R: Wait + Copy + Drop>(
         input,
         console,
         errors: *rt,
+        is_verbose: bounds.is_verbose,
         ended: Closing {
             rt: *rt,
             stopped,
@@ -209,14 +211,16 @@ fn listening(
         Ok(listener) => listener,
         Err(error) => {
             if is_verbose {
-                let _ = eprintln!(rt; "{address}: {}", why_not_listening(error.kind()));
+                let now = LogTime::now(rt);
+                let _ = eprintln!(rt; "{now} {address}: {}", why_not_listening(error.kind()));
             }
             return Err(Fault::Listen);
         }
     };
     let address = listener.local_addr().map_err(|_| Fault::Listen)?;
     if is_verbose {
-        let _ = eprintln!(rt; "listening on {address}");
+        let now = LogTime::now(rt);
+        let _ = eprintln!(rt; "{now} listening on {address}");
     }
     Ok((listener, address))
 }
@@ -235,17 +239,41 @@ fn plan_server(rt: &HostRuntime, options: &ServeOptions) -> Result<ServePlan<Std
     }
 }
 
+// Opens the journal of the options, if they name one. The meter of the plan then goes on where it
+// ends.
+fn with_journal(
+    rt: &HostRuntime,
+    options: &ServeOptions,
+    plan: ServePlan<Stdin>,
+) -> Result<(ServePlan<Stdin>, Option<OpenJournal>), Fault> {
+    let Some(path) = &options.journal else {
+        return Ok((plan, None));
+    };
+    let ServePlan {
+        bounds,
+        password,
+        recorder,
+        input,
+    } = plan;
+    match open_journal(rt, path.as_str(), recorder, bounds.depth) {
+        Ok((journal, recorder)) => Ok((
+            ServePlan {
+                bounds,
+                password,
+                recorder,
+                input,
+            },
+            Some(journal),
+        )),
+        Err(fault) => Err(fault),
+    }
+}
+
 // Prepares a server up to the first client: validates the options, reads the trace to resume from,
 // opens the journal, and listens.
 pub(crate) fn begin(rt: &HostRuntime, options: &ServeOptions) -> Result<Server, Fault> {
     let plan = plan_server(rt, options)?;
-    let (plan, journal) = match &options.journal {
-        Some(path) => {
-            let (plan, journal) = open_journal(rt, path.as_str(), plan)?;
-            (plan, Some(journal))
-        }
-        None => (plan, None),
-    };
+    let (plan, journal) = with_journal(rt, options, plan)?;
     match listening(rt, options.address.as_str(), options.bounds.is_verbose) {
         Ok((listener, address)) => Ok(Server {
             plan,

@@ -1,68 +1,173 @@
 //! Messages about clients on standard error.
 use meter_server::{ServeFault, SessionEnd};
-use std::io;
+use session_log::{Answer, AnswerCount, LogTime, read_answer, reason_of};
+use std::alloc::Global;
 use std::net::SocketAddr;
 use std::sync::atomic::{AtomicBool, Ordering};
+use std::time::Clock;
+use std::{fmt, io};
+use wrapper_frame::{Deframer, Frame};
 
-// Reports one client on standard error, if this is enabled: one line when it connects, and one
-// when its session ends or it is turned away.
-pub(crate) struct ClientLog<R: Eprint + Copy> {
-    rt: R,
-    address: SocketAddr,
-    is_verbose: bool,
-    has_ended: AtomicBool,
+// The client address of the public client (IEC 62056-4-7); the other is the management client.
+const PUBLIC_CLIENT: u16 = 16;
+
+// The client that a line of the log is about: the number of its connection, counted from 1, and its
+// address.
+#[derive(Clone, Copy)]
+pub(crate) struct LoggedClient {
+    pub(crate) number: u64,
+    pub(crate) address: SocketAddr,
 }
 
-impl<R: Eprint + Copy> ClientLog<R> {
+// What a line of the log says of a client.
+#[derive(Drop)]
+enum ClientNews<'a> {
+    Connected,
+    // Its association is open, as that of this client.
+    Associated(&'static str),
+    // Its association was refused, with this diagnostic.
+    NotAssociated(u8),
+    // Its session ended; the answers are those to its requests.
+    Ended(&'a Result<SessionEnd, ServeFault>, AnswerCount),
+    // All sessions were taken, or no port or thread was available.
+    TurnedAway,
+    // Its stream could not be set up.
+    NotSetUp(&'a io::Error),
+}
+
+impl fmt::Display for ClientNews<'_> {
+    fn fmt<W: fmt::Write>(&self, f: &mut fmt::Formatter<W>) -> fmt::Result {
+        match self {
+            ClientNews::Connected => f.write_str("connected"),
+            ClientNews::Associated(client) => write!(f, "associated as the {client} client"),
+            ClientNews::NotAssociated(diagnostic) => {
+                let reason = reason_of(*diagnostic);
+                write!(f, "association refused: {reason} (diagnostic {diagnostic})")
+            }
+            ClientNews::Ended(end, count) => {
+                match end {
+                    Ok(end) => write!(f, "session ended: {end}")?,
+                    Err(fault) => write!(f, "session ended: {fault}")?,
+                }
+                write!(
+                    f,
+                    "; {} requests, {} refused",
+                    count.requests, count.refused
+                )
+            }
+            ClientNews::TurnedAway => f.write_str("turned away"),
+            ClientNews::NotSetUp(error) => {
+                write!(f, "turned away: its stream could not be set up: {error}")
+            }
+        }
+    }
+}
+
+// Writes a line on standard error: the time, the client, and the news of it.
+fn write_line<R: Clock + Eprint>(rt: &R, client: LoggedClient, news: &ClientNews<'_>) {
+    let now = LogTime::now(rt);
+    let LoggedClient { number, address } = client;
+    let _ = eprintln!(rt; "{now} client {number}, {address}: {news}");
+}
+
+// Reports one client on standard error, if this is enabled: a line when it connects, one for each
+// answer to an association request, and one when its session ends or it is turned away.
+pub(crate) struct ClientLog<R: Clock + Eprint + Copy> {
+    rt: R,
+    alloc: Global,
+    client: LoggedClient,
+    is_verbose: bool,
+    has_ended: AtomicBool,
+    // The bytes sent to the client that are not a whole frame yet.
+    sent: Deframer,
+    count: AnswerCount,
+}
+
+impl<R: Clock + Eprint + Copy> ClientLog<R> {
     // Reports that a client connected, and returns its log.
-    pub(crate) fn new(rt: R, address: SocketAddr, is_verbose: bool) -> ClientLog<R> {
+    pub(crate) fn new(
+        rt: R,
+        alloc: Global,
+        client: LoggedClient,
+        is_verbose: bool,
+    ) -> ClientLog<R> {
         if is_verbose {
-            let _ = eprintln!(rt; "{address}: connected");
+            write_line(&rt, client, &ClientNews::Connected);
         }
         ClientLog {
             rt,
-            address,
+            alloc,
+            client,
             is_verbose,
             has_ended: AtomicBool::new(false),
+            sent: Deframer::new(alloc),
+            count: AnswerCount::new(),
         }
     }
 
-    // Reports how the client's session ended.
+    // Counts an answer, and reports one to an association request.
+    fn read_frame(&mut self, frame: &Frame) {
+        let Ok(answer) = read_answer(self.alloc, frame.payload.as_slice()) else {
+            return;
+        };
+        self.count = self.count.with(answer);
+        let news = match answer {
+            Answer::Opened if frame.dst == PUBLIC_CLIENT => ClientNews::Associated("public"),
+            Answer::Opened => ClientNews::Associated("management"),
+            Answer::NotOpened(diagnostic) => ClientNews::NotAssociated(diagnostic),
+            Answer::Served | Answer::Refused | Answer::Other => return,
+        };
+        write_line(&self.rt, self.client, &news);
+    }
+
+    // Reads the answers in bytes that were sent to the client. Once it runs out of memory, it may
+    // count too few.
+    pub(crate) fn read_sent(&mut self, bytes: &[u8]) {
+        if !self.is_verbose || self.sent.feed(bytes).is_err() {
+            return;
+        }
+        for _ in 0..=bytes.len() {
+            match self.sent.take(self.alloc) {
+                Ok(Some(frame)) => self.read_frame(&frame),
+                _ => return,
+            }
+        }
+    }
+
+    // Reports how the client's session ended, and how many of its requests were answered.
     pub(crate) fn end(&self, end: &Result<SessionEnd, ServeFault>) {
         self.has_ended.store(true, Ordering::SeqCst);
         if !self.is_verbose {
             return;
         }
-        let _ = match end {
-            Ok(end) => eprintln!(self.rt; "{}: session ended: {end}", self.address),
-            Err(fault) => eprintln!(self.rt; "{}: session ended: {fault}", self.address),
-        };
+        write_line(&self.rt, self.client, &ClientNews::Ended(end, self.count));
     }
 
     // Reports that the client is turned away because its stream could not be set up.
     pub(crate) fn turn_away(self, error: &io::Error) {
         self.has_ended.store(true, Ordering::SeqCst);
         if self.is_verbose {
-            let _ = eprintln!(self.rt;
-                "{}: turned away: its stream could not be set up: {error}",
-                self.address
-            );
+            write_line(&self.rt, self.client, &ClientNews::NotSetUp(error));
         }
         drop(self);
     }
 }
 
 /// Reports the client as turned away if its log is dropped before a session ended.
-impl<R: Eprint + Copy> Drop for ClientLog<R> {
+impl<R: Clock + Eprint + Copy> Drop for ClientLog<R> {
     fn drop(self) {
         let ClientLog {
             rt,
-            address,
+            client,
             is_verbose,
             has_ended,
+            sent,
+            alloc: _,
+            count: _,
         } = self;
+        drop(sent);
         if is_verbose && !has_ended.load(Ordering::SeqCst) {
-            let _ = eprintln!(rt; "{address}: turned away");
+            write_line(&rt, client, &ClientNews::TurnedAway);
         }
     }
 }

@@ -34,12 +34,13 @@ impl<R: Wait + Copy + Drop> Console<R> {
         alloc: Global,
         input: &mut B,
         errors: &E,
+        is_verbose: bool,
     ) -> ConsoleEnd {
         let Console {
             buffer,
             mut channels,
         } = self;
-        let end = run_console(alloc, input, buffer, &mut channels, errors);
+        let end = run_console(alloc, input, buffer, &mut channels, errors, is_verbose);
         end_sources(&channels);
         end
     }

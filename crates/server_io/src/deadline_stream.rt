@@ -10,7 +10,7 @@ use std::time::{Clock, Duration, Instant};
 /// One direction of a client's stream, with deadlines. A call fails if it or the session takes too
 /// long. The direction to the client has the client's log.
 #[derive(Drop)]
-pub struct DeadlineStream<R: Eprint + Copy> {
+pub struct DeadlineStream<R: Clock + Eprint + Copy> {
     rt: R,
     stream: TcpStream,
     opened: Instant,
@@ -53,6 +53,13 @@ impl<R: Clock + Eprint + Copy> DeadlineStream<R> {
         self
     }
 
+    // Reports what was sent to the client.
+    fn report_sent(&mut self, bytes: &[u8]) {
+        if let Some(log) = &mut self.log {
+            log.read_sent(bytes);
+        }
+    }
+
     // Returns the time left for the next call. Fails with `TimedOut` once the session's time is
     // over.
     fn left(&self) -> io::Result<Option<Duration>> {
@@ -83,7 +90,9 @@ impl<R: Clock + Eprint + Copy> Write for DeadlineStream<R> {
         if left != self.limits.call {
             self.stream.set_write_timeout(left)?;
         }
-        self.stream.write(bytes)
+        let count = self.stream.write(bytes)?;
+        self.report_sent(&bytes[..count.min(bytes.len())]);
+        Ok(count)
     }
 
     fn flush(&mut self) -> io::Result<()> {

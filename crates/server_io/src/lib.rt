@@ -18,6 +18,7 @@ mod listening;
 mod reading;
 mod running;
 mod sink;
+mod skipped;
 #[cfg(test)]
 mod tests;
 

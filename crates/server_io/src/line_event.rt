@@ -20,7 +20,7 @@ fn is_own_word(word: &[u8]) -> bool
 }
 
 // Returns whether a line begins with such a word.
-fn is_own_line(line: &[u8]) -> bool
+pub(crate) fn is_own_line(line: &[u8]) -> bool
     ensures { IsTrue result ↔ IsOwnLine line.now }
 {
     match Words::new(line).next() {

@@ -2,7 +2,7 @@
 ghost use Rattle.std.specs.Prelude.{◌≡◌, false};
 ghost use Rattle.server_io.specs.Clients.{has_failed};
 
-use crate::client_log::ClientLog;
+use crate::client_log::{ClientLog, LoggedClient};
 use crate::deadline_stream::DeadlineStream;
 use crate::limits::StreamLimits;
 use meter_server::{ListenFault, Listener};
@@ -20,18 +20,22 @@ pub type Stopped = Arc<AtomicBool, Global>;
 #[derive(Drop)]
 pub struct Sockets<R> {
     rt: R,
+    alloc: Global,
     listener: TcpListener,
     limits: StreamLimits,
     stopped: Stopped,
     is_verbose: bool,
+    // The number of clients that have connected; it stops at 2^64 - 1.
+    connected: u64,
     has_failed: bool,
 }
 
 impl<R: Clock + Eprint + Copy> Sockets<R> {
     /// Returns the clients of this listener. A read or write fails if it, or the session, takes
-    /// longer than `limits`.
+    /// longer than `limits`. If `is_verbose`, each client is reported on standard error.
     pub fn new(
         rt: R,
+        alloc: Global,
         listener: TcpListener,
         limits: StreamLimits,
         stopped: Stopped,
@@ -41,10 +45,12 @@ impl<R: Clock + Eprint + Copy> Sockets<R> {
     {
         Sockets {
             rt,
+            alloc,
             listener,
             limits,
             stopped,
             is_verbose,
+            connected: 0,
             has_failed: false,
         }
     }
@@ -59,11 +65,16 @@ impl<R: Clock + Eprint + Copy> Sockets<R> {
     // Returns the input and the output of a client that connected. Returns `None` if its stream
     // could not be set up; the client is closed and reported as turned away.
     fn client(
-        &self,
+        &mut self,
         stream: TcpStream,
         address: SocketAddr,
     ) -> Option<(DeadlineStream<R>, DeadlineStream<R>)> {
-        let log = ClientLog::new(self.rt, address, self.is_verbose);
+        self.connected = self.connected.saturating_add(1);
+        let client = LoggedClient {
+            number: self.connected,
+            address,
+        };
+        let log = ClientLog::new(self.rt, self.alloc, client, self.is_verbose);
         match DeadlineStream::both_ways(self.rt, stream, self.limits) {
             Ok((input, output)) => Some((input, output.with_log(log))),
             Err(error) => {

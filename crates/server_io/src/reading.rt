@@ -21,6 +21,8 @@ pub struct Reading<R, B, E, N> {
     pub console: Console<R>,
     /// The output on which lost lines and a failed read are reported.
     pub errors: E,
+    /// Whether lines that are skipped are reported, too.
+    pub is_verbose: bool,
     pub ended: N,
 }
 
@@ -33,9 +35,10 @@ fn read<R: Wait + Copy + Drop, B: BufRead + Drop, E: Eprint + Drop, N: Ended + D
         mut input,
         console,
         errors,
+        is_verbose,
         ended,
     } = reading;
-    let end = console.run(alloc, &mut input, &errors);
+    let end = console.run(alloc, &mut input, &errors, is_verbose);
     ended.on_console_end(end);
     end
 }

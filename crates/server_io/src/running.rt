@@ -2,10 +2,12 @@
 ghost use Rattle.std.specs.Prelude.{◌≡◌, ◌≤◌, ℕ, List, [], Some, OnOk, OnErr, vec_capacity};
 ghost use Rattle.server_io.specs.Ends.{Ends, Hands, TakesFrom, has_failed, lost_lines};
 ghost use Rattle.server_io.specs.Lines.{lines_in};
+ghost use Rattle.server_io.specs.declared.skipped.SkipReason.{SkipReason};
 
-use crate::line_event::console_event;
+use crate::line_event::{console_event, is_own_line};
 use crate::lines::{LineBuffer, NextLine, next_line};
 use crate::sink::EventSink;
+use crate::skipped::{SkipReason, SkippedLines};
 use std::alloc::{AllocError, Global};
 use std::io::BufRead;
 
@@ -35,8 +37,10 @@ impl ConsoleEnd {
 // The result of one line.
 #[derive(Clone, Copy, Debug, PartialEq, Eq, Drop)]
 enum LineResult {
-    // Its event was passed on, or it has none.
+    // Its event was passed on.
     Passed,
+    // It has no event.
+    Skipped(SkipReason),
     // The line was lost: out of memory.
     Lost,
     // There was no further line.
@@ -45,17 +49,33 @@ enum LineResult {
     Failed,
 }
 
-// Passes on the event of a line, if it has one. Errors: out of memory, and the line is lost.
-fn hand_line<S: EventSink>(alloc: Global, line: &[u8], sink: &mut S) -> Result<(), AllocError>
+// Returns why a line without an event is skipped.
+fn reason_of(line: &[u8]) -> SkipReason {
+    if !is_own_line(line) {
+        SkipReason::OtherWord
+    } else if line.ends_with(b"\r") {
+        SkipReason::CarriageReturn
+    } else {
+        SkipReason::NoEvent
+    }
+}
+
+// Passes on the event of a line. Returns why it is skipped if it has none. Errors: out of memory,
+// and the line is lost.
+fn hand_line<S: EventSink>(
+    alloc: Global,
+    line: &[u8],
+    sink: &mut S,
+) -> Result<Option<SkipReason>, AllocError>
     ensures ok { OnOk result (TakesFrom line.now 0 (S.taken sink.old) (S.taken sink.new)) }
     ensures err { OnErr result (TakesFrom line.now 1 (S.taken sink.old) (S.taken sink.new)) }
 {
     match console_event(alloc, line) {
         Ok(Some(event)) => {
             sink.take(event);
-            Ok(())
+            Ok(None)
         }
-        Ok(None) => Ok(()),
+        Ok(None) => Ok(Some(reason_of(line))),
         Err(error) => Err(error),
     }
 }
@@ -72,6 +92,9 @@ fn pass_line<B: BufRead, S: EventSink>(
     ensures passed { result ≡ LineResult.Passed
         → Hands (B.remaining input.old) (S.taken sink.old) 0 (B.remaining input.new)
         (S.taken sink.new) }
+    ensures skipped { (reason : SkipReason) → result ≡ LineResult.Skipped reason
+        → Hands (B.remaining input.old) (S.taken sink.old) 0 (B.remaining input.new)
+        (S.taken sink.new) }
     ensures lost { result ≡ LineResult.Lost
         → Hands (B.remaining input.old) (S.taken sink.old) 1 (B.remaining input.new)
         (S.taken sink.new) }
@@ -82,10 +105,11 @@ fn pass_line<B: BufRead, S: EventSink>(
 {
     match next_line(input, line) {
         NextLine::Whole => match hand_line(alloc, line.as_slice(), sink) {
-            Ok(()) => LineResult::Passed,
+            Ok(None) => LineResult::Passed,
+            Ok(Some(reason)) => LineResult::Skipped(reason),
             Err(_) => LineResult::Lost,
         },
-        NextLine::TooLong => LineResult::Passed,
+        NextLine::TooLong => LineResult::Skipped(SkipReason::TooLong),
         NextLine::End => LineResult::End,
         NextLine::Failed => LineResult::Failed,
     }
@@ -107,7 +131,8 @@ fn report_failure<E: Eprint>(errors: &E) {
 /// A line has at most 8,192 bytes with the byte 0A that ends it; a longer one is skipped, and so is
 /// one that has no event. What follows the last byte 0A is not a line. A line whose event cannot be
 /// allocated is lost. Each lost line is reported on `errors` with its number, counted from 1, and
-/// so is a failed read. A read that a signal interrupts is retried. After
+/// so is a failed read; if `is_verbose`, also the first line that is skipped for each reason, and
+/// how many were skipped. A read that a signal interrupts is retried. After
 /// 18,446,744,073,709,551,614 lines the console ends as if a read had failed.
 pub fn run_console<B: BufRead, S: EventSink, E: Eprint>(
     alloc: Global,
@@ -115,19 +140,23 @@ pub fn run_console<B: BufRead, S: EventSink, E: Eprint>(
     buffer: LineBuffer,
     sink: &mut S,
     errors: &E,
+    is_verbose: bool,
 ) -> ConsoleEnd
     ensures { Ends (B.remaining input.old) (S.taken sink.old) result (S.taken sink.new) }
 {
     let LineBuffer { bytes: mut line } = buffer;
     let mut lost: u64 = 0;
+    let mut skipped = SkippedLines::new(is_verbose);
     'lines: for number in 1..u64::MAX {
         match pass_line(alloc, input, &mut line, sink) {
             LineResult::Passed => {}
+            LineResult::Skipped(reason) => skipped.add(errors, number, reason, line.as_slice()),
             LineResult::Lost => {
                 lost += 1;
                 report_lost(errors, number);
             }
             LineResult::End => {
+                skipped.end(errors, number, line.as_slice());
                 return ConsoleEnd {
                     has_failed: false,
                     lost,

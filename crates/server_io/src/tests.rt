@@ -25,7 +25,7 @@ fn listening(
     let listener = TcpListener::bind(&rt, "127.0.0.1:0")?;
     let address = listener.local_addr()?;
     let stopped = Arc::new(rt.alloc(), AtomicBool::new(is_stopped))?;
-    let sockets = Sockets::new(rt, listener, limits, stopped, false);
+    let sockets = Sockets::new(rt, rt.alloc(), listener, limits, stopped, false);
     Ok((sockets, address))
 }
 
@@ -89,7 +89,7 @@ fn a_listener_that_fails_has_failed(rt: HostRuntime) -> Result<(), Fail> {
     // (without a client, the next call fails instead of waiting)
     listener.set_nonblocking(true)?;
     let stopped = Arc::new(rt.alloc(), AtomicBool::new(false))?;
-    let mut sockets = Sockets::new(rt, listener, NO_LIMITS, stopped, false);
+    let mut sockets = Sockets::new(rt, rt.alloc(), listener, NO_LIMITS, stopped, false);
     assert!(rt; sockets.accept().is_err());
     assert!(rt; sockets.has_failed());
     Ok(())

@@ -1,7 +1,7 @@
 use Rattle.std.proofs.Common.{arith, refl, ap, ◌∙◌}
 use Rattle.server_io.proofs.Handing.{hands_none, hands_on, ends_all, ends_some}
 use Rattle.server_io.proofs.running.run_console.Goals as goal
-use Rattle.server_io.proofs.running.run_console.Goals.{in-Passed, in-Lost, else-lines-test, then-lines-test+in-Failed}
+use Rattle.server_io.proofs.running.run_console.Goals.{in-Passed, in-Skipped, in-Lost, else-lines-test, then-lines-test+in-Failed}
 
 pub lines-init : goal.lines-init
 lines-init g c = record { room = c.args.buffer.room; few = omega arith; hands = hands_none _ _ }
@@ -13,6 +13,12 @@ lines-preserved g c =
         room = c.pass_line.ensures.room;
         few = omega (arith, w.lost-is);
         hands = hands_on c.lines.invariant.hands (w.in-Passed.ensures.passed refl)
+            (omega (arith, w.lost-is));
+      }
+      | in-Skipped w ↦ record {
+        room = c.pass_line.ensures.room;
+        few = omega (arith, w.lost-is);
+        hands = hands_on c.lines.invariant.hands (w.in-Skipped.ensures.skipped _ refl)
             (omega (arith, w.lost-is));
       }
       | in-Lost w ↦ record {

@@ -1,0 +1,23 @@
+-- The answers of a session, counted.
+--     no_answers    the count before the first answer
+--     count_with    the count after one more answer
+use Rattle.std.specs.Prelude.{ℕ, ◌+◌, ◌-◌, ◌^◌, min}
+use Rattle.session_log.specs.declared.answer.Answer.{Answer}
+use Rattle.session_log.specs.declared.answer.Answer.TheVariants.{Opened, NotOpened, Served, Refused, Other}
+use Rattle.session_log.specs.declared.count.AnswerCount.{AnswerCount}
+
+abbrev pub no_answers : AnswerCount
+no_answers = record { requests = 0; refused = 0 }
+
+-- one more, up to 2^64 - 1
+abbrev pub one_more : ℕ → ℕ
+one_more n = min (n + 1) (2 ^ 64 - 1)
+
+-- only an answer to a request counts
+abbrev pub count_with : Answer → AnswerCount → AnswerCount
+count_with Served count = record { requests = one_more count.requests; refused = count.refused }
+count_with Refused count =
+    record { requests = one_more count.requests; refused = one_more count.refused }
+count_with Opened count = count
+count_with (NotOpened diagnostic) count = count
+count_with Other count = count

@@ -1,0 +1,15 @@
+//! What the log of a server says of its sessions: the meaning of each answer of the meter, how many
+//! requests a session had refused, and the time of a line.
+#![tactic(auto)]
+
+mod answer;
+mod count;
+mod log_time;
+mod reason;
+#[cfg(test)]
+mod tests;
+
+pub use answer::{Answer, read_answer};
+pub use count::AnswerCount;
+pub use log_time::LogTime;
+pub use reason::reason_of;
