@@ -354,7 +354,7 @@ CASES = [
     ("events to 2", "trace_player_cli", ["--to=2"], TRACE, b"1: code 0; state 1; supply on\n2: code 0; state 0; supply off\n", b"", 0),
     ("one event and its text", "trace_player_cli", ["--from", "4", "--to", "4", "--events"], TRACE, WITH_EVENTS[3], b"", 0),
     ("all events by their numbers", "trace_player_cli", ["--from", "1", "--to", "9"], TRACE, PLAYED, b"", 0),
-    ("events behind the last", "trace_player_cli", ["--from", "10"], TRACE, b"", b"", 0),
+    ("events after the last", "trace_player_cli", ["--from", "10"], TRACE, b"", b"", 0),
     ("events up to the greatest number", "trace_player_cli", ["--from", "9", "--to", "4294967295"], TRACE, b"9: stale 5; state 1; supply on\n", b"", 0),
     ("a wrong event outside the range", "trace_player_cli", ["--to", "2"], TRACE.replace(b"moment 4", b"moment 04"), b"", FAULT_INPUT, 2),
     ("from event 0", "trace_player_cli", ["--from", "0"], TRACE, b"", None, 2),

@@ -12,6 +12,7 @@ const DEVICE_NAME: [u8; 6] = [0, 0, 42, 0, 0, 255];
 const DISCONNECT_CONTROL: [u8; 6] = [0, 0, 96, 3, 10, 255];
 
 impl Core {
+    // The class of a logical name, if the meter has it.
     fn class_of(name: &[u8]) -> Option<u16> {
         if name == DEVICE_NAME {
             Some(1)
@@ -22,6 +23,8 @@ impl Core {
         }
     }
 
+    // The result code of a refused access, or `None` if it is allowed: 4 for an unknown object, 9 for
+    // another class, 3 for no such attribute or method, 13 for selective access.
     fn refusal(class: u16, name: &[u8], there: bool, selected: bool) -> Option<u8> {
         match Core::class_of(name) {
             None => Some(4),
@@ -32,6 +35,7 @@ impl Core {
         }
     }
 
+    // Appends the result of a GET: a value, or 1 and a result code.
     fn get(&self, class: u16, name: &[u8], number: u8, selected: bool, answer: &mut Vec<u8>) {
         let there = (1..=if class == 70 { 4 } else { 2 }).contains(&number);
         if let Some(code) = Core::refusal(class, name, there, selected) {
@@ -54,6 +58,7 @@ impl Core {
         }
     }
 
+    // Writes an attribute; returns the result code.
     fn set(&mut self, class: u16, name: &[u8], number: u8, selected: bool, value: &[u8]) -> u8 {
         if let Some(code) = Core::refusal(class, name, class == 70 && number == 4, selected) {
             return code;
@@ -69,6 +74,7 @@ impl Core {
         }
     }
 
+    // Executes a method; returns the result code.
     fn execute(&mut self, class: u16, name: &[u8], number: u8) -> u8 {
         let there = class == 70 && (number == 1 || number == 2);
         if let Some(code) = Core::refusal(class, name, there, false) {
@@ -105,6 +111,7 @@ impl Core {
         }
     }
 
+    // Appends the response to a request. `None`: it is no request that this program knows.
     fn request(&mut self, payload: &[u8], answer: &mut Vec<u8>) -> Option<()> {
         let id = *payload.get(2)?;
         let class = u16::from_be_bytes([*payload.get(3)?, *payload.get(4)?]);
@@ -137,6 +144,7 @@ impl Core {
         Some(())
     }
 
+    // Returns the response to a payload, or an ExceptionResponse.
     fn answer(&mut self, payload: &[u8]) -> Vec<u8> {
         match payload {
             [0xC0 | 0xC1 | 0xC3] => vec![0xD8, 1, 3],
@@ -154,6 +162,7 @@ impl Core {
 
 const DIGITS: &[u8; 16] = b"0123456789ABCDEF";
 
+// The value of a hexadecimal digit.
 fn digit(c: u8) -> Option<u8> {
     (c as char).to_digit(16).map(|d| d as u8)
 }

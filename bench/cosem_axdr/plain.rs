@@ -41,6 +41,7 @@ struct Reader<'a> {
 }
 
 impl<'a> Reader<'a> {
+    // Takes the next `count` bytes.
     fn bytes(&mut self, count: usize) -> Result<&'a [u8], Fault> {
         if self.room < count {
             return Err(Fault::TooLong);
@@ -54,16 +55,19 @@ impl<'a> Reader<'a> {
         Ok(bytes)
     }
 
+    // Takes the next byte.
     fn byte(&mut self) -> Result<u8, Fault> {
         Ok(self.bytes(1)?[0])
     }
 
+    // Takes the next `N` bytes.
     fn array<const N: usize>(&mut self) -> Result<[u8; N], Fault> {
         let mut array = [0; N];
         array.copy_from_slice(self.bytes(N)?);
         Ok(array)
     }
 
+    // Reads a length in A-XDR: one byte below 128, or 81 to 84 and one to four bytes.
     fn length(&mut self) -> Result<usize, Fault> {
         match self.byte()? {
             short @ 0..=0x7F => Ok(usize::from(short)),
@@ -72,11 +76,13 @@ impl<'a> Reader<'a> {
         }
     }
 
+    // Reads a length and that number of bytes.
     fn string(&mut self) -> Result<Vec<u8>, Fault> {
         let count = self.length()?;
         Ok(self.bytes(count)?.to_vec())
     }
 
+    // Reads a count and that number of values.
     fn items(&mut self, levels: usize) -> Result<Vec<Data>, Fault> {
         if levels == 0 {
             return Err(Fault::TooDeep);
@@ -92,6 +98,7 @@ impl<'a> Reader<'a> {
         Ok(items)
     }
 
+    // Reads a bit-string.
     fn bits(&mut self) -> Result<Data, Fault> {
         let bits = self.length()?;
         let mut bytes = self.bytes(bits.div_ceil(8))?.to_vec();
@@ -102,6 +109,7 @@ impl<'a> Reader<'a> {
         Ok(Data::BitString { bits, bytes })
     }
 
+    // Reads a tag and its value, with at most `levels` levels of nesting.
     fn value(&mut self, levels: usize) -> Result<Data, Fault> {
         Ok(match self.byte()? {
             0x00 => Data::Null,
@@ -129,12 +137,14 @@ impl<'a> Reader<'a> {
     }
 }
 
+// Reads a value; returns it and the number of its bytes.
 fn read(bytes: &[u8]) -> Result<(Data, usize), Fault> {
     let mut reader = Reader { rest: bytes, room: 8192 };
     let value = reader.value(8)?;
     Ok((value, bytes.len() - reader.rest.len()))
 }
 
+// Appends a length in its shortest form.
 fn put_length(length: usize, out: &mut Vec<u8>) {
     let bytes = length.to_be_bytes();
     match length {
@@ -146,17 +156,20 @@ fn put_length(length: usize, out: &mut Vec<u8>) {
     }
 }
 
+// Appends a byte and some bytes.
 fn put(first: u8, bytes: &[u8], out: &mut Vec<u8>) {
     out.push(first);
     out.extend_from_slice(bytes);
 }
 
+// Appends a tag, a length and the bytes.
 fn put_string(tag: u8, bytes: &[u8], out: &mut Vec<u8>) {
     out.push(tag);
     put_length(bytes.len(), out);
     out.extend_from_slice(bytes);
 }
 
+// Appends a tag, a count and the values.
 fn put_items(tag: u8, items: &[Data], out: &mut Vec<u8>) {
     out.push(tag);
     put_length(items.len(), out);
@@ -165,6 +178,7 @@ fn put_items(tag: u8, items: &[Data], out: &mut Vec<u8>) {
     }
 }
 
+// Appends the encoding of a value.
 fn write(value: &Data, out: &mut Vec<u8>) {
     match value {
         Data::Null => out.push(0x00),

@@ -7,6 +7,7 @@ enum Day { Any, Number(u8), SecondLast, Last }
 
 struct Entry { hour: Option<u8>, minute: Option<u8>, second: Option<u8>, year: Option<u16>, month: Option<u8>, day: Day, weekday: Option<u8> }
 
+// The year, month and day of a number of days since 1 January 2000.
 fn civil(days: i64) -> (i64, i64, i64) {
     let z = days + 719_468 + 10_957;
     let era = z.div_euclid(146_097);
@@ -18,6 +19,7 @@ fn civil(days: i64) -> (i64, i64, i64) {
     (yoe + era * 400 + i64::from(m <= 2), m, doy - (153 * mp + 2) / 5 + 1)
 }
 
+// The number of days of a month.
 fn length(y: i64, m: i64) -> i64 {
     match m {
         2 => if y % 4 == 0 && (y % 100 != 0 || y % 400 == 0) { 29 } else { 28 },
@@ -26,8 +28,10 @@ fn length(y: i64, m: i64) -> i64 {
     }
 }
 
+// Whether a field has a value, or may have any.
 fn is<T: Into<i64> + Copy>(field: Option<T>, n: i64) -> bool { field.map_or(true, |f| f.into() == n) }
 
+// Whether the year, month and day of an entry match a day, whatever its weekday.
 fn holds(e: &Entry, n: i64) -> bool {
     let (y, m, d) = civil(n);
     is(e.year, y) && is(e.month, m) && match e.day {
@@ -38,6 +42,7 @@ fn holds(e: &Entry, n: i64) -> bool {
     }
 }
 
+// Whether the date of an entry matches a day.
 fn date(e: &Entry, n: i64) -> bool {
     is(e.weekday, (n + 5).rem_euclid(7) + 1) && match (e.day, e.weekday) {
         (Day::Last, Some(_)) => { let (y, m, d) = civil(n); is(e.year, y) && is(e.month, m) && length(y, m) < d + 7 }
@@ -46,6 +51,7 @@ fn date(e: &Entry, n: i64) -> bool {
     }
 }
 
+// Whether an entry matches a second since 1 January 2000.
 fn matches(e: &Entry, s: u32) -> bool {
     let t = i64::from(s % 86_400);
     date(e, i64::from(s / 86_400)) && is(e.hour, t / 3600) && is(e.minute, t / 60 % 60) && is(e.second, t % 60)

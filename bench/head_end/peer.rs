@@ -18,6 +18,7 @@ fn whole(text: &[u8]) -> Option<usize> {
     (text.len() >= length).then_some(length)
 }
 
+// Answers the frames of a client until it closes the connection.
 fn answer(mut client: TcpStream) -> io::Result<()> {
     client.set_nodelay(true)?;
     let mut text = Vec::with_capacity(256);

@@ -36,6 +36,7 @@ enum Outcome {
     Unknown,
 }
 
+// Returns a payload in a frame from port 1 to port 1.
 fn framed(payload: &[u8]) -> Vec<u8> {
     let mut text = vec![0, 1, 0, 1, 0, 1];
     text.extend_from_slice(&(payload.len() as u16).to_be_bytes());
@@ -43,6 +44,7 @@ fn framed(payload: &[u8]) -> Vec<u8> {
     text
 }
 
+// Returns the frame of an AARQ with the password.
 fn aarq(password: &[u8]) -> Vec<u8> {
     let mut fields = b"\xA1\x09\x06\x07\x60\x85\x74\x05\x08\x01\x01\x8A\x02\x07\x80\x8B\x07\x60\x85\x74\x05\x08\x02\x01\xAC".to_vec();
     fields.extend_from_slice(&[password.len() as u8 + 2, 0x80, password.len() as u8]);
@@ -53,6 +55,7 @@ fn aarq(password: &[u8]) -> Vec<u8> {
     framed(&payload)
 }
 
+// Returns the frame of a request.
 fn request(verb: Verb) -> Vec<u8> {
     framed(match verb {
         Verb::Disconnect => b"\xC3\x01\xC1\x00\x46\x00\x00\x60\x03\x0A\xFF\x01\x01\x0F\x00",
@@ -65,6 +68,7 @@ fn request(verb: Verb) -> Vec<u8> {
 struct Bytes<'a>(&'a [u8]);
 
 impl<'a> Bytes<'a> {
+    // Takes the next `count` bytes.
     fn take(&mut self, count: usize) -> Option<&'a [u8]> {
         if self.0.len() < count {
             return None;
@@ -99,6 +103,7 @@ fn aare(payload: &[u8]) -> Option<(u8, u8, u32)> {
     Some((result, diagnostic, u32::from_be_bytes([0, bits[0], bits[1], bits[2]])))
 }
 
+// Returns the outcome that a response means.
 fn reply(verb: Verb, payload: &[u8]) -> Outcome {
     match (verb, payload) {
         (Verb::ReadState, [0xC4, 0x01, 0xC1, 0x01, code]) if *code != 0 => Outcome::Refused(*code),
@@ -119,6 +124,7 @@ struct Meter {
 }
 
 impl Meter {
+    // Connects to the first address that accepts.
     fn connect(address: &str) -> Option<Meter> {
         for place in address.to_socket_addrs().ok()? {
             if let Ok(stream) = TcpStream::connect_timeout(&place, CONNECT_WITHIN) {
@@ -128,15 +134,18 @@ impl Meter {
         None
     }
 
+    // Returns the time that is left, if there is some.
     fn left(&self) -> Option<Duration> {
         ANSWER_WITHIN.checked_sub(self.opened.elapsed()).filter(|left| !left.is_zero())
     }
 
+    // Sends bytes within the time that is left.
     fn send(&mut self, text: &[u8]) -> Option<()> {
         self.stream.set_write_timeout(Some(self.left()?)).ok()?;
         self.stream.write_all(text).ok()
     }
 
+    // Receives more bytes within the time that is left.
     fn more(&mut self) -> Option<()> {
         let mut buffer = [0; 1024];
         self.reads += 1;
@@ -174,6 +183,7 @@ impl Meter {
     }
 }
 
+// Runs a job. `None`: its outcome is unknown.
 fn converse(job: &Job, password: &[u8]) -> Option<Outcome> {
     let mut meter = Meter::connect(&job.address)?;
     meter.send(&aarq(password))?;
@@ -192,6 +202,7 @@ fn converse(job: &Job, password: &[u8]) -> Option<Outcome> {
     Some(outcome)
 }
 
+// Reads a line of the list: a name, an address and a verb.
 fn job(line: &str) -> Option<Job> {
     let mut words = line.split(' ');
     let (id, address) = (words.next()?.to_string(), words.next()?.to_string());

@@ -8,6 +8,7 @@ struct Masks {
     len: u16,
 }
 
+// Returns the samples, which are those of lane_sampler_bench.
 fn samples() -> [u32; 4096] {
     let mut values = [0; 4096];
     let mut seed: u32 = 12345;
@@ -43,12 +44,14 @@ fn classify_by_words(values: &[u32], threshold: u32) -> Masks {
     Masks { over, under, len: values.len() as u16 }
 }
 
+// Returns the checksum after the masks of one more block.
 fn added(sum: u64, masks: Masks) -> u64 {
     let [a, b, c, d] = masks.over;
     let [e, f, g, h] = masks.under;
     sum.rotate_left(1) ^ a ^ b ^ c ^ d ^ e ^ f ^ g ^ h
 }
 
+// Prints the checksum and the time of a block.
 fn timed(name: &str, rounds: u32, size: usize, classify: fn(&[u32], u32) -> Masks) {
     let values = samples();
     let start = Instant::now();

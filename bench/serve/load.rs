@@ -19,6 +19,7 @@ const SUCCESS: &[u8] = b"\x00\x01\x00\x01\x00\x01\x00\x04\xC5\x01\xC1\x00";
 
 type Exchange = (&'static [u8], &'static [u8]);
 
+// Sends a request and receives the response, which must be `answer`.
 fn ask(meter: &mut TcpStream, request: &[u8], answer: &[u8]) {
     let mut came = [0; 128];
     meter.write_all(request).expect("the request is sent");
@@ -26,6 +27,7 @@ fn ask(meter: &mut TcpStream, request: &[u8], answer: &[u8]) {
     assert!(came[..answer.len()] == *answer, "another answer: {:02X?}", &came[..answer.len()]);
 }
 
+// Sends the requests of one client; returns when it began and when it ended.
 fn client(port: u16, (request, answer): Exchange, requests: u32, begin: &Barrier) -> (Instant, Instant) {
     let mut meter = TcpStream::connect(("127.0.0.1", port)).expect("a connection");
     meter.set_nodelay(true).expect("no delay");

@@ -37,6 +37,7 @@ enum Data {
 }
 
 impl Data {
+    // Appends the encoding.
     fn write(&self, out: &mut Vec<u8>) {
         match self {
             Data::Null => out.push(0x00),
@@ -62,6 +63,7 @@ impl Data {
 struct Bytes<'a>(&'a [u8]);
 
 impl<'a> Bytes<'a> {
+    // Takes the next `count` bytes.
     fn take(&mut self, count: usize) -> Option<&'a [u8]> {
         if self.0.len() < count {
             return None;
@@ -71,10 +73,12 @@ impl<'a> Bytes<'a> {
         Some(now)
     }
 
+    // Takes the next byte.
     fn byte(&mut self) -> Option<u8> {
         Some(self.take(1)?[0])
     }
 
+    // Takes the next number of 16 bits.
     fn word(&mut self) -> Option<u16> {
         Some(u16::from_be_bytes(self.take(2)?.try_into().ok()?))
     }
@@ -92,6 +96,7 @@ impl<'a> Bytes<'a> {
         self.take(usize::from(count))
     }
 
+    // Reads a value, with at most `levels` levels of nesting.
     fn data(&mut self, levels: u8) -> Option<Data> {
         Some(match self.byte()? {
             0x00 => Data::Null,
@@ -122,6 +127,7 @@ struct Initiate {
     max_pdu: u16,
 }
 
+// Reads the InitiateRequest of an AARQ.
 fn initiate(bytes: &[u8]) -> Option<Initiate> {
     let mut bytes = Bytes(bytes);
     if bytes.take(4)? != [0x01, 0x00, 0x00, 0x00] {
@@ -144,6 +150,7 @@ struct Aarq<'a> {
     initiate: Initiate,
 }
 
+// Reads an AARQ.
 fn aarq(payload: &[u8]) -> Option<Aarq<'_>> {
     let mut whole = Bytes(payload);
     let mut fields = Bytes(whole.field(0x60)?);
@@ -237,6 +244,7 @@ const ATTRIBUTES: [Attribute; 28] = [
     attribute(71, 11, false),
 ];
 
+// Whether a client of a level may read an attribute.
 fn may_read(level: Level, class: u16, number: u8) -> bool {
     let row = ATTRIBUTES.iter().find(|row| row.class == class && row.number == number);
     row.is_some_and(|row| row.public || level == Level::Management)
@@ -256,6 +264,7 @@ struct Core {
 }
 
 impl Core {
+    // Returns the value of an attribute, or the result code of a refusal.
     fn get(&self, level: Level, get: &Get) -> Result<Data, u8> {
         let object = OBJECTS.iter().find(|object| object.name == get.name).ok_or(4)?;
         if object.class != get.class {
@@ -321,6 +330,7 @@ impl Session {
     }
 }
 
+// Returns a payload in a frame to a port.
 fn frame(to: u16, payload: &[u8]) -> Vec<u8> {
     let mut frame = Vec::with_capacity(HEADER + payload.len());
     frame.extend_from_slice(&[0, 1, 0, 1]);
@@ -330,6 +340,7 @@ fn frame(to: u16, payload: &[u8]) -> Vec<u8> {
     frame
 }
 
+// Processes a frame; returns the association after it, and the response.
 fn hear(link: Option<Link>, password: &[u8], core: &mut Core, source: u16, payload: &[u8]) -> (Option<Link>, Vec<u8>) {
     match (payload.first(), link) {
         (Some(0x60), _) => open(password, source, payload),
@@ -343,6 +354,7 @@ fn hear(link: Option<Link>, password: &[u8], core: &mut Core, source: u16, paylo
     }
 }
 
+// Processes an AARQ; returns the association, if it is accepted, and the AARE.
 fn open(password: &[u8], source: u16, payload: &[u8]) -> (Option<Link>, Vec<u8>) {
     match judge(password, source, payload) {
         Ok(link) => (Some(link), accepted(link)),
@@ -350,6 +362,7 @@ fn open(password: &[u8], source: u16, payload: &[u8]) -> (Option<Link>, Vec<u8>)
     }
 }
 
+// Judges an AARQ: the association, or the diagnostic of its refusal.
 fn judge(password: &[u8], source: u16, payload: &[u8]) -> Result<Link, Refusal> {
     let refuse = |diagnostic, user_error| Refusal { diagnostic, user_error };
     let aarq = aarq(payload).ok_or(refuse(1, None))?;
@@ -376,6 +389,7 @@ fn judge(password: &[u8], source: u16, payload: &[u8]) -> Result<Link, Refusal> 
     Ok(Link { port: source, level, conformance, max_pdu })
 }
 
+// Returns the AARE that accepts an association.
 fn accepted(link: Link) -> Vec<u8> {
     let mut answer = vec![0x61, 0x29, 0xA1, 0x09];
     answer.extend_from_slice(APPLICATION_CONTEXT);
@@ -386,6 +400,7 @@ fn accepted(link: Link) -> Vec<u8> {
     answer
 }
 
+// Returns the AARE that refuses an association.
 fn refused(refusal: &Refusal) -> Vec<u8> {
     let mut answer = vec![0x61, if refusal.user_error.is_some() { 0x1F } else { 0x17 }, 0xA1, 0x09];
     answer.extend_from_slice(APPLICATION_CONTEXT);
@@ -412,6 +427,7 @@ fn get(payload: &[u8]) -> Option<(u8, Get)> {
     bytes.0.is_empty().then_some((id, Get { class, name, number, selected }))
 }
 
+// Returns the response to a GET.
 fn read(link: Link, core: &Core, payload: &[u8]) -> Vec<u8> {
     match payload.get(1) {
         None => return vec![0xD8, 0x01, 0x03],
@@ -435,6 +451,7 @@ fn read(link: Link, core: &Core, payload: &[u8]) -> Vec<u8> {
     answer
 }
 
+// Serves a session until the stream or the session ends.
 fn serve(reader: &mut impl Read, writer: &mut impl Write, core: &mut Core, password: &[u8]) -> io::Result<End> {
     let mut session = Session { password: password.to_vec(), pending: Vec::new(), link: None };
     let mut buffer = [0; 1_024];
@@ -472,6 +489,7 @@ const AARE: &[u8] = b"\x00\x01\x00\x01\x00\x10\x00\x2B\x61\x29\xA1\x09\x06\x07\x
 const GET: &[u8] = b"\x00\x01\x00\x10\x00\x01\x00\x0D\xC0\x01\xC1\x00\x46\x00\x00\x60\x03\x0A\xFF\x03\x00";
 const STATE: &[u8] = b"\x00\x01\x00\x01\x00\x10\x00\x06\xC4\x01\xC1\x00\x16\x01";
 
+// Returns the bytes of the client: the first frame, and the other one `times` times.
 fn talk(first: &[u8], other: &[u8], times: usize) -> Vec<u8> {
     let mut bytes = first.to_vec();
     for _ in 0..times {
@@ -489,6 +507,7 @@ fn answers(requests: &[u8], piece: usize) -> Vec<u8> {
     out
 }
 
+// Returns the nanoseconds of one session.
 fn time_of(requests: &[u8], piece: usize) -> u128 {
     let start = Instant::now();
     black_box(answers(black_box(requests), piece));

@@ -42,6 +42,7 @@ impl Read for Input<'_> {
     }
 }
 
+// Returns the bytes of the client: the first frames, and the other ones `times` times.
 fn talk(first: &[u8], other: &[u8], times: usize) -> Vec<u8> {
     let mut bytes = first.to_vec();
     for _ in 0..times {
@@ -60,6 +61,7 @@ fn answers(requests: &[u8], piece: usize) -> Vec<u8> {
     out
 }
 
+// Returns the nanoseconds of one session.
 fn time_of(requests: &[u8], piece: usize) -> u128 {
     let start = Instant::now();
     black_box(answers(black_box(requests), piece));

@@ -18,6 +18,7 @@ struct Run {
 }
 
 impl Run {
+    // Counts a sample; returns whether the run fires with it.
     fn take(&mut self, past: bool, need: u64) -> bool {
         if !past {
             *self = Run::default();
@@ -55,6 +56,7 @@ fn moved(mode: u8, state: u8, letters: &[(&str, u8, u8)], targets: &[u8]) -> (u8
 }
 
 impl Meter {
+    // Enters a state. Both runs end if the meter becomes Connected.
     fn enter(&mut self, state: u8) {
         if state == 1 && self.state != 1 {
             self.over = Run::default();
@@ -63,12 +65,14 @@ impl Meter {
         self.state = state;
     }
 
+    // Applies a trigger; returns the result code.
     fn act(&mut self, letters: &[(&str, u8, u8)], targets: &[u8]) -> u8 {
         let (state, code) = moved(self.mode, self.state, letters, targets);
         self.enter(state);
         code
     }
 
+    // Executes remote_disconnect (1) or remote_reconnect.
     fn execute(&mut self, method: u8) -> u8 {
         match method {
             1 => self.act(&[("b", 1, 0), ("c", 2, 0)], &[0]),
@@ -79,16 +83,19 @@ impl Meter {
         }
     }
 
+    // Presses the button.
     fn press(&mut self) -> u8 {
         if self.state == 1 { self.act(&[("f", 1, 2)], &[0, 2]) } else { self.act(&[("e", 2, 1)], &[1]) }
     }
 
+    // Applies a sample, and counts the firings over and under the threshold.
     fn sample(&mut self, value: u32, fired: &mut (u16, u16)) {
         self.last = value;
         fired.0 += self.over.take(value > self.threshold, self.need_over) as u16;
         fired.1 += self.under.take(value < self.threshold, self.need_under) as u16;
     }
 
+    // Returns the value of an attribute in hexadecimal, or the result code of a refusal.
     fn value(&self, class: u32, name: &str, number: u32) -> Result<String, u8> {
         match (name, class, number) {
             (CONTROL, 70, 2) => Ok(if self.state == 1 { "0301".into() } else { "0300".into() }),
@@ -100,6 +107,7 @@ impl Meter {
         }
     }
 
+    // Writes an attribute; returns the result code.
     fn set(&mut self, name: &str, number: u32, bytes: &[u8]) -> u8 {
         match (name, number, bytes) {
             (CONTROL, 4, [0x16, mode]) if *mode <= 6 => {
@@ -120,6 +128,7 @@ impl Meter {
     }
 }
 
+// Reads a decimal number up to a limit.
 fn number(word: Option<&str>, limit: u64) -> Option<u64> {
     let word = word?;
     if word.is_empty() || (word.len() > 1 && word.starts_with('0')) || !word.bytes().all(|b| b.is_ascii_digit()) {
@@ -128,6 +137,7 @@ fn number(word: Option<&str>, limit: u64) -> Option<u64> {
     word.parse().ok().filter(|n| *n <= limit)
 }
 
+// Reads bytes in hexadecimal.
 fn bytes_of(word: Option<&str>) -> Option<Vec<u8>> {
     let word = word?.as_bytes();
     if word.is_empty() || word.len() % 2 == 1 || !word.iter().all(|b| matches!(b, b'0'..=b'9' | b'A'..=b'F')) {
@@ -147,11 +157,13 @@ enum Event {
     Moment(u32),
 }
 
+// Reads a logical name.
 fn name_of(word: Option<&str>) -> Option<String> {
     bytes_of(word).filter(|bytes| bytes.len() == 6)?;
     Some(word?.to_string())
 }
 
+// Reads a class, a logical name and a number.
 fn attribute<'a>(words: &mut impl Iterator<Item = &'a str>) -> Option<(u32, String, u32)> {
     let class = number(words.next(), 65_535)? as u32;
     let name = name_of(words.next())?;
@@ -160,6 +172,7 @@ fn attribute<'a>(words: &mut impl Iterator<Item = &'a str>) -> Option<(u32, Stri
     Some((class, name, attribute))
 }
 
+// Reads the line of an event.
 fn read_event(line: &str) -> Option<Event> {
     let mut words = line.split(' ');
     let event = match words.next()? {
@@ -203,20 +216,22 @@ fn read_event(line: &str) -> Option<Event> {
     if words.next().is_some() { None } else { Some(event) }
 }
 
-fn told(result: Result<String, u8>) -> String {
+// Returns the words of a result.
+fn words_of(result: Result<String, u8>) -> String {
     match result {
         Ok(value) => format!("value {value}"),
         Err(code) => format!("code {code}"),
     }
 }
 
+// Applies an event; returns the words of the reply.
 fn step(meter: &mut Meter, event: &Event) -> String {
     match event {
-        Event::Get(class, name, number) => told(meter.value(*class, name, *number)),
+        Event::Get(class, name, number) => words_of(meter.value(*class, name, *number)),
         Event::GetList(items) => {
             let mut reply = format!("values {}", items.len());
             for (class, name, number) in items {
-                let _ = write!(reply, " {}", told(meter.value(*class, name, *number)));
+                let _ = write!(reply, " {}", words_of(meter.value(*class, name, *number)));
             }
             reply
         }
@@ -240,6 +255,7 @@ fn step(meter: &mut Meter, event: &Event) -> String {
     }
 }
 
+// Reads a line of a label and a number.
 fn field(line: Option<&str>, label: &str, limit: u64) -> Option<u64> {
     let mut words = line?.split(' ');
     if words.next()? != label {
@@ -249,6 +265,7 @@ fn field(line: Option<&str>, label: &str, limit: u64) -> Option<u64> {
     if words.next().is_some() { None } else { Some(value) }
 }
 
+// Plays a trace; returns the lines of its events. `None`: it is no trace.
 fn play(text: &str) -> Option<String> {
     let mut lines = text.strip_suffix('\n')?.split('\n');
     field(lines.next(), "RELAYTRACE", 2)?;
@@ -290,6 +307,7 @@ fn play(text: &str) -> Option<String> {
     Some(output)
 }
 
+// Returns the line of event `i`.
 fn line_at(i: u32) -> String {
     match i % 8 {
         0 => "set 1 71 0000110000FF 4 0 0600001388\n".into(),

@@ -3,7 +3,8 @@ use std::sync::Mutex;
 use std::thread;
 use std::time::Instant;
 
-const MANY: u64 = 2_000_000;
+// The number of calls of all threads together.
+const TIMED_CALLS: u64 = 2_000_000;
 
 #[derive(Clone, Copy)]
 struct Bump;
@@ -27,7 +28,7 @@ fn main() {
         thread::scope(|scope| {
             for _ in 0..threads {
                 scope.spawn(|| {
-                    for _ in 0..MANY / threads {
+                    for _ in 0..TIMED_CALLS / threads {
                         let _ = std::hint::black_box(tally.lock().unwrap().turn(Bump));
                     }
                 });
