@@ -23,8 +23,8 @@ impl Core {
         }
     }
 
-    // The result code of a refused access, or `None` if it is allowed: 4 for an unknown object, 9 for
-    // another class, 3 for no such attribute or method, 13 for selective access.
+    // The result code of a refused access: 4 for an unknown object, 9 for another class, 3 for no
+    // such attribute or method, 13 for selective access. `None` if the access is allowed.
     fn refusal(class: u16, name: &[u8], there: bool, selected: bool) -> Option<u8> {
         match Core::class_of(name) {
             None => Some(4),
