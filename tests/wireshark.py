@@ -548,7 +548,7 @@ WRONG = {
     "bytes that are left": (wrapped(bytes.fromhex("C501C10000"), False).hex(),
                             "1 byte after the SET-Response"),
     "an unknown type": (wrapped(bytes.fromhex("C401C1001300"), False).hex(),
-                        "0x13 is no type of a Data that is known here"),
+                        "0x13 is no known type of Data"),
     "too many items": (wrapped(bytes.fromhex("C401C10001840FFFFFFF00"), False).hex(),
                        "the type of a Data: expected 1 byte, found 0"),
     "a long length": (wrapped(bytes.fromhex("C401C1000984FFFFFFFF00"), False).hex(),

@@ -466,7 +466,7 @@ local function add_data(cursor, tree, depth)
     local start = cursor.at
     cursor:count_value()
     local tag = cursor:byte("the type of a Data")
-    local reader = types[tag] or malformed("0x%02X is no type of a Data that is known here", tag)
+    local reader = types[tag] or malformed("0x%02X is no known type of Data", tag)
     return reader(cursor, tree, start, depth or 0)
 end
 
