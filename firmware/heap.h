@@ -1,9 +1,13 @@
-/* The heap that libmeter.a needs. heap_malloc.c and heap_pool.c implement it; you may write another one.
+/* The heap that libmeter.a needs. heap_malloc.c and heap_pool.c implement it; you may write another
+ * one.
  *
  * The proofs assume the following, which nothing checks:
- *   - a block is aligned to 16 bytes, has the requested size, and does not overlap another block in use;
- *   - rattle_realloc keeps the first `kept` bytes of the block, and leaves the block unchanged if it fails;
- *   - if there is no memory, `ok` is false and `p` points to a byte that is never freed. It is never null.
+ *   - a block is aligned to 16 bytes, has the requested size, and does not overlap another block in
+ *     use;
+ *   - rattle_realloc keeps the first `kept` bytes of the block, and leaves the block unchanged if
+ *     it fails;
+ *   - if there is no memory, `ok` is false and `p` points to a byte that is never freed. It is
+ *     never null.
  */
 #ifndef METER_HEAP_H
 #define METER_HEAP_H

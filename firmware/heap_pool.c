@@ -1,5 +1,6 @@
-/* A heap for libmeter.a in memory of the caller, without a C library. It is first fit, and joins neighbouring
- * free blocks. It has no lock: use a pool for the meters of one thread only, and not from an interrupt. */
+/* A heap for libmeter.a in memory of the caller, without a C library. It is first fit, and joins
+ * neighbouring free blocks. It has no lock: use a pool for the meters of one thread only, and not
+ * from an interrupt. */
 #include "heap_pool.h"
 
 #include "heap.h"
@@ -62,7 +63,8 @@ size_t heap_pool_most(void)
     return most;
 }
 
-/* Splits off the bytes of a block beyond `size`, if they are enough for a block. Returns that block, or null. */
+/* Splits off the bytes of a block beyond `size`, if they are enough for a block. Returns that
+ * block, or null. */
 static struct place *cut(struct place *place, size_t size)
 {
     struct place *rest;

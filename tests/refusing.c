@@ -1,10 +1,10 @@
-/* Preloaded between a program and the C library, for tests/refusing.py: refuses one allocation or one
-   thread, fails, shortens or interrupts one read or write, or fails one sync of a file. These variables
-   have the number of that call, from 1: REFUSE_MEMORY, REFUSE_THREAD, FAIL_STREAM, SHORT_STREAM,
-   INTERRUPT_STREAM, FAIL_SYNC. When standard input ends or fails, and when the program ends, a line of
-   numbers is written to the file REFUSING_REPORT: allocations, reads and writes, writes to the failed
-   stream or file after its failure, connections, started threads, and syncs. Writes to standard error
-   are not counted and never fail. */
+/* Preloaded between a program and the C library, for tests/refusing.py: refuses one allocation or
+ * one thread, fails, shortens or interrupts one read or write, or fails one sync of a file. These
+ * variables have the number of that call, from 1: REFUSE_MEMORY, REFUSE_THREAD, FAIL_STREAM,
+ * SHORT_STREAM, INTERRUPT_STREAM, FAIL_SYNC. When standard input ends or fails, and when the
+ * program ends, a line of numbers is written to the file REFUSING_REPORT: allocations, reads and
+ * writes, writes to the failed stream or file after its failure, connections, started threads, and
+ * syncs. Writes to standard error are not counted and never fail. */
 
 typedef unsigned long size;
 typedef long count;
@@ -91,7 +91,8 @@ int pthread_create(void *thread, const void *attributes, void *(*work)(void *), 
     return next(thread, attributes, work, argument);
 }
 
-/* The number of bytes that this read or write may transfer: 1 if it must be short, -1 if it must fail. */
+/* The number of bytes that this read or write may transfer: 1 if it must be short, -1 if it must
+ * fail. */
 static count allowed(int file, size bytes, int is_write) {
     if (file == STANDARD_ERROR) return (count)bytes;
     if (is_write && file == failed) __sync_add_and_fetch(&late, 1);

@@ -1,6 +1,6 @@
-/* Heap, stack and time of a meter through its handle: the bytes of the pool in use after each step, the bytes
- * of the stack that each call writes, and the time of a GET from its bytes to its response, and of a save to
- * simulated flash. */
+/* Heap, stack and time of a meter through its handle: the bytes of the pool in use after each step,
+ * the bytes of the stack that each call writes, and the time of a GET from its bytes to its
+ * response, and of a save to simulated flash. */
 #define _POSIX_C_SOURCE 200809L
 #include "flash_simulated.h"
 #include "heap_pool.h"
@@ -26,7 +26,8 @@ static struct meter meter;
 static struct stored_meter stored;
 static uint8_t text[65536];
 
-/* AARQ of the management client with the password 12345678, and a GET of control_state, each after the header of the TCP wrapper. */
+/* AARQ of the management client with the password 12345678, and a GET of control_state, each after
+ * the header of the TCP wrapper. */
 static const uint8_t aarq[] = { 0x00, 0x01, 0x00, 0x01, 0x00, 0x01, 0x00, 0x38, 0x60, 0x36, 0xA1, 0x09, 0x06, 0x07, 0x60, 0x85, 0x74, 0x05, 0x08, 0x01, 0x01, 0x8A, 0x02, 0x07, 0x80, 0x8B,
                                 0x07, 0x60, 0x85, 0x74, 0x05, 0x08, 0x02, 0x01, 0xAC, 0x0A, 0x80, 0x08, '1', '2', '3', '4', '5', '6', '7', '8', 0xBE, 0x10, 0x04, 0x0E, 0x01, 0x00, 0x00,
                                 0x00, 0x06, 0x5F, 0x1F, 0x04, 0x00, 0x00, 0xFE, 0xFF, 0x04, 0x00 };

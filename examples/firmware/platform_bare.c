@@ -1,6 +1,6 @@
-/* The super-loop on 64-bit ARM without a C library: the entry point, two system calls (of Linux, so that
- * qemu can run it), and the four memory functions that the compiler needs. Built with -ffreestanding
- * -nostdlib. */
+/* The super-loop on 64-bit ARM without a C library: the entry point, two system calls (of Linux, so
+ * that qemu can run it), and the four memory functions that the compiler needs. Built with
+ * -ffreestanding -nostdlib. */
 #include "platform.h"
 
 #include <stdint.h>

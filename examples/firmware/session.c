@@ -3,9 +3,9 @@
  *
  *     session PASSWORD [TRACE] < STREAM
  *
- * Standard input is the stream of the client (frames of the TCP wrapper, IEC 62056-4-7) in hexadecimal. Each
- * frame of the meter is printed as a line in hexadecimal, as by `meter_server hex`. At the end the trace of
- * the meter is written to the file TRACE, which trace_player plays.
+ * Standard input is the stream of the client (frames of the TCP wrapper, IEC 62056-4-7) in
+ * hexadecimal. Each frame of the meter is printed as a line in hexadecimal, as by `meter_server
+ * hex`. At the end the trace of the meter is written to the file TRACE, which trace_player plays.
  */
 #include "meter.h"
 
@@ -18,7 +18,8 @@
 #define LONGEST_FRAME 1032
 #define LONGEST_TRACE 1048576
 
-/* A call that fails for lack of memory changes nothing, or can be repeated. Firmware would free memory first. */
+/* A call that fails for lack of memory changes nothing, or can be repeated. Firmware would free
+ * memory first. */
 #define AGAIN_WITH_MEMORY(result, call)                                          \
     do {                                                                         \
         (result) = (call);                                                       \

@@ -1,10 +1,11 @@
 /*
- * The super-loop of a meter. Ten times a second it samples the power, feeds the bytes of the modem, sends
- * pending frames, reads the button and sets the breaker; once a second it sets the clock. The tables below
- * simulate modem, power and button. Each change of the breaker is printed.
+ * The super-loop of a meter. Ten times a second it samples the power, feeds the bytes of the modem,
+ * sends pending frames, reads the button and sets the breaker; once a second it sets the clock. The
+ * tables below simulate modem, power and button. Each change of the breaker is printed.
  *
- * A management client opens a session, writes a script that disconnects, binds the import limiter to it
- * (over 5,000 W for 2 s) and sets control mode 1. Later it disconnects and allows the reconnection.
+ * A management client opens a session, writes a script that disconnects, binds the import limiter
+ * to it (over 5,000 W for 2 s) and sets control mode 1. Later it disconnects and allows the
+ * reconnection.
  */
 #include "heap_pool.h"
 #include "meter.h"
@@ -103,7 +104,8 @@ static void show_time(unsigned tick)
 
 static struct meter meter;
 
-/* Samples that the meter has not taken: after out of memory, they are passed again with the next ones. */
+/* Samples that the meter has not taken: after out of memory, they are passed again with the next
+ * ones. */
 static uint32_t samples[MOST_SAMPLES];
 static size_t sample_count;
 
@@ -116,7 +118,8 @@ static void take_sample(uint32_t watts)
         sample_count = 0;
 }
 
-/* Feeds the bytes of the modem. After out of memory, the bytes stay and are fed in the next turn of the loop. */
+/* Feeds the bytes of the modem. After out of memory, the bytes stay and are fed in the next turn of
+ * the loop. */
 static void feed_arrivals(unsigned tick)
 {
     static size_t next;

@@ -1,5 +1,5 @@
-/* Calls each export of meter.h with worked values, and with each refusal other than out of memory. On a
- * wrong result the status is 1, and the last line names the check. */
+/* Calls each export of meter.h with worked values, and with each refusal other than out of memory.
+ * On a wrong result the status is 1, and the last line names the check. */
 #include "meter.h"
 
 #include <stdio.h>
@@ -10,7 +10,8 @@
 
 static const uint8_t name[] = "RELAY1", password[] = "12345678";
 
-/* AARQ of the management client with the password; SET control_mode 1; ACTION remote_disconnect, each in its frame. */
+/* AARQ of the management client with the password; SET control_mode 1; ACTION remote_disconnect,
+ * each in its frame. */
 static const uint8_t requests[] = {
     0x00, 0x01, 0x00, 0x01, 0x00, 0x01, 0x00, 0x38, 0x60, 0x36, 0xA1, 0x09, 0x06, 0x07, 0x60, 0x85, 0x74, 0x05, 0x08, 0x01, 0x01, 0x8A, 0x02, 0x07, 0x80, 0x8B, 0x07, 0x60, 0x85, 0x74,
     0x05, 0x08, 0x02, 0x01, 0xAC, 0x0A, 0x80, 0x08, '1', '2', '3', '4', '5', '6', '7', '8', 0xBE, 0x10, 0x04, 0x0E, 0x01, 0x00, 0x00, 0x00, 0x06, 0x5F, 0x1F, 0x04, 0x00, 0x00, 0xFE,
@@ -21,7 +22,8 @@ static const uint8_t requests[] = {
 static const uint8_t set_answer[] = { 0x00, 0x01, 0x00, 0x01, 0x00, 0x01, 0x00, 0x04, 0xC5, 0x01, 0xC1, 0x00 };
 static const uint8_t action_answer[] = { 0x00, 0x01, 0x00, 0x01, 0x00, 0x01, 0x00, 0x05, 0xC7, 0x01, 0xC1, 0x00, 0x00 };
 
-/* A meter in mode 5 whose export limiter executes script 1, which cuts the supply, at ten samples over 5,000 watts. */
+/* A meter in mode 5 whose export limiter executes script 1, which cuts the supply, at ten samples
+ * over 5,000 watts. */
 static const char exporting[] =
     "RELAYTRACE 2\ndevice 52454C415931\nstate 1\nmode 5\nvalue 0\nnow -\n"
     "normal 4294967295\nemergency 4294967295\nminover 0\nminunder 0\nprofile 0 FFFFFFFFFFFFFFFFFF8000FF 0\ngroups\nactions 0 0\nover 0 0\nunder 0 0\n"
@@ -142,7 +144,8 @@ static void traces_are_gone_on_from(struct meter *meter)
     meter_close(meter);
 }
 
-/* Ten pairs of (0, 5001) make the export limiter fire over, and the import limiter under; the supply is cut, and the button restores it. */
+/* Ten pairs of (0, 5001) make the export limiter fire over, and the import limiter under; the
+ * supply is cut, and the button restores it. */
 static void samples_reach_the_limiters(struct meter *meter)
 {
     uint32_t imported[257] = { 0 }, exported[257];

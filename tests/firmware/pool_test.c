@@ -1,6 +1,7 @@
-/* Tests the pool: allocates, grows and frees blocks of many sizes in random order. Each block must be
- * aligned, be within the pool and keep its bytes; at the end the pool must be one free block. Prints the
- * numbers of calls and of refused ones. On a failure the status is 1, and the last line describes it. */
+/* Tests the pool: allocates, grows and frees blocks of many sizes in random order. Each block must
+ * be aligned, be within the pool and keep its bytes; at the end the pool must be one free block.
+ * Prints the numbers of calls and of refused ones. On a failure the status is 1, and the last line
+ * describes it. */
 #include "heap.h"
 #include "heap_pool.h"
 

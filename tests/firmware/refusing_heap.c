@@ -1,6 +1,6 @@
-/* A heap over malloc that refuses the call whose number, from 1, is in the variable REFUSE (none if that is
- * 0 or not set). When the program ends, it prints the numbers of calls and of blocks that were not freed to
- * standard error. */
+/* A heap over malloc that refuses the call whose number, from 1, is in the variable REFUSE (none if
+ * that is 0 or not set). When the program ends, it prints the numbers of calls and of blocks that
+ * were not freed to standard error. */
 #include "heap.h"
 
 #include <stdio.h>
