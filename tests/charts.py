@@ -1,6 +1,6 @@
 #!/usr/bin/env python3
-"""Draws the worked trace and a long one with bin/trace_chart, whole and in parts, checks the marks of
-the charts, and renders both with a browser.
+"""Draws the worked trace and a long one with bin/trace_chart, whole and in parts, checks the marks
+of the charts, and renders both with a browser.
 
 The long trace has the maximum number of events. The expected marks follow from how it is made, not
 from the player's output. Without matplotlib the test is skipped, and without a browser the

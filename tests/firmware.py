@@ -272,7 +272,8 @@ def the_super_loop_runs(name):
 
 
 def state_text(*lines, scripts):
-    """The text of a state without events, with these lines up to the export limiter, which is new."""
+    """The text of a state without events, with these lines up to the export limiter, which is
+    new."""
     exporting = ["xvalue 0", *["x" + line for line in NEW_LIMITER]]
     schedules = [f"schedule {number} 0 5 0100" for number in range(4)]
     return "".join(line + "\n" for line in ("RELAYTRACE 2", "device 52454C415931", *lines, *exporting, f"scripts {scripts}", *schedules, "events 0")).encode()
@@ -328,8 +329,8 @@ def limiter_lines(mark, run):
 
 
 def largest_state():
-    """The text of the largest state: 16 scripts of eight steps that each write an emergency profile,
-    and four schedules of 16 entries."""
+    """The text of the largest state: 16 scripts of eight steps that each write an emergency
+    profile, and four schedules of 16 entries."""
     run = ("over 0 0", "under 42949672950 1")
     step = "0205160112004709060000110000FF0F08020312FFFF090C07D00101FF0001280080000006FFFFFFFF"
     scripts = "0110" + "".join(f"020212{65535 - number:04X}0108" + 8 * step for number in range(16))
@@ -340,7 +341,8 @@ def largest_state():
 
 
 def the_largest_state_fits_a_slot(name):
-    """The longest export is one byte longer than the measured one: the management client's port is 1, the public one's 16."""
+    """The longest export is one byte longer than the measured one: the management client's port is
+    1, the public one's 16."""
     header = (EXAMPLES / "stored_meter.h").read_text()
     state, export = (int(re.search(rf"#define STORED_{word}_BYTES (\d+)", header)[1]) for word in ("STATE", "EXPORT"))
     ran = subprocess.run([str(place / "power_cuts"), "largest"], input=largest_state(), capture_output=True, timeout=60)

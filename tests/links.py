@@ -1,13 +1,17 @@
 #!/usr/bin/env python3
-"""Tests that what README.md, docs/ and the crates' READMEs name is there: links and their places, files, functions, definitions, edits, tests.
+"""Tests that what README.md, docs/ and the crates' READMEs name is there: links and their places,
+files, functions, definitions, edits, tests.
 
 - A link leads to a file, and to a heading or an anchor in it.
 - A path in code or prose (docs/TRACE.md, bin/build, crates/NAME/..) is one of a file or folder.
 - `CRATE::NAME` is declared in that crate's sources; a crate of the toolchain's is not looked into.
-- `CRATE/EDIT` and each name in docs/WRONG_BODIES.md's last column is an edit, or a test; its tables are what bin/wrong_page writes, so no edit is missing there.
-- A definition that docs/DEFINITIONS.md names is in a file of its row, and each file of specs/ is linked there.
+- `CRATE/EDIT` and each name in docs/WRONG_BODIES.md's last column is an edit, or a test; its tables
+  are what bin/wrong_page writes, so no edit is missing there.
+- A definition that docs/DEFINITIONS.md names is in a file of its row, and each file of specs/ is
+  linked there.
 - A name in code in the first comment of a source is declared, or is a crate.
-- Each crate has a README, whose example is from a test that is there and has its calls, or is a file that the gate runs.
+- Each crate has a README, whose example is from a test that is there and has its calls, or is a
+  file that the gate runs.
 """
 import re
 import subprocess
@@ -64,7 +68,8 @@ def links(page, text):
 
 
 def paths(page, text):
-    """Paths in code and in prose, from the top of the repository, or in a crate's README from its own folder."""
+    """Paths in code and in prose, from the top of the repository, or in a crate's README from its
+    own folder."""
     plain = LINK.sub("", text)
     found = set(re.findall(r"(?<![\w/.-])(?:docs|bin|tests|bench|crates|share)/[\w./*<>-]*[\w/]", plain))
     found |= {it for it in CODE.findall(plain) if re.fullmatch(r"(?:src|specs|proofs|wrong)/[\w./-]+", it)}
@@ -74,7 +79,8 @@ def paths(page, text):
 
 
 def is_shortened(path):
-    """A path of a crate's file told from its crate's folder, as `src/tests.rt`, where some crate has it."""
+    """A path of a crate's file told from its crate's folder, as `src/tests.rt`, where some crate
+    has it."""
     return path.startswith(("src/", "specs/", "proofs/", "wrong/")) and any((it / path).exists() for it in CRATES.values())
 
 
@@ -123,7 +129,8 @@ def wrong_bodies(text):
 
 
 def definitions(text):
-    """A row has links to its files of specs/ in the first cell, and names that these define in the second."""
+    """A row has links to its files of specs/ in the first cell, and names that these define in the
+    second."""
     for row in text.split("\n"):
         cells = row.strip("| ").split(" | ")
         files = [TOP / "docs" / it for it in LINK.findall(cells[0]) if it.endswith(".antt")]

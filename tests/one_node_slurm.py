@@ -1,5 +1,5 @@
-"""A Slurm cluster of one node on this machine, for tests. Its daemons have a key, ports and files of
-their own, all in one folder."""
+"""A Slurm cluster of one node on this machine, for tests. Its daemons have a key, ports and files
+of their own, all in one folder."""
 
 import getpass
 import os

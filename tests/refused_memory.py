@@ -2,11 +2,11 @@
 """Makes each allocation in turn fail, in the executables that the gate left, and checks what holds
 afterwards. Prints the number of failed allocations of each, and the results.
 
-Every allocation is refused in the six calls whose state after it is promised, which takes less than a
-minute: the tests of `refusal_tests` (the recorder's `apply`, a port's `call`, `serve_session`,
-`serve_all`, `play`) and a campaign of four jobs; and in a test of the sampler. In the programs, and in
-a meter that serves two clients, the first, the last and some between are refused; for that meter also
-the start of each thread.
+Every allocation is refused in the six calls whose state after it is promised, which takes less than
+a minute: the tests of `refusal_tests` (the recorder's `apply`, a port's `call`, `serve_session`,
+`serve_all`, `play`) and a campaign of four jobs; and in a test of the sampler. In the programs, and
+in a meter that serves two clients, the first, the last and some between are refused; for that meter
+also the start of each thread.
 
 usage: tests/refused_memory.py [--long]     (--long: every allocation everywhere)"""
 
@@ -44,8 +44,8 @@ def print_counts(name, found, word="allocations refused"):
 
 
 def each_refusal(run, count, is_each=False):
-    """What `run` returns for each allocation that is refused, counted. It receives the number of the
-    allocation. Unless `is_each` or `--long` is set, some are left out."""
+    """What `run` returns for each allocation that is refused, counted. It receives the number of
+    the allocation. Unless `is_each` or `--long` is set, some are left out."""
     return collections.Counter(run(number) for number in turns(count, is_long or is_each))
 
 

@@ -1,5 +1,5 @@
-"""Runs programs with one allocation, thread, read, write or sync refused. tests/refusing.c, which the
-toolchain's compiler builds, is preloaded between the program and the C library."""
+"""Runs programs with one allocation, thread, read, write or sync refused. tests/refusing.c, which
+the toolchain's compiler builds, is preloaded between the program and the C library."""
 
 import os
 import pathlib

@@ -1,6 +1,7 @@
-"""The meter's switch as a table: the transitions and modes of IEC 62056-6-2 (class 70), written from
-the standard and not from the code. A model runs over the lines of a journal, for tests that compare
-a meter with it. It has no scripts and no schedules, so samples and moments do not switch it."""
+"""The meter's switch as a table: the transitions and modes of IEC 62056-6-2 (class 70), written
+from the standard and not from the code. A model runs over the lines of a journal, for tests that
+compare a meter with it. It has no scripts and no schedules, so samples and moments do not switch
+it."""
 
 import copy
 

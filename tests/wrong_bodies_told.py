@@ -1,9 +1,10 @@
 #!/usr/bin/env python3
 """Tests bin/wrong_bodies.
 
-- It reports a refused body, a right one, one that does not compile and one whose text is missing, and
-  counts them.
-- An edit of a constant is judged together with others only if only bodies of functions use the constant.
+- It reports a refused body, a right one, one that does not compile and one whose text is missing,
+  and counts them.
+- An edit of a constant is judged together with others only if only bodies of functions use the
+  constant.
 - The other functions have no body in the copy that is checked.
 - Edits of wrong/long/ are judged only with --long.
 - A round ends once its check has printed its lines.

@@ -7,7 +7,8 @@
 #
 # usage: run.sh [COUNT [KIND..]]    (default: 100000 get set action list blocks)
 #
-# The plain program of GETs is plain.rs, which knows GETs alone; that of the others is plain_kinds.rs.
+# The plain program of GETs is plain.rs, which knows GETs alone; that of the others is
+# plain_kinds.rs.
 # A session has COUNT GETs, SETs or ACTIONs, a tenth of that of lists, a hundredth of transfers.
 set -e
 here=$(cd "$(dirname "$0")" && pwd)
