@@ -1,0 +1,143 @@
+"""Meters in a process of their own, each on a port of its own, that count what they receive and
+answer after short random times. They are for tests that kill the head end."""
+
+import collections
+import heapq
+import multiprocessing
+import random
+import select
+import socket
+import time
+
+from scripted_meters import CROWD, NAMES, STAGES, TEXTS
+from serving import PATIENCE
+
+DELAYS = (0, 0, 0.001, 0.004, 0.012)  # the times before an answer, in seconds
+COMMANDS = ("disconnect", "reconnect")
+
+
+def kind_of(number):
+    """The kind of a meter, an index of CROWD."""
+    return number % len(CROWD)
+
+
+class CountedMeters:
+    """A process with `count` meters. It ends when its parent does."""
+
+    def __init__(self, count):
+        listeners = [socket.create_server(("127.0.0.1", 0), backlog=16) for _ in range(count)]
+        self.ports = [listener.getsockname()[1] for listener in listeners]
+        self.pipe, theirs = multiprocessing.Pipe()
+        context = multiprocessing.get_context("fork")
+        self.process = context.Process(target=serve, args=(listeners, self.pipe, theirs), daemon=True)
+        self.process.start()
+        theirs.close()
+        for listener in listeners:
+            listener.close()
+
+    def received(self):
+        """For each meter the frames that it received since the last call, counted by name, once no
+        client is connected. None if the process does not answer."""
+        self.pipe.send("received")
+        return self.pipe.recv() if self.pipe.poll(PATIENCE) else None
+
+    def stop(self):
+        self.process.kill()
+        self.process.join(PATIENCE)
+
+
+class Answered:
+    """A client, the meter that it called, and the bytes that are no whole frame yet."""
+
+    def __init__(self, stream, meter):
+        self.stream, self.meter = stream, meter
+        self.text, self.stage = b"", 0
+
+    def frames(self):
+        """Reads what has arrived; returns the names of the whole frames, and None after them if the
+        client has closed the connection."""
+        try:
+            piece = self.stream.recv(4096)
+        except OSError:
+            piece = b""
+        self.text += piece
+        names = []
+        while len(self.text) >= 8:
+            length = 8 + int.from_bytes(self.text[6:8], "big")
+            if len(self.text) < length:
+                break
+            names.append(NAMES.get(self.text[:length], "strange"))
+            self.text = self.text[length:]
+        return names if piece else [*names, None]
+
+
+class Process:
+    """The process of the meters: its clients, what they sent, and the answers that are pending."""
+
+    def __init__(self, listeners, pipe):
+        self.poll, self.pipe = select.epoll(), pipe
+        self.listeners = {it.fileno(): (meter, it) for meter, it in enumerate(listeners)}
+        self.counts = [collections.Counter() for _ in listeners]
+        self.clients, self.pending, self.number = {}, [], 0
+        self.choose, self.is_asked = random.Random(), False
+        for one in (*self.listeners, pipe.fileno()):
+            self.poll.register(one, select.EPOLLIN)
+
+    def accept(self, number):
+        meter, listener = self.listeners[number]
+        stream, _ = listener.accept()
+        stream.setsockopt(socket.IPPROTO_TCP, socket.TCP_NODELAY, 1)
+        self.counts[meter]["connections"] += 1
+        self.clients[stream.fileno()] = Answered(stream, meter)
+        self.poll.register(stream.fileno(), select.EPOLLIN)
+
+    def close(self, client):
+        if self.clients.pop(client.stream.fileno(), None):
+            client.stream.close()
+
+    def hear(self, client):
+        for name in client.frames():
+            if name is None:
+                self.close(client)
+                return
+            self.counts[client.meter][name] += 1
+            if name == "strange" or STAGES[name] != client.stage:
+                self.counts[client.meter]["strange"] += 1
+            client.stage += 1
+            self.number += 1
+            text = TEXTS.get((kind_of(client.meter), name), False)
+            at = time.monotonic() + self.choose.choice(DELAYS)
+            heapq.heappush(self.pending, (at, self.number, client, text))
+
+    def answer(self):
+        """Sends the answers whose time has come; returns the seconds until the next."""
+        while self.pending and self.pending[0][0] <= time.monotonic():
+            _, _, client, text = heapq.heappop(self.pending)
+            try:
+                if text is False:
+                    self.close(client)
+                elif text:
+                    client.stream.send(text)
+            except OSError:
+                self.close(client)
+        return max(0, self.pending[0][0] - time.monotonic()) if self.pending else -1
+
+    def run(self):
+        while True:
+            for number, _ in self.poll.poll(self.answer()):
+                if number in self.listeners:
+                    self.accept(number)
+                elif number in self.clients:
+                    self.hear(self.clients[number])
+                elif number == self.pipe.fileno():
+                    self.is_asked = self.pipe.recv() == "received"
+            if self.is_asked and not self.clients:
+                self.pipe.send(self.counts)
+                self.counts = [collections.Counter() for _ in self.counts]
+                self.is_asked = False
+
+
+def serve(listeners, others, pipe):
+    """The main function of the process."""
+    others.close()
+    Process(listeners, pipe).run()

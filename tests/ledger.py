@@ -1,0 +1,492 @@
+#!/usr/bin/env python3
+"""Tests `head_end run --ledger FILE`. Campaigns of 300 jobs against scripted meters that count what
+they receive are killed at random times, and run again on the same ledger until they are whole: no
+meter may get a second command, each command must have its mark in the ledger, no outcome may be
+lost, and SQLite must find each ledger that a kill left whole. Also tested: ledgers and lists that
+are refused, two runs at once, meters that were down, a full disk, and each failing read, write and
+sync. Every wait has a time limit. If the program has no option --ledger, all of it is skipped.
+
+usage: tests/ledger.py [--long] [--seed N]
+
+  --long     200 campaigns that are killed instead of 20, and each read, write and sync fails
+  --seed N   the seed of the random choices; the times are never the same twice"""
+
+import argparse
+import collections
+import contextlib
+import os
+import pathlib
+import random
+import re
+import shutil
+import socket
+import sqlite3
+import subprocess
+import sys
+import tempfile
+import time
+
+sys.dont_write_bytecode = True  # importing the modules of tests/ leaves no files
+
+import serving
+from counted_meters import COMMANDS, CountedMeters, kind_of
+from journal import SmallDisk, in_folder
+from refusing import Refusing, turns
+from scripted_meters import CROWD, REQUESTS
+from serving import PASSWORD, PATIENCE, TOP, check, test
+
+HEAD_END = os.environ.get("HEAD_END") or TOP / "crates" / "head_end_cli" / "out" / "head_end_cli"
+
+JOBS = 300
+KILLED, LONG_KILLED = 20, 200  # campaigns that are killed
+MOST_RUNS = 60  # of one campaign
+LONGEST = 120  # the time limit of a run, in seconds
+SEED = 49
+WORKERS = (1, 4, 16)
+FULL = ("64k", "128k", "256k", "512k")  # disks that the ledger of 300 jobs fills
+TABLES = {"begun": "SELECT place FROM begun ORDER BY place",
+          "outcome": "SELECT place, kind, number FROM outcome ORDER BY place",
+          "job": "SELECT name, address, verb FROM job ORDER BY place"}
+
+Ran = collections.namedtuple("Ran", "status report errors")
+Entries = collections.namedtuple("Entries", "check begun outcomes jobs")
+is_long, seed = False, SEED
+
+
+class Campaign:
+    """A list of jobs at meters that count: each place has a kind of meter and a verb."""
+
+    def __init__(self, meters, verb_of):
+        self.meters = meters
+        self.jobs = [(f"job{place}", f"127.0.0.1:{port}", verb_of(place))
+                     for place, port in enumerate(meters.ports)]
+        self.text = text_of(self.jobs)
+        self.rows = [CROWD[kind_of(place)][2][verb] for place, (_, _, verb) in enumerate(self.jobs)]
+        self.commands = [place for place, (_, _, verb) in enumerate(self.jobs) if verb in COMMANDS]
+
+    def commanded(self):
+        """The number of commands that each place's meter has received since the last call."""
+        received = self.meters.received()
+        assert received is not None, "the meters do not answer"
+        assert not any(it["strange"] for it in received), "a meter received a strange frame"
+        return [it["disconnect"] + it["reconnect"] for it in received]
+
+
+def text_of(jobs):
+    return "".join(f"{' '.join(job)}\n" for job in jobs)
+
+
+def any_verb(place):
+    """Each kind of meter gets each verb."""
+    return list(REQUESTS)[place // len(CROWD) % len(REQUESTS)]
+
+
+def report_of(jobs, rows):
+    return "".join(f"{job[0]} {row}\n" for job, row in zip(jobs, rows))
+
+
+def words_of(ledger, workers=4):
+    return [str(HEAD_END), "run", "--password", PASSWORD, "--ledger", str(ledger), "--workers",
+            str(workers), "--timeout", "10", "--connect-timeout", "5"]
+
+
+def run(ledger, text, workers=4, kill_after=None, before=()):
+    """Runs a campaign, by the command `before` if there is one; returns None if it was killed after
+    a number of seconds."""
+    process = subprocess.Popen([*before, *words_of(ledger, workers)], stdin=subprocess.PIPE,
+                               stdout=subprocess.PIPE, stderr=subprocess.PIPE, text=True)
+    try:
+        output, errors = process.communicate(text, timeout=kill_after or LONGEST)
+    except subprocess.TimeoutExpired:
+        process.kill()
+        process.communicate()
+        assert kill_after, "a run did not end"
+        return None
+    except BaseException:
+        process.kill()
+        raise
+    return Ran(process.returncode, output, errors)
+
+
+def entries(ledger):
+    """What SQLite reads from copies of the ledger's files, which themselves stay as they are. None
+    if there is no ledger or no table in it."""
+    if not ledger.exists():
+        return None
+    with tempfile.TemporaryDirectory(prefix="ledger-copy-") as folder:
+        for file in ledger.parent.glob(f"{ledger.name}*"):
+            if not file.name.endswith(("-shm", ".lock")):
+                shutil.copy(file, folder)
+        copy = pathlib.Path(folder) / ledger.name
+        with contextlib.closing(sqlite3.connect(copy)) as database:
+            try:
+                found = {name: database.execute(query).fetchall() for name, query in TABLES.items()}
+            except sqlite3.OperationalError as error:
+                assert "no such table" in str(error), error
+                return None
+            whole = database.execute("PRAGMA integrity_check").fetchall()
+    outcomes = {place: kind if number is None else f"{kind} {number}"
+                for place, kind, number in found["outcome"]}
+    return Entries(whole, {place for place, in found["begun"]}, outcomes, found["job"])
+
+
+class History:
+    """What is known of a campaign over all its runs: the commands that the meters received, the
+    outcomes that the ledger had, and the places that a run left without one. If connections may
+    fail, an outcome may be `unknown` in place of the meter's."""
+
+    def __init__(self, campaign, may_fail=False):
+        self.campaign, self.may_fail = campaign, may_fail
+        self.commands = [0] * len(campaign.jobs)
+        self.outcomes, self.torn, self.runs = {}, set(), 0
+
+    def follow(self, ledger, workers):
+        """Compares the ledger with what the meters received. Fails if they do not fit."""
+        self.runs += 1
+        self.commands = [a + b for a, b in zip(self.commands, self.campaign.commanded())]
+        twice = [place for place, count in enumerate(self.commands) if count > 1]
+        assert not twice, f"commanded twice: places {twice}"
+        found = entries(ledger)
+        if found is None:
+            assert not any(self.commands), "commands went out, and there is no ledger"
+            return
+        assert found.check == [("ok",)], f"integrity_check: {found.check}"
+        sent = {place for place, count in enumerate(self.commands) if count}
+        assert sent <= found.begun, f"commands without a mark: {sorted(sent - found.begun)}"
+        kept = {place: found.outcomes.get(place) for place in self.outcomes}
+        assert kept == self.outcomes, f"outcomes lost or changed: {kept}, not {self.outcomes}"
+        wrong = {place: row for place, row in found.outcomes.items()
+                 if row != self.campaign.rows[place] and not (self.may_fail and row == "unknown")}
+        assert not wrong, f"other outcomes than the meters gave: {wrong}"
+        torn = found.begun - set(found.outcomes)
+        assert len(torn - self.torn) <= workers, f"more marks than workers: {torn - self.torn}"
+        self.outcomes, self.torn = found.outcomes, self.torn | torn
+
+    def expected(self):
+        """The rows of the whole report."""
+        return [self.outcomes.get(place, "unknown" if place in self.torn else row)
+                for place, row in enumerate(self.campaign.rows)]
+
+    def check_end(self, name, ran):
+        wanted = report_of(self.campaign.jobs, self.expected())
+        check(f"{name}: the report", (ran.status, ran.report) == (0, wanted), ran.status,
+              differing(wanted, ran.report), ran.errors[-500:])
+        unsent = [place for place in self.campaign.commands
+                  if self.expected()[place].startswith(("done", "refused"))
+                  and self.commands[place] != 1]
+        check(f"{name}: each command once", not unsent, unsent)
+
+
+def differing(wanted, found):
+    """The first lines in which two reports differ."""
+    pairs = zip(wanted.splitlines(), found.splitlines())
+    lines = [f"{b!r}, not {a!r}" for a, b in pairs if a != b]
+    return lines[:5] or f"{found.count(chr(10))} lines, not {wanted.count(chr(10))}"
+
+
+def campaign_of(meters, choose):
+    """A campaign in which each place has a random verb, most of them commands."""
+    verbs = [choose.choice((*REQUESTS, *COMMANDS)) for _ in meters.ports]
+    return Campaign(meters, verbs.__getitem__)
+
+
+@in_folder
+def a_ledger_changes_no_row(name, folder):
+    with running_meters() as meters:
+        campaign = Campaign(meters, any_verb)
+        words = [it for it in words_of("") if it not in ("--ledger", "")]
+        plain = subprocess.run(words, input=campaign.text, capture_output=True, text=True,
+                               timeout=LONGEST)
+        campaign.commanded()
+        history, ledger = History(campaign), folder / "ledger"
+        ran = run(ledger, campaign.text)
+        history.follow(ledger, 0)
+        history.check_end(name, ran)
+        check(f"{name}: as without one", ran.report == plain.stdout,
+              differing(plain.stdout, ran.report))
+        found = entries(ledger)
+        check(f"{name}: its jobs", found.jobs == campaign.jobs, found.jobs[:3])
+        check(f"{name}: its marks", found.begun >= set(campaign.commands),
+              sorted(set(campaign.commands) - found.begun)[:9])
+        check(f"{name}: its outcomes", sorted(found.outcomes) == list(range(JOBS)),
+              len(found.outcomes))
+        again = run(ledger, campaign.text, 16)
+        check(f"{name}: run again", again[:2] == ran[:2], differing(ran.report, again.report),
+              again.errors)
+        received = meters.received()
+        check(f"{name}: no connection again", not any(map(sum, map(dict.values, received))))
+        check(f"{name}: and no entry", entries(ledger) == found)
+
+
+def killed_until_whole(name, folder, meters, number):
+    """A campaign that is killed at random times and run again until it ends. Returns its history
+    and the number of kills."""
+    choose = random.Random(f"{seed} {number}")
+    campaign, ledger = campaign_of(meters, choose), folder / f"ledger{number}"
+    history, longest = History(campaign), choose.choice((0.1, 0.4, 1.0))
+    while history.runs < MOST_RUNS:
+        workers = choose.choice(WORKERS)
+        ran = run(ledger, campaign.text, workers, choose.uniform(0.005, longest))
+        history.follow(ledger, 0 if ran else workers)
+        if ran:
+            history.check_end(f"{name} {number}", ran)
+            return history
+        longest *= 1.1  # so that it ends
+    raise AssertionError(f"campaign {number} is not whole after {MOST_RUNS} runs")
+
+
+@in_folder
+def killed_campaigns_command_nobody_twice(name, folder):
+    totals, campaigns = collections.Counter(), LONG_KILLED if is_long else KILLED
+    with running_meters() as meters:
+        for number in range(1, campaigns + 1):
+            try:
+                history = killed_until_whole(name, folder, meters, number)
+            except AssertionError as error:
+                check(f"{name}: campaign {number}, seed {seed}", False, error)
+                meters.received()
+                continue
+            totals.update(kills=history.runs - 1, commands=sum(history.commands),
+                          unknown=len(history.torn), outcomes=len(history.outcomes))
+    print(f"{name}: {campaigns} campaigns of {JOBS} jobs, {totals['kills']} kills, "
+          f"{totals['commands']:,} commands, {totals['outcomes']:,} outcomes, "
+          f"{totals['unknown']} places left without one")
+    check(f"{name}: enough kills", totals["kills"] >= campaigns, totals)
+
+
+def is_refused(ran):
+    """Whether a run was refused before it began: with the line of a fault, and no report."""
+    has_line = re.search(r"(?m)^fault: [a-z]+$", ran.errors)
+    return ran.status in (2, 3) and ran.report == "" and bool(has_line)
+
+
+@in_folder
+def another_list_is_refused(name, folder):
+    with running_meters(12) as meters:
+        campaign, ledger = Campaign(meters, lambda place: "disconnect"), folder / "ledger"
+        run(ledger, campaign.text)
+        campaign.commanded()
+        found, jobs = entries(ledger), campaign.jobs
+        others = {"another verb": [(*jobs[0][:2], "reconnect"), *jobs[1:]],
+                  "another name": [("other", *jobs[0][1:]), *jobs[1:]],
+                  "another address": [(jobs[0][0], jobs[1][1], jobs[0][2]), *jobs[1:]],
+                  "another order": [jobs[1], jobs[0], *jobs[2:]],
+                  "one job less": jobs[:-1],
+                  "one job more": [*jobs, ("more", jobs[0][1], "disconnect")],
+                  "no job": []}
+        for what, other in others.items():
+            ran = run(ledger, text_of(other))
+            check(f"{name}: {what}", is_refused(ran), ran)
+            check(f"{name}: {what}: no command", not any(campaign.commanded()))
+            check(f"{name}: {what}: the ledger", entries(ledger) == found)
+        # (empty lines are no jobs, so the list is the same)
+        ran = run(ledger, "\n" + campaign.text.replace("\n", "\n\n"))
+        check(f"{name}: the list with empty lines", ran.status == 0, ran)
+
+
+@in_folder
+def what_is_no_ledger_is_refused(name, folder):
+    with running_meters(4) as meters:
+        campaign = Campaign(meters, lambda place: "disconnect")
+        (folder / "text").write_text("a report\n" * 1000)
+        with contextlib.closing(sqlite3.connect(folder / "other")) as database:
+            database.execute("CREATE TABLE meter (name TEXT)")
+            database.commit()
+        (folder / "folder").mkdir()
+        for what in ("text", "other", "folder", "missing/ledger"):
+            file = folder / what
+            before = file.read_bytes() if file.is_file() else None
+            ran = run(file, campaign.text)
+            check(f"{name}: {what}", is_refused(ran), ran)
+            check(f"{name}: {what}: no command", not any(campaign.commanded()))
+            after = file.read_bytes() if file.is_file() else None
+            check(f"{name}: {what}: unchanged", before == after)
+
+
+@in_folder
+def two_runs_at_once_are_refused(name, folder):
+    with running_meters(12) as meters, socket.create_server(("127.0.0.1", 0)) as silent:
+        campaign, ledger = Campaign(meters, lambda place: "disconnect"), folder / "ledger"
+        held = f"silent 127.0.0.1:{silent.getsockname()[1]} disconnect\n" + campaign.text
+        first = subprocess.Popen(words_of(ledger, 1), stdin=subprocess.PIPE, text=True,
+                                 stdout=subprocess.PIPE, stderr=subprocess.PIPE)
+        try:
+            first.stdin.write(held)
+            first.stdin.close()
+            silent.settimeout(PATIENCE)
+            client, _ = silent.accept()
+            second = run(ledger, held)
+            check(f"{name}: the second", is_refused(second), second)
+            client.close()
+            first.stdin = None
+            output, _ = first.communicate(timeout=LONGEST)
+        finally:
+            first.kill()
+        wanted = "silent unknown\n" + report_of(campaign.jobs, campaign.rows)
+        check(f"{name}: the first", output == wanted, differing(wanted, output))
+        commands = campaign.commanded()
+        check(f"{name}: each command once", max(commands) == 1, commands)
+
+
+@in_folder
+def a_meter_that_was_down_is_commanded_later(name, folder):
+    with running_meters(6) as meters, socket.socket() as down:
+        down.bind(("127.0.0.1", 0))
+        campaign, ledger = Campaign(meters, lambda place: "disconnect"), folder / "ledger"
+        job = f"down 127.0.0.1:{down.getsockname()[1]} disconnect\n"
+        ran = run(ledger, job + campaign.text)
+        check(f"{name}: its row", ran.report.startswith("down unknown\n") and ran.status == 0, ran)
+        check(f"{name}: no mark", 0 not in entries(ledger).begun, entries(ledger).begun)
+        first = campaign.commanded()
+        down.listen()
+        down.settimeout(PATIENCE)
+        process = subprocess.Popen(words_of(ledger), stdin=subprocess.PIPE, text=True,
+                                   stdout=subprocess.PIPE, stderr=subprocess.PIPE)
+        try:
+            process.stdin.write(job + campaign.text)
+            process.stdin.close()
+            client, _ = down.accept()
+            client.close()
+            process.stdin = None
+            process.communicate(timeout=LONGEST)
+        finally:
+            process.kill()
+        check(f"{name}: it is called", 0 in entries(ledger).begun, entries(ledger).begun)
+        later = campaign.commanded()
+        check(f"{name}: nobody else", not any(later) and max(first) == 1, later)
+
+
+def inside(disk):
+    """The command that runs another one in the mount namespace of a disk. (SQLite follows links, so
+    it would not open a file by the path from outside.)"""
+    user = ["--user", "--preserve-credentials"] if os.geteuid() else []
+    return ["nsenter", "--target", str(disk.holder.pid), "--mount", *user, "--"]
+
+
+def a_disk_is_filled(name, folder, meters, size):
+    """A campaign whose ledger fills a disk, and then goes on with the same files on another."""
+    class LedgerDisk(SmallDisk):
+        MOUNT = SmallDisk.MOUNT.replace("64k", size)
+
+    disk = LedgerDisk(folder)
+    try:
+        if not disk.is_mounted:
+            print("SKIPPED a full disk: no tmpfs can be mounted in a mount namespace")
+            return
+        campaign = campaign_of(meters, random.Random(f"{seed} {size}"))
+        history, ledger = History(campaign), disk.path / "ledger"
+        ran = run(folder / "ledger", campaign.text, before=inside(disk))
+        check(f"{name}: {size}: the fault", ran.status == 3 and "fault: write" in ran.errors,
+              ran.status, ran.errors[-300:])
+        history.follow(ledger, 4)
+        rows = dict(line.split(" ", 1) for line in ran.report.splitlines())
+        wrong = {f"job{place}": rows[f"job{place}"] for place, row in enumerate(campaign.rows)
+                 if rows and rows[f"job{place}"] not in (row, "unknown")}
+        check(f"{name}: {size}: its rows", not wrong, wrong)
+        other = folder / f"moved{size}"
+        other.mkdir()
+        for file in disk.path.glob("ledger*"):
+            shutil.copy(file, other)
+    finally:
+        disk.stop()
+    ran = run(other / "ledger", campaign.text)
+    history.follow(other / "ledger", 0)
+    history.check_end(f"{name}: {size}: with space", ran)
+    print(f"{name}: {size}: {len(history.torn)} places left without an outcome")
+
+
+@in_folder
+def a_full_disk_stops_the_commands(name, folder):
+    if not shutil.which("unshare") or not shutil.which("nsenter"):
+        print("SKIPPED a full disk: unshare or nsenter is missing (Debian: apt-get install "
+              "util-linux)")
+        return
+    with running_meters() as meters:
+        for size in FULL:
+            mount = folder / f"disk{size}"
+            mount.mkdir()
+            try:
+                a_disk_is_filled(name, mount, meters, size)
+            except AssertionError as error:
+                check(f"{name}: {size}", False, error)
+                meters.received()
+
+
+def one_call_fails(folder, refusing, campaign, which, call):
+    """A campaign in which one call fails, run again with none failing. Returns what happened."""
+    history, ledger = History(campaign, which == "fail_stream"), folder / f"{which}{call}"
+    ran = refusing.run(words_of(ledger), campaign.text.encode(), **{which: call})
+    history.follow(ledger, 4)
+    again = run(ledger, campaign.text)
+    history.follow(ledger, 0)
+    wanted = report_of(campaign.jobs, history.expected())
+    assert (again.status, again.report) == (0, wanted), differing(wanted, again.report)
+    return f"status {ran.status}"
+
+
+@in_folder
+def a_failed_call_commands_nobody_twice(name, folder):
+    """Each sync, and each read and write, fails in turn."""
+    refusing = Refusing()
+    with running_meters(12) as meters:
+        campaign = Campaign(meters, any_verb)
+        for which, index in (("fail_sync", 5), ("fail_stream", 1)):
+            ample = refusing.run(words_of(folder / which), campaign.text.encode(), **{which: 0})
+            campaign.commanded()
+            count, found = refusing.counts()[index], collections.Counter()
+            for call in turns(count, is_long):
+                try:
+                    found[one_call_fails(folder, refusing, campaign, which, call)] += 1
+                except AssertionError as error:
+                    check(f"{name}: {which} {call} of {count}", False, error)
+                    meters.received()
+            check(f"{name}: {which}", ample.status == 0 and count > 0 and len(found), ample, count)
+            print(f"{name}: {which}: {count} calls, {dict(found)}")
+    refusing.stop()
+
+
+@contextlib.contextmanager
+def running_meters(count=JOBS):
+    meters = CountedMeters(count)
+    try:
+        yield meters
+    finally:
+        meters.stop()
+
+
+TESTS = (a_ledger_changes_no_row, killed_campaigns_command_nobody_twice, another_list_is_refused,
+         what_is_no_ledger_is_refused, two_runs_at_once_are_refused,
+         a_meter_that_was_down_is_commanded_later, a_full_disk_stops_the_commands,
+         a_failed_call_commands_nobody_twice)
+
+
+def has_ledger():
+    told = subprocess.run([str(HEAD_END), "run", "--help"], capture_output=True, text=True,
+                          timeout=PATIENCE)
+    return "--ledger" in told.stdout
+
+
+def main():
+    global is_long, seed
+    parser = argparse.ArgumentParser(description=__doc__,
+                                     formatter_class=argparse.RawDescriptionHelpFormatter)
+    parser.add_argument("--long", action="store_true")
+    parser.add_argument("--seed", type=int, default=SEED)
+    given = parser.parse_args()
+    is_long, seed = given.long, given.seed
+    if not os.access(HEAD_END, os.X_OK):
+        print(f"{HEAD_END} is missing: run bin/build or bin/test\n0 passed, 1 failed")
+        return 1
+    if not has_ledger():
+        print("skipped: no --ledger\n0 passed, 0 failed")
+        return 0
+    begun = time.monotonic()
+    for function in TESTS:
+        test(function)
+    print(f"in {time.monotonic() - begun:.0f} s")
+    print(f"{serving.passed} passed, {serving.failed} failed")
+    return 1 if serving.failed else 0
+
+
+if __name__ == "__main__":
+    sys.exit(main())
