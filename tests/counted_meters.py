@@ -28,8 +28,8 @@ class CountedMeters:
         listeners = [socket.create_server(("127.0.0.1", 0), backlog=16) for _ in range(count)]
         self.ports = [listener.getsockname()[1] for listener in listeners]
         self.pipe, theirs = multiprocessing.Pipe()
-        context = multiprocessing.get_context("fork")
-        self.process = context.Process(target=serve, args=(listeners, self.pipe, theirs), daemon=True)
+        given = {"target": serve, "args": (listeners, self.pipe, theirs), "daemon": True}
+        self.process = multiprocessing.get_context("fork").Process(**given)
         self.process.start()
         theirs.close()
         for listener in listeners:

@@ -133,7 +133,7 @@ def entries(ledger):
 class History:
     """What is known of a campaign over all its runs: the commands that the meters received, the
     outcomes that the ledger had, and the places that a run left without one. If connections may
-    fail, an outcome may be `unknown` in place of the meter's."""
+    fail, an outcome may be `unknown` instead of the meter's."""
 
     def __init__(self, campaign, may_fail=False):
         self.campaign, self.may_fail = campaign, may_fail
@@ -364,7 +364,7 @@ def inside(disk):
 
 
 def a_disk_is_filled(name, folder, meters, size):
-    """A campaign whose ledger fills a disk, and then goes on with the same files on another."""
+    """A campaign whose ledger fills a disk, and then continues with the same files on another."""
     class LedgerDisk(SmallDisk):
         MOUNT = SmallDisk.MOUNT.replace("64k", size)
 
