@@ -35,10 +35,10 @@ class CountedMeters:
         for listener in listeners:
             listener.close()
 
-    def received(self):
+    def take_counts(self):
         """For each meter the frames that it received since the last call, counted by name, once no
         client is connected. None if the process does not answer."""
-        self.pipe.send("received")
+        self.pipe.send("counts")
         return self.pipe.recv() if self.pipe.poll(PATIENCE) else None
 
     def stop(self):
@@ -130,7 +130,7 @@ class Process:
                 elif number in self.clients:
                     self.hear(self.clients[number])
                 elif number == self.pipe.fileno():
-                    self.is_asked = self.pipe.recv() == "received"
+                    self.is_asked = self.pipe.recv() == "counts"
             if self.is_asked and not self.clients:
                 self.pipe.send(self.counts)
                 self.counts = [collections.Counter() for _ in self.counts]

@@ -64,9 +64,9 @@ class Campaign:
         self.rows = [CROWD[kind_of(place)][2][verb] for place, (_, _, verb) in enumerate(self.jobs)]
         self.commands = [place for place, (_, _, verb) in enumerate(self.jobs) if verb in COMMANDS]
 
-    def commanded(self):
+    def take_commands(self):
         """The number of commands that each place's meter has received since the last call."""
-        received = self.meters.received()
+        received = self.meters.take_counts()
         assert received is not None, "the meters do not answer"
         assert not any(it["strange"] for it in received), "a meter received a strange frame"
         return [it["disconnect"] + it["reconnect"] for it in received]
@@ -143,7 +143,7 @@ class History:
     def follow(self, ledger, workers):
         """Compares the ledger with what the meters received. Fails if they do not fit."""
         self.runs += 1
-        self.commands = [a + b for a, b in zip(self.commands, self.campaign.commanded())]
+        self.commands = [a + b for a, b in zip(self.commands, self.campaign.take_commands())]
         twice = [place for place, count in enumerate(self.commands) if count > 1]
         assert not twice, f"commanded twice: places {twice}"
         found = entries(ledger)
@@ -162,22 +162,22 @@ class History:
         assert len(torn - self.torn) <= workers, f"more marks than workers: {torn - self.torn}"
         self.outcomes, self.torn = found.outcomes, self.torn | torn
 
-    def expected(self):
+    def expected_rows(self):
         """The rows of the whole report."""
         return [self.outcomes.get(place, "unknown" if place in self.torn else row)
                 for place, row in enumerate(self.campaign.rows)]
 
     def check_end(self, name, ran):
-        wanted = report_of(self.campaign.jobs, self.expected())
+        wanted = report_of(self.campaign.jobs, self.expected_rows())
         check(f"{name}: the report", (ran.status, ran.report) == (0, wanted), ran.status,
-              differing(wanted, ran.report), ran.errors[-500:])
+              first_differences(wanted, ran.report), ran.errors[-500:])
         unsent = [place for place in self.campaign.commands
-                  if self.expected()[place].startswith(("done", "refused"))
+                  if self.expected_rows()[place].startswith(("done", "refused"))
                   and self.commands[place] != 1]
         check(f"{name}: each command once", not unsent, unsent)
 
 
-def differing(wanted, found):
+def first_differences(wanted, found):
     """The first lines in which two reports differ."""
     pairs = zip(wanted.splitlines(), found.splitlines())
     lines = [f"{b!r}, not {a!r}" for a, b in pairs if a != b]
@@ -197,13 +197,13 @@ def a_ledger_changes_no_row(name, folder):
         words = [it for it in words_of("") if it not in ("--ledger", "")]
         plain = subprocess.run(words, input=campaign.text, capture_output=True, text=True,
                                timeout=LONGEST)
-        campaign.commanded()
+        campaign.take_commands()
         history, ledger = History(campaign), folder / "ledger"
         ran = run(ledger, campaign.text)
         history.follow(ledger, 0)
         history.check_end(name, ran)
         check(f"{name}: as without one", ran.report == plain.stdout,
-              differing(plain.stdout, ran.report))
+              first_differences(plain.stdout, ran.report))
         found = entries(ledger)
         check(f"{name}: its jobs", found.jobs == campaign.jobs, found.jobs[:3])
         check(f"{name}: its marks", found.begun >= set(campaign.commands),
@@ -211,9 +211,9 @@ def a_ledger_changes_no_row(name, folder):
         check(f"{name}: its outcomes", sorted(found.outcomes) == list(range(JOBS)),
               len(found.outcomes))
         again = run(ledger, campaign.text, 16)
-        check(f"{name}: run again", again[:2] == ran[:2], differing(ran.report, again.report),
-              again.errors)
-        received = meters.received()
+        check(f"{name}: run again", again[:2] == ran[:2],
+              first_differences(ran.report, again.report), again.errors)
+        received = meters.take_counts()
         check(f"{name}: no connection again", not any(map(sum, map(dict.values, received))))
         check(f"{name}: and no entry", entries(ledger) == found)
 
@@ -244,7 +244,7 @@ def killed_campaigns_command_nobody_twice(name, folder):
                 history = killed_until_whole(name, folder, meters, number)
             except AssertionError as error:
                 check(f"{name}: campaign {number}, seed {seed}", False, error)
-                meters.received()
+                meters.take_counts()
                 continue
             totals.update(kills=history.runs - 1, commands=sum(history.commands),
                           unknown=len(history.torn), outcomes=len(history.outcomes))
@@ -265,7 +265,7 @@ def another_list_is_refused(name, folder):
     with running_meters(12) as meters:
         campaign, ledger = Campaign(meters, lambda place: "disconnect"), folder / "ledger"
         run(ledger, campaign.text)
-        campaign.commanded()
+        campaign.take_commands()
         found, jobs = entries(ledger), campaign.jobs
         others = {"another verb": [(*jobs[0][:2], "reconnect"), *jobs[1:]],
                   "another name": [("other", *jobs[0][1:]), *jobs[1:]],
@@ -277,7 +277,7 @@ def another_list_is_refused(name, folder):
         for what, other in others.items():
             ran = run(ledger, text_of(other))
             check(f"{name}: {what}", is_refused(ran), ran)
-            check(f"{name}: {what}: no command", not any(campaign.commanded()))
+            check(f"{name}: {what}: no command", not any(campaign.take_commands()))
             check(f"{name}: {what}: the ledger", entries(ledger) == found)
         # (empty lines are no jobs, so the list is the same)
         ran = run(ledger, "\n" + campaign.text.replace("\n", "\n\n"))
@@ -298,7 +298,7 @@ def what_is_no_ledger_is_refused(name, folder):
             before = file.read_bytes() if file.is_file() else None
             ran = run(file, campaign.text)
             check(f"{name}: {what}", is_refused(ran), ran)
-            check(f"{name}: {what}: no command", not any(campaign.commanded()))
+            check(f"{name}: {what}: no command", not any(campaign.take_commands()))
             after = file.read_bytes() if file.is_file() else None
             check(f"{name}: {what}: unchanged", before == after)
 
@@ -323,8 +323,8 @@ def two_runs_at_once_are_refused(name, folder):
         finally:
             first.kill()
         wanted = "silent unknown\n" + report_of(campaign.jobs, campaign.rows)
-        check(f"{name}: the first", output == wanted, differing(wanted, output))
-        commands = campaign.commanded()
+        check(f"{name}: the first", output == wanted, first_differences(wanted, output))
+        commands = campaign.take_commands()
         check(f"{name}: each command once", max(commands) == 1, commands)
 
 
@@ -337,7 +337,7 @@ def a_meter_that_was_down_is_commanded_later(name, folder):
         ran = run(ledger, job + campaign.text)
         check(f"{name}: its row", ran.report.startswith("down unknown\n") and ran.status == 0, ran)
         check(f"{name}: no mark", 0 not in entries(ledger).begun, entries(ledger).begun)
-        first = campaign.commanded()
+        first = campaign.take_commands()
         down.listen()
         down.settimeout(PATIENCE)
         process = subprocess.Popen(words_of(ledger), stdin=subprocess.PIPE, text=True,
@@ -352,7 +352,7 @@ def a_meter_that_was_down_is_commanded_later(name, folder):
         finally:
             process.kill()
         check(f"{name}: it is called", 0 in entries(ledger).begun, entries(ledger).begun)
-        later = campaign.commanded()
+        later = campaign.take_commands()
         check(f"{name}: nobody else", not any(later) and max(first) == 1, later)
 
 
@@ -409,7 +409,7 @@ def a_full_disk_stops_the_commands(name, folder):
                 a_disk_is_filled(name, mount, meters, size)
             except AssertionError as error:
                 check(f"{name}: {size}", False, error)
-                meters.received()
+                meters.take_counts()
 
 
 def one_call_fails(folder, refusing, campaign, which, call):
@@ -419,8 +419,8 @@ def one_call_fails(folder, refusing, campaign, which, call):
     history.follow(ledger, 4)
     again = run(ledger, campaign.text)
     history.follow(ledger, 0)
-    wanted = report_of(campaign.jobs, history.expected())
-    assert (again.status, again.report) == (0, wanted), differing(wanted, again.report)
+    wanted = report_of(campaign.jobs, history.expected_rows())
+    assert (again.status, again.report) == (0, wanted), first_differences(wanted, again.report)
     return f"status {ran.status}"
 
 
@@ -432,14 +432,14 @@ def a_failed_call_commands_nobody_twice(name, folder):
         campaign = Campaign(meters, any_verb)
         for which, index in (("fail_sync", 5), ("fail_stream", 1)):
             ample = refusing.run(words_of(folder / which), campaign.text.encode(), **{which: 0})
-            campaign.commanded()
+            campaign.take_commands()
             count, found = refusing.counts()[index], collections.Counter()
             for call in turns(count, is_long):
                 try:
                     found[one_call_fails(folder, refusing, campaign, which, call)] += 1
                 except AssertionError as error:
                     check(f"{name}: {which} {call} of {count}", False, error)
-                    meters.received()
+                    meters.take_counts()
             check(f"{name}: {which}", ample.status == 0 and count > 0 and len(found), ample, count)
             print(f"{name}: {which}: {count} calls, {dict(found)}")
     refusing.stop()
@@ -461,9 +461,9 @@ TESTS = (a_ledger_changes_no_row, killed_campaigns_command_nobody_twice, another
 
 
 def has_ledger():
-    told = subprocess.run([str(HEAD_END), "run", "--help"], capture_output=True, text=True,
-                          timeout=PATIENCE)
-    return "--ledger" in told.stdout
+    ran = subprocess.run([str(HEAD_END), "run", "--help"], capture_output=True, text=True,
+                         timeout=PATIENCE)
+    return "--ledger" in ran.stdout
 
 
 def main():
