@@ -1,6 +1,6 @@
 //! Messages about clients on standard error.
 use meter_server::{ServeFault, SessionEnd};
-use session_log::{Answer, AnswerCount, LogTime, read_answer, reason_of};
+use session_log::{AnswerCount, AnswerKind, LogTime, read_answer, reason_of};
 use std::alloc::Global;
 use std::net::SocketAddr;
 use std::sync::atomic::{AtomicBool, Ordering};
@@ -112,10 +112,10 @@ impl<R: Clock + Eprint + Copy> ClientLog<R> {
         };
         self.count = self.count.with(answer);
         let news = match answer {
-            Answer::Opened if frame.dst == PUBLIC_CLIENT => ClientNews::Associated("public"),
-            Answer::Opened => ClientNews::Associated("management"),
-            Answer::NotOpened(diagnostic) => ClientNews::NotAssociated(diagnostic),
-            Answer::Served | Answer::Refused | Answer::Other => return,
+            AnswerKind::Opened if frame.dst == PUBLIC_CLIENT => ClientNews::Associated("public"),
+            AnswerKind::Opened => ClientNews::Associated("management"),
+            AnswerKind::NotOpened(diagnostic) => ClientNews::NotAssociated(diagnostic),
+            AnswerKind::Served | AnswerKind::Refused | AnswerKind::Other => return,
         };
         write_line(&self.rt, self.client, &news);
     }

@@ -19,7 +19,7 @@ pub(crate) enum SkipReason {
     NotEnded,
 }
 
-// A line as a message quotes it: bytes that are not printable ASCII as `\xNN`, and at most 60 bytes.
+// A line as a message quotes it: at most 60 bytes, those that are not printable ASCII as `\xNN`.
 #[derive(Drop)]
 struct Quoted<'a>(&'a [u8]);
 
@@ -109,8 +109,7 @@ impl SkippedLines {
         }
     }
 
-    // Reports how many lines were skipped, if any. What is left in the buffer at the end of the input
-    // is a line that was not ended.
+    // Reports how many lines were skipped, if any. `left` are the bytes after the last line end.
     pub(crate) fn end<E: Eprint>(&mut self, errors: &E, number: u64, left: &[u8]) {
         self.add(errors, number, SkipReason::NotEnded, left);
         let sum = self

@@ -11,27 +11,28 @@ use Rattle.cosem_names.specs.declared.result_code.ResultCode.{ResultCode}
 use Rattle.cosem_names.specs.ResultCode.{code_of}
 use Rattle.cosem_names.specs.declared.service.GetResult.{GetResult}
 use Rattle.cosem_names.specs.declared.service.GetResult.TheVariants.{Value, Code}
-use Rattle.session_log.specs.declared.answer.Answer.{Answer}
-use Rattle.session_log.specs.declared.answer.Answer.TheVariants.{Opened, NotOpened, Served, Refused, Other}
+use Rattle.session_log.specs.declared.answer.AnswerKind.{AnswerKind}
+use Rattle.session_log.specs.declared.answer.AnswerKind.TheVariants.{Opened, NotOpened, Served}
+use Rattle.session_log.specs.declared.answer.AnswerKind.TheVariants.{Refused, Other}
 use Rattle.xdlms_apdu.specs.Responses.{response_of}
 use Rattle.xdlms_apdu.specs.declared.fault.ApduFault.{ApduFault}
 use Rattle.xdlms_apdu.specs.declared.response.Response.{Response}
 use Rattle.xdlms_apdu.specs.declared.response.Response.TheVariants as response
 
 -- result 0 opens the association
-abbrev pub answer_of_aare : Aare → Answer
+abbrev pub answer_of_aare : Aare → AnswerKind
 answer_of_aare aare = if aare.result == 0 then Opened else NotOpened aare.diagnostic
 
 -- 0 is success
-abbrev pub answer_of_code : ResultCode → Answer
+abbrev pub answer_of_code : ResultCode → AnswerKind
 answer_of_code code = if code_of code == 0 then Served else Refused
 
-abbrev pub answer_of_result : GetResult → Answer
+abbrev pub answer_of_result : GetResult → AnswerKind
 answer_of_result (Value value) = Served
 answer_of_result (Code code) = Refused
 
 -- the results in a list are not looked at
-abbrev pub answer_of_response : Response → Answer
+abbrev pub answer_of_response : Response → AnswerKind
 answer_of_response (response.Get id result) = answer_of_result result
 answer_of_response (response.GetBlock id block) = Served
 answer_of_response (response.GetBlockRefused id last number code) = Refused
@@ -43,13 +44,13 @@ answer_of_response (response.Action id code) = answer_of_code code
 answer_of_response (response.ActionBlock id number) = Served
 answer_of_response (response.Exception fields) = Refused
 
-abbrev pub answer_of_read : Result Response ApduFault → Answer
+abbrev pub answer_of_read : Result Response ApduFault → AnswerKind
 answer_of_read (Ok response) = answer_of_response response
 answer_of_read (Err fault) = Other
 
-abbrev pub answer_of_either : Result Aare AcseFault → Result Response ApduFault → Answer
+abbrev pub answer_of_either : Result Aare AcseFault → Result Response ApduFault → AnswerKind
 answer_of_either (Ok aare) read = answer_of_aare aare
 answer_of_either (Err fault) read = answer_of_read read
 
-unfoldable pub answer_of : List ℕ → Answer
+unfoldable pub answer_of : List ℕ → AnswerKind
 answer_of payload = answer_of_either (aare_of payload) (response_of payload)

@@ -2,8 +2,9 @@
 --     no_answers    the count before the first answer
 --     count_with    the count after one more answer
 use Rattle.std.specs.Prelude.{ℕ, ◌+◌, ◌-◌, ◌^◌, min}
-use Rattle.session_log.specs.declared.answer.Answer.{Answer}
-use Rattle.session_log.specs.declared.answer.Answer.TheVariants.{Opened, NotOpened, Served, Refused, Other}
+use Rattle.session_log.specs.declared.answer.AnswerKind.{AnswerKind}
+use Rattle.session_log.specs.declared.answer.AnswerKind.TheVariants.{Opened, NotOpened, Served}
+use Rattle.session_log.specs.declared.answer.AnswerKind.TheVariants.{Refused, Other}
 use Rattle.session_log.specs.declared.count.AnswerCount.{AnswerCount}
 
 abbrev pub no_answers : AnswerCount
@@ -14,7 +15,7 @@ abbrev pub one_more : ℕ → ℕ
 one_more n = min (n + 1) (2 ^ 64 - 1)
 
 -- only an answer to a request counts
-abbrev pub count_with : Answer → AnswerCount → AnswerCount
+abbrev pub count_with : AnswerKind → AnswerCount → AnswerCount
 count_with Served count = record { requests = one_more count.requests; refused = count.refused }
 count_with Refused count =
     record { requests = one_more count.requests; refused = one_more count.refused }

@@ -11,7 +11,7 @@ use xdlms_apdu::{ApduFault, Response, read_response};
 
 /// What an answer of the meter says.
 #[derive(Clone, Copy, Debug, PartialEq, Eq)]
-pub enum Answer {
+pub enum AnswerKind {
     /// The association is open: an AARE with result 0.
     Opened,
     /// The association is refused: an AARE with another result, and this diagnostic.
@@ -26,39 +26,39 @@ pub enum Answer {
 }
 
 // Returns the meaning of an AARE.
-fn answer_of_aare(aare: Aare) -> Answer
+fn answer_of_aare(aare: Aare) -> AnswerKind
     ensures { result ≡ answer_of_aare aare }
 {
     if aare.result == 0 {
-        Answer::Opened
+        AnswerKind::Opened
     } else {
-        Answer::NotOpened(aare.diagnostic)
+        AnswerKind::NotOpened(aare.diagnostic)
     }
 }
 
 // Returns the meaning of a result code.
-fn answer_of_code(code: ResultCode) -> Answer
+fn answer_of_code(code: ResultCode) -> AnswerKind
     ensures { result ≡ answer_of_code code }
 {
     if code == ResultCode::Success {
-        Answer::Served
+        AnswerKind::Served
     } else {
-        Answer::Refused
+        AnswerKind::Refused
     }
 }
 
 // Returns the meaning of the result of reading an attribute.
-fn answer_of_result(read: &GetResult) -> Answer
+fn answer_of_result(read: &GetResult) -> AnswerKind
     ensures { result ≡ answer_of_result read.now }
 {
     match read {
-        GetResult::Value(_) => Answer::Served,
-        GetResult::Code(_) => Answer::Refused,
+        GetResult::Value(_) => AnswerKind::Served,
+        GetResult::Code(_) => AnswerKind::Refused,
     }
 }
 
 // Returns the meaning of a response.
-fn answer_of_response(response: &Response) -> Answer
+fn answer_of_response(response: &Response) -> AnswerKind
     ensures { result ≡ answer_of_response response.now }
 {
     match response {
@@ -66,16 +66,16 @@ fn answer_of_response(response: &Response) -> Answer
         Response::Set { code, .. }
         | Response::SetLastBlock { code, .. }
         | Response::Action { code, .. } => answer_of_code(*code),
-        Response::GetBlockRefused { .. } | Response::Exception(_) => Answer::Refused,
+        Response::GetBlockRefused { .. } | Response::Exception(_) => AnswerKind::Refused,
         Response::GetBlock { .. }
         | Response::GetList { .. }
         | Response::SetBlock { .. }
-        | Response::ActionBlock { .. } => Answer::Served,
+        | Response::ActionBlock { .. } => AnswerKind::Served,
     }
 }
 
 // Returns the meaning of a payload that is no AARE.
-fn read_other(alloc: Global, payload: &[u8]) -> Result<Answer, AllocError>
+fn read_other(alloc: Global, payload: &[u8]) -> Result<AnswerKind, AllocError>
     ensures { IfOk result (λ answer. answer ≡ answer_of_read (response_of payload.now)) }
 {
     match read_response(alloc, payload) {
@@ -85,13 +85,13 @@ fn read_other(alloc: Global, payload: &[u8]) -> Result<Answer, AllocError>
             Ok(answer)
         }
         Err(ApduFault::Memory) => Err(AllocError),
-        Err(_) => Ok(Answer::Other),
+        Err(_) => Ok(AnswerKind::Other),
     }
 }
 
 /// Returns the meaning of the payload of a frame from the meter. Errors: `AllocError`.
 #[tactic(auto, unfolding(crate::specs::Answers::answer_of))]
-pub fn read_answer(alloc: Global, payload: &[u8]) -> Result<Answer, AllocError>
+pub fn read_answer(alloc: Global, payload: &[u8]) -> Result<AnswerKind, AllocError>
     ensures { IfOk result (λ answer. answer ≡ answer_of payload.now) }
 {
     match read_aare(alloc, payload) {

@@ -2,7 +2,7 @@
 ghost use Rattle.std.specs.Prelude.{◌≡◌};
 ghost use Rattle.session_log.specs.Counts.{count_with, no_answers};
 
-use crate::answer::Answer;
+use crate::answer::AnswerKind;
 
 /// The number of requests that the meter answered in a session, and of those that it refused. Each
 /// number stops at 2^64 - 1.
@@ -27,19 +27,19 @@ impl AnswerCount {
 
     /// Returns the count after one more answer. One to an association request, or one of another
     /// kind, does not count.
-    pub fn with(self, answer: Answer) -> AnswerCount
+    pub fn with(self, answer: AnswerKind) -> AnswerCount
         ensures { result ≡ count_with answer self }
     {
         match answer {
-            Answer::Served => AnswerCount {
+            AnswerKind::Served => AnswerCount {
                 requests: self.requests.saturating_add(1),
                 refused: self.refused,
             },
-            Answer::Refused => AnswerCount {
+            AnswerKind::Refused => AnswerCount {
                 requests: self.requests.saturating_add(1),
                 refused: self.refused.saturating_add(1),
             },
-            Answer::Opened | Answer::NotOpened(_) | Answer::Other => self,
+            AnswerKind::Opened | AnswerKind::NotOpened(_) | AnswerKind::Other => self,
         }
     }
 }

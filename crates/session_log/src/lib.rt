@@ -9,7 +9,7 @@ mod reason;
 #[cfg(test)]
 mod tests;
 
-pub use answer::{Answer, read_answer};
+pub use answer::{AnswerKind, read_answer};
 pub use count::AnswerCount;
 pub use log_time::LogTime;
 pub use reason::reason_of;

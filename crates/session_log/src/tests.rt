@@ -1,6 +1,6 @@
 //! Tests of the meaning of answers, with APDUs of IEC 62056-5-3 written by hand, and of the time of
 //! a line.
-use crate::{Answer, AnswerCount, LogTime, read_answer, reason_of};
+use crate::{AnswerCount, AnswerKind, LogTime, read_answer, reason_of};
 use std::alloc::{AllocError, Global};
 use std::test::Fail;
 use std::time::{Clock, Duration};
@@ -21,73 +21,73 @@ const WRONG_PASSWORD: [u8; 25] = [
 // A payload and its meaning.
 struct Case {
     payload: &'static [u8],
-    answer: Answer,
+    answer: AnswerKind,
 }
 
 static CASES: [Case; 14] = [
     // GET of control_state: the value, and not defined (4); an exception.
     Case {
         payload: &[0xC4, 0x01, 0xC1, 0x00, 0x16, 0x01],
-        answer: Answer::Served,
+        answer: AnswerKind::Served,
     },
     Case {
         payload: &[0xC4, 0x01, 0xC1, 0x01, 0x04],
-        answer: Answer::Refused,
+        answer: AnswerKind::Refused,
     },
     Case {
         payload: &[0xD8, 0x01, 0x01],
-        answer: Answer::Refused,
+        answer: AnswerKind::Refused,
     },
     // A block of a value, and a block that is refused with 19 (data block number invalid).
     Case {
         payload: &[
             0xC4, 0x02, 0xC1, 0x00, 0x00, 0x00, 0x00, 0x01, 0x00, 0x01, 0x16,
         ],
-        answer: Answer::Served,
+        answer: AnswerKind::Served,
     },
     Case {
         payload: &[0xC4, 0x02, 0xC1, 0x01, 0x00, 0x00, 0x00, 0x07, 0x01, 0x13],
-        answer: Answer::Refused,
+        answer: AnswerKind::Refused,
     },
     // A list of one attribute, which is refused: the list is served.
     Case {
         payload: &[0xC4, 0x03, 0xC1, 0x01, 0x01, 0x03],
-        answer: Answer::Served,
+        answer: AnswerKind::Served,
     },
-    // SET: success (0), read-write denied (3), a block, and the last block with type unmatched (12).
+    // SET: success (0), read-write denied (3), a block, the last block with type unmatched (12).
     Case {
         payload: &[0xC5, 0x01, 0xC1, 0x00],
-        answer: Answer::Served,
+        answer: AnswerKind::Served,
     },
     Case {
         payload: &[0xC5, 0x01, 0xC1, 0x03],
-        answer: Answer::Refused,
+        answer: AnswerKind::Refused,
     },
     Case {
         payload: &[0xC5, 0x02, 0xC1, 0x00, 0x00, 0x00, 0x01],
-        answer: Answer::Served,
+        answer: AnswerKind::Served,
     },
     Case {
         payload: &[0xC5, 0x03, 0xC1, 0x0C, 0x00, 0x00, 0x00, 0x02],
-        answer: Answer::Refused,
+        answer: AnswerKind::Refused,
     },
     // ACTION: success, and temporary failure (2).
     Case {
         payload: &[0xC7, 0x01, 0xC1, 0x00, 0x00],
-        answer: Answer::Served,
+        answer: AnswerKind::Served,
     },
     Case {
         payload: &[0xC7, 0x01, 0xC1, 0x02, 0x00],
-        answer: Answer::Refused,
+        answer: AnswerKind::Refused,
     },
     // RLRE, and no byte.
     Case {
         payload: &[0x63, 0x03, 0x80, 0x01, 0x00],
-        answer: Answer::Other,
+        answer: AnswerKind::Other,
     },
     Case {
         payload: &[],
-        answer: Answer::Other,
+        answer: AnswerKind::Other,
     },
 ];
 
@@ -105,8 +105,11 @@ fn first_wrong(alloc: Global) -> Result<Option<usize>, AllocError> {
 fn answers_are_read(rt: HostRuntime) -> Result<(), Fail> {
     let alloc = rt.alloc();
     assert_eq!(rt; first_wrong(alloc)?, None);
-    assert_eq!(rt; read_answer(alloc, &ACCEPTED)?, Answer::Opened);
-    assert_eq!(rt; read_answer(alloc, &WRONG_PASSWORD)?, Answer::NotOpened(13));
+    assert_eq!(rt; read_answer(alloc, &ACCEPTED)?, AnswerKind::Opened);
+    assert_eq!(rt;
+        read_answer(alloc, &WRONG_PASSWORD)?,
+        AnswerKind::NotOpened(13)
+    );
     assert_eq!(rt; reason_of(13), "wrong password");
     Ok(())
 }
@@ -114,12 +117,12 @@ fn answers_are_read(rt: HostRuntime) -> Result<(), Fail> {
 #[test]
 fn requests_are_counted(rt: HostRuntime) -> Result<(), Fail> {
     let count = AnswerCount::new()
-        .with(Answer::NotOpened(13))
-        .with(Answer::Opened)
-        .with(Answer::Served)
-        .with(Answer::Refused)
-        .with(Answer::Served)
-        .with(Answer::Other);
+        .with(AnswerKind::NotOpened(13))
+        .with(AnswerKind::Opened)
+        .with(AnswerKind::Served)
+        .with(AnswerKind::Refused)
+        .with(AnswerKind::Served)
+        .with(AnswerKind::Other);
     assert_eq!(rt;
         count,
         AnswerCount {

@@ -1,7 +1,8 @@
 use Rattle.std.proofs.Common.{arith, refl, ap, ◌∙◌}
 use Rattle.server_io.proofs.Handing.{hands_none, hands_on, ends_all, ends_some}
 use Rattle.server_io.proofs.running.run_console.Goals as goal
-use Rattle.server_io.proofs.running.run_console.Goals.{in-Passed, in-Skipped, in-Lost, else-lines-test, then-lines-test+in-Failed}
+use Rattle.server_io.proofs.running.run_console.Goals.{in-Passed, in-Skipped, in-Lost}
+use Rattle.server_io.proofs.running.run_console.Goals.{else-lines-test, then-lines-test+in-Failed}
 
 pub lines-init : goal.lines-init
 lines-init g c = record { room = c.args.buffer.room; few = omega arith; hands = hands_none _ _ }
