@@ -14,6 +14,7 @@ mod laws;
 mod lock_file;
 mod memory_file;
 mod memory_place;
+mod older_files;
 mod place;
 mod recovery;
 mod replacement;

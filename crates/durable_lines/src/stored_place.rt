@@ -4,10 +4,11 @@ ghost use Rattle.durable_lines.specs.StoredPlace.{HasFailed};
 
 use crate::durable_file::DurableFile;
 use crate::fault::FileFault;
+use crate::older_files::keep_older;
 use crate::place::Place;
 use crate::stored_file::StoredFile;
-use std::fs;
 use std::fs::{File, Files};
+use std::{fs, io};
 
 /// A name in a folder of the operating system, and a second name there for drafts. After a call
 /// failed, every later call fails, too.
@@ -21,6 +22,7 @@ pub struct StoredPlace<'a, R: Files<File = File>> {
     folder: File,
     path: &'a str,
     draft_path: &'a str,
+    older_paths: &'a [String],
     limit: usize,
     has_failed: bool,
 }
@@ -37,11 +39,28 @@ impl<'a, R: Files<File = File>> StoredPlace<'a, R> {
     ) -> StoredPlace<'a, R>
         ensures { ¬ HasFailed result }
     {
+        StoredPlace::with_older(files, folder, path, draft_path, &[], limit)
+    }
+
+    /// Returns the place of a file as [`new`](StoredPlace::new) does. It keeps the files that are
+    /// replaced: the last one under the first of `older_paths`, the one before it under the second,
+    /// and so on. All paths are in the folder, on a file system with hard links.
+    pub fn with_older(
+        files: &'a R,
+        folder: File,
+        path: &'a str,
+        draft_path: &'a str,
+        older_paths: &'a [String],
+        limit: usize,
+    ) -> StoredPlace<'a, R>
+        ensures { ¬ HasFailed result }
+    {
         StoredPlace {
             files,
             folder,
             path,
             draft_path,
+            older_paths,
             limit,
             has_failed: false,
         }
@@ -77,6 +96,17 @@ fn open_draft<R: Files<File = File>>(
     Ok(draft)
 }
 
+// Gives the path of a file to a draft, after the file has got the first of the older paths.
+fn replace_file<R: Files<File = File>>(
+    files: &R,
+    draft_path: &str,
+    path: &str,
+    older_paths: &[String],
+) -> io::Result<()> {
+    keep_older(files, path, older_paths)?;
+    fs::rename(files, draft_path, path)
+}
+
 impl<'a, R: Files<File = File>> Place for StoredPlace<'a, R> {
     type Draft = StoredFile;
 
@@ -106,7 +136,7 @@ impl<'a, R: Files<File = File>> Place for StoredPlace<'a, R> {
         if self.has_failed {
             return Err(FileFault::Failed);
         }
-        let call = fs::rename(self.files, self.draft_path, self.path);
+        let call = replace_file(self.files, self.draft_path, self.path, self.older_paths);
         self.record(call.map_err(|_| FileFault::Failed))
     }
 

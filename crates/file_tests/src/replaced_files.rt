@@ -4,11 +4,11 @@ use durable_lines::{
     ByteFate, FileFault, LockFault, MemoryPlace, StoredFile, StoredPlace, append_lines, is_text,
     replace,
 };
-use std::alloc::Global;
-use std::fs;
+use std::alloc::{AllocError, Global};
 use std::fs::File;
 use std::io::ErrorKind;
 use std::test::Fail;
+use std::{fs, io};
 
 // Returns whether a crash at each moment of a replacement leaves the old file or the new one, and a
 // crash after it the new one alone.
@@ -90,6 +90,39 @@ fn a_stored_file_is_replaced_and_appended_to(rt: HostRuntime) -> Result<(), Fail
     let opened = File::options().read(true).write(true).open(&rt, path)?;
     assert!(rt; StoredFile::try_lock(opened, 64).err() == Some(LockFault::Held));
     fs::remove_file(&rt, path)?;
+    Ok(())
+}
+
+// Returns the bytes of a file, and removes it.
+fn taken(rt: &HostRuntime, path: &str) -> Result<Vec<u8>, io::Error> {
+    let bytes = fs::read(rt, path)?;
+    fs::remove_file(rt, path)?;
+    Ok(bytes)
+}
+
+// Two paths of older files.
+fn older_paths(alloc: Global) -> Result<Vec<String>, AllocError> {
+    let mut paths = Vec::new(alloc);
+    for path in ["kept_file.1", "kept_file.2"] {
+        let mut owned = String::new(alloc);
+        owned.push_str(path)?;
+        paths.push(owned)?;
+    }
+    Ok(paths)
+}
+
+#[test]
+fn a_place_keeps_the_last_files_that_were_replaced(rt: HostRuntime) -> Result<(), Fail> {
+    let (path, draft) = ("kept_file", "kept_file_draft");
+    let older = older_paths(rt.alloc())?;
+    let folder = File::open(&rt, ".")?;
+    let mut place = StoredPlace::with_older(&rt, folder, path, draft, older.as_slice(), 64);
+    for text in [b"a\n".as_slice(), b"b\n", b"c\n", b"d\n"] {
+        replace(&mut place, text)?;
+    }
+    assert!(rt; taken(&rt, path)?.as_slice() == b"d\n".as_slice());
+    assert!(rt; taken(&rt, "kept_file.1")?.as_slice() == b"c\n".as_slice());
+    assert!(rt; taken(&rt, "kept_file.2")?.as_slice() == b"b\n".as_slice());
     Ok(())
 }
 
