@@ -35,4 +35,4 @@ pub use recovery::{Recovered, recover};
 pub use replacement::replace;
 pub use scan::is_text;
 pub use stored_file::StoredFile;
-pub use stored_place::StoredPlace;
+pub use stored_place::{PlacePaths, StoredPlace};

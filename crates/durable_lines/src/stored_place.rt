@@ -10,6 +10,18 @@ use crate::stored_file::StoredFile;
 use std::fs::{File, Files};
 use std::{fs, io};
 
+/// The paths of a [`StoredPlace`], all of them in one folder.
+#[derive(Debug, Drop)]
+pub struct PlacePaths {
+    /// The path of the file.
+    pub path: String,
+    /// The path of a draft before it becomes the file.
+    pub draft: String,
+    /// The paths of the files that were replaced: the last one, the one before it, and so on.
+    /// Earlier ones are removed. If there are any paths, the file system must have hard links.
+    pub older: Vec<String>,
+}
+
 /// A name in a folder of the operating system, and a second name there for drafts. After a call
 /// failed, every later call fails, too.
 ///
@@ -17,50 +29,24 @@ use std::{fs, io};
 /// model says is a premise. Hold a [`LockFile`](crate::LockFile) of the name as long as its file
 /// may be replaced.
 #[derive(Drop)]
-pub struct StoredPlace<'a, R: Files<File = File>> {
-    files: &'a R,
+pub struct StoredPlace<R: Files<File = File> + Drop> {
+    files: R,
     folder: File,
-    path: &'a str,
-    draft_path: &'a str,
-    older_paths: &'a [String],
+    paths: PlacePaths,
     limit: usize,
     has_failed: bool,
 }
 
-impl<'a, R: Files<File = File>> StoredPlace<'a, R> {
-    /// Returns the place of a file. `folder` is the open folder of both paths, on whose disk the
+impl<R: Files<File = File> + Drop> StoredPlace<R> {
+    /// Returns the place of a file. `folder` is the open folder of its paths, on whose disk the
     /// draft becomes the file. `limit` is the maximum length of a draft in bytes.
-    pub fn new(
-        files: &'a R,
-        folder: File,
-        path: &'a str,
-        draft_path: &'a str,
-        limit: usize,
-    ) -> StoredPlace<'a, R>
-        ensures { ¬ HasFailed result }
-    {
-        StoredPlace::with_older(files, folder, path, draft_path, &[], limit)
-    }
-
-    /// Returns the place of a file as [`new`](StoredPlace::new) does. It keeps the files that are
-    /// replaced: the last one under the first of `older_paths`, the one before it under the second,
-    /// and so on. All paths are in the folder, on a file system with hard links.
-    pub fn with_older(
-        files: &'a R,
-        folder: File,
-        path: &'a str,
-        draft_path: &'a str,
-        older_paths: &'a [String],
-        limit: usize,
-    ) -> StoredPlace<'a, R>
+    pub fn new(files: R, folder: File, paths: PlacePaths, limit: usize) -> StoredPlace<R>
         ensures { ¬ HasFailed result }
     {
         StoredPlace {
             files,
             folder,
-            path,
-            draft_path,
-            older_paths,
+            paths,
             limit,
             has_failed: false,
         }
@@ -97,17 +83,12 @@ fn open_draft<R: Files<File = File>>(
 }
 
 // Gives the path of a file to a draft, after the file has got the first of the older paths.
-fn replace_file<R: Files<File = File>>(
-    files: &R,
-    draft_path: &str,
-    path: &str,
-    older_paths: &[String],
-) -> io::Result<()> {
-    keep_older(files, path, older_paths)?;
-    fs::rename(files, draft_path, path)
+fn replace_file<R: Files<File = File>>(files: &R, paths: &PlacePaths) -> io::Result<()> {
+    keep_older(files, paths.path.as_str(), paths.older.as_slice())?;
+    fs::rename(files, paths.draft.as_str(), paths.path.as_str())
 }
 
-impl<'a, R: Files<File = File>> Place for StoredPlace<'a, R> {
+impl<R: Files<File = File> + Drop> Place for StoredPlace<R> {
     type Draft = StoredFile;
 
     ghost may_leave = { λ _ _. ⊥ };
@@ -128,7 +109,7 @@ impl<'a, R: Files<File = File>> Place for StoredPlace<'a, R> {
         if self.has_failed {
             return Err(FileFault::Failed);
         }
-        let call = open_draft(self.files, self.draft_path, self.limit);
+        let call = open_draft(&self.files, self.paths.draft.as_str(), self.limit);
         self.record(call)
     }
 
@@ -136,7 +117,7 @@ impl<'a, R: Files<File = File>> Place for StoredPlace<'a, R> {
         if self.has_failed {
             return Err(FileFault::Failed);
         }
-        let call = replace_file(self.files, self.draft_path, self.path, self.older_paths);
+        let call = replace_file(&self.files, &self.paths);
         self.record(call.map_err(|_| FileFault::Failed))
     }
 

@@ -1,8 +1,8 @@
 //! Files that are replaced as a whole: crashes during a replacement in memory, and a file of the
 //! operating system.
 use durable_lines::{
-    ByteFate, FileFault, LockFault, MemoryPlace, StoredFile, StoredPlace, append_lines, is_text,
-    replace,
+    ByteFate, FileFault, LockFault, MemoryPlace, PlacePaths, StoredFile, StoredPlace, append_lines,
+    is_text, replace,
 };
 use std::alloc::{AllocError, Global};
 use std::fs::File;
@@ -79,8 +79,8 @@ fn a_stored_file_is_replaced_and_appended_to(rt: HostRuntime) -> Result<(), Fail
     let (path, draft) = ("replaced_file", "replaced_file_draft");
     fs::write(&rt, path, b"a\n".as_slice())?;
     fs::write(&rt, draft, b"left by a crash\n".as_slice())?;
-    let folder = File::open(&rt, ".")?;
-    let mut place = StoredPlace::new(&rt, folder, path, draft, 64);
+    let paths = paths_of(rt.alloc(), path, draft, &[])?;
+    let mut place = StoredPlace::new(rt, File::open(&rt, ".")?, paths, 64);
     let mut file = replace(&mut place, b"b\n")?;
     append_line(&mut file, b"c\n")?;
     assert!(rt; fs::read(&rt, path)?.as_slice() == b"b\nc\n".as_slice());
@@ -100,23 +100,36 @@ fn taken(rt: &HostRuntime, path: &str) -> Result<Vec<u8>, io::Error> {
     Ok(bytes)
 }
 
-// Two paths of older files.
-fn older_paths(alloc: Global) -> Result<Vec<String>, AllocError> {
+// Returns an owned text.
+fn owned(alloc: Global, text: &str) -> Result<String, AllocError> {
+    let mut owned = String::new(alloc);
+    owned.push_str(text)?;
+    Ok(owned)
+}
+
+// Returns the paths of a place that keeps files under these paths.
+fn paths_of(
+    alloc: Global,
+    path: &str,
+    draft: &str,
+    older: &[&str],
+) -> Result<PlacePaths, AllocError> {
     let mut paths = Vec::new(alloc);
-    for path in ["kept_file.1", "kept_file.2"] {
-        let mut owned = String::new(alloc);
-        owned.push_str(path)?;
-        paths.push(owned)?;
+    for path in older {
+        paths.push(owned(alloc, path)?)?;
     }
-    Ok(paths)
+    Ok(PlacePaths {
+        path: owned(alloc, path)?,
+        draft: owned(alloc, draft)?,
+        older: paths,
+    })
 }
 
 #[test]
 fn a_place_keeps_the_last_files_that_were_replaced(rt: HostRuntime) -> Result<(), Fail> {
     let (path, draft) = ("kept_file", "kept_file_draft");
-    let older = older_paths(rt.alloc())?;
-    let folder = File::open(&rt, ".")?;
-    let mut place = StoredPlace::with_older(&rt, folder, path, draft, older.as_slice(), 64);
+    let paths = paths_of(rt.alloc(), path, draft, &["kept_file.1", "kept_file.2"])?;
+    let mut place = StoredPlace::new(&rt, File::open(&rt, ".")?, paths, 64);
     for text in [b"a\n".as_slice(), b"b\n", b"c\n", b"d\n"] {
         replace(&mut place, text)?;
     }
@@ -132,7 +145,8 @@ fn a_place_whose_draft_is_locked_fails_for_good(rt: HostRuntime) -> Result<(), F
     fs::write(&rt, draft, b"".as_slice())?;
     let opened = File::options().read(true).write(true).open(&rt, draft)?;
     let other = StoredFile::try_lock(opened, 64)?;
-    let mut place = StoredPlace::new(&rt, File::open(&rt, ".")?, path, draft, 64);
+    let paths = paths_of(rt.alloc(), path, draft, &[])?;
+    let mut place = StoredPlace::new(&rt, File::open(&rt, ".")?, paths, 64);
     assert!(rt; replace(&mut place, b"b\n").err() == Some(FileFault::Failed));
     drop(other);
     assert!(rt; replace(&mut place, b"b\n").err() == Some(FileFault::Failed));
