@@ -1,1 +1,2 @@
+pub mod RenewalLemmas
 pub mod Restarts

@@ -1,2 +1,4 @@
 pub mod Faults
 pub mod Journals
+pub mod Renewals
+pub mod RenewedFile

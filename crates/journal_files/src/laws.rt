@@ -1,9 +1,11 @@
 //! Laws of journals. Each function is a law: its contract states it, and a call makes it known to
 //! the prover.
 ghost use Rattle.std.specs.Prelude.{◌≡◌, ◌≤◌, ◌++◌, ℕ, List, Ok, length};
-ghost use Rattle.journal_files.specs.Journals.{changing};
+ghost use Rattle.journal_files.specs.Journals.{Continues, changing};
+ghost use Rattle.journal_files.specs.Renewals.{AnswerAlike, IsRenewalOf};
 ghost use Rattle.relay_core.specs.Runs.{world_after};
 ghost use Rattle.relay_events.specs.declared.event.Event.{Event};
+ghost use Rattle.relay_recorder.specs.Recording.{Recording};
 ghost use Rattle.relay_recorder.specs.declared.trace.Trace.{Trace};
 ghost use Rattle.trace_openings.specs.OpeningTraced.{IsWritable};
 ghost use Rattle.trace_player.specs.Journals.{events_text, journal_text, with_events};
@@ -31,3 +33,13 @@ pub fn restarted_meter_stands_where_it_stood()
 {
     written_journal_is_read();
 }
+
+/// Proves that a meter that is resumed from a renewed journal answers as one that is resumed from
+/// the old journal, whatever events come next.
+#[tactic(auto, using(crate::proofs::RenewalLemmas::renewed_answers))]
+pub fn renewed_meter_stands_where_it_stood()
+    ensures { (depth : ℕ) (old new device : List ℕ) (before after : Recording)
+        → IsRenewalOf depth old new → (from_old : Continues device old before)
+        → (from_new : Continues device new after)
+        → AnswerAlike (world_of from_new.trace) (world_of from_old.trace) }
+{}

@@ -1,0 +1,118 @@
+-- A trace that begins later in the same run tells the same meter.
+use Rattle.std.proofs.Common.{◌≡◌, ℕ, ◌-◌, List, [], ◌∷◌, Result, Ok, length, refl, ap, sym}
+use Rattle.std.proofs.Common.{◌∙◌, subst}
+use Rattle.std.proofs.lemmas.List.{take-append-drop}
+use Rattle.relay_core.proofs.AgreeingEvents.{event_alike}
+use Rattle.relay_core.proofs.RunLemmas.{world_after-append}
+use Rattle.relay_core.specs.Agreeing.{Agree, IsWorld}
+use Rattle.relay_core.specs.Machine.{at_event}
+use Rattle.relay_core.specs.Opening.{IsFitOpening, world_of_opening}
+use Rattle.relay_core.specs.Runs.{world_after}
+use Rattle.relay_core.specs.World.{World}
+use Rattle.relay_events.specs.declared.event.Event.{Event}
+use Rattle.relay_events.specs.declared.reply.Reply.{Reply}
+use Rattle.relay_recorder.specs.Histories.{replies_from}
+use Rattle.relay_recorder.specs.Recording.{Recording}
+use Rattle.relay_recorder.specs.declared.trace.Trace.{Trace}
+use Rattle.trace_player.specs.Journals.{IsJournal, journal_text}
+use Rattle.trace_player.specs.Resuming.{world_of}
+use Rattle.trace_player.specs.Traces.{trace_of}
+use Rattle.trace_words.specs.declared.fault.TraceFault.{TraceFault}
+use Rattle.journal_files.specs.Journals.{Continues}
+use Rattle.journal_files.specs.Renewals.{AnswerAlike, IsLaterTrace, IsRenewalOf, before_last}
+use Rattle.journal_files.specs.Renewals.{last_of}
+
+-- worlds that agree, the first of them in range
+record AgreeInRange (v w : World) : Type 0 where
+  range : IsWorld v
+  agree : Agree v w
+
+-- worlds that agree also agree after the same events
+agree_after : (events : List Event) (v w : World) → AgreeInRange v w
+    → AgreeInRange (world_after events v) (world_after events w)
+agree_after [] v w alike = alike
+agree_after (event ∷ events) v w alike =
+    let go = event_alike event v w alike.range alike.agree in
+    agree_after events (at_event event v).world (at_event event w).world
+    (record { range = go.range; agree = go.world })
+
+-- worlds that agree give the same replies
+answer_alike : (events : List Event) (v w : World) → AgreeInRange v w
+    → replies_from v events ≡ replies_from w events
+answer_alike [] v w alike = refl
+answer_alike (event ∷ events) v w alike =
+    let go = event_alike event v w alike.range alike.agree in
+    let a = at_event event v in
+    let b = at_event event w in
+    ap (λ (reply : Reply). reply ∷ replies_from a.world events) go.reply
+    ∙ ap (λ (replies : List Reply). b.reply ∷ replies)
+    (answer_alike events a.world b.world (record { range = go.range; agree = go.world }))
+
+-- the events before the last n, followed by these, are all events
+whole_run : (n : ℕ) (events : List Event) (w : World)
+    → world_after (last_of n events) (world_after (before_last n events) w) ≡ world_after events w
+whole_run n events w =
+    sym (world_after-append (before_last n events) (last_of n events) w)
+    ∙ ap (λ (es : List Event). world_after es w) (take-append-drop (length events - n) events)
+
+pub later_trace : (depth : ℕ) (earlier later : Trace) (before : List Event)
+    → IsFitOpening later.opening → IsWorld (world_of_opening later.opening)
+    → Agree (world_of_opening later.opening) (world_after before (world_of_opening earlier.opening))
+    → before ≡ before_last depth earlier.events → later.events ≡ last_of depth earlier.events
+    → IsLaterTrace depth earlier later
+later_trace depth earlier later before fit range agree are kept =
+    let first = world_of_opening earlier.opening in
+    let opening : Agree (world_of_opening later.opening)
+    (world_after (before_last depth earlier.events) first) =
+    subst (λ (es : List Event). Agree (world_of_opening later.opening) (world_after es first)) are
+    agree in
+    let ended : world_after later.events (world_after (before_last depth earlier.events) first)
+    ≡ world_of earlier =
+    ap (λ (es : List Event). world_after es
+    (world_after (before_last depth earlier.events) first)) kept
+    ∙ whole_run depth earlier.events first in
+    let both : AgreeInRange (world_of later) (world_of earlier) =
+    subst (λ (w : World). AgreeInRange (world_of later) w) ended
+    (agree_after later.events (world_of_opening later.opening)
+    (world_after (before_last depth earlier.events) first)
+    (record { range = range; agree = opening })) in
+    record {
+      fit = fit;
+      kept = kept;
+      opening = opening;
+      meter = both.agree;
+      answers = λ further. answer_alike further (world_of later) (world_of earlier) both;
+    }
+
+-- the text of a trace that begins later is that of a renewed journal
+pub renewal_of : (depth : ℕ) (old new : List ℕ) (earlier later : Trace)
+    → trace_of old ≡ Ok earlier → IsLaterTrace depth earlier later
+    → later.opening.device ≡ earlier.opening.device → new ≡ journal_text later
+    → trace_of new ≡ Ok later → IsJournal new → IsRenewalOf depth old new
+renewal_of depth old new earlier later told begins device written again journal = record {
+  earlier = earlier;
+  told = told;
+  later = later;
+  begins_later = begins;
+  device = device;
+  written = written;
+  read_back = again;
+  journal = journal;
+}
+
+same_trace : (told : Result Trace TraceFault) (a b : Trace) → told ≡ Ok a → told ≡ Ok b → a ≡ b
+same_trace told a b is_a is_b = cc
+
+-- the meters that are resumed from both journals answer alike
+pub renewed_answers : (depth : ℕ) (old new device : List ℕ) (before after : Recording)
+    → IsRenewalOf depth old new → (from_old : Continues device old before)
+    → (from_new : Continues device new after)
+    → AnswerAlike (world_of from_new.trace) (world_of from_old.trace)
+renewed_answers depth old new device before after renewal from_old from_new =
+    let later : renewal.later ≡ from_new.trace =
+    same_trace (trace_of new) renewal.later from_new.trace renewal.read_back from_new.told in
+    let earlier : renewal.earlier ≡ from_old.trace =
+    same_trace (trace_of old) renewal.earlier from_old.trace renewal.told from_old.told in
+    subst (λ (trace : Trace). AnswerAlike (world_of trace) (world_of from_old.trace)) later
+    (subst (λ (trace : Trace). AnswerAlike (world_of renewal.later) (world_of trace)) earlier
+    renewal.begins_later.answers)

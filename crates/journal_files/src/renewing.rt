@@ -1,0 +1,239 @@
+//! Renews a journal: replaces its file by one that begins later and has its last events.
+ghost use Rattle.std.specs.Prelude.{◌≡◌, ◌⊎◌, ℕ, List, Ok, IfOk, IsTrue, OnOk};
+ghost use Rattle.std.specs.List.{All};
+ghost use Rattle.durable_lines.specs.CrashModel.{LeavesOnly, Only};
+ghost use Rattle.durable_lines.specs.Lines.{IsSettled, IsText};
+ghost use Rattle.journal_files.specs.Renewals.{IsLaterTrace, IsRenewalOf, IsRenewedOver};
+ghost use Rattle.relay_core.specs.Agreeing.{Agree, IsWorld};
+ghost use Rattle.relay_core.specs.Opening.{IsFitOpening, world_of_opening};
+ghost use Rattle.relay_core.specs.Runs.{world_after};
+ghost use Rattle.relay_core.specs.Stands.{StandsFor};
+ghost use Rattle.relay_core.specs.World.{World};
+ghost use Rattle.trace_lines.specs.Traced.{FitsLine};
+ghost use Rattle.trace_player.specs.Journals.{IsJournal, journal_text};
+ghost use Rattle.trace_player.specs.Traces.{trace_of};
+
+use crate::fault::StartFault;
+use cosem_axdr::Octets;
+use durable_lines::{DurableFile, Place, is_text, replace};
+use relay_core::{Opening, RelayCore};
+use relay_events::{Event, Events};
+use relay_recorder::Trace;
+use std::alloc::{AllocError, Global};
+use trace_lines::fits_line;
+use trace_player::{MAX_BYTES, is_journal, read_trace, write_journal};
+
+// Applies events to a core, one after the other.
+fn take_events(alloc: Global, core: &mut RelayCore, events: &[Event]) -> Result<(), AllocError>
+    ensures { OnOk result ((w : World) → StandsFor core.old w
+        → StandsFor core.new (world_after events.now w)) }
+{
+    'events: for event in events {
+        let reply = core.step(alloc, event)?;
+        drop(reply);
+    }
+    Ok(())
+}
+
+// Applies events to a core, and returns its saved state after them.
+fn state_after(alloc: Global, core: &mut RelayCore, events: &[Event]) -> Result<Opening, AllocError>
+    ensures fit { IfOk result IsFitOpening }
+    ensures range { IfOk result (λ opening. IsWorld (world_of_opening opening)) }
+    ensures agrees { IfOk result (λ opening. (w : World) → StandsFor core.old w
+        → Agree (world_of_opening opening) (world_after events.now w)) }
+{
+    take_events(alloc, core, events)?;
+    core.to_opening(alloc)
+}
+
+// Returns the saved state of a meter after events, from the one before them.
+fn opening_after(alloc: Global, opening: &Opening, events: &[Event]) -> Result<Opening, AllocError>
+    requires { IsFitOpening opening.now }
+    ensures fit { IfOk result IsFitOpening }
+    ensures range { IfOk result (λ later. IsWorld (world_of_opening later)) }
+    ensures agrees { IfOk result (λ later. Agree (world_of_opening later)
+        (world_after events.now (world_of_opening opening.now))) }
+{
+    let mut core = RelayCore::from_fit_opening(alloc, opening)?;
+    let later = state_after(alloc, &mut core, events);
+    drop(core);
+    later
+}
+
+// Returns copies of events.
+fn copy_events(alloc: Global, events: &[Event]) -> Result<Events, AllocError>
+    ensures { IfOk result (λ copies. copies ≡ events.now) }
+{
+    let mut copies = Events::new(alloc);
+    'events: for event in events {
+        copies.push(event.try_copy(alloc)?)?;
+    }
+    Ok(copies)
+}
+
+// Returns the trace that begins before the last `depth` events of a trace, or the same trace if it
+// has no more.
+#[tactic(auto, using(crate::proofs::RenewalLemmas::later_trace))]
+fn later_trace(alloc: Global, trace: &Trace, depth: usize) -> Result<Trace, AllocError>
+    requires { IsFitOpening trace.now.opening }
+    ensures { IfOk result (IsLaterTrace depth trace.now) }
+{
+    let events = trace.events.as_slice();
+    let (before, kept) = events.split_at(events.len().saturating_sub(depth));
+    let opening = opening_after(alloc, &trace.opening, before)?;
+    match copy_events(alloc, kept) {
+        Ok(events) => Ok(Trace { opening, events }),
+        Err(error) => {
+            drop(opening);
+            Err(error)
+        }
+    }
+}
+
+// Returns whether each event fits its line.
+fn are_fit(events: &[Event]) -> bool
+    ensures { IsTrue result → All FitsLine events.now }
+{
+    events.iter().all(|event| fits_line(event))
+}
+
+// Returns the text of the journal of a trace, which is read back as that trace. That the lines fit
+// and have no byte 0 is tested, since no contract says it of events and an opening that were read.
+fn write_readable(alloc: Global, trace: &Trace) -> Result<Octets, StartFault>
+    requires { IsFitOpening trace.now.opening }
+    ensures text { IfOk result (λ text. text ≡ journal_text trace.now) }
+    ensures read_back { IfOk result (λ text. trace_of text ≡ Ok trace.now) }
+    ensures is_text { IfOk result IsText }
+    ensures journal { IfOk result IsJournal }
+{
+    if !are_fit(trace.events.as_slice()) {
+        return Err(StartFault::Line(1));
+    }
+    let text = write_journal(alloc, trace)?;
+    if text.len() > MAX_BYTES {
+        return Err(StartFault::TooLong);
+    }
+    if !is_text(text.as_slice()) || !is_journal(text.as_slice()) {
+        return Err(StartFault::Line(1));
+    }
+    Ok(text)
+}
+
+// Returns the text of the journal of a trace that begins later than another, if both are of a meter
+// with the same name.
+fn write_same(alloc: Global, trace: &Trace, later: &Trace) -> Result<Octets, StartFault>
+    requires { IsFitOpening later.now.opening }
+    ensures device { OnOk result (later.now.opening.device ≡ trace.now.opening.device) }
+    ensures text { IfOk result (λ text. text ≡ journal_text later.now) }
+    ensures read_back { IfOk result (λ text. trace_of text ≡ Ok later.now) }
+    ensures is_text { IfOk result IsText }
+    ensures journal { IfOk result IsJournal }
+{
+    if later.opening.device.as_slice() != trace.opening.device.as_slice() {
+        return Err(StartFault::OtherMeter);
+    }
+    write_readable(alloc, later)
+}
+
+// Returns the text of the journal of a trace that begins later.
+#[tactic(auto, using(crate::proofs::RenewalLemmas::renewal_of))]
+fn write_later(alloc: Global, trace: &Trace, depth: usize) -> Result<Octets, StartFault>
+    requires { IsFitOpening trace.now.opening }
+    ensures renewed { IfOk result (λ text. (old : List ℕ) → trace_of old ≡ Ok trace.now
+        → IsRenewalOf depth old text) }
+    ensures is_text { IfOk result IsText }
+{
+    let later = later_trace(alloc, trace, depth)?;
+    let text = write_same(alloc, trace, &later);
+    drop(later);
+    text
+}
+
+// Returns the text of a journal after its renewal.
+fn renewed_text(alloc: Global, text: &[u8], depth: usize) -> Result<Octets, StartFault>
+    ensures renewed { IfOk result (IsRenewalOf depth text.now) }
+    ensures is_text { IfOk result IsText }
+{
+    let trace = read_trace(alloc, text)?;
+    let renewed = write_later(alloc, &trace, depth);
+    drop(trace);
+    renewed
+}
+
+// Returns the text of the journal of a file after its renewal.
+fn renewed_text_of<F: DurableFile>(
+    alloc: Global,
+    file: &mut F,
+    depth: usize,
+) -> Result<Octets, StartFault>
+    ensures renewed { IfOk result (λ text. F.acts_as_file
+        → IsRenewalOf depth (F.seen file.old) text) }
+    ensures is_text { IfOk result IsText }
+    ensures same { OnOk result (F.seen file.new ≡ F.seen file.old) }
+{
+    let bytes = file.read(alloc)?;
+    let text = renewed_text(alloc, bytes.as_slice(), depth);
+    drop(bytes);
+    text
+}
+
+/// Renews a journal, so that it does not grow for ever: replaces the file under the name of a place
+/// by one with a later opening and the last events of this file, at most `depth`. Returns the new
+/// file, ready for [`append_lines`](durable_lines::append_lines); what is appended to the old one
+/// is lost. A meter that is resumed from the new file answers as one that is resumed from the old.
+///
+/// After `Ok` every crash leaves the new journal under the name; a crash during the call leaves it,
+/// or what could be left before. Errors: `File` if a call on the file, the place or the new file
+/// failed; `TooLong` or `Line` if the old text is not read as a journal, or the new one would not be;
+/// `OtherMeter` if the new one had another device name, which no contract excludes; `Memory`. After
+/// an error the name has the old file or the new one.
+pub fn renew_journal<P: Place, F: DurableFile>(
+    alloc: Global,
+    place: &mut P,
+    file: &mut F,
+    depth: usize,
+) -> Result<P::Draft, StartFault>
+    ensures renewed { IfOk result (λ draft. F.acts_as_file → P.Draft.acts_as_file
+        → IsRenewalOf depth (F.seen file.old) (P.Draft.seen draft)) }
+    ensures durable { IfOk result (λ draft. P.Draft.acts_as_file
+        → Only (P.Draft.seen draft) (P.may_leave place.new)) }
+    ensures settled { IfOk result (λ draft. P.Draft.acts_as_file
+        → IsSettled P.Draft.seen P.Draft.may_leave P.Draft.stored draft) }
+    // A crash at any moment of the call leaves what could be left before, or the new journal.
+    ensures any_moment { F.acts_as_file → P.Draft.acts_as_file
+        → LeavesOnly P.moment P.left_since place.old place.new
+        (λ c. P.may_leave place.old c ⊎ IsRenewalOf depth (F.seen file.old) c) }
+    ensures same { OnOk result (F.seen file.new ≡ F.seen file.old) }
+{
+    let text = renewed_text_of(alloc, file, depth)?;
+    Ok(replace(place, text.as_slice())?)
+}
+
+/// Renews a journal as [`renew_journal`] does if its file has more than `limit` bytes. Otherwise
+/// returns its file, and nothing changes.
+pub fn renew_long_journal<P: Place>(
+    alloc: Global,
+    place: &mut P,
+    mut file: P::Draft,
+    depth: usize,
+    limit: usize,
+) -> Result<P::Draft, StartFault>
+    requires { P.Draft.acts_as_file
+        → IsSettled P.Draft.seen P.Draft.may_leave P.Draft.stored file }
+    ensures renewed { IfOk result (λ left. P.Draft.acts_as_file
+        → IsRenewedOver limit depth (P.Draft.seen file) (P.Draft.seen left)) }
+    ensures settled { IfOk result (λ left. P.Draft.acts_as_file
+        → IsSettled P.Draft.seen P.Draft.may_leave P.Draft.stored left) }
+    // A crash at any moment of the call leaves what could be left before, or the new journal.
+    ensures any_moment { P.Draft.acts_as_file
+        → LeavesOnly P.moment P.left_since place.old place.new
+        (λ c. P.may_leave place.old c ⊎ IsRenewalOf depth (P.Draft.seen file) c) }
+{
+    let bytes = file.read(alloc)?;
+    let len = bytes.len();
+    drop(bytes);
+    if len <= limit {
+        return Ok(file);
+    }
+    renew_journal(alloc, place, &mut file, depth)
+}

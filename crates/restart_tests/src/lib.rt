@@ -1,0 +1,11 @@
+//! Tests of the files of journals: begun, left by a killed server, resumed, and renewed.
+//!
+//! Tests are in a crate of their own because a check of tests proves their whole crate again.
+#![tactic(auto)]
+
+#[cfg(test)]
+mod renewals;
+#[cfg(test)]
+mod restarts;
+#[cfg(test)]
+mod texts;
