@@ -1,6 +1,6 @@
 //! `JournalProgress`: how many lines of a journal are on the disk, for the sessions that wait for
 //! theirs.
-ghost use Rattle.std.specs.Prelude.{IsTrue};
+ghost use Rattle.std.specs.Prelude.{IsTrue, OnOk};
 ghost use Rattle.durable_lines.specs.Lines.{IsSettled};
 ghost use Rattle.meter_journal.specs.Saving.{IsStored};
 
@@ -80,9 +80,10 @@ pub struct JournalProgress<F: DurableFile> {
 
 impl<F: DurableFile> JournalProgress<F> {
     /// Returns the handle of a journal without lines, which will be written to this file through a
-    /// port of this lock. Errors: `AllocError`.
+    /// port of this lock: a wait for 0 lines returns true. Errors: `AllocError`.
     pub fn new(alloc: Global, port: &Port<Kept>, file: &F) -> Result<JournalProgress<F>, AllocError>
         requires { F.acts_as_file → IsSettled F.seen F.may_leave F.stored file.now }
+        ensures { OnOk result (F.acts_as_file → IsStored F.stored 0) }
     {
         port.has_a_legal_history();
         let _file = file;
