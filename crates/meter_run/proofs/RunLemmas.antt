@@ -1,7 +1,7 @@
 -- What serving did, and the meter in the lock, are a run.
 use Rattle.std.proofs.Common.{◌≡◌, ℕ, ◌+◌, ◌<◌, ◌≤◌, List, [], ◌∷◌, ◌++◌, map, Some, IfOk, Result}
 use Rattle.std.proofs.Common.{Ok, Err, refl, sym, ap, subst, ◌∙◌, arith, inl, inr}
-use Rattle.shared_meter.specs.Calls.{IsLegal, Stands}
+use Rattle.shared_meter.specs.Calls.{Calls, IsLegal, Stands}
 use Rattle.shared_meter.specs.KeptRecorder.{KeptRecorder}
 use Rattle.meter_run.specs.Runs.{Given, AreOfRun, IsRunFrom, ServesAll, StartsFrom, Traces}
 use Rattle.meter_run.specs.Runs.{events_in}
@@ -127,6 +127,33 @@ pub run_seen : (first : ℕ) (recorder : Recording) (given : Given)
 unfolding run_of
 run_seen first recorder given served text p q o start is silent serves traces =
     traces.yields.seen
+
+-- what the serving says of the calls of each session's port holds of the calls of the run
+pub run_sessions : (Fact : List ℕ → Calls → Type 0) (first : ℕ) (recorder : Recording)
+    (given : Given) (served : Result Served ServeFault) (text : List ℕ) (p q : MeterPort)
+    (o : Opening) → (start : StartsFrom first o p) (is : o ≡ opening_of recorder.core)
+    (silent : AreSilent first q) (serves : ServesAll given p q served)
+    (traces : Traces q.known text)
+    → ((i : ℕ) → p.known.splits + 3 ≤ i → i < q.known.splits
+    → Fact (child q.known.number i) (calls_by (child q.known.number i) q.known.seen))
+    → (i : ℕ) → first + 3 ≤ i
+    → i < (run_of first recorder given served text p q o start is silent serves
+    traces).of_run.ports
+    → Fact (i ∷ []) (calls_by (i ∷ [])
+    (run_of first recorder given served text p q o start is silent serves traces).calls)
+unfolding run_of calls_of_run
+run_sessions Fact first recorder given served text p q o start is silent serves traces each i from
+    below =
+    let y = traces.yields in
+    let after : p.known.splits + 3 ≤ i = subst (λ (k : ℕ). k + 3 ≤ i) (sym start.splits) from in
+    let number : q.known.number ≡ [] = serves.goes.number ∙ start.number in
+    let named : child q.known.number i ≡ i ∷ [] = ap (λ (n : List ℕ). n ++ i ∷ []) number in
+    let joined : IsAmong (i ∷ []) q.known.joined = subst
+    (λ (n : List ℕ). IsAmong (n ++ i ∷ []) q.known.joined) number
+    (serves.joined i (omega (arith, after)) below) in
+    let fact : Fact (i ∷ []) (calls_by (i ∷ []) q.known.seen) =
+    subst (λ (n : List ℕ). Fact n (calls_by n q.known.seen)) named (each i after below) in
+    subst (Fact (i ∷ [])) (sym (y.own_calls (i ∷ []) (inr joined))) fact
 
 -- the first port of a lock
 starts_first : (o : Opening) (p : MeterPort) → p.known ≡ first_known o → StartsFrom 0 o p

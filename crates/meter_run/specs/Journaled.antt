@@ -3,11 +3,13 @@
 --     IsStarted           the port of the journal's worker
 --     IsFinished          how a run ends
 --     fault_of_journal    the fault of a journal
-use Rattle.std.specs.Prelude.{◌≡◌, ℕ, List, [], ◌∷◌, Option, Some, None, Result, Ok, Err, IfOk}
+use Rattle.std.specs.Prelude.{◌≡◌, ℕ, ◌<◌, ◌≤◌, List, [], ◌∷◌, Option, Some, None, Result, Ok, Err}
+use Rattle.std.specs.Prelude.{IfOk}
 use Rattle.durable_lines.specs.CrashModel.{LeavesOnly}
 use Rattle.durable_lines.specs.Lines.{lines_in}
-use Rattle.meter_journal.specs.Saving.{IsSavedFrom}
+use Rattle.meter_journal.specs.Saving.{IsSavedFrom, IsStored}
 use Rattle.meter_run.specs.Runs.{Given, IsRunFrom, StartsFrom, Traces}
+use Rattle.meter_server.specs.JournaledSessions.{AreAnswered}
 use Rattle.meter_server.specs.declared.serving_all.Served.{Served}
 use Rattle.port_threads.specs.Workers.{ComesBack}
 use Rattle.program.specs.declared.fault.Fault.{Fault}
@@ -19,13 +21,17 @@ use Rattle.shared_meter.specs.Handed.{MeterPort}
 use Rattle.turn_lock.specs.History.{calls_by}
 use Rattle.turn_lock.specs.declared.call_fault.CallFault.{CallFault}
 
--- A run in which the first port that was split off is the journal's; and if the file acts as the
+-- A run in which the first port that was split off is the journal's. The calls of each session were
+-- answered once their lines were on the disk, all but at most the last one. If the file acts as the
 -- crash model says, a crash at any moment of the run leaves the lines that it had first, followed
 -- by a front of the lines of the run.
 pub record IsJournaledRun {F : Type 0} (acts : Type 0) (seen : F → List ℕ) (moment : F → ℕ)
-    (left_since : F → ℕ → List ℕ → Type 0) (file : F) (recorder : Recording) (given : Given)
-    (served : Result Served ServeFault) (text : List ℕ) : Type 0 where
+    (left_since : F → ℕ → List ℕ → Type 0) (stored : List ℕ → Type 0) (file : F)
+    (recorder : Recording) (given : Given) (served : Result Served ServeFault) (text : List ℕ)
+    : Type 0 where
   pub run : IsRunFrom 1 recorder given served text
+  pub journaled : (i : ℕ) → 4 ≤ i → i < run.of_run.ports
+      → AreAnswered (λ n. acts → IsStored stored n) (i ∷ []) [] (calls_by (i ∷ []) run.calls)
   pub kept : acts → (ended : F) × LeavesOnly moment left_since file ended
       (IsSavedFrom 0 (lines_in (seen file)) run.calls)
 

@@ -212,7 +212,7 @@ pub fn run_journaled_meter<
     requires settled { F.acts_as_file → IsSettled F.seen F.may_leave F.stored journal.file }
     requires password { IsPassword terms.now.password.now }
     ensures run { IfOk result.trace (IsJournaledRun F.acts_as_file F.seen F.moment F.left_since
-        journal.file recorder
+        F.stored journal.file recorder
         (record {
           blocks = B.forecast sources.blocks;
           moments = M.forecast sources.moments;

@@ -1,8 +1,9 @@
 //! `run_meter`: one run from the recorder to the text of the trace, with clients and the meter's
 //! own events in parallel.
-ghost use Rattle.std.specs.Prelude.{◌≡◌, ◌⊎◌, ⊤, ◌+◌, [], IfOk, IfErr};
+ghost use Rattle.std.specs.Prelude.{◌≡◌, ◌⊎◌, ⊤, ◌+◌, [], IfOk, IfErr, IfSome};
 ghost use Rattle.acse_ber.specs.Password.{IsPassword};
 ghost use Rattle.meter_run.specs.Runs.{IsRun, ServesAll, Traces};
+ghost use Rattle.meter_server.specs.JournaledSessions.{AreJournaled};
 ghost use Rattle.meter_server.specs.ServingAll.{IsLimit, StopsFor};
 ghost use Rattle.shared_meter.specs.Calls.{Stands};
 ghost use Rattle.relay_core.specs.Opening.{opening_of};
@@ -80,6 +81,8 @@ pub(crate) fn serve<
           password = terms.now.password.now;
         })
         port result.0 result.1 }
+    ensures journaled { IfSome terms.now.journal
+        (λ _. AreJournaled D.is_durable (port.known.splits + 3) result.0) }
     ensures limit { IfOk result.1 (IsLimit terms.now.limit) }
     ensures counted { IfOk result.1 (λ served. IsCounted (L.accepted listener.old)
         (served.served + served.turned_away) (L.accepted listener.new)) }

@@ -12,8 +12,8 @@ pub returns-clause-run : goal.returns-clause-run
 returns-clause-run g c =
     let D = g.F.DurableFile in
     let started = c.in-Some.started in
-    journaled_by D.acts_as_file D.seen D.may_leave D.moment D.left_since c.args.journal.file
-    c.args.recorder (record {
+    journaled_by D.acts_as_file D.seen D.may_leave D.moment D.left_since D.stored
+    c.args.journal.file c.args.recorder (record {
       blocks = g.B.BlockSource.forecast c.args.sources.blocks;
       moments = g.M.MomentSource.forecast c.args.sources.moments;
       presses = g.U.ButtonSource.forecast c.args.sources.buttons;
@@ -21,4 +21,4 @@ returns-clause-run g c =
     }) c.serve-port.result.1 c.finish-trace.result.0 started.running.promise.port.value
     started.port c.serve-port.result.0 started.running.promise.worker.value c.in-Some.ensures.file
     c.file_is_idle.ensures c.in-Some.ensures.starts c.serve-port.ensures.serves
-    c.finish-trace.ensures.finished
+    c.serve-port.ensures.journaled c.finish-trace.ensures.finished
