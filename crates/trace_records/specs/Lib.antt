@@ -1,0 +1,4 @@
+pub mod Civil
+pub mod Csv
+pub mod Json
+pub mod Records
