@@ -1,6 +1,7 @@
 -- The lines that a view shows of a run, one event after the other.
 use Rattle.std.proofs.Common.{◌≡◌, ℕ, suc, ◌+◌, ◌<◌, Bool, true, false, List, [], ◌∷◌, ◌++◌, length}
-use Rattle.std.proofs.Common.{take, get_or, refl, sym, ap, ◌∙◌, subst, append-nil, arith}
+use Rattle.std.proofs.Common.{take, get_or, refl, sym, ap, ◌∙◌, subst, append_assoc}
+use Rattle.std.proofs.Common.{append-nil, arith}
 use Rattle.std.specs.Prelude.{cond, filter, flat_map, if◌then◌else◌}
 use Rattle.std.proofs.lemmas.List.{take_more, length-take}
 use Rattle.std.proofs.lemmas.Grind.{flat_map-append}
@@ -12,7 +13,8 @@ use Rattle.relay_core.specs.Stands.{StandsFor}
 use Rattle.relay_core.specs.World.{World}
 use Rattle.relay_core.specs.declared.relay.RelayCore.{RelayCore}
 use Rattle.relay_events.specs.declared.event.Event.{Event}
-use Rattle.trace_views.specs.Views.{Step, step_at, steps, shows, shown_text, steps_text, text_of}
+use Rattle.trace_views.specs.Views.{Step, head_text, step_at, steps, shows, shown_text}
+use Rattle.trace_views.specs.Views.{steps_text, text_of}
 use Rattle.trace_views.specs.declared.view.TraceView.{TraceView}
 
 -- the events of a run and one more
@@ -51,11 +53,16 @@ steps_text-push view front step =
 pub record Viewed (view : TraceView) (old now : RelayCore) (events : List Event) (out : List ℕ)
     : Type 0 where
   pub world : (w : World) → StandsFor old w → StandsFor now (world_after events w)
-  pub wrote : (w : World) → StandsFor old w → out ≡ steps_text view (steps 1 events w)
+  pub wrote : (w : World) → StandsFor old w
+      → out ≡ head_text view ++ steps_text view (steps 1 events w)
 
 -- no event was applied
-pub none_viewed : (view : TraceView) (core : RelayCore) → Viewed view core core [] []
-none_viewed view core = record { world = λ w stands. stands; wrote = λ w stands. refl }
+pub none_viewed : (view : TraceView) (core : RelayCore) (out : List ℕ) → out ≡ head_text view
+    → Viewed view core core [] out
+none_viewed view core out is = record {
+  world = λ w stands. stands;
+  wrote = λ w stands. is ∙ sym (append-nil (head_text view));
+}
 
 -- one more event was
 pub event_viewed : (view : TraceView) (old now next : RelayCore) (events : List Event)
@@ -75,11 +82,13 @@ event_viewed view old now next events i number event out out' below is numbered 
           (goes (world_after front w) (so_far.world w stands));
       wrote = λ w stands.
           let before = world_after front w in
+          let shown = shown_text view (step_at number event before) in
           writes before (so_far.world w stands)
-          ∙ ap (λ (bytes : List ℕ). bytes ++ shown_text view (step_at number event before))
-          (so_far.wrote w stands)
-          ∙ sym (steps_text-push view (steps 1 front w) (step_at number event before))
+          ∙ ap (λ (bytes : List ℕ). bytes ++ shown) (so_far.wrote w stands)
+          ∙ append_assoc (head_text view) (steps_text view (steps 1 front w)) shown
+          ∙ ap (λ (bytes : List ℕ). head_text view ++ bytes)
+          (sym (steps_text-push view (steps 1 front w) (step_at number event before))
           ∙ ap (λ (n : ℕ). steps_text view (steps 1 front w ++ step_at n event before ∷ []))
           (sym counted)
-          ∙ ap (steps_text view) (sym (steps-append 1 front event w));
+          ∙ ap (steps_text view) (sym (steps-append 1 front event w)));
     })

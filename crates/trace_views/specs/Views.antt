@@ -1,9 +1,11 @@
 -- What a view shows of a trace: the lines of its run that it selects, each with its event if the
--- view has events.
---     whole_view        the view that shows each line, without its event
---     Step, steps       the events of a run with their numbers, their lines and the switch before
+-- view has events, as the player prints them, as comma-separated values or as JSON.
+--     whole_view        the view that shows each line as the player prints it, without its event
+--     Step, steps       the events of a run with their numbers, their lines, the switch before and
+--                       the clock after them
 --     is_shown          whether a view shows the line of an event
---     step_text         the line of an event as text
+--     step_text         the line of an event as the player prints it
+--     text_at           the line of an event in the format of a view
 --     view_text         the text of a view of a trace
 use Rattle.std.specs.Prelude.{ℕ, suc, nat_lt, Bool, true, false, not, ◌&&◌, ◌||◌, codes, Option}
 use Rattle.std.specs.Prelude.{Some, None, List, [], ◌∷◌, ◌++◌, filter, flat_map, if◌then◌else◌}
@@ -19,12 +21,23 @@ use Rattle.relay_recorder.specs.declared.trace.Trace.{Trace}
 use Rattle.text_lines.specs.Words.{line_of}
 use Rattle.trace_lines.specs.Replies.{line_text}
 use Rattle.trace_lines.specs.Writing.{event_row}
+use Rattle.trace_records.specs.Csv.{csv_head, csv_line}
+use Rattle.trace_records.specs.Json.{json_line}
+use Rattle.trace_records.specs.Records.{fields_of}
+use Rattle.trace_views.specs.declared.format.TraceFormat.{TraceFormat}
+use Rattle.trace_views.specs.declared.format.TraceFormat.TheVariants.{Lines, Csv, Json}
 use Rattle.trace_views.specs.declared.view.Switch.{Switch}
 use Rattle.trace_views.specs.declared.view.TraceView.{TraceView}
 
--- each line, without its event
+-- each line as the player prints it, without its event
 abbrev pub whole_view : TraceView
-whole_view = record { first = None; last = None; changes_only = false; with_events = false }
+whole_view = record {
+  first = None;
+  last = None;
+  changes_only = false;
+  with_events = false;
+  format = Lines;
+}
 
 -- the switch of a meter in this world
 abbrev pub switch_in : World → Switch
@@ -33,12 +46,14 @@ switch_in w = record {
   output = is_state w.control.state Connected;
 }
 
--- an event of a run: its number, the switch before it, and its line
+-- an event of a run: its number, the switch before it, its line, and the last moment of the clock
+-- after it
 pub record Step : Type 0 where
   pub number : ℕ
   pub event : Event
   pub before : Switch
   pub line : Line
+  pub moment : Option ℕ
 
 abbrev pub step_at : ℕ → Event → World → Step
 step_at number event w = record {
@@ -46,6 +61,7 @@ step_at number event w = record {
   event = event;
   before = switch_in w;
   line = line_at event w;
+  moment = (at_event event w).world.moment;
 }
 
 -- the events of a run, the first of them with this number
@@ -95,8 +111,29 @@ abbrev pub step_text : Bool → ℕ → Event → Line → List ℕ
 step_text with_events number event line =
     line_text number line ++ event_end with_events event ++ 10 ∷ []
 
+-- an event in a format, after which the clock has this moment
+abbrev pub text_in : TraceFormat → Bool → ℕ → Event → Line → Option ℕ → List ℕ
+text_in Lines with_events number event line moment = step_text with_events number event line
+text_in Csv with_events number event line moment =
+    csv_line (fields_of with_events number event line moment)
+text_in Json with_events number event line moment =
+    json_line (fields_of with_events number event line moment)
+
+-- an event in the format of a view
+abbrev pub text_at : TraceView → ℕ → Event → Line → Option ℕ → List ℕ
+text_at view number event line moment =
+    text_in view.format view.with_events number event line moment
+
 abbrev pub text_of : TraceView → Step → List ℕ
-text_of view step = step_text view.with_events step.number step.event step.line
+text_of view step = text_at view step.number step.event step.line step.moment
+
+-- what comes before the events in a format: of comma-separated values the names of the columns
+abbrev pub head_in : TraceFormat → Bool → List ℕ
+head_in Csv with_events = csv_head with_events
+head_in _ with_events = []
+
+abbrev pub head_text : TraceView → List ℕ
+head_text view = head_in view.format view.with_events
 
 -- what a view shows of one event
 abbrev pub shown_text : TraceView → Step → List ℕ
@@ -106,6 +143,7 @@ shown_text view step = if shows view step then text_of view step else []
 abbrev pub steps_text : TraceView → List Step → List ℕ
 steps_text view steps = flat_map (text_of view) (filter (shows view) steps)
 
--- the text of a view of a trace
+-- the text of a view of a trace: the events that it shows, after the head of its format
 abbrev pub view_text : TraceView → Trace → List ℕ
-view_text view trace = steps_text view (steps 1 trace.events (world_of_opening trace.opening))
+view_text view trace =
+    head_text view ++ steps_text view (steps 1 trace.events (world_of_opening trace.opening))

@@ -1,7 +1,8 @@
-//! `TraceView`: which lines of a run are shown, and what they have.
+//! `TraceView`: which lines of a run are shown, what they have, and in which format.
 ghost use Rattle.std.specs.Prelude.{◌≡◌};
 ghost use Rattle.trace_views.specs.Views.{is_change, is_shown, is_within, whole_view};
 
+use crate::format::TraceFormat;
 use disconnect_control::ControlState;
 use relay_events::Line;
 
@@ -17,6 +18,8 @@ pub struct TraceView {
     pub changes_only: bool,
     /// Whether each line ends with its event.
     pub with_events: bool,
+    /// How the events are shown.
+    pub format: TraceFormat,
 }
 
 // The supply switch: its control state, and whether the supply is on.
@@ -27,7 +30,7 @@ pub(crate) struct Switch {
 }
 
 impl TraceView {
-    /// Returns the view that shows each line, without its event.
+    /// Returns the view that shows each line as the player prints it, without its event.
     pub fn whole() -> TraceView
         ensures { result ≡ whole_view }
     {
@@ -36,6 +39,7 @@ impl TraceView {
             last: None,
             changes_only: false,
             with_events: false,
+            format: TraceFormat::Lines,
         }
     }
 

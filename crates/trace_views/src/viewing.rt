@@ -4,9 +4,10 @@ ghost use Rattle.relay_core.specs.Machine.{at_event};
 ghost use Rattle.relay_core.specs.Opening.{IsFitOpening};
 ghost use Rattle.relay_core.specs.Stands.{StandsFor};
 ghost use Rattle.relay_core.specs.World.{World};
-ghost use Rattle.trace_views.specs.Views.{shown_text, step_at, steps, steps_text, view_text};
+ghost use Rattle.trace_views.specs.Views.{head_text, shown_text, step_at, steps, steps_text};
+ghost use Rattle.trace_views.specs.Views.{view_text};
 
-use crate::lines::add_step;
+use crate::lines::{add_head, add_step};
 use crate::view::{Switch, TraceView};
 use relay_core::{RelayCore, line_after};
 use relay_events::Event;
@@ -33,13 +34,13 @@ fn view_event(
     };
     let line = line_after(alloc, core, event)?;
     if view.shows(number, before, &line) {
-        add_step(alloc, out, view, number, event, &line)
+        add_step(alloc, out, view, number, event, &line, core.last_moment())
     } else {
         Ok(())
     }
 }
 
-// Applies events to a meter, and returns the lines that the view shows.
+// Applies events to a meter, and returns the text of the view.
 fn view_events(
     alloc: Global,
     view: &TraceView,
@@ -47,9 +48,10 @@ fn view_events(
     events: &[Event],
 ) -> Result<Vec<u8>, AllocError>
     ensures { IfOk result (λ out. (w : World) → StandsFor core.old w
-        → out.items ≡ steps_text view.now (steps 1 events.now w)) }
+        → out.items ≡ head_text view.now ++ steps_text view.now (steps 1 events.now w)) }
 {
     let mut out = Vec::new(alloc);
+    add_head(alloc, &mut out, view)?;
     let mut number = 0u64;
     'events: for event in events {
         number += 1;
@@ -58,7 +60,7 @@ fn view_events(
     Ok(out)
 }
 
-/// Plays a trace on a meter in the state of its opening, and returns the lines that a view shows.
+/// Plays a trace on a meter in the state of its opening, and returns the text of a view.
 /// Fails only if out of memory.
 pub fn view_trace(alloc: Global, trace: &Trace, view: &TraceView) -> Result<Vec<u8>, AllocError>
     requires { IsFitOpening trace.now.opening }
