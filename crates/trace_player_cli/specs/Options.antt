@@ -1,6 +1,7 @@
 -- The options of the command line.
 --     IsSet          whether an option without a value is given
 --     IsBound        the number of an event, if the option is given
+--     IsFormat       the format that the option `--format` names
 --     IsView         the view that the options describe
 --     IsDescribed    faults are described
 --     AreInOrder     bounds of which the upper one is not below the lower one
@@ -9,6 +10,8 @@ use Rattle.std.specs.Prelude.{codes, List, ℕ, Option, Some, None}
 use Rattle.std.specs.Str.Parse.{IsNumeral, digits_value, without_leading_plus}
 use Rattle.clap.specs.Matches.{one_text}
 use Rattle.clap.specs.declared.parser.matches.Found.{Found}
+use Rattle.trace_views.specs.declared.format.TraceFormat.{TraceFormat}
+use Rattle.trace_views.specs.declared.format.TraceFormat.TheVariants.{Lines, Csv, Json}
 use Rattle.trace_views.specs.declared.view.TraceView.{TraceView}
 
 -- whether the option of this name is given
@@ -25,12 +28,20 @@ pub record IsBound (found : Found) (name : List ℕ) (bound : Option ℕ) : Type
       → bound ≡ Some (digits_value 10 (without_leading_plus text))
   pub absent : one_text found name ≡ None → bound ≡ None
 
+-- the format that the option `--format` names: comma-separated values or JSON; without the option
+-- the lines that the player prints
+pub record IsFormat (found : Found) (format : TraceFormat) : Type 0 where
+  pub csv : one_text found (codes "format") ≡ Some (codes "csv") → format ≡ Csv
+  pub json : one_text found (codes "format") ≡ Some (codes "json") → format ≡ Json
+  pub absent : one_text found (codes "format") ≡ None → format ≡ Lines
+
 -- the view that the options describe
 pub record IsView (found : Found) (view : TraceView) : Type 0 where
   pub first : IsBound found (codes "from") view.first
   pub last : IsBound found (codes "to") view.last
   pub changes_only : IsSet found (codes "changes") view.changes_only
   pub with_events : IsSet found (codes "events") view.with_events
+  pub format : IsFormat found view.format
 
 -- an upper bound that is not below the lower one, if there are both
 abbrev pub AreInOrder : Option ℕ → Option ℕ → Type 0

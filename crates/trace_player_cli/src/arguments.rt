@@ -12,6 +12,9 @@ Exit status: 0 success; 2 the command line or the input is wrong; \
 3 reading or writing failed; 4 out of memory.
 Example: trace_player run.trace";
 
+// The names of the formats.
+const FORMATS: &[&str] = &["csv", "json"];
+
 // Returns the operand FILE.
 fn file<'a>(alloc: Global) -> Arg<'a> {
     Arg::new(alloc, "file")
@@ -73,6 +76,15 @@ fn changes<'a>(alloc: Global) -> Arg<'a> {
     )
 }
 
+// Returns the option `--format`.
+fn format<'a>(alloc: Global) -> Arg<'a> {
+    Arg::new(alloc, "format")
+        .long("format")
+        .value_name("FORMAT")
+        .help("Print each event as a record: csv, comma-separated; json, one JSON object a line")
+        .value_parser(FORMATS)
+}
+
 // Returns the option `--partial`.
 fn partial<'a>(alloc: Global) -> Arg<'a> {
     flag(
@@ -108,6 +120,7 @@ pub(crate) fn command_line<'a>(alloc: Global) -> Result<Command<'a>, AllocError>
     let made = with_argument(made, from(alloc));
     let made = with_argument(made, to(alloc));
     let made = with_argument(made, changes(alloc));
+    let made = with_argument(made, format(alloc));
     let made = with_argument(made, partial(alloc));
     with_argument(made, verbose(alloc))
 }

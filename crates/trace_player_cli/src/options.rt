@@ -1,11 +1,12 @@
 //! The options of the command line as values.
 ghost use Rattle.std.specs.Prelude.{◌≡◌, ◌↔◌, codes, IsTrue};
 ghost use Rattle.clap.specs.Matches.{found_of};
-ghost use Rattle.trace_player_cli.specs.Options.{AreInOrder, IsBound, IsDescribed, IsSet, IsView};
+ghost use Rattle.trace_player_cli.specs.Options.{AreInOrder, IsBound, IsDescribed, IsFormat, IsSet};
+ghost use Rattle.trace_player_cli.specs.Options.{IsView};
 ghost use Rattle.trace_views.specs.Views.{whole_view};
 
 use clap::ArgMatches;
-use trace_views::TraceView;
+use trace_views::{TraceFormat, TraceView};
 
 // The operand and the options.
 #[derive(Clone, Copy, Debug)]
@@ -50,6 +51,17 @@ fn number_of(matches: &ArgMatches<'_>, name: &str) -> Option<u32>
     matches.get_one::<u32>(name)
 }
 
+// Returns the format that the option `--format` names.
+fn format_of(matches: &ArgMatches<'_>) -> TraceFormat
+    ensures { IsFormat (found_of matches.now) result }
+{
+    match matches.get_str("format") {
+        Some("csv") => TraceFormat::Csv,
+        Some("json") => TraceFormat::Json,
+        _ => TraceFormat::Lines,
+    }
+}
+
 // Returns the view that the options describe.
 fn view_of(matches: &ArgMatches<'_>) -> TraceView
     ensures { IsView (found_of matches.now) result }
@@ -59,6 +71,7 @@ fn view_of(matches: &ArgMatches<'_>) -> TraceView
         last: number_of(matches, "to"),
         changes_only: is_set(matches, "changes"),
         with_events: is_set(matches, "events"),
+        format: format_of(matches),
     }
 }
 
