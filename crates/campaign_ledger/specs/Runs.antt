@@ -1,0 +1,48 @@
+-- The runs of a campaign on one ledger, each of which may end in a crash.
+--     Run               the entries that a run found, the places whose commands it sent, and the
+--                       entries that its end left
+--     IsSafeRun         it sent commands of places that had none, each once, and left them marked
+--     Follow            a list of runs, the last one first, each of which found what the one before
+--                       left
+--     all_sent          the places of all commands that the runs sent
+use Rattle.std.specs.Prelude.{◌≡◌, ◌⊎◌, ℕ, List, [], ◌∷◌, ◌++◌, ⊤}
+use Rattle.campaign_ledger.specs.declared.entry.Entry.{Entry}
+use Rattle.campaign_ledger.specs.declared.entry.Entry.TheVariants.{NotSent}
+use Rattle.campaign_ledger.specs.Entries.{HasGone}
+
+-- the place is in the list
+abbrev pub IsIn : ℕ → List ℕ → Type 0
+IsIn place [] = ⊥
+IsIn place (first ∷ places) = (place ≡ first) ⊎ IsIn place places
+
+-- no place occurs twice
+abbrev pub AreApart : List ℕ → Type 0
+AreApart [] = ⊤
+AreApart (place ∷ places) = (¬ IsIn place places) × AreApart places
+
+-- One run: what it found, the places whose commands it sent, and what its end left, be it a crash
+-- or not.
+pub record Run : Type 0 where
+  pub found : ℕ → Entry
+  pub sent : List ℕ
+  pub left : ℕ → Entry
+
+-- The run sent the command of a place at most once, and only if none was sent before. It left each
+-- of these places marked, and each that it found marked.
+pub record IsSafeRun (run : Run) : Type 0 where
+  pub apart : AreApart run.sent
+  pub fresh : (place : ℕ) → IsIn place run.sent → run.found place ≡ NotSent
+  pub down : (place : ℕ) → IsIn place run.sent → HasGone (run.left place)
+  pub kept : (place : ℕ) → HasGone (run.found place) → HasGone (run.left place)
+
+-- each run is safe and found what the one before it left; the last run is first in the list
+abbrev pub Follow : List Run → Type 0
+Follow [] = ⊤
+Follow (run ∷ []) = IsSafeRun run
+Follow (run ∷ (before ∷ runs)) = IsSafeRun run × (run.found ≡ before.left)
+    × Follow (before ∷ runs)
+
+-- the places of all commands that the runs sent
+abbrev pub all_sent : List Run → List ℕ
+all_sent [] = []
+all_sent (run ∷ runs) = run.sent ++ all_sent runs

@@ -1,0 +1,46 @@
+//! `Book`: the storage of a ledger, with what a crash may leave of it.
+ghost use Rattle.std.specs.Prelude.{ℕ, IfOk, IsTrue};
+ghost use Rattle.campaign_ledger.specs.declared.entry.Entry.{Entry};
+ghost use Rattle.campaign_ledger.specs.Entries.{HasGone};
+
+use crate::entry::Entry;
+use crate::fault::LedgerFault;
+use client_core::Outcome;
+
+/// Storage of a ledger that outlives a crash: the places whose commands may have been sent, and the
+/// outcomes. Its ghost members say what a crash may leave.
+///
+/// After a call failed, nothing is known of the call's entry; what was marked before remains
+/// marked.
+pub trait Book: Drop {
+    // Ghost predicate: no wrong answer of the storage was taken as true. The clauses hold only
+    // then. No contract can promise it of a disk.
+    ghost is_honest: { Self → Type 0 };
+
+    // Ghost predicate: the entries that the next run may find after a crash at this moment.
+    ghost may_leave: { Self → (ℕ → Entry) → Type 0 };
+
+    // Ghost predicate: whatever a crash leaves, the command of the place may have been sent.
+    ghost is_down: { Self → ℕ → Type 0 };
+
+    /// Marks a place: its command may be sent from now on. Returns false if the place was marked
+    /// before, or can't be marked.
+    fn mark(&mut self, place: u32) -> Result<bool, LedgerFault>
+        ensures honest { is_honest self.new → is_honest self.old }
+        ensures fresh { is_honest self.new
+            → IfOk result (λ is_new. IsTrue is_new → ¬ is_down self.old place) }
+        ensures durable { is_honest self.new
+            → IfOk result (λ is_new. IsTrue is_new → is_down self.new place) }
+        ensures kept { is_honest self.new → (other : ℕ) → is_down self.old other
+            → is_down self.new other };
+
+    /// Stores the outcome of a place.
+    fn record(&mut self, place: u32, outcome: Outcome) -> Result<(), LedgerFault>
+        ensures honest { is_honest self.new → is_honest self.old }
+        ensures kept { is_honest self.new → (other : ℕ) → is_down self.old other
+            → is_down self.new other };
+
+    // Ghost law: a crash leaves a place marked that is down.
+    ghost stays_down: { (book : Self) (place : ℕ) (left : ℕ → Entry) → is_down book place
+        → may_leave book left → HasGone (left place) };
+}

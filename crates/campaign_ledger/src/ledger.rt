@@ -1,0 +1,152 @@
+//! `Ledger`: gives the permits for the commands of one run of a campaign.
+ghost use Rattle.std.specs.Prelude.{◌≡◌, ◌≢◌, ◌<◌, ℕ, [], false, length, IsTrue, IfOk, IfErr, IfSome, IfNone, IsErrOf, OnOk, OnErr};
+ghost use Rattle.campaign_ledger.specs.declared.entry.Entry.TheVariants.{NotSent, MaybeSent, Came};
+ghost use Rattle.campaign_ledger.specs.declared.fault.LedgerFault.TheVariants.{Failed};
+ghost use Rattle.campaign_ledger.specs.Entries.{HasGone, entry_at};
+ghost use Rattle.campaign_ledger.specs.Grants.{LedgerState, permits_in, Grants};
+
+use crate::book::Book;
+use crate::entry::Entry;
+use crate::fault::LedgerFault;
+use crate::permit::Permit;
+use client_core::Outcome;
+use std::marker::Model;
+
+/// The ledger of a campaign during one run. Contracts see its book, the entry of each place, and
+/// whether a call has failed.
+///
+/// A place without an entry gets no permit. After a call failed, every later call returns `Failed`.
+#[derive(Drop)]
+pub struct Ledger<B: Book> {
+    book: B,
+    entries: Vec<Entry>,
+    has_failed: bool,
+}
+
+impl<B: Book> Model for Ledger<B> {
+    ghost use Rattle.campaign_ledger.specs.Grants.{LedgerState};
+
+    ghost Value = { LedgerState B };
+
+    ghost view = { λ ledger. record {
+      book = ledger.book;
+      entries = ledger.entries.items;
+      has_failed = ledger.has_failed;
+    } };
+}
+
+impl<B: Book> Ledger<B> {
+    /// Returns the ledger of a run that has this book and found these entries in it, one for each
+    /// job of the campaign.
+    pub fn new(book: B, entries: Vec<Entry>) -> Ledger<B>
+        ensures book { result.book ≡ book }
+        ensures entries { result.entries ≡ entries.items }
+        ensures unfailed { result.has_failed ≡ false }
+    {
+        Ledger {
+            book,
+            entries,
+            has_failed: false,
+        }
+    }
+
+    /// Returns the number of places.
+    pub fn len(&self) -> usize
+        ensures { result ≡ length self.now.entries }
+    {
+        self.entries.len()
+    }
+
+    /// Returns whether a call has failed.
+    pub fn has_failed(&self) -> bool
+        ensures { result ≡ self.now.has_failed }
+    {
+        self.has_failed
+    }
+
+    /// Returns the entry of a place: `MaybeSent` if the campaign has no such place.
+    pub fn entry(&self, place: u32) -> Entry
+        ensures { result ≡ entry_at self.now.entries place }
+    {
+        match self.entries.get(place as usize) {
+            Some(entry) => *entry,
+            None => Entry::MaybeSent,
+        }
+    }
+
+    /// Asks for the permit to send the command of a place.
+    ///
+    /// The book has marked the place before the permit is returned. Returns `None` if the command
+    /// may have been sent before, or the campaign has no such place. After an error no entry is
+    /// changed, but the place may be marked in the book.
+    pub fn begin(&mut self, place: u32) -> Result<Option<Permit>, LedgerFault>
+        ensures grants { Grants B.is_honest B.is_down self.old self.new (permits_in result) }
+        ensures permit { IfOk result (λ given. IfSome given (λ permit. permit ≡ place)) }
+        ensures refused { IfOk result (λ given. IfNone given
+            (HasGone (entry_at self.new.entries place))) }
+        ensures others { (other : ℕ) → other ≢ place
+            → entry_at self.new.entries other ≡ entry_at self.old.entries other }
+        ensures len { length self.new.entries ≡ length self.old.entries }
+        ensures unchanged_on_error { OnErr result (self.new.entries ≡ self.old.entries) }
+        ensures failed { OnErr result (IsTrue self.new.has_failed) }
+        ensures remains_failed { IsTrue self.old.has_failed → IsErrOf result Failed }
+    {
+        if self.has_failed {
+            return Err(LedgerFault::Failed);
+        }
+        if !matches!(self.entry(place), Entry::NotSent) {
+            return Ok(None);
+        }
+        match self.book.mark(place) {
+            Ok(is_new) => {
+                self.entries[place as usize] = Entry::MaybeSent;
+                Ok(if is_new {
+                    Some(Permit::new(place))
+                } else {
+                    None
+                })
+            }
+            Err(fault) => {
+                self.has_failed = true;
+                Err(fault)
+            }
+        }
+    }
+
+    /// Stores the outcome of a place. After an error no entry is changed, but the outcome may be
+    /// in the book.
+    pub fn record(&mut self, place: u32, outcome: Outcome) -> Result<(), LedgerFault>
+        requires { place < length self.old.entries }
+        ensures grants { Grants B.is_honest B.is_down self.old self.new [] }
+        ensures entry { OnOk result (entry_at self.new.entries place ≡ Came outcome) }
+        ensures others { (other : ℕ) → other ≢ place
+            → entry_at self.new.entries other ≡ entry_at self.old.entries other }
+        ensures len { length self.new.entries ≡ length self.old.entries }
+        ensures unchanged_on_error { OnErr result (self.new.entries ≡ self.old.entries) }
+        ensures failed { OnErr result (IsTrue self.new.has_failed) }
+        ensures remains_failed { IsTrue self.old.has_failed → IsErrOf result Failed }
+    {
+        if self.has_failed {
+            return Err(LedgerFault::Failed);
+        }
+        match self.book.record(place, outcome) {
+            Ok(()) => {
+                self.entries[place as usize] = Entry::Came(outcome);
+                Ok(())
+            }
+            Err(fault) => {
+                self.has_failed = true;
+                Err(fault)
+            }
+        }
+    }
+
+    /// Returns the book.
+    pub fn into_book(self) -> B
+        ensures { result ≡ self.book }
+    {
+        let Ledger { book, entries, .. } = self;
+        drop(entries);
+        book
+    }
+}

@@ -1,0 +1,114 @@
+//! `MemoryBook`: a book in memory, for tests.
+ghost use Rattle.std.specs.Prelude.{◌≡◌, ◌-◌, ◌^◌, ⊤, false};
+ghost use Rattle.campaign_ledger.specs.MemoryBook.{Leaves, IsMarked, left_marked};
+
+use crate::book::Book;
+use crate::entry::Entry;
+use crate::fault::LedgerFault;
+use client_core::Outcome;
+use std::marker::Model;
+
+/// A book in memory, for tests: a crash leaves its entries. Contracts see the entries, the number of
+/// calls before one fails, and whether one failed.
+#[derive(Drop)]
+pub struct MemoryBook {
+    entries: Vec<Entry>,
+    calls_left: u64,
+    has_failed: bool,
+}
+
+impl Model for MemoryBook {
+    ghost use Rattle.campaign_ledger.specs.MemoryBook.{MemoryState};
+
+    ghost Value = { MemoryState };
+
+    ghost view = { λ book. record {
+      entries = book.entries.items;
+      calls_left = book.calls_left;
+      has_failed = book.has_failed;
+    } };
+}
+
+impl MemoryBook {
+    /// Returns a book with these entries. Its calls never fail in practice: only call number
+    /// 18,446,744,073,709,551,616 does.
+    pub fn new(entries: Vec<Entry>) -> MemoryBook
+        ensures entries { result.entries ≡ entries.items }
+        ensures calls { result.calls_left ≡ 2 ^ 64 - 1 }
+        ensures unfailed { result.has_failed ≡ false }
+    {
+        MemoryBook::failing_after(entries, u64::MAX)
+    }
+
+    /// Returns a book with these entries whose calls fail after this number of successful ones.
+    pub fn failing_after(entries: Vec<Entry>, calls: u64) -> MemoryBook
+        ensures entries { result.entries ≡ entries.items }
+        ensures calls { result.calls_left ≡ calls }
+        ensures unfailed { result.has_failed ≡ false }
+    {
+        MemoryBook {
+            entries,
+            calls_left: calls,
+            has_failed: false,
+        }
+    }
+
+    /// Returns the entries that a crash leaves.
+    pub fn into_entries(self) -> Vec<Entry>
+        ensures { result.items ≡ self.entries }
+    {
+        self.entries
+    }
+
+    // Counts a call.
+    fn count_call(&mut self) -> Result<(), LedgerFault>
+        ensures entries { self.new.entries ≡ self.old.entries }
+    {
+        match self.calls_left.checked_sub(1) {
+            Some(calls) if !self.has_failed => {
+                self.calls_left = calls;
+                Ok(())
+            }
+            _ => {
+                self.has_failed = true;
+                Err(LedgerFault::Failed)
+            }
+        }
+    }
+}
+
+impl Book for MemoryBook {
+    ghost is_honest = { λ _. ⊤ };
+
+    ghost may_leave = { λ book left. Leaves book.entries left };
+
+    ghost is_down = { λ book place. IsMarked book.entries place };
+
+    ghost stays_down = { λ book place left marked leaves.
+        left_marked book.entries place left marked leaves };
+
+    fn mark(&mut self, place: u32) -> Result<bool, LedgerFault> {
+        self.count_call()?;
+        match self.entries.get_mut(place as usize) {
+            Some(entry) => {
+                let is_new = matches!(entry, Entry::NotSent);
+                if is_new {
+                    *entry = Entry::MaybeSent;
+                }
+                Ok(is_new)
+            }
+            None => Ok(false),
+        }
+    }
+
+    fn record(&mut self, place: u32, outcome: Outcome) -> Result<(), LedgerFault> {
+        self.count_call()?;
+        match self.entries.get_mut(place as usize) {
+            Some(entry) => {
+                *entry = Entry::Came(outcome);
+                Ok(())
+            }
+            None => Ok(()),
+        }
+    }
+}
