@@ -1,5 +1,5 @@
 -- What is given in two successive spans of calls, and what makes a run safe.
-use Rattle.std.proofs.Common.{◌≡◌, ◌⊎◌, ℕ, List, ◌++◌, inl, inr}
+use Rattle.std.proofs.Common.{◌≡◌, ◌⊎◌, ℕ, List, [], ◌++◌, inl, inr}
 use Rattle.campaign_ledger.specs.declared.entry.Entry.{Entry}
 use Rattle.campaign_ledger.specs.declared.entry.Entry.TheVariants.{NotSent}
 use Rattle.campaign_ledger.specs.Entries.{HasGone, entry_at}
@@ -17,6 +17,19 @@ on_both P xs ys first second place is = of_one (in_either place xs ys is)
     of_one (inr there) = second place there
 
 module _ {B : Type 0} (is_honest : B → Type 0) (is_down : B → ℕ → Type 0) where
+  -- a ledger that was not asked gave no permit
+  pub none : (ledger : LedgerState B) → Grants is_honest is_down ledger ledger []
+  none ledger = record {
+    apart = tt;
+    not_sent = λ place is. absurd is;
+    gone = λ place is. absurd is;
+    remains_gone = λ place gone. gone;
+    honest = λ honest. honest;
+    fresh = λ honest place is. absurd is;
+    durable = λ honest place is. absurd is;
+    kept = λ honest place down. down;
+  }
+
   -- the permits of two successive spans are those of the whole
   pub both : (before between after : LedgerState B) (permits more : List ℕ)
       → Grants is_honest is_down before between permits

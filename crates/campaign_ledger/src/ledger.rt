@@ -50,6 +50,13 @@ impl<B: Book> Ledger<B> {
         }
     }
 
+    /// Returns the book.
+    pub fn book(&self) -> &B
+        ensures { result.now ≡ self.now.book }
+    {
+        &self.book
+    }
+
     /// Returns the number of places.
     pub fn len(&self) -> usize
         ensures { result ≡ length self.now.entries }

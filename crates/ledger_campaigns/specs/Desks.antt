@@ -1,0 +1,76 @@
+-- The histories of requests to a shared ledger.
+--     DeskState         the view that contracts have of a shared ledger
+--     IsAnswer          an answer that a request may have
+--     permit_result     the answer to the question for a permit
+--     permits_of        the places of the permits that an answer gives, and permits_given of all
+--                       calls
+--     IsLegalHistory    the calls of a ledger that had this state at the start
+--     Stands            a ledger that results from these calls
+use Rattle.std.specs.Prelude.{◌≡◌, ℕ, List, [], ◌∷◌, ◌++◌, Option, Some, None, Result, Ok, Err, ⊤}
+use Rattle.std.specs.List.{AllByRecursion}
+use Rattle.turn_lock.specs.declared.turned.Entry.{Entry}
+use Rattle.campaign_ledger.specs.declared.entry.Entry.TheVariants.{NotSent}
+use Rattle.campaign_ledger.specs.declared.fault.LedgerFault.{LedgerFault}
+use Rattle.campaign_ledger.specs.Entries.{entry_at}
+use Rattle.campaign_ledger.specs.Grants.{LedgerState, Grants}
+use Rattle.campaign_ledger.specs.Runs.{IsIn, AreApart}
+use Rattle.ledger_campaigns.specs.declared.request.Request.{Request}
+use Rattle.ledger_campaigns.specs.declared.request.Request.TheVariants.{Begin, Record}
+use Rattle.ledger_campaigns.specs.declared.request.Answer.{Answer}
+use Rattle.ledger_campaigns.specs.declared.request.Answer.TheVariants.{Given, Refused, Recorded, Failed}
+
+-- A shared ledger: as it is, and as it was when it was first shared.
+pub record DeskState (B : Type 0) : Type 0 where
+  pub ledger : LedgerState B
+  pub start : LedgerState B
+
+module _ {B : Type 0} where
+  -- the places of the permits that an answer gives
+  abbrev pub permits_of : Answer B → List ℕ
+  permits_of (Given permit book) = permit ∷ []
+  permits_of Refused = []
+  permits_of Recorded = []
+  permits_of (Failed fault) = []
+
+  -- the answer to the question for a permit
+  abbrev pub permit_result : Answer B → Result (Option ℕ) LedgerFault
+  permit_result (Given permit book) = Ok (Some permit)
+  permit_result Refused = Ok None
+  permit_result Recorded = Ok None
+  permit_result (Failed fault) = Err fault
+
+  -- the places of the permits that calls gave, in order
+  abbrev pub permits_given : List (Entry Request (Answer B)) → List ℕ
+  permits_given [] = []
+  permits_given (call ∷ calls) = permits_of call.reply ++ permits_given calls
+
+module _ {B : Type 0} (is_honest : B → Type 0) (is_down : B → ℕ → Type 0) where
+  -- an answer that a request may have. A permit is for the place that was asked for, which is
+  -- marked in the book as it then was, if that was honest
+  abbrev pub IsAnswer : Request → Answer B → Type 0
+  IsAnswer (Begin place) (Given permit book) = (permit ≡ place)
+      × (is_honest book.value → is_down book.value place)
+  IsAnswer (Record place outcome) (Given permit book) = ⊥
+  IsAnswer request Refused = ⊤
+  IsAnswer (Begin place) Recorded = ⊥
+  IsAnswer (Record place outcome) Recorded = ⊤
+  IsAnswer request (Failed fault) = ⊤
+
+  -- each call has an answer that its request may have
+  abbrev pub AreAnswered : List (Entry Request (Answer B)) → Type 0
+  AreAnswered calls = AllByRecursion (λ (call : Entry Request (Answer B)).
+      IsAnswer call.event call.reply) calls
+
+  -- The calls gave each place at most one permit, and none to a place whose entry said at the start
+  -- that its command may have been sent.
+  pub record IsLegalHistory (start : LedgerState B) (calls : List (Entry Request (Answer B)))
+      : Type 0 where
+    pub answers : AreAnswered calls
+    pub apart : AreApart (permits_given calls)
+    pub not_sent : (place : ℕ) → IsIn place (permits_given calls)
+        → entry_at start.entries place ≡ NotSent
+
+  -- The ledger results from these calls.
+  pub record Stands (desk : DeskState B) (calls : List (Entry Request (Answer B))) : Type 0 where
+    pub answers : AreAnswered calls
+    pub grants : Grants is_honest is_down desk.start desk.ledger (permits_given calls)

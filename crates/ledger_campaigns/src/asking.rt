@@ -1,0 +1,68 @@
+//! Requests to a shared ledger through a port.
+ghost use Rattle.std.specs.Prelude.{◌≡◌, IfOk, IfSome, OnSome};
+ghost use Rattle.turn_lock.specs.History.{StartsWith};
+ghost use Rattle.turn_lock.specs.Shown.{IsSame};
+ghost use Rattle.campaign_ledger.specs.Runs.{IsIn};
+ghost use Rattle.ledger_campaigns.specs.Desks.{permit_result, permits_given};
+
+use crate::desk::Desk;
+use crate::request::{Answer, Request};
+use campaign_ledger::{Book, LedgerFault, Permit};
+use client_core::Outcome;
+use std::alloc::Global;
+use std::sync::Wait;
+use turn_lock::Port;
+
+/// Waits for a turn and asks for the permit to send the command of a place.
+///
+/// The permit is the only one that any port of the lock gets for this place. Returns `None` if the
+/// command may have been sent before. Returns `Failed` if the ledger has failed, or if all turns of
+/// the lock were drawn.
+pub fn ask_to_send<B: Book, W: Wait>(
+    rt: &W,
+    alloc: Global,
+    port: &mut Port<Desk<B>>,
+    place: u32,
+) -> Result<Option<Permit>, LedgerFault>
+    ensures same { IsSame port.old port.new }
+    ensures seen { StartsWith port.new.known.seen port.old.known.seen }
+    ensures permit { IfOk result (λ given. IfSome given (λ permit. permit ≡ place)) }
+    ensures given { IfOk result (λ given. OnSome given
+        (IsIn place (permits_given port.new.known.seen))) }
+{
+    match port.call(rt, alloc, Request::Begin(place)) {
+        Ok(answer) => permit_in(answer),
+        Err(_) => Err(LedgerFault::Failed),
+    }
+}
+
+/// Waits for a turn and stores the outcome of a place. Returns `Failed` if the ledger has failed,
+/// or if all turns of the lock were drawn.
+pub fn report_outcome<B: Book, W: Wait>(
+    rt: &W,
+    alloc: Global,
+    port: &mut Port<Desk<B>>,
+    place: u32,
+    outcome: Outcome,
+) -> Result<(), LedgerFault>
+    ensures same { IsSame port.old port.new }
+    ensures seen { StartsWith port.new.known.seen port.old.known.seen }
+{
+    match port.call(rt, alloc, Request::Record(place, outcome)) {
+        Ok(Answer::Failed(fault)) => Err(fault),
+        Ok(_) => Ok(()),
+        Err(_) => Err(LedgerFault::Failed),
+    }
+}
+
+// Returns the permit of an answer.
+fn permit_in<B: Book>(answer: Answer<B>) -> Result<Option<Permit>, LedgerFault>
+    ensures { result ≡ permit_result answer }
+{
+    match answer {
+        Answer::Given(permit, _book) => Ok(Some(permit)),
+        Answer::Refused => Ok(None),
+        Answer::Recorded => Ok(None),
+        Answer::Failed(fault) => Err(fault),
+    }
+}
