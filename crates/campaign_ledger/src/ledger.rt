@@ -57,6 +57,13 @@ impl<B: Book> Ledger<B> {
         &self.book
     }
 
+    /// Returns the entries, one for each place.
+    pub fn entries(&self) -> &[Entry]
+        ensures { result.now ≡ self.now.entries }
+    {
+        self.entries.as_slice()
+    }
+
     /// Returns the number of places.
     pub fn len(&self) -> usize
         ensures { result ≡ length self.now.entries }

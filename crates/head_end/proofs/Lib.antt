@@ -2,7 +2,7 @@ mod Texts
 mod Talking
 mod Steps
 mod Turning
-mod JobOutcomes
+pub mod JobOutcomes
 mod Places
 mod CampaignLemmas
 mod ReadingLemmas

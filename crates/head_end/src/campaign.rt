@@ -182,8 +182,8 @@ impl<'a, W: Watcher> Campaign<'a, W> {
     }
 }
 
-// Returns a line with the name of each job.
-fn blank_lines(alloc: Global, jobs: &[Job]) -> Result<Vec<ReportLine>, AllocError>
+/// Returns a line with the name of each job.
+pub fn blank_lines(alloc: Global, jobs: &[Job]) -> Result<Vec<ReportLine>, AllocError>
     ensures { IfOk result (λ lines. map (λ line. line.id) lines.items
         ≡ map (λ job. job.id) jobs.now) }
 {

@@ -26,9 +26,9 @@ mod tcp;
 mod watching;
 
 pub use attempt::Attempt;
-pub use campaign::{run_campaign, run_watched_campaign};
+pub use campaign::{blank_lines, run_campaign, run_watched_campaign};
 pub use connection::{ConnectFault, Connection, Connector};
-pub use conversing::converse;
+pub use conversing::{converse, give_up};
 pub use fault::JobsFault;
 pub use job_list::{Jobs, MAX_JOBS};
 pub use jobs::{MAX_ADDRESS, MAX_ID, read_jobs};

@@ -1,1 +1,4 @@
+pub mod CampaignLemmas
 pub mod DeskLemmas
+pub mod PlaceLemmas
+pub mod RunningLemmas

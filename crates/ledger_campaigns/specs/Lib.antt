@@ -1,1 +1,3 @@
+pub mod Campaigns
 pub mod Desks
+pub mod Uses

@@ -1,0 +1,50 @@
+-- Lines that are filled with their rows one by one, the places after the run, and the run as a
+-- whole.
+use Rattle.std.proofs.Common.{arith, ◌≡◌, ◌⊎◌, ◌+◌, ◌<◌, ℕ, List, length, slice_index_or, inl, inr}
+use Rattle.std.proofs.Math.Nat.{eq-or-lt_of_le}
+use Rattle.turn_lock.specs.declared.known.Known.{Known}
+use Rattle.turn_lock.specs.Calls.{Yields}
+use Rattle.campaign_ledger.specs.Grants.{LedgerState}
+use Rattle.head_end.specs.declared.row.Row.{Row}
+use Rattle.head_end.specs.declared.row.ReportLine.{ReportLine}
+use Rattle.ledger_campaigns.specs.declared.request.Request.{Request}
+use Rattle.ledger_campaigns.specs.declared.request.Answer.{Answer}
+use Rattle.ledger_campaigns.specs.Campaigns.{Closes}
+use Rattle.ledger_campaigns.specs.Desks.{DeskState, IsLegalHistory, Stands}
+
+-- the first lines have the rows of their places, and all keep their names
+pub record Gathers (old : List ReportLine) (rows_are : List Row) (done : ℕ)
+    (new : List ReportLine) : Type 0 where
+  pub rows : (i : ℕ) (line : ReportLine) (row : Row) → i < done → (slice_index_or new i line).row
+      ≡ slice_index_or rows_are i row
+  pub ids : (i : ℕ) (line : ReportLine) → i < length old → (slice_index_or new i line).id
+      ≡ (slice_index_or old i line).id
+  pub len : length new ≡ length old
+
+-- a fact of the first elements of a list
+abbrev pub AllBelow : {X : Type 0} → (X → Type 0) → ℕ → List X → Type 0
+AllBelow {X} P n xs = (k : ℕ) (x : X) → k < n → P (slice_index_or xs k x)
+
+-- one element more
+pub below_more : {X : Type 0} (P Q : X → Type 0) (n : ℕ) (xs : List X) → ((x : X) → P x → Q x)
+    → AllBelow P n xs → ((x : X) → Q (slice_index_or xs n x)) → AllBelow Q (n + 1) xs
+below_more {X} P Q n xs kept all last k x below = of_case (eq-or-lt_of_le (omega arith))
+  where
+    of_case : (k ≡ n) ⊎ (k < n) → Q (slice_index_or xs k x)
+    of_case (inl same) = rw same (last x)
+    of_case (inr less) = kept _ (all k x less)
+
+-- a ledger that was shared
+pub closes : {B : Type 0} (is_honest : B → Type 0) (is_down : B → ℕ → Type 0)
+    (known : Known Request (Answer B) (LedgerState B)) (desk : DeskState B)
+    (ledger : LedgerState B) → ledger ≡ desk.ledger
+    → Yields (λ (d : DeskState B). d.start) (Stands is_honest is_down)
+    (IsLegalHistory is_honest is_down) known desk
+    → Closes is_honest is_down known ledger
+closes is_honest is_down known desk ledger same yields = record {
+  start = desk.start;
+  origin_is = yields.origin_is;
+  calls = yields.history;
+  seen = yields.seen;
+  grants = rw same yields.results.grants;
+}

@@ -1,0 +1,151 @@
+-- The lines of all jobs and the uses of their attempts, from the results of the places.
+use Rattle.std.proofs.Common.{arith, ◌≡◌, ◌<◌, ℕ, List, [], ◌∷◌, length, map, slice_index_or, Option, refl, sym, ap, subst, ◌∙◌, zero, suc, tt, inl, inr}
+use Rattle.std.proofs.lemmas.List.{get_or-map, length-map}
+use Rattle.std.proofs.lemmas.List.Elements.{All-get_or}
+use Rattle.std.specs.List.{All}
+use Rattle.client_core.specs.declared.job.Job.{Job}
+use Rattle.campaign_ledger.specs.declared.entry.Entry.{Entry as LedgerEntry}
+use Rattle.campaign_ledger.specs.declared.entry.Entry.TheVariants.{NotSent, MaybeSent, Came}
+use Rattle.campaign_ledger.specs.Entries.{entry_at}
+use Rattle.campaign_ledger.specs.Runs.{IsIn}
+use Rattle.head_end.specs.declared.row.Row.{Row}
+use Rattle.head_end.specs.declared.row.ReportLine.{ReportLine}
+use Rattle.head_end.specs.Attempts.{State, unused, refused, connected, closed}
+use Rattle.head_end.specs.Campaigns.{EachChange}
+use Rattle.head_end.specs.Connections.{Forecast}
+use Rattle.ledger_campaigns.specs.Campaigns.{IsPlaceRun, AreLinesFor, AreUses, AreUsesBy}
+use Rattle.ledger_campaigns.specs.Uses.{IsUse, IsRowFor, MayAsk}
+use Rattle.ledger_campaigns.proofs.CampaignLemmas.{Gathers}
+use Rattle.ledger_campaigns.proofs.RunningLemmas.{may_still}
+
+-- lines that have the same names as the jobs
+pub same_length : (jobs : List Job) (lines : List ReportLine) → map (λ (l : ReportLine). l.id) lines
+    ≡ map (λ (j : Job). j.id) jobs → length lines ≡ length jobs
+same_length jobs lines same = sym (length-map lines (λ (l : ReportLine). l.id)) ∙ ap length same
+    ∙ length-map jobs (λ (j : Job). j.id)
+
+same_ids : (jobs : List Job) (lines : List ReportLine) → map (λ (l : ReportLine). l.id) lines
+    ≡ map (λ (j : Job). j.id) jobs
+    → (i : ℕ) (job : Job) (line : ReportLine) → i < length jobs → (slice_index_or lines i line).id
+    ≡ (slice_index_or jobs i job).id
+same_ids [] lines same i job line below = absurd (omega arith)
+same_ids (j ∷ jobs) [] same i job line below = absurd cc
+same_ids (j ∷ jobs) (l ∷ lines) same zero job line below = cc
+same_ids (j ∷ jobs) (l ∷ lines) same (suc i) job line below = same_ids jobs lines
+    (let tails : map (λ (l : ReportLine). l.id) lines ≡ map (λ (j : Job). j.id) jobs = cc in tails)
+    i job line (omega arith)
+
+-- an element of a list that has one
+pub an_element : {X : Type 0} (xs : List X) (i : ℕ) → i < length xs → X
+an_element [] i below = absurd (omega arith)
+an_element (x ∷ xs) i below = x
+
+-- the row of a place, by its index
+row_at : {X : Type 0} (old new : List X) (tells_of : X → List ℕ → Option Forecast)
+    (permits_of : X → List ℕ) (row_of : X → Row) (stage_of : X → State) (jobs : List Job)
+    (found : List LedgerEntry) (password : List ℕ) → length old ≡ length jobs
+    → length new ≡ length old
+    → EachChange (λ i o n. IsPlaceRun jobs found password i (tells_of o) (permits_of n) (row_of n)
+    (stage_of n)) old new
+    → (tells : List ℕ → Option Forecast) → All (λ o. tells_of o ≡ tells) old
+    → (i : ℕ) (job : Job) (row : Row) → i < length jobs
+    → IsRowFor tells (slice_index_or jobs i job) (entry_at found i)
+    (slice_index_or (map row_of new) i row)
+row_at {X} old new tells_of permits_of row_of stage_of jobs found password count same each tells
+    all i job row below =
+    let within : i < length old = omega arith in
+    let x = an_element old i within in
+    let told : tells_of (slice_index_or old i x) ≡ tells = All-get_or (λ (o : X). tells_of o
+    ≡ tells) old i x within all in
+    let is : IsRowFor tells (slice_index_or jobs i job) (entry_at found i)
+    (row_of (slice_index_or new i x)) =
+    subst (λ (t : List ℕ → Option Forecast). IsRowFor t (slice_index_or jobs i job)
+    (entry_at found i) (row_of (slice_index_or new i x))) told ((each i x within).row_is job) in
+    let mapped : slice_index_or (map row_of new) i row ≡ row_of (slice_index_or new i x) =
+    get_or-map row_of new i x row (omega arith) in
+    subst (λ (r : Row). IsRowFor tells (slice_index_or jobs i job) (entry_at found i) r)
+    (sym mapped) is
+
+-- the use of its attempt by the job of a place
+use_at : {X : Type 0} (old new : List X) (tells_of : X → List ℕ → Option Forecast)
+    (permits_of : X → List ℕ) (row_of : X → Row) (stage_of : X → State) (jobs : List Job)
+    (found : List LedgerEntry) (password : List ℕ) → length old ≡ length jobs
+    → length new ≡ length old
+    → EachChange (λ i o n. IsPlaceRun jobs found password i (tells_of o) (permits_of n) (row_of n)
+    (stage_of n)) old new
+    → (i : ℕ) (job : Job) (row : Row) → i < length jobs
+    → IsUse (entry_at found i) (IsIn i (slice_index_or (map permits_of new) i []))
+    (slice_index_or jobs i job) password (slice_index_or (map row_of new) i row)
+    (slice_index_or (map stage_of new) i unused)
+use_at old new tells_of permits_of row_of stage_of jobs found password count same each i job row
+    below =
+    let within : i < length old = omega arith in
+    let x = an_element old i within in
+    rw (get_or-map row_of new i x row (omega arith),
+    get_or-map stage_of new i x unused (omega arith),
+    get_or-map permits_of new i x [] (omega arith)) ((each i x within).use_is job)
+
+-- the lines of all jobs
+pub lines_for : {X : Type 0} (old new : List X) (tells_of : X → List ℕ → Option Forecast)
+    (permits_of : X → List ℕ) (row_of : X → Row) (stage_of : X → State) (jobs : List Job)
+    (found : List LedgerEntry) (password : List ℕ) → length old ≡ length jobs
+    → length new ≡ length old
+    → EachChange (λ i o n. IsPlaceRun jobs found password i (tells_of o) (permits_of n) (row_of n)
+    (stage_of n)) old new
+    → (blank lines : List ReportLine) → map (λ (l : ReportLine). l.id) blank
+    ≡ map (λ (j : Job). j.id) jobs → Gathers blank (map row_of new) (length blank) lines
+    → (tells : List ℕ → Option Forecast) → All (λ o. tells_of o ≡ tells) old
+    → AreLinesFor tells jobs found lines
+lines_for old new tells_of permits_of row_of stage_of jobs found password count same each blank
+    lines names gathers tells all =
+    let long : length blank ≡ length jobs = same_length jobs blank names in
+    record {
+      count = gathers.len ∙ long;
+      of_jobs = λ i job line below. record {
+        id_is = gathers.ids i line (omega arith) ∙ same_ids jobs blank names i job line below;
+        row_is = rw (gathers.rows i line (slice_index_or lines i line).row (omega arith))
+            (row_at old new tells_of permits_of row_of stage_of jobs found password count same each
+            tells all i job (slice_index_or lines i line).row below);
+      };
+    }
+
+-- the uses of their attempts by all jobs, by the permits that the port of each place has seen
+pub uses_by : {X : Type 0} (old new : List X) (tells_of : X → List ℕ → Option Forecast)
+    (permits_of : X → List ℕ) (row_of : X → Row) (stage_of : X → State) (jobs : List Job)
+    (found : List LedgerEntry) (password : List ℕ) → length old ≡ length jobs
+    → length new ≡ length old
+    → EachChange (λ i o n. IsPlaceRun jobs found password i (tells_of o) (permits_of n) (row_of n)
+    (stage_of n)) old new
+    → (blank lines : List ReportLine) → map (λ (l : ReportLine). l.id) blank
+    ≡ map (λ (j : Job). j.id) jobs → Gathers blank (map row_of new) (length blank) lines
+    → AreUsesBy jobs found password (map permits_of new) lines (map stage_of new)
+uses_by old new tells_of permits_of row_of stage_of jobs found password count same each blank lines
+    names gathers i job line below =
+    let long : length blank ≡ length jobs = same_length jobs blank names in
+    rw (gathers.rows i line (slice_index_or lines i line).row (omega arith))
+    (use_at old new tells_of permits_of row_of stage_of jobs found password count same each i job
+    (slice_index_or lines i line).row below)
+
+-- a use with fewer permits
+use_still : (entry : LedgerEntry) (given more : Type 0) (job : Job) (password : List ℕ) (row : Row)
+    (stage : State) → (given → more) → IsUse entry given job password row stage
+    → IsUse entry more job password row stage
+use_still NotSent given more job password row unused still use_is = use_is
+use_still NotSent given more job password row (refused address) still use_is = use_is
+use_still NotSent given more job password row (connected address) still use_is = use_is
+use_still NotSent given more job password row (closed address log) still (same, inl new) =
+    (same, inl new)
+use_still NotSent given more job password row (closed address log) still (same, inr (may, row_is)) =
+    (same, inr (may_still job.verb given more still may, row_is))
+use_still MaybeSent given more job password row stage still use_is = use_is
+use_still (Came outcome) given more job password row stage still use_is = use_is
+
+-- the uses of their attempts by all jobs, by the permits of all ports
+pub uses_all : (jobs : List Job) (found : List LedgerEntry) (password : List ℕ)
+    (seen : List (List ℕ)) (permits : List ℕ) (lines : List ReportLine) (stages : List State)
+    → AreUsesBy jobs found password seen lines stages
+    → ((i : ℕ) → i < length jobs → IsIn i (slice_index_or seen i []) → IsIn i permits)
+    → AreUses jobs found password permits lines stages
+uses_all jobs found password seen permits lines stages uses kept i job line below =
+    use_still (entry_at found i) (IsIn i (slice_index_or seen i [])) (IsIn i permits) _ password _
+    _ (kept i below) (uses i job line below)

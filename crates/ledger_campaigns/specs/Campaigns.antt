@@ -1,0 +1,97 @@
+-- A campaign on a ledger: its lines, and the uses of its attempts.
+--     IsPlaceRun        the result of a place
+--     AreLinesFor       the lines of all jobs, in order
+--     AreUses           the use of its attempt by each job, and AreUsesBy by what its port has seen
+--     AreSwitched       places whose switching commands may have been sent in this run
+--     IsLedgeredRun     the permits of a run, and what they were used for
+--     Closes            a ledger that was shared: it has given at least the permits that a port saw
+use Rattle.std.specs.Prelude.{◌≡◌, ℕ, ◌<◌, List, [], length, slice_index_or, Option, Some, IfSome}
+use Rattle.turn_lock.specs.declared.turned.Entry.{Entry}
+use Rattle.turn_lock.specs.declared.known.Known.{Known}
+use Rattle.turn_lock.specs.History.{StartsWith}
+use Rattle.client_core.specs.declared.job.Job.{Job}
+use Rattle.campaign_ledger.specs.declared.entry.Entry.{Entry as LedgerEntry}
+use Rattle.campaign_ledger.specs.declared.entry.Entry.TheVariants.{NotSent}
+use Rattle.campaign_ledger.specs.Entries.{entry_at}
+use Rattle.campaign_ledger.specs.Grants.{LedgerState, Grants}
+use Rattle.campaign_ledger.specs.Runs.{IsIn, AreApart}
+use Rattle.head_end.specs.declared.row.Row.{Row}
+use Rattle.head_end.specs.declared.row.ReportLine.{ReportLine}
+use Rattle.head_end.specs.Attempts.{State, unused}
+use Rattle.head_end.specs.Connections.{Forecast}
+use Rattle.ledger_campaigns.specs.declared.request.Request.{Request}
+use Rattle.ledger_campaigns.specs.declared.request.Answer.{Answer}
+use Rattle.ledger_campaigns.specs.Desks.{permits_given}
+use Rattle.ledger_campaigns.specs.Uses.{IsUse, IsRowFor, HasSwitched}
+
+-- the result of a place: the row of its job, and the use of its attempt
+pub record IsPlaceRun (jobs : List Job) (found : List LedgerEntry) (password : List ℕ) (place : ℕ)
+    (tells : List ℕ → Option Forecast) (permits : List ℕ) (row : Row) (stage : State)
+    : Type 0 where
+  pub row_is : (job : Job) → IsRowFor tells (slice_index_or jobs place job) (entry_at found place)
+      row
+  pub use_is : (job : Job) → IsUse (entry_at found place) (IsIn place permits)
+      (slice_index_or jobs place job) password row stage
+
+-- the line of a job
+pub record IsLineFor (tells : List ℕ → Option Forecast) (job : Job) (found : LedgerEntry)
+    (line : ReportLine) : Type 0 where
+  pub id_is : line.id ≡ job.id
+  pub row_is : IsRowFor tells job found line.row
+
+-- line i is that of job i, and there are as many lines as jobs
+pub record AreLinesFor (tells : List ℕ → Option Forecast) (jobs : List Job)
+    (found : List LedgerEntry) (lines : List ReportLine) : Type 0 where
+  pub count : length lines ≡ length jobs
+  pub of_jobs : (place : ℕ) (job : Job) (line : ReportLine) → place < length jobs
+      → IsLineFor tells (slice_index_or jobs place job) (entry_at found place)
+      (slice_index_or lines place line)
+
+-- the use of its attempt by each job, by the entries found and the permits given
+abbrev pub AreUses : List Job → List LedgerEntry → List ℕ → List ℕ → List ReportLine → List State
+    → Type 0
+AreUses jobs found password permits lines stages = (place : ℕ) (job : Job) (line : ReportLine)
+    → place < length jobs → IsUse (entry_at found place) (IsIn place permits)
+    (slice_index_or jobs place job) password (slice_index_or lines place line).row
+    (slice_index_or stages place unused)
+
+-- the same, by the permits that the port of each place has seen
+abbrev pub AreUsesBy : List Job → List LedgerEntry → List ℕ → List (List ℕ) → List ReportLine
+    → List State → Type 0
+AreUsesBy jobs found password seen lines stages = (place : ℕ) (job : Job) (line : ReportLine)
+    → place < length jobs
+    → IsUse (entry_at found place) (IsIn place (slice_index_or seen place []))
+    (slice_index_or jobs place job) password (slice_index_or lines place line).row
+    (slice_index_or stages place unused)
+
+-- the switching commands of these places may have been sent in this run, by the logs of their
+-- connections
+abbrev pub AreSwitched : List Job → List State → List ℕ → Type 0
+AreSwitched jobs stages places = (place : ℕ) → IsIn place places → (place < length jobs)
+    × ((job : Job) → HasSwitched (slice_index_or jobs place job).verb
+    (slice_index_or stages place unused))
+
+module _ {B : Type 0} (is_honest : B → Type 0) (is_down : B → ℕ → Type 0) where
+  -- The ledger was shared in the state `start`, and has given at least the permits that the port
+  -- has seen.
+  pub record Closes (known : Known Request (Answer B) (LedgerState B)) (now : LedgerState B)
+      : Type 0 where
+    pub start : LedgerState B
+    pub origin_is : known.origin ≡ Some start
+    pub calls : List (Entry Request (Answer B))
+    pub seen : StartsWith calls known.seen
+    pub grants : Grants is_honest is_down start now (permits_given calls)
+
+  -- The permits that a run gave: each place at most one, and none to a place whose command may have
+  -- been sent before. The attempts were used with these permits, and the ledger at the end has given
+  -- them.
+  pub record IsLedgeredRun (jobs : List Job) (password : List ℕ) (start : LedgerState B)
+      (now : Option (LedgerState B)) (lines : List ReportLine) (stages : List State)
+      : Type 0 where
+    pub permits : List ℕ
+    pub uses : AreUses jobs start.entries password permits lines stages
+    pub apart : AreApart permits
+    pub not_sent : (place : ℕ) → IsIn place permits → entry_at start.entries place ≡ NotSent
+    pub given : List ℕ
+    pub all_given : (place : ℕ) → IsIn place permits → IsIn place given
+    pub grants : IfSome now (λ ledger. Grants is_honest is_down start ledger given)

@@ -1,0 +1,88 @@
+-- The row of a job and the use of its attempt, by the entry that the run found at its place.
+--     MayAsk            a request that may be sent if a permit was given
+--     IsNewUse          the use of an attempt by a job whose command was not sent before
+--     IsUse             the use of an attempt by a job
+--     IsRowFor          the row of a job
+--     HasSwitched       a switching command may have been sent, by the log of the connection
+use Rattle.std.specs.Prelude.{◌≡◌, ◌≢◌, ◌⊎◌, ℕ, List, [], Option, Some, None, Result, Ok, ⊤}
+use Rattle.client_core.specs.declared.client.Client.{Client}
+use Rattle.client_core.specs.declared.job.Job.{Job}
+use Rattle.client_core.specs.declared.job.Outcome.{Outcome}
+use Rattle.client_core.specs.declared.job.Outcome.TheVariants.{Unknown}
+use Rattle.client_core.specs.declared.job.Verb.{Verb}
+use Rattle.client_core.specs.declared.job.Verb.TheVariants.{Disconnect, Reconnect, ReadState}
+use Rattle.campaign_ledger.specs.declared.entry.Entry.{Entry}
+use Rattle.campaign_ledger.specs.declared.entry.Entry.TheVariants.{NotSent, MaybeSent}
+use Rattle.campaign_ledger.specs.declared.entry.Entry.TheVariants as entry
+use Rattle.head_end.specs.declared.row.Row.{Row}
+use Rattle.head_end.specs.declared.row.Row.TheVariants.{Came, Memory}
+use Rattle.head_end.specs.Attempts.{State, unused, refused, connected, closed, HasRow}
+use Rattle.head_end.specs.Connections.{Forecast}
+use Rattle.head_end.specs.Conversations.{Speaks, Converses}
+use Rattle.head_end.specs.Logs.{Happening, IsNewLog}
+use Rattle.head_end.specs.Rows.{IsRow}
+
+-- the verb operates the switch
+abbrev pub IsSwitching : Verb → Type 0
+IsSwitching Disconnect = ⊤
+IsSwitching Reconnect = ⊤
+IsSwitching ReadState = ⊥
+
+-- a switching command may be sent only if the permit was given; a question needs none
+abbrev pub MayAsk : Verb → Type 0 → Type 0
+MayAsk Disconnect given = given
+MayAsk Reconnect given = given
+MayAsk ReadState given = ⊤
+
+-- the connection was closed before anything was sent or received, or it was used for a conversation
+-- that needs a permit only for a switching command, whose outcome is the row
+abbrev pub IsClosedUse : Type 0 → Job → List ℕ → Row → Option (List Happening) → Type 0
+IsClosedUse given job password row log = (IsNewLog log × (row ≡ Came Unknown))
+    ⊎ (MayAsk job.verb given × HasRow job.verb password row log)
+
+-- The use of its attempt by a job whose command was not sent before: unused, if out of memory before
+-- the connect; a refused connect to the job's address; or one connection to this address.
+abbrev pub IsNewUse : Type 0 → Job → List ℕ → Row → State → Type 0
+IsNewUse given job password row unused = row ≡ Memory
+IsNewUse given job password row (refused address) = (address ≡ job.address) × (row ≡ Came Unknown)
+IsNewUse given job password row (connected address) = ⊥
+IsNewUse given job password row (closed address log) = (address ≡ job.address)
+    × IsClosedUse given job password row log
+
+-- The use of its attempt by a job: none, if its command may have been sent before.
+abbrev pub IsUse : Entry → Type 0 → Job → List ℕ → Row → State → Type 0
+IsUse NotSent given job password row stage = IsNewUse given job password row stage
+IsUse MaybeSent given job password row stage = stage ≡ unused
+IsUse (entry.Came outcome) given job password row stage = stage ≡ unused
+
+-- The row of a job: the outcome that was found; unknown, if its command may have been sent before or
+-- no permit was given; else that of its run.
+abbrev pub IsRowFor : (List ℕ → Option Forecast) → Job → Entry → Row → Type 0
+IsRowFor tells job NotSent row = IsRow tells job row ⊎ (row ≡ Came Unknown)
+IsRowFor tells job MaybeSent row = row ≡ Came Unknown
+IsRowFor tells job (entry.Came outcome) row = row ≡ Came outcome
+
+-- something was sent or received on the attempt's connection, by its log
+abbrev pub HasTalked : State → Type 0
+HasTalked unused = ⊥
+HasTalked (refused address) = ⊥
+HasTalked (connected address) = ⊥
+HasTalked (closed address None) = ⊥
+HasTalked (closed address (Some log)) = log ≢ []
+
+-- A switching command may have been sent: the log of the connection is not empty.
+abbrev pub HasSwitched : Verb → State → Type 0
+HasSwitched verb stage = IsSwitching verb × HasTalked stage
+
+-- ---- a conversation that needs a permit
+
+-- the outcome is that of a conversation, or unknown without one
+abbrev pub IsToldOutcome : Client → Option Forecast → Outcome → Type 0
+IsToldOutcome client before outcome = Converses client before outcome ⊎ (outcome ≡ Unknown)
+
+-- nothing was sent or received and the outcome is unknown, or a conversation took place that may
+abbrev pub SpeaksIfGiven : {E : Type 0} → Verb → Type 0 → Client → Option (List Happening)
+    → Result Outcome E → Option (List Happening) → Type 0
+SpeaksIfGiven verb given client before result after =
+    ((after ≡ before) × (result ≡ Ok Unknown))
+    ⊎ (MayAsk verb given × Speaks client before result after)
