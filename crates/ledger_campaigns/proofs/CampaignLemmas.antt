@@ -2,8 +2,11 @@
 -- whole.
 use Rattle.std.proofs.Common.{arith, ◌≡◌, ◌⊎◌, ◌+◌, ◌<◌, ℕ, List, length, slice_index_or, inl, inr}
 use Rattle.std.proofs.Math.Nat.{eq-or-lt_of_le}
+use Rattle.std.proofs.lemmas.List.{get_or_default}
 use Rattle.turn_lock.specs.declared.known.Known.{Known}
 use Rattle.turn_lock.specs.Calls.{Yields}
+use Rattle.turn_lock.specs.History.{StartsWith}
+use Rattle.turn_lock.proofs.Lists.{starts_trans}
 use Rattle.campaign_ledger.specs.Grants.{LedgerState}
 use Rattle.head_end.specs.declared.row.Row.{Row}
 use Rattle.head_end.specs.declared.row.ReportLine.{ReportLine}
@@ -33,6 +36,22 @@ below_more {X} P Q n xs kept all last k x below = of_case (eq-or-lt_of_le (omega
     of_case : (k ≡ n) ⊎ (k < n) → Q (slice_index_or xs k x)
     of_case (inl same) = rw same (last x)
     of_case (inr less) = kept _ (all k x less)
+
+-- the port of one place more has been met
+pub seen_more : {X E : Type 0} (xs : List X) (seen_of : X → List E) (before after : List E) (n : ℕ)
+    → StartsWith after before → AllBelow (λ x. StartsWith before (seen_of x)) n xs
+    → ((x : X) → StartsWith after (seen_of (slice_index_or xs n x)))
+    → AllBelow (λ x. StartsWith after (seen_of x)) (n + 1) xs
+seen_more {X} xs seen_of before after n starts all last =
+    below_more (λ (x : X). StartsWith before (seen_of x)) (λ (x : X). StartsWith after (seen_of x))
+    n xs (λ x seen. starts_trans after before (seen_of x) starts seen) all last
+
+-- the port of a place has been met
+pub seen_here : {X E : Type 0} (xs old : List X) (seen_of : X → List E) (note after : List E)
+    (n : ℕ) (d x : X) → xs ≡ old → n < length xs → note ≡ seen_of (slice_index_or xs n d)
+    → StartsWith after note → StartsWith after (seen_of (slice_index_or old n x))
+seen_here xs old seen_of note after n d x same below is starts =
+    rw (← same, get_or_default xs n x d below, ← is) starts
 
 -- a ledger that was shared
 pub closes : {B : Type 0} (is_honest : B → Type 0) (is_down : B → ℕ → Type 0)

@@ -1,4 +1,5 @@
 pub mod CampaignLemmas
 pub mod DeskLemmas
 pub mod PlaceLemmas
+pub mod RunLemmas
 pub mod RunningLemmas

@@ -1,5 +1,5 @@
 -- The lines of all jobs and the uses of their attempts, from the results of the places.
-use Rattle.std.proofs.Common.{arith, ◌≡◌, ◌<◌, ℕ, List, [], ◌∷◌, length, map, slice_index_or, Option, refl, sym, ap, subst, ◌∙◌, zero, suc, tt, inl, inr}
+use Rattle.std.proofs.Common.{arith, ◌≡◌, ◌<◌, ℕ, List, [], ◌∷◌, length, map, slice_index_or, Option, refl, sym, ap, subst, ◌∙◌, zero, suc, inl, inr}
 use Rattle.std.proofs.lemmas.List.{get_or-map, length-map}
 use Rattle.std.proofs.lemmas.List.Elements.{All-get_or}
 use Rattle.std.specs.List.{All}

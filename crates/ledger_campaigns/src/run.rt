@@ -107,7 +107,6 @@ fn run_places<R: Threads + Wait + Sync, C: Connector, B: Book + Send, W: Watcher
     ensures ports { EachChange (λ _ old new. IsSame old.port new.port) places.old places.new }
     ensures len { length lines.new ≡ length lines.old }
 {
-    let _few = plan.jobs.len();
     let course = Course {
         jobs: plan.jobs.as_slice(),
         found,
