@@ -13,10 +13,9 @@ use Rattle.client_core.specs.declared.job.Verb.{Verb}
 use Rattle.client_core.specs.declared.job.Verb.TheVariants.{Disconnect, Reconnect, ReadState}
 use Rattle.campaign_ledger.specs.declared.entry.Entry.{Entry as LedgerEntry}
 use Rattle.campaign_ledger.specs.declared.entry.Entry.TheVariants.{NotSent, MaybeSent, Came}
-use Rattle.campaign_ledger.specs.Entries.{HasGone, entry_at}
-use Rattle.campaign_ledger.specs.Grants.{LedgerState, MakesSafeRuns}
+use Rattle.campaign_ledger.specs.Entries.{entry_at}
+use Rattle.campaign_ledger.specs.Grants.{LedgerState, Grants, MakesSafeRuns}
 use Rattle.campaign_ledger.specs.Runs.{IsIn, AreApart}
-use Rattle.campaign_ledger.proofs.GrantLemmas.{safe_run}
 use Rattle.head_end.specs.declared.row.Row.{Row}
 use Rattle.head_end.specs.declared.row.ReportLine.{ReportLine}
 use Rattle.head_end.specs.Attempts.{State, unused, refused, connected, closed}
@@ -124,17 +123,19 @@ module _ {B : Type 0} (is_honest : B → Type 0) (is_down : B → ℕ → Type 0
 
   -- the commands of a run make it safe
   pub run_safe : (may_leave : B → (ℕ → LedgerEntry) → Type 0)
-      → ((book : B) (place : ℕ) (left : ℕ → LedgerEntry) → is_down book place
-      → may_leave book left → HasGone (left place))
+      → ((before after : LedgerState B) (permits sent : List ℕ)
+      → Grants is_honest is_down before after permits → AreApart sent
+      → ((place : ℕ) → IsIn place sent → IsIn place permits)
+      → MakesSafeRuns is_honest is_down may_leave before after sent)
       → (jobs : List Job) (password : List ℕ) (start : LedgerState B)
       (now : Option (LedgerState B)) (lines : List ReportLine) (stages : List State)
       → length lines ≡ length jobs
       → IsLedgeredRun is_honest is_down jobs password start now lines stages
       → IfSome now (λ ledger. (sent : List ℕ) → AreApart sent → AreSwitched jobs stages sent
       → MakesSafeRuns is_honest is_down may_leave start ledger sent)
-  run_safe may_leave stays jobs password start None lines stages long run = tt
-  run_safe may_leave stays jobs password start (Some ledger) lines stages long run =
-      λ sent apart switched. safe_run is_honest is_down may_leave stays start ledger run.given sent
+  run_safe may_leave law jobs password start None lines stages long run = tt
+  run_safe may_leave law jobs password start (Some ledger) lines stages long run =
+      λ sent apart switched. law start ledger run.given sent
       run.grants apart (λ place is. run.all_given place
       (let below = (switched place is).0 in
       let job = an_element jobs place below in
@@ -143,3 +144,13 @@ module _ {B : Type 0} (is_honest : B → Type 0) (is_down : B → ℕ → Type 0
       (slice_index_or jobs place job) password (slice_index_or lines place line).row
       (slice_index_or stages place unused) (run.uses place job line below)
       ((switched place is).1 job)))
+
+  -- a run whose places are the elements written to all indexes of a list
+  pub taken_run : {X : Type 0} (n : ℕ) (places rest : List X) (stage_of : X → State)
+      (jobs : List Job) (password : List ℕ) (start : LedgerState B)
+      (now : Option (LedgerState B)) (lines : List ReportLine) → n ≡ length places
+      → IsLedgeredRun is_honest is_down jobs password start now lines (map stage_of places)
+      → IsLedgeredRun is_honest is_down jobs password start now lines
+      (map stage_of (take n (places ++ rest)))
+  taken_run n places rest stage_of jobs password start now lines long run =
+      rw (written n places rest long) run

@@ -14,7 +14,7 @@ use crate::campaign::{Course, gather};
 use crate::place::{LedgeredPlace, ledgered_places_for};
 use crate::plan::CampaignPlan;
 use crate::sharing::{close, meet_all, share};
-use campaign_ledger::{Book, Entry, Ledger};
+use campaign_ledger::{Book, Entry, Ledger, grants_add_up};
 use head_end::{Connector, Report, ReportLine, Watcher, blank_lines};
 use std::alloc::{AllocError, Global};
 use std::sync::Wait;
@@ -78,6 +78,7 @@ pub fn run_ledgered_campaign<
     );
     meet_all(&mut port, places.as_mut_slice());
     port.has_a_legal_history();
+    grants_add_up::<B>();
     let ledger = close(shared, port);
     Ok(LedgeredRun {
         report: Report::from_vec(lines),
