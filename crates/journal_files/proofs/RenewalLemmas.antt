@@ -1,4 +1,4 @@
--- A trace that begins later in the same run tells the same meter.
+-- A trace that begins later in the same run ends in the same meter.
 use Rattle.std.proofs.Common.{◌≡◌, ℕ, ◌-◌, List, [], ◌∷◌, Result, Ok, length, refl, ap, sym}
 use Rattle.std.proofs.Common.{◌∙◌, subst}
 use Rattle.std.proofs.lemmas.List.{take-append-drop}

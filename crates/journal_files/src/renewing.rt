@@ -184,9 +184,9 @@ fn renewed_text_of<F: DurableFile>(
 ///
 /// After `Ok` every crash leaves the new journal under the name; a crash during the call leaves it,
 /// or what could be left before. Errors: `File` if a call on the file, the place or the new file
-/// failed; `TooLong` or `Line` if the old text is not read as a journal, or the new one would not be;
-/// `OtherMeter` if the new one had another device name, which no contract excludes; `Memory`. After
-/// an error the name has the old file or the new one.
+/// failed; `TooLong` or `Line` if the old text is not read as a journal, or the new one would not
+/// be; `OtherMeter` if the new one had another device name, which no contract excludes; `Memory`.
+/// After an error the name has the old file or the new one.
 pub fn renew_journal<P: Place, F: DurableFile>(
     alloc: Global,
     place: &mut P,

@@ -2,7 +2,7 @@
 use std::alloc::{AllocError, Global};
 
 /// The journal of a new meter with the name METER7.
-pub(crate) const BEGUN: &[u8] =
+pub(crate) static BEGUN: &[u8] =
     b"RELAYTRACE 2\ndevice 4D4554455237\nstate 1\nmode 0\nvalue 0\nnow -\n\
 normal 4294967295\nemergency 4294967295\nminover 0\nminunder 0\n\
 profile 0 FFFFFFFFFFFFFFFFFF8000FF 0\ngroups\nactions 0 0\nover 0 0\nunder 0 0\nxvalue 0\n\
@@ -12,7 +12,7 @@ scripts 0100\nschedule 0 0 5 0100\nschedule 1 0 5 0100\nschedule 2 0 5 0100\n\
 schedule 3 0 5 0100\nevents -\n";
 
 /// The journal that begins when this meter is in mode 1 and disconnected.
-pub(crate) const DISCONNECTED: &[u8] =
+pub(crate) static DISCONNECTED: &[u8] =
     b"RELAYTRACE 2\ndevice 4D4554455237\nstate 0\nmode 1\nvalue 0\nnow -\n\
 normal 4294967295\nemergency 4294967295\nminover 0\nminunder 0\n\
 profile 0 FFFFFFFFFFFFFFFFFF8000FF 0\ngroups\nactions 0 0\nover 0 0\nunder 0 0\nxvalue 0\n\
@@ -22,7 +22,7 @@ scripts 0100\nschedule 0 0 5 0100\nschedule 1 0 5 0100\nschedule 2 0 5 0100\n\
 schedule 3 0 5 0100\nevents -\n";
 
 /// A write of mode 1, and a remote disconnection.
-pub(crate) const EVENTS: &[u8] =
+pub(crate) static EVENTS: &[u8] =
     b"set 1 70 000060030AFF 4 0 1601\nexecute 1 70 000060030AFF 1 0F00\n";
 
 /// Returns the texts, one after the other.

@@ -3,10 +3,10 @@ use durable_lines::{ByteFate, FileFault, MemoryFile, recover};
 use std::alloc::{AllocError, Global};
 
 /// What a file has before the lines of the first save.
-pub(crate) const FIRST: &[u8] = b"first\n";
+pub(crate) static FIRST: &[u8] = b"first\n";
 
 /// The line of `FIRST`, followed by those of a write of mode 1, a press and a moment.
-pub(crate) const ALL: &[u8] = b"first\nset 1 70 000060030AFF 4 0 1601\nbutton\nmoment 5\n";
+pub(crate) static ALL: &[u8] = b"first\nset 1 70 000060030AFF 4 0 1601\nbutton\nmoment 5\n";
 
 /// Returns a file with the line of `FIRST`.
 pub(crate) fn first_file(alloc: Global) -> Result<MemoryFile, FileFault> {
