@@ -89,6 +89,35 @@ WITH_EVENTS = [
     b"8: ran 0; state 1; supply on; event moment 5\n",
     b"9: stale 5; state 1; supply on; event moment 4\n",
 ]
+# Its events as comma-separated values: each line of docs/TRACE.md taken apart, with the clock, whose
+# first moment is that of event 8.
+CSV_HEAD = b"number,reply,state,supply,moment,time\n"
+CSV = [
+    b"1,code 0,1,on,,\n",
+    b"2,code 0,0,off,,\n",
+    b"3,code 2,0,off,,\n",
+    b"4,code 0,2,off,,\n",
+    b"5,code 0,1,on,,\n",
+    b"6,value 0301,1,on,,\n",
+    b"7,sampled 0 1,1,on,,\n",
+    b"8,ran 0,1,on,5,2000-01-01T00:00:05\n",
+    b"9,stale 5,1,on,5,2000-01-01T00:00:05\n",
+]
+# Its events as JSON.
+NO_MOMENT = b'{"moment":null,"number":%d,"reply":"%s","state":%d,"supply":"%s","time":null}\n'
+AT_MOMENT = b'{"moment":%d,"number":%d,"reply":"%s","state":1,"supply":"on","time":"%s"}\n'
+JSON = [
+    NO_MOMENT % (1, b"code 0", 1, b"on"), NO_MOMENT % (2, b"code 0", 0, b"off"), NO_MOMENT % (3, b"code 2", 0, b"off"),
+    NO_MOMENT % (4, b"code 0", 2, b"off"), NO_MOMENT % (5, b"code 0", 1, b"on"), NO_MOMENT % (6, b"value 0301", 1, b"on"),
+    NO_MOMENT % (7, b"sampled 0 1", 1, b"on"),
+    AT_MOMENT % (5, 8, b"ran 0", b"2000-01-01T00:00:05"), AT_MOMENT % (5, 9, b"stale 5", b"2000-01-01T00:00:05"),
+]
+# Moments of the clock and their civil dates and times.
+MOMENTS = [
+    (0, b"2000-01-01T00:00:00"), (5183999, b"2000-02-29T23:59:59"), (31622399, b"2000-12-31T23:59:59"),
+    (830961000, b"2026-05-01T14:30:00"), (3160857599, b"2100-02-28T23:59:59"), (3160857600, b"2100-03-01T00:00:00"),
+    (4294967295, b"2136-02-07T06:28:15"),
+]
 OPENING = TRACE.split(b"events ")[0]
 LIMITER = (b"normal 4294967295\nemergency 4294967295\nminover 0\nminunder 0\nprofile 0 FFFFFFFFFFFFFFFFFF8000FF 0\n"
            b"groups\nactions 0 0\nover 0 0\nunder 0 0\n")
@@ -400,6 +429,40 @@ CASES = [
     ("events of no trace", "trace_player_cli", ["--events", "--verbose"], TRACE[:-1], b"",
      b"line 30: expected a whole line, found the end of the trace\n" + FAULT_INPUT, 2),
     ("events of no trace, without messages", "trace_player_cli", ["--events"], TRACE + b"button\n", b"", FAULT_INPUT, 2),
+    ("comma-separated values", "trace_player_cli", ["--format", "csv"], TRACE, CSV_HEAD + b"".join(CSV), b"", 0),
+    ("comma-separated values of a file", "trace_player_cli", ["--format=csv", TRACE_FILE], b"", CSV_HEAD + b"".join(CSV), b"", 0),
+    ("comma-separated values with events", "trace_player_cli", ["--format", "csv", "--events", "--from", "4", "--to", "5"], TRACE,
+     b"number,reply,state,supply,moment,time,event\n4,code 0,2,off,,,execute 1 70 000060030AFF 2 -\n5,code 0,1,on,,,button\n", b"", 0),
+    ("the changes as comma-separated values", "trace_player_cli", ["--format", "csv", "--changes"], TRACE,
+     CSV_HEAD + CSV[1] + CSV[3] + CSV[4], b"", 0),
+    ("no change as comma-separated values", "trace_player_cli", ["--format", "csv", "--changes", "--from", "6"], TRACE, CSV_HEAD, b"", 0),
+    ("comma-separated values of no event", "trace_player_cli", ["--format", "csv"], with_events(OPENING), CSV_HEAD, b"", 0),
+    ("comma-separated values of a damaged trace", "trace_player_cli", ["--format", "csv", "--partial", "--from", "7"], TRACE[:-1],
+     CSV_HEAD + CSV[6] + CSV[7], b"line 30: expected a whole line, found the end of the trace\n" + FAULT_INPUT, 2),
+    ("comma-separated values of a damaged opening", "trace_player_cli", ["--format", "csv", "--partial"], TRACE.replace(b"mode 0", b"mode 7"), b"",
+     b"line 4: expected `mode MODE`: a value is not valid here\n" + FAULT_INPUT, 2),
+    ("comma-separated values of no trace", "trace_player_cli", ["--format", "csv"], TRACE[:-1], b"", FAULT_INPUT, 2),
+    ("comma-separated values of a list", "trace_player_cli", ["--format", "csv", "--events"],
+     with_events(OPENING, b"getlist 1 2 70 000060030AFF 3 0 70 000060030BFF 3 0"),
+     b"number,reply,state,supply,moment,time,event\n"
+     b"1,values 2 value 1601 code 4,1,on,,,getlist 1 2 70 000060030AFF 3 0 70 000060030BFF 3 0\n", b"", 0),
+    ("JSON", "trace_player_cli", ["--format", "json"], TRACE, b"".join(JSON), b"", 0),
+    ("JSON with events", "trace_player_cli", ["--format", "json", "--events", "--from", "8", "--to", "8"], TRACE,
+     b'{"event":"moment 5","moment":5,"number":8,"reply":"ran 0","state":1,"supply":"on","time":"2000-01-01T00:00:05"}\n', b"", 0),
+    ("the changes as JSON", "trace_player_cli", ["--changes", "--format", "json"], TRACE, JSON[1] + JSON[3] + JSON[4], b"", 0),
+    ("JSON of a damaged trace", "trace_player_cli", ["--partial", "--format", "json", "--to", "2"], TRACE[:-1], JSON[0] + JSON[1],
+     b"line 30: expected a whole line, found the end of the trace\n" + FAULT_INPUT, 2),
+    ("JSON of no event", "trace_player_cli", ["--format", "json"], with_events(OPENING), b"", b"", 0),
+    ("JSON of a journal", "trace_player_cli", ["--format", "json", "--verbose"], JOURNAL + b"moment 9", b"".join(JSON), LEFT_OUT % 8, 0),
+    ("moments as civil dates", "trace_player_cli", ["--format", "csv"], with_events(OPENING, *[b"moment %d" % at for at, _ in MOMENTS]),
+     CSV_HEAD + b"".join(b"%d,ran 0,1,on,%d,%s\n" % (number, at, civil) for number, (at, civil) in enumerate(MOMENTS, 1)), b"", 0),
+    ("moments as civil dates in JSON", "trace_player_cli", ["--format", "json"], with_events(OPENING, *[b"moment %d" % at for at, _ in MOMENTS]),
+     b"".join(AT_MOMENT % (at, number, b"ran 0", civil) for number, (at, civil) in enumerate(MOMENTS, 1)), b"", 0),
+    ("the moment of the opening", "trace_player_cli", ["--format", "csv"], with_events(OPENING.replace(b"now -", b"now 830961000"), b"button"),
+     CSV_HEAD + b"1,code 2,1,on,830961000,2026-05-01T14:30:00\n", b"", 0),
+    ("another format", "trace_player_cli", ["--format", "xml"], TRACE, b"", None, 2),
+    ("a format without its name", "trace_player_cli", ["--format"], TRACE, b"", None, 2),
+    ("two formats", "trace_player_cli", ["--format", "csv", "--format", "json"], TRACE, b"", None, 2),
     ("help of the player", "trace_player_cli", ["--help"], b"", None, b"", 0),
     ("jobs are counted", "head_end_cli", ["check"], b"m1 127.0.0.1:4059 disconnect\nm2 127.0.0.1:4060 state\n", b"jobs 2\n", b"", 0),
     ("no jobs", "head_end_cli", ["check"], b"", b"jobs 0\n", b"", 0),

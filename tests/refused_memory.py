@@ -85,6 +85,8 @@ PROGRAMS = [
     ("meter_server apdu", SERVER, ["apdu"], b"C001C10046000060030AFF0300\nC101C10046000060030AFF04001602\nC001C1000F0000280000FF0200\n", False),
     ("meter_server hex", SERVER, ["hex", "--password", PASSWORD], AARQ + GET_STATE + GET_OBJECTS, True),
     ("trace_player", PLAYER, [], TRACE, False),
+    ("trace_player --format csv", PLAYER, ["--format", "csv", "--events"], TRACE, False),
+    ("trace_player --format json", PLAYER, ["--format", "json", "--events"], TRACE, False),
     ("head_end check", HEAD_END, ["check"], b"m1 127.0.0.1:4059 disconnect\nm2 127.0.0.1:4060 state\n", False),
 ]
 

@@ -8,7 +8,7 @@
 use Rattle.std.specs.Prelude.{◌≡◌, ◌<◌, ◌≤◌, ◌^◌, ◌⊎◌, Bool, true, false}
 use Rattle.std.specs.Prelude.{codes, List, ℕ, Option, Some, None}
 use Rattle.std.specs.Str.Parse.{IsNumeral, digits_value, without_leading_plus}
-use Rattle.clap.specs.Matches.{one_text}
+use Rattle.clap.specs.Matches.{first_value, one_text}
 use Rattle.clap.specs.declared.parser.matches.Found.{Found}
 use Rattle.trace_views.specs.declared.format.TraceFormat.{TraceFormat}
 use Rattle.trace_views.specs.declared.format.TraceFormat.TheVariants.{Lines, Csv, Json}
@@ -31,9 +31,9 @@ pub record IsBound (found : Found) (name : List ℕ) (bound : Option ℕ) : Type
 -- the format that the option `--format` names: comma-separated values or JSON; without the option
 -- the lines that the player prints
 pub record IsFormat (found : Found) (format : TraceFormat) : Type 0 where
-  pub csv : one_text found (codes "format") ≡ Some (codes "csv") → format ≡ Csv
-  pub json : one_text found (codes "format") ≡ Some (codes "json") → format ≡ Json
-  pub absent : one_text found (codes "format") ≡ None → format ≡ Lines
+  pub csv : first_value found (codes "format") ≡ Some (codes "csv") → format ≡ Csv
+  pub json : first_value found (codes "format") ≡ Some (codes "json") → format ≡ Json
+  pub absent : first_value found (codes "format") ≡ None → format ≡ Lines
 
 -- the view that the options describe
 pub record IsView (found : Found) (view : TraceView) : Type 0 where

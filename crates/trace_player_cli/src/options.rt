@@ -4,6 +4,7 @@ ghost use Rattle.clap.specs.Matches.{found_of};
 ghost use Rattle.trace_player_cli.specs.Options.{AreInOrder, IsBound, IsDescribed, IsFormat, IsSet};
 ghost use Rattle.trace_player_cli.specs.Options.{IsView};
 ghost use Rattle.trace_views.specs.Views.{whole_view};
+ghost use Rattle.trace_views.specs.declared.format.TraceFormat.TheVariants.{Csv, Json};
 
 use clap::ArgMatches;
 use trace_views::{TraceFormat, TraceView};
@@ -51,14 +52,27 @@ fn number_of(matches: &ArgMatches<'_>, name: &str) -> Option<u32>
     matches.get_one::<u32>(name)
 }
 
+// Returns the format of this name. The command line has no other names.
+fn format_named(name: &str) -> TraceFormat
+    ensures csv { name.now ≡ codes "csv" → result ≡ Csv }
+    ensures json { name.now ≡ codes "json" → result ≡ Json }
+{
+    if name == "csv" {
+        TraceFormat::Csv
+    } else if name == "json" {
+        TraceFormat::Json
+    } else {
+        TraceFormat::Lines
+    }
+}
+
 // Returns the format that the option `--format` names.
 fn format_of(matches: &ArgMatches<'_>) -> TraceFormat
     ensures { IsFormat (found_of matches.now) result }
 {
     match matches.get_str("format") {
-        Some("csv") => TraceFormat::Csv,
-        Some("json") => TraceFormat::Json,
-        _ => TraceFormat::Lines,
+        Some(name) => format_named(name),
+        None => TraceFormat::Lines,
     }
 }
 
