@@ -1,19 +1,20 @@
 -- A ledger after one more call.
 use Rattle.std.proofs.Common.{rules, ◌≡◌, ℕ, List, [], ◌∷◌, ◌++◌, refl, ap, sym, ◌∙◌, inl, inr, Some, Ok}
-use Rattle.std.specs.Prelude.{Option, Result, IfOk, IfSome, OnSome}
+use Rattle.std.specs.Prelude.{Option, Result, IfOk, IfSome, OnOk, OnSome}
 use Rattle.turn_lock.specs.declared.turned.Entry.{Entry}
 use Rattle.turn_lock.specs.declared.known.Known.{Known}
 use Rattle.turn_lock.specs.History.{entry}
 use Rattle.turn_lock.specs.Calls.{Called}
+use Rattle.client_core.specs.declared.job.Outcome.{Outcome}
 use Rattle.campaign_ledger.specs.declared.fault.LedgerFault.{LedgerFault}
 use Rattle.campaign_ledger.specs.Grants.{LedgerState, Grants}
 use Rattle.campaign_ledger.specs.Runs.{IsIn}
 use Rattle.campaign_ledger.proofs.GrantLemmas.{both}
 use Rattle.ledger_campaigns.specs.declared.request.Request.{Request}
-use Rattle.ledger_campaigns.specs.declared.request.Request.TheVariants.{Begin}
+use Rattle.ledger_campaigns.specs.declared.request.Request.TheVariants.{Begin, Record}
 use Rattle.ledger_campaigns.specs.declared.request.Answer.{Answer}
 use Rattle.ledger_campaigns.specs.declared.request.Answer.TheVariants.{Given, Refused, Recorded, Failed}
-use Rattle.ledger_campaigns.specs.Desks.{DeskState, IsAnswer, AreAnswered, permit_result, permits_of, permits_given, IsLegalHistory, Stands}
+use Rattle.ledger_campaigns.specs.Desks.{DeskState, IsAnswer, AreAnswered, permit_result, stored_result, EndsStored, permits_of, permits_given, IsLegalHistory, Stands}
 
 -- a place of the second of two lists
 pub in_second : (place : ℕ) (xs ys : List ℕ) → IsIn place ys → IsIn place (xs ++ ys)
@@ -96,3 +97,22 @@ module _ {B : Type 0} (is_honest : B → Type 0) (is_down : B → ℕ → Type 0
       rw (is, seen) (place_given before.number (before.seen ++ called.seen.0) place answer
       (answered_last (before.seen ++ called.seen.0) (entry before.number (Begin place) answer)
       answers))
+
+  stored_by : (before : List (Entry Request (Answer B))) (by : List ℕ) (place : ℕ)
+      (outcome : Outcome) (answer : Answer B)
+      → OnOk (stored_result answer) (EndsStored place outcome (before
+      ++ entry by (Record place outcome) answer ∷ []))
+  stored_by before by place outcome (Given permit book) = tt
+  stored_by before by place outcome Refused = tt
+  stored_by before by place outcome Recorded = (before, by, refl)
+  stored_by before by place outcome (Failed fault) = tt
+
+  -- an outcome that was stored
+  pub reported : (before after : Known Request (Answer B) (LedgerState B)) (place : ℕ)
+      (outcome : Outcome) (answer : Answer B) (result : Result (Unit {0}) LedgerFault)
+      → result ≡ stored_result answer
+      → Called (IsLegalHistory is_honest is_down) before (Record place outcome) answer after
+      → OnOk result (EndsStored place outcome after.seen)
+  reported before after place outcome answer result is called =
+      rw (is, called.seen.1) (stored_by (before.seen ++ called.seen.0) before.number place outcome
+      answer)

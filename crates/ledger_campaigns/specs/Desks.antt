@@ -2,6 +2,8 @@
 --     DeskState         the view that contracts have of a shared ledger
 --     IsAnswer          an answer that a request may have
 --     permit_result     the answer to the question for a permit
+--     stored_result     the answer to a request to store an outcome
+--     EndsStored        the last of the calls stored an outcome
 --     permits_of        the places of the permits that an answer gives, and permits_given of all
 --                       calls
 --     IsLegalHistory    the calls of a ledger that had this state at the start
@@ -10,7 +12,10 @@ use Rattle.std.specs.Prelude.{◌≡◌, ℕ, List, [], ◌∷◌, ◌++◌, Opt
 use Rattle.std.specs.List.{AllByRecursion}
 use Rattle.turn_lock.specs.declared.turned.Entry.{Entry}
 use Rattle.campaign_ledger.specs.declared.entry.Entry.TheVariants.{NotSent}
+use Rattle.turn_lock.specs.History.{entry}
+use Rattle.client_core.specs.declared.job.Outcome.{Outcome}
 use Rattle.campaign_ledger.specs.declared.fault.LedgerFault.{LedgerFault}
+use Rattle.campaign_ledger.specs.declared.fault.LedgerFault.TheVariants as fault
 use Rattle.campaign_ledger.specs.Entries.{entry_at}
 use Rattle.campaign_ledger.specs.Grants.{LedgerState, Grants}
 use Rattle.campaign_ledger.specs.Runs.{IsIn, AreApart}
@@ -38,6 +43,18 @@ module _ {B : Type 0} where
   permit_result Refused = Ok None
   permit_result Recorded = Ok None
   permit_result (Failed fault) = Err fault
+
+  -- the answer to a request to store an outcome
+  abbrev pub stored_result : Answer B → Result (Unit {0}) LedgerFault
+  stored_result (Given permit book) = Err fault.Failed
+  stored_result Refused = Err fault.Failed
+  stored_result Recorded = Ok tt
+  stored_result (Failed fault) = Err fault
+
+  -- the last of the calls stored this outcome of a place
+  abbrev pub EndsStored : ℕ → Outcome → List (Entry Request (Answer B)) → Type 0
+  EndsStored place outcome calls = (before : List (Entry Request (Answer B))) × (by : List ℕ)
+      × (calls ≡ before ++ entry by (Record place outcome) Recorded ∷ [])
 
   -- the places of the permits that calls gave, in order
   abbrev pub permits_given : List (Entry Request (Answer B)) → List ℕ

@@ -1,9 +1,9 @@
 //! Requests to a shared ledger through a port.
-ghost use Rattle.std.specs.Prelude.{◌≡◌, IfOk, IfSome, OnSome};
+ghost use Rattle.std.specs.Prelude.{◌≡◌, IfOk, IfSome, OnOk, OnSome};
 ghost use Rattle.turn_lock.specs.History.{StartsWith};
 ghost use Rattle.turn_lock.specs.Shown.{IsSame};
 ghost use Rattle.campaign_ledger.specs.Runs.{IsIn};
-ghost use Rattle.ledger_campaigns.specs.Desks.{permit_result, permits_given};
+ghost use Rattle.ledger_campaigns.specs.Desks.{permit_result, permits_given, stored_result, EndsStored};
 
 use crate::desk::Desk;
 use crate::request::{Answer, Request};
@@ -37,7 +37,7 @@ pub fn ask_to_send<B: Book, W: Wait>(
 }
 
 /// Waits for a turn and stores the outcome of a place. Returns `Failed` if the ledger has failed,
-/// or if all turns of the lock were drawn.
+/// if the campaign has no such place, or if all turns of the lock were drawn.
 pub fn report_outcome<B: Book, W: Wait>(
     rt: &W,
     alloc: Global,
@@ -47,11 +47,23 @@ pub fn report_outcome<B: Book, W: Wait>(
 ) -> Result<(), LedgerFault>
     ensures same { IsSame port.old port.new }
     ensures seen { StartsWith port.new.known.seen port.old.known.seen }
+    ensures stored { OnOk result (EndsStored place outcome port.new.known.seen) }
 {
     match port.call(rt, alloc, Request::Record(place, outcome)) {
-        Ok(Answer::Failed(fault)) => Err(fault),
-        Ok(_) => Ok(()),
+        Ok(answer) => stored_in(answer),
         Err(_) => Err(LedgerFault::Failed),
+    }
+}
+
+// Returns whether an answer says that the outcome is stored.
+fn stored_in<B: Book>(answer: Answer<B>) -> Result<(), LedgerFault>
+    ensures { result ≡ stored_result answer }
+{
+    match answer {
+        Answer::Given(_permit, _book) => Err(LedgerFault::Failed),
+        Answer::Refused => Err(LedgerFault::Failed),
+        Answer::Recorded => Ok(()),
+        Answer::Failed(fault) => Err(fault),
     }
 }
 
