@@ -4,17 +4,19 @@ use Rattle.std.proofs.lemmas.List.{get_or-map, length-map}
 use Rattle.std.proofs.lemmas.List.Elements.{All-get_or}
 use Rattle.std.specs.List.{All}
 use Rattle.client_core.specs.declared.job.Job.{Job}
+use Rattle.client_core.specs.declared.job.Outcome.{Outcome}
 use Rattle.campaign_ledger.specs.declared.entry.Entry.{Entry as LedgerEntry}
 use Rattle.campaign_ledger.specs.declared.entry.Entry.TheVariants.{NotSent, MaybeSent, Came}
 use Rattle.campaign_ledger.specs.Entries.{entry_at}
 use Rattle.campaign_ledger.specs.Runs.{IsIn}
 use Rattle.head_end.specs.declared.row.Row.{Row}
+use Rattle.head_end.specs.declared.row.Row.TheVariants as row
 use Rattle.head_end.specs.declared.row.ReportLine.{ReportLine}
 use Rattle.head_end.specs.Attempts.{State, unused, refused, connected, closed}
 use Rattle.head_end.specs.Campaigns.{EachChange}
 use Rattle.head_end.specs.Connections.{Forecast}
 use Rattle.ledger_campaigns.specs.Campaigns.{IsPlaceRun, AreLinesFor, AreUses, AreUsesBy}
-use Rattle.ledger_campaigns.specs.Uses.{IsUse, IsRowFor, MayAsk}
+use Rattle.ledger_campaigns.specs.Uses.{Asked, IfCame, IsUse, IsRowFor, permit_in}
 use Rattle.ledger_campaigns.proofs.CampaignLemmas.{Gathers}
 use Rattle.ledger_campaigns.proofs.RunningLemmas.{may_still}
 
@@ -74,7 +76,7 @@ use_at : {X : Type 0} (old new : List X) (tells_of : X → List ℕ → Option F
     → EachChange (λ i o n. IsPlaceRun jobs found password i (tells_of o) (permits_of n) (row_of n)
     (stage_of n)) old new
     → (i : ℕ) (job : Job) (row : Row) → i < length jobs
-    → IsUse (entry_at found i) (IsIn i (slice_index_or (map permits_of new) i []))
+    → IsUse (entry_at found i) (permit_in i (slice_index_or (map permits_of new) i []))
     (slice_index_or jobs i job) password (slice_index_or (map row_of new) i row)
     (slice_index_or (map stage_of new) i unused)
 use_at old new tells_of permits_of row_of stage_of jobs found password count same each i job row
@@ -126,19 +128,27 @@ uses_by old new tells_of permits_of row_of stage_of jobs found password count sa
     (use_at old new tells_of permits_of row_of stage_of jobs found password count same each i job
     (slice_index_or lines i line).row below)
 
--- a use with fewer permits
-use_still : (entry : LedgerEntry) (given more : Type 0) (job : Job) (password : List ℕ) (row : Row)
-    (stage : State) → (given → more) → IsUse entry given job password row stage
-    → IsUse entry more job password row stage
-use_still NotSent given more job password row unused still use_is = use_is
-use_still NotSent given more job password row (refused address) still use_is = use_is
-use_still NotSent given more job password row (connected address) still use_is = use_is
-use_still NotSent given more job password row (closed address log) still (same, inl new) =
+-- a row whose outcome is stored
+came_still : (row : Row) (stored more : Outcome → Type 0)
+    → ((outcome : Outcome) → stored outcome → more outcome) → IfCame row stored → IfCame row more
+came_still (row.Came outcome) stored more still is = still outcome is
+came_still row.Memory stored more still is = tt
+
+-- a use for which less was asked
+pub use_still : (entry : LedgerEntry) (asked more : Asked) (job : Job) (password : List ℕ)
+    (row : Row) (stage : State) → (asked.given → more.given)
+    → ((outcome : Outcome) → asked.stored outcome → more.stored outcome)
+    → IsUse entry asked job password row stage → IsUse entry more job password row stage
+use_still NotSent asked more job password row unused still also use_is = use_is
+use_still NotSent asked more job password row (refused address) still also use_is = use_is
+use_still NotSent asked more job password row (connected address) still also use_is = use_is
+use_still NotSent asked more job password row (closed address log) still also (same, inl new) =
     (same, inl new)
-use_still NotSent given more job password row (closed address log) still (same, inr (may, row_is)) =
-    (same, inr (may_still job.verb given more still may, row_is))
-use_still MaybeSent given more job password row stage still use_is = use_is
-use_still (Came outcome) given more job password row stage still use_is = use_is
+use_still NotSent asked more job password row (closed address log) still also
+    (same, inr (may, stored, row_is)) = (same, inr (may_still job.verb asked.given more.given still
+    may, came_still row asked.stored more.stored also stored, row_is))
+use_still MaybeSent asked more job password row stage still also use_is = use_is
+use_still (Came outcome) asked more job password row stage still also use_is = use_is
 
 -- the uses of their attempts by all jobs, by the permits of all ports
 pub uses_all : (jobs : List Job) (found : List LedgerEntry) (password : List ℕ)
@@ -147,5 +157,5 @@ pub uses_all : (jobs : List Job) (found : List LedgerEntry) (password : List ℕ
     → ((i : ℕ) → i < length jobs → IsIn i (slice_index_or seen i []) → IsIn i permits)
     → AreUses jobs found password permits lines stages
 uses_all jobs found password seen permits lines stages uses kept i job line below =
-    use_still (entry_at found i) (IsIn i (slice_index_or seen i [])) (IsIn i permits) _ password _
-    _ (kept i below) (uses i job line below)
+    use_still (entry_at found i) (permit_in i (slice_index_or seen i [])) (permit_in i permits) _
+    password _ _ (kept i below) (λ outcome stored. tt) (uses i job line below)

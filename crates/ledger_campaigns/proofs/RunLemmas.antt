@@ -24,7 +24,7 @@ use Rattle.ledger_campaigns.specs.declared.request.Request.{Request}
 use Rattle.ledger_campaigns.specs.declared.request.Answer.{Answer}
 use Rattle.ledger_campaigns.specs.Campaigns.{AreUses, AreUsesBy, AreSwitched, Closes, IsLedgeredRun}
 use Rattle.ledger_campaigns.specs.Desks.{IsLegalHistory, permits_given}
-use Rattle.ledger_campaigns.specs.Uses.{IsUse, MayAsk, IsSwitching, HasSwitched}
+use Rattle.ledger_campaigns.specs.Uses.{Asked, IsUse, MayAsk, IsSwitching, HasSwitched, permit_in}
 use Rattle.ledger_campaigns.proofs.PlaceLemmas.{an_element, uses_all}
 use Rattle.ledger_campaigns.proofs.RunningLemmas.{given_kept}
 
@@ -60,27 +60,28 @@ permits_kept {X} places seen_of seen all i below is =
     given_kept i seen (seen_of (slice_index_or places i x)) (all i x below) (rw here at is)
 
 -- a switching command is sent with a permit
-switched_given : (entry : LedgerEntry) (given : Type 0) (job : Job) (password : List ℕ) (row : Row)
-    (stage : State) → IsUse entry given job password row stage → HasSwitched job.verb stage → given
-switched_given NotSent given job password row unused is (switching, talked) = absurd talked
-switched_given NotSent given job password row (refused address) is (switching, talked) =
+switched_given : (entry : LedgerEntry) (asked : Asked) (job : Job) (password : List ℕ) (row : Row)
+    (stage : State) → IsUse entry asked job password row stage → HasSwitched job.verb stage
+    → asked.given
+switched_given NotSent asked job password row unused is (switching, talked) = absurd talked
+switched_given NotSent asked job password row (refused address) is (switching, talked) =
     absurd talked
-switched_given NotSent given job password row (connected address) is (switching, talked) =
+switched_given NotSent asked job password row (connected address) is (switching, talked) =
     absurd talked
-switched_given NotSent given job password row (closed address None) is (switching, talked) =
+switched_given NotSent asked job password row (closed address None) is (switching, talked) =
     absurd talked
-switched_given NotSent given job password row (closed address (Some log)) (same, inl (new, unknown))
+switched_given NotSent asked job password row (closed address (Some log)) (same, inl (new, unknown))
     (switching, talked) = absurd (talked new)
-switched_given NotSent given job password row (closed address (Some log)) (same, inr (may, row_is))
+switched_given NotSent asked job password row (closed address (Some log)) (same, inr (may, stored, row_is))
     (switching, talked) = with_permit job.verb switching may
   where
-    with_permit : (verb : Verb) → IsSwitching verb → MayAsk verb given → given
+    with_permit : (verb : Verb) → IsSwitching verb → MayAsk verb asked.given → asked.given
     with_permit Disconnect switching may = may
     with_permit Reconnect switching may = may
     with_permit ReadState switching may = absurd switching
-switched_given MaybeSent given job password row stage is (switching, talked) =
+switched_given MaybeSent asked job password row stage is (switching, talked) =
     absurd (rw is at talked)
-switched_given (Came outcome) given job password row stage is (switching, talked) =
+switched_given (Came outcome) asked job password row stage is (switching, talked) =
     absurd (rw is at talked)
 
 module _ {B : Type 0} (is_honest : B → Type 0) (is_down : B → ℕ → Type 0) where
@@ -140,7 +141,7 @@ module _ {B : Type 0} (is_honest : B → Type 0) (is_down : B → ℕ → Type 0
       (let below = (switched place is).0 in
       let job = an_element jobs place below in
       let line = an_element lines place (omega (arith, long, below)) in
-      switched_given (entry_at start.entries place) (IsIn place run.permits)
+      switched_given (entry_at start.entries place) (permit_in place run.permits)
       (slice_index_or jobs place job) password (slice_index_or lines place line).row
       (slice_index_or stages place unused) (run.uses place job line below)
       ((switched place is).1 job)))

@@ -22,7 +22,7 @@ use Rattle.head_end.proofs.JobOutcomes.{connected, tried_closed}
 use Rattle.ledger_campaigns.specs.declared.request.Request.{Request}
 use Rattle.ledger_campaigns.specs.declared.request.Answer.{Answer}
 use Rattle.ledger_campaigns.specs.Desks.{permits_given}
-use Rattle.ledger_campaigns.specs.Uses.{MayAsk, IsNewUse, IsToldOutcome, SpeaksIfGiven}
+use Rattle.ledger_campaigns.specs.Uses.{Asked, MayAsk, IsNewUse, IsToldOutcome, SpeaksIfGiven}
 use Rattle.ledger_campaigns.proofs.DeskLemmas.{given_both, in_first}
 
 -- a permit that was given remains given
@@ -53,15 +53,19 @@ told_outcome told told_of connection verb password client (Ok outcome) tells sta
     (inr unknown) = inr unknown
 
 -- the connection was closed
-pub closed_use : {E : Type 0} (given : Type 0) (job : Job) (password : List ℕ) (client : Client)
+pub closed_use : {E : Type 0} (asked : Asked) (job : Job) (password : List ℕ) (client : Client)
     (before after : Option (List Happening)) (result : Result Outcome E)
     → Stands job.verb password [] 0 false client → IsNewLog before
-    → SpeaksIfGiven job.verb given client before result after
-    → IsNewUse given job password (row_in result) (closed job.address after)
-closed_use given job password client before after result stands new (inl (same, unknown)) =
+    → SpeaksIfGiven job.verb asked client before result after
+    → IsNewUse asked job password (row_in result) (closed job.address after)
+closed_use asked job password client before after result stands new (inl (same, unknown)) =
     (refl, inl (rw same new, rw unknown refl))
-closed_use given job password client before after result stands new (inr (may, speaks)) =
-    (refl, inr (may, (tried_closed job password client before after result stands new speaks).1))
+closed_use asked job password client before after (Ok outcome) stands new
+    (inr (may, stored, speaks)) = (refl, inr (may, stored,
+    (tried_closed job password client before after (Ok outcome) stands new speaks).1))
+closed_use asked job password client before after (Err error) stands new
+    (inr (may, stored, speaks)) = (refl, inr (may, tt,
+    (tried_closed job password client before after (Err error) stands new speaks).1))
 
 -- the row of an outcome, or of none
 pub row_of : {E : Type 0} (told : Option Forecast) (verb : Verb) (result : Result Outcome E)

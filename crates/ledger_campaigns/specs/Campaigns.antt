@@ -22,7 +22,7 @@ use Rattle.head_end.specs.Connections.{Forecast}
 use Rattle.ledger_campaigns.specs.declared.request.Request.{Request}
 use Rattle.ledger_campaigns.specs.declared.request.Answer.{Answer}
 use Rattle.ledger_campaigns.specs.Desks.{permits_given}
-use Rattle.ledger_campaigns.specs.Uses.{IsUse, IsRowFor, HasSwitched}
+use Rattle.ledger_campaigns.specs.Uses.{IsUse, IsRowFor, HasSwitched, permit_in}
 
 -- the result of a place: the row of its job, and the use of its attempt
 pub record IsPlaceRun (jobs : List Job) (found : List LedgerEntry) (password : List ℕ) (place : ℕ)
@@ -30,7 +30,7 @@ pub record IsPlaceRun (jobs : List Job) (found : List LedgerEntry) (password : L
     : Type 0 where
   pub row_is : (job : Job) → IsRowFor tells (slice_index_or jobs place job) (entry_at found place)
       row
-  pub use_is : (job : Job) → IsUse (entry_at found place) (IsIn place permits)
+  pub use_is : (job : Job) → IsUse (entry_at found place) (permit_in place permits)
       (slice_index_or jobs place job) password row stage
 
 -- the line of a job
@@ -51,7 +51,7 @@ pub record AreLinesFor (tells : List ℕ → Option Forecast) (jobs : List Job)
 abbrev pub AreUses : List Job → List LedgerEntry → List ℕ → List ℕ → List ReportLine → List State
     → Type 0
 AreUses jobs found password permits lines stages = (place : ℕ) (job : Job) (line : ReportLine)
-    → place < length jobs → IsUse (entry_at found place) (IsIn place permits)
+    → place < length jobs → IsUse (entry_at found place) (permit_in place permits)
     (slice_index_or jobs place job) password (slice_index_or lines place line).row
     (slice_index_or stages place unused)
 
@@ -60,7 +60,7 @@ abbrev pub AreUsesBy : List Job → List LedgerEntry → List ℕ → List (List
     → List State → Type 0
 AreUsesBy jobs found password seen lines stages = (place : ℕ) (job : Job) (line : ReportLine)
     → place < length jobs
-    → IsUse (entry_at found place) (IsIn place (slice_index_or seen place []))
+    → IsUse (entry_at found place) (permit_in place (slice_index_or seen place []))
     (slice_index_or jobs place job) password (slice_index_or lines place line).row
     (slice_index_or stages place unused)
 

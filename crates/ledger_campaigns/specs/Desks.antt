@@ -4,15 +4,17 @@
 --     permit_result     the answer to the question for a permit
 --     stored_result     the answer to a request to store an outcome
 --     EndsStored        the last of the calls stored an outcome
+--     IsAskedToStore    the ledger was asked to store an outcome
 --     permits_of        the places of the permits that an answer gives, and permits_given of all
 --                       calls
 --     IsLegalHistory    the calls of a ledger that had this state at the start
 --     Stands            a ledger that results from these calls
-use Rattle.std.specs.Prelude.{◌≡◌, ℕ, List, [], ◌∷◌, ◌++◌, Option, Some, None, Result, Ok, Err, ⊤}
+use Rattle.std.specs.Prelude.{◌≡◌, ◌⊎◌, ℕ, ◌≤◌, List, [], ◌∷◌, ◌++◌, Option, Some, None, Result, Ok, Err, ⊤}
 use Rattle.std.specs.List.{AllByRecursion}
 use Rattle.turn_lock.specs.declared.turned.Entry.{Entry}
 use Rattle.campaign_ledger.specs.declared.entry.Entry.TheVariants.{NotSent}
 use Rattle.turn_lock.specs.History.{entry}
+use Rattle.turn_lock.specs.Shown.{ShownPort}
 use Rattle.client_core.specs.declared.job.Outcome.{Outcome}
 use Rattle.campaign_ledger.specs.declared.fault.LedgerFault.{LedgerFault}
 use Rattle.campaign_ledger.specs.declared.fault.LedgerFault.TheVariants as fault
@@ -55,6 +57,16 @@ module _ {B : Type 0} where
   abbrev pub EndsStored : ℕ → Outcome → List (Entry Request (Answer B)) → Type 0
   EndsStored place outcome calls = (before : List (Entry Request (Answer B))) × (by : List ℕ)
       × (calls ≡ before ++ entry by (Record place outcome) Recorded ∷ [])
+
+  -- one of the calls has this request
+  abbrev pub HasRequest : Request → List (Entry Request (Answer B)) → Type 0
+  HasRequest request calls = (before later : List (Entry Request (Answer B))) × (by : List ℕ)
+      × (answer : Answer B) × (calls ≡ before ++ entry by request answer ∷ later)
+
+  -- a call that the port has seen asked to store this outcome of a place, or all turns were drawn
+  abbrev pub IsAskedToStore : {O : Type 0} → ℕ → Outcome → ShownPort Request (Answer B) O → Type 0
+  IsAskedToStore place outcome port = HasRequest (Record place outcome) port.known.seen
+      ⊎ (port.bound ≤ port.known.drawn)
 
   -- the places of the permits that calls gave, in order
   abbrev pub permits_given : List (Entry Request (Answer B)) → List ℕ

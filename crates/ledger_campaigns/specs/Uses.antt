@@ -1,10 +1,12 @@
 -- The row of a job and the use of its attempt, by the entry that the run found at its place.
 --     MayAsk            a request that may be sent if a permit was given
+--     Asked             what the ledger was asked for a job
 --     IsNewUse          the use of an attempt by a job whose command was not sent before
 --     IsUse             the use of an attempt by a job
 --     IsRowFor          the row of a job
 --     HasSwitched       a switching command may have been sent, by the log of the connection
-use Rattle.std.specs.Prelude.{◌≡◌, ◌≢◌, ◌⊎◌, ℕ, List, [], Option, Some, None, Result, Ok, ⊤}
+use Rattle.std.specs.Prelude.{◌≡◌, ◌≢◌, ◌⊎◌, ℕ, List, [], Option, Some, None, Result, Ok, IfOk, ⊤}
+use Rattle.turn_lock.specs.Shown.{ShownPort}
 use Rattle.client_core.specs.declared.client.Client.{Client}
 use Rattle.client_core.specs.declared.job.Job.{Job}
 use Rattle.client_core.specs.declared.job.Outcome.{Outcome}
@@ -14,6 +16,7 @@ use Rattle.client_core.specs.declared.job.Verb.TheVariants.{Disconnect, Reconnec
 use Rattle.campaign_ledger.specs.declared.entry.Entry.{Entry}
 use Rattle.campaign_ledger.specs.declared.entry.Entry.TheVariants.{NotSent, MaybeSent}
 use Rattle.campaign_ledger.specs.declared.entry.Entry.TheVariants as entry
+use Rattle.campaign_ledger.specs.Runs.{IsIn}
 use Rattle.head_end.specs.declared.row.Row.{Row}
 use Rattle.head_end.specs.declared.row.Row.TheVariants.{Came, Memory}
 use Rattle.head_end.specs.Attempts.{State, unused, refused, connected, closed, HasRow}
@@ -21,6 +24,9 @@ use Rattle.head_end.specs.Connections.{Forecast}
 use Rattle.head_end.specs.Conversations.{Speaks, Converses}
 use Rattle.head_end.specs.Logs.{Happening, IsNewLog}
 use Rattle.head_end.specs.Rows.{IsRow}
+use Rattle.ledger_campaigns.specs.declared.request.Request.{Request}
+use Rattle.ledger_campaigns.specs.declared.request.Answer.{Answer}
+use Rattle.ledger_campaigns.specs.Desks.{permits_given, IsAskedToStore}
 
 -- the verb operates the switch
 abbrev pub IsSwitching : Verb → Type 0
@@ -34,26 +40,48 @@ MayAsk Disconnect given = given
 MayAsk Reconnect given = given
 MayAsk ReadState given = ⊤
 
+-- the ledger was asked to store the outcome, unless out of memory
+abbrev pub IfCame : Row → (Outcome → Type 0) → Type 0
+IfCame (Came outcome) stored = stored outcome
+IfCame Memory stored = ⊤
+
+-- What the ledger was asked: whether the permit was given, and which outcomes it was asked to store.
+pub record Asked : Type 1 where
+  pub given : Type 0
+  pub stored : Outcome → Type 0
+
 -- the connection was closed before anything was sent or received, or it was used for a conversation
--- that needs a permit only for a switching command, whose outcome is the row
-abbrev pub IsClosedUse : Type 0 → Job → List ℕ → Row → Option (List Happening) → Type 0
-IsClosedUse given job password row log = (IsNewLog log × (row ≡ Came Unknown))
-    ⊎ (MayAsk job.verb given × HasRow job.verb password row log)
+-- that needs a permit only for a switching command, and whose outcome is the row and is stored
+abbrev pub IsClosedUse : Asked → Job → List ℕ → Row → Option (List Happening) → Type 0
+IsClosedUse asked job password row log = (IsNewLog log × (row ≡ Came Unknown))
+    ⊎ (MayAsk job.verb asked.given × IfCame row asked.stored × HasRow job.verb password row log)
 
 -- The use of its attempt by a job whose command was not sent before: unused, if out of memory before
 -- the connect; a refused connect to the job's address; or one connection to this address.
-abbrev pub IsNewUse : Type 0 → Job → List ℕ → Row → State → Type 0
-IsNewUse given job password row unused = row ≡ Memory
-IsNewUse given job password row (refused address) = (address ≡ job.address) × (row ≡ Came Unknown)
-IsNewUse given job password row (connected address) = ⊥
-IsNewUse given job password row (closed address log) = (address ≡ job.address)
-    × IsClosedUse given job password row log
+abbrev pub IsNewUse : Asked → Job → List ℕ → Row → State → Type 0
+IsNewUse asked job password row unused = row ≡ Memory
+IsNewUse asked job password row (refused address) = (address ≡ job.address) × (row ≡ Came Unknown)
+IsNewUse asked job password row (connected address) = ⊥
+IsNewUse asked job password row (closed address log) = (address ≡ job.address)
+    × IsClosedUse asked job password row log
 
 -- The use of its attempt by a job: none, if its command may have been sent before.
-abbrev pub IsUse : Entry → Type 0 → Job → List ℕ → Row → State → Type 0
-IsUse NotSent given job password row stage = IsNewUse given job password row stage
-IsUse MaybeSent given job password row stage = stage ≡ unused
-IsUse (entry.Came outcome) given job password row stage = stage ≡ unused
+abbrev pub IsUse : Entry → Asked → Job → List ℕ → Row → State → Type 0
+IsUse NotSent asked job password row stage = IsNewUse asked job password row stage
+IsUse MaybeSent asked job password row stage = stage ≡ unused
+IsUse (entry.Came outcome) asked job password row stage = stage ≡ unused
+
+-- the permit was given, if it is in this list; nothing is said of outcomes
+abbrev pub permit_in : ℕ → List ℕ → Asked
+permit_in place permits = record { given = IsIn place permits; stored = λ outcome. ⊤ }
+
+-- what a port has asked: a permit that it has seen given, and outcomes of the place, unless all turns
+-- of the lock were drawn
+abbrev pub asked_through : {B O : Type 0} → ℕ → ShownPort Request (Answer B) O → Asked
+asked_through place port = record {
+  given = IsIn place (permits_given port.known.seen);
+  stored = λ outcome. IsAskedToStore place outcome port;
+}
 
 -- The row of a job: the outcome that was found; unknown, if its command may have been sent before or
 -- no permit was given; else that of its run.
@@ -81,8 +109,8 @@ abbrev pub IsToldOutcome : Client → Option Forecast → Outcome → Type 0
 IsToldOutcome client before outcome = Converses client before outcome ⊎ (outcome ≡ Unknown)
 
 -- nothing was sent or received and the outcome is unknown, or a conversation took place that may
-abbrev pub SpeaksIfGiven : {E : Type 0} → Verb → Type 0 → Client → Option (List Happening)
+abbrev pub SpeaksIfGiven : {E : Type 0} → Verb → Asked → Client → Option (List Happening)
     → Result Outcome E → Option (List Happening) → Type 0
-SpeaksIfGiven verb given client before result after =
+SpeaksIfGiven verb asked client before result after =
     ((after ≡ before) × (result ≡ Ok Unknown))
-    ⊎ (MayAsk verb given × Speaks client before result after)
+    ⊎ (MayAsk verb asked.given × IfOk result asked.stored × Speaks client before result after)

@@ -3,7 +3,7 @@ ghost use Rattle.std.specs.Prelude.{◌≡◌, IfOk, IfSome, OnOk, OnSome};
 ghost use Rattle.turn_lock.specs.History.{StartsWith};
 ghost use Rattle.turn_lock.specs.Shown.{IsSame};
 ghost use Rattle.campaign_ledger.specs.Runs.{IsIn};
-ghost use Rattle.ledger_campaigns.specs.Desks.{permit_result, permits_given, stored_result, EndsStored};
+ghost use Rattle.ledger_campaigns.specs.Desks.{permit_result, permits_given, stored_result, EndsStored, IsAskedToStore};
 
 use crate::desk::Desk;
 use crate::request::{Answer, Request};
@@ -48,6 +48,7 @@ pub fn report_outcome<B: Book, W: Wait>(
     ensures same { IsSame port.old port.new }
     ensures seen { StartsWith port.new.known.seen port.old.known.seen }
     ensures stored { OnOk result (EndsStored place outcome port.new.known.seen) }
+    ensures asked { IsAskedToStore place outcome port.new }
 {
     match port.call(rt, alloc, Request::Record(place, outcome)) {
         Ok(answer) => stored_in(answer),

@@ -9,7 +9,7 @@ ghost use Rattle.head_end.specs.Attempts.{unused, row_in};
 ghost use Rattle.head_end.specs.Conversations.{Converses, Speaks};
 ghost use Rattle.head_end.specs.Rows.{IsOutcome};
 ghost use Rattle.ledger_campaigns.specs.Desks.{permits_given};
-ghost use Rattle.ledger_campaigns.specs.Uses.{IsNewUse, IsRowFor, IsToldOutcome, IsUse, MayAsk, SpeaksIfGiven};
+ghost use Rattle.ledger_campaigns.specs.Uses.{IsNewUse, IsRowFor, IsToldOutcome, IsUse, MayAsk, SpeaksIfGiven, asked_through};
 
 use crate::asking::{ask_to_send, report_outcome};
 use crate::desk::Desk;
@@ -55,8 +55,7 @@ pub fn run_ledgered_job<C: Connector, B: Book, W: Wait>(
     requires password { IsPassword task.now.password.now }
     ensures row { IsRowFor (C.tells place.old.attempt.source.value) task.now.job.now task.now.found
         place.new.row }
-    ensures attempt { IsUse task.now.found
-        (IsIn task.now.place (permits_given place.new.port.known.seen))
+    ensures attempt { IsUse task.now.found (asked_through task.now.place place.new.port)
         task.now.job.now task.now.password.now place.new.row place.new.attempt.stage }
     ensures port { IsSame place.old.port place.new.port }
 {
@@ -81,7 +80,7 @@ fn run_new_job<C: Connector, B: Book, W: Wait>(
     requires unused { attempt.old.stage ≡ unused }
     requires password { IsPassword task.now.password.now }
     ensures row { IsRowFor (C.tells attempt.old.source.value) task.now.job.now NotSent result }
-    ensures attempt { IsNewUse (IsIn task.now.place (permits_given port.new.known.seen))
+    ensures attempt { IsNewUse (asked_through task.now.place port.new)
         task.now.job.now task.now.password.now result attempt.new.stage }
     ensures port { IsSame port.old port.new }
 {
@@ -104,7 +103,7 @@ fn try_new_job<C: Connector, B: Book, W: Wait>(
     ensures outcome { IfOk result (λ outcome. IsOutcome
         (C.tells attempt.old.source.value task.now.job.now.address) task.now.job.now.verb outcome
         ⊎ (outcome ≡ Unknown)) }
-    ensures attempt { IsNewUse (IsIn task.now.place (permits_given port.new.known.seen))
+    ensures attempt { IsNewUse (asked_through task.now.place port.new)
         task.now.job.now task.now.password.now (row_in result) attempt.new.stage }
     ensures port { IsSame port.old port.new }
 {
@@ -129,8 +128,8 @@ fn converse_if_given<K: Connection, B: Book, W: Wait>(
     connection: &mut K,
 ) -> Result<Outcome, AllocError>
     ensures forecast { IfOk result (IsToldOutcome client.old (K.forecast connection.old)) }
-    ensures log { SpeaksIfGiven task.now.job.now.verb
-        (IsIn task.now.place (permits_given port.new.known.seen)) client.old
+    ensures log { SpeaksIfGiven task.now.job.now.verb (asked_through task.now.place port.new)
+        client.old
         (K.log connection.old) result (K.log connection.new) }
     ensures port { IsSame port.old port.new }
 {
