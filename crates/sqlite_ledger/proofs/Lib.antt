@@ -1,0 +1,7 @@
+pub mod InsertLemmas
+pub mod InsertStates
+pub mod MarkLemmas
+pub mod MarkStates
+pub mod OutcomeLemmas
+pub mod OutcomeStates
+pub mod ReadLemmas

@@ -1,0 +1,39 @@
+-- What a query of a ledger does to a connection: nothing.
+use Rattle.std.proofs.Common.{◌≡◌, ℕ, List, [], codes, Result, Ok, Err, IfOk, OnOk, refl, sym, ap, subst}
+use Rattle.sqlite.specs.Order.{Row}
+use Rattle.sqlite.specs.Listing.{understood}
+use Rattle.sqlite.specs.State.{State, IsUnchanged, Shown, ShowsRows}
+use Rattle.sqlite.proofs.Callers.{IsPlain}
+use Rattle.sqlite_tied.specs.Compute.{everything}
+use Rattle.sqlite_ledger.specs.Schema.{ledger_schema}
+
+pub shown_unchanged : (sql : List ℕ) (old new : State) (rows : List Row) → IsPlain (understood old.now.schema sql) → Shown sql [] old new rows → IsUnchanged old new
+unfolding Shown
+shown_unchanged sql old new rows plain h =
+    let none = (subst IsPlain h.1.is plain).0 in
+    (subst (ShowsRows old new sql h.0 _ rows) none h.2).3
+
+pub ok_then : {X E : Type 0} (r : Result X E) (P : X → Type 0) (Q : Type 0) → IfOk r P → ((x : X) → P x → Q) → OnOk r Q
+ok_then (Ok x) P Q h f = f x h
+ok_then (Err e) P Q h f = tt
+
+abbrev pub select_jobs : List ℕ
+select_jobs = codes "SELECT place, name, address, verb FROM job ORDER BY place"
+
+abbrev pub select_begun : List ℕ
+select_begun = codes "SELECT place FROM begun"
+
+abbrev pub select_outcomes : List ℕ
+select_outcomes = codes "SELECT place, kind, number FROM outcome"
+
+pub jobs_plain : IsPlain (understood ledger_schema select_jobs)
+unfolding understood everything
+jobs_plain = (refl, refl)
+
+pub begun_plain : IsPlain (understood ledger_schema select_begun)
+unfolding understood everything
+begun_plain = (refl, refl)
+
+pub outcomes_plain : IsPlain (understood ledger_schema select_outcomes)
+unfolding understood everything
+outcomes_plain = (refl, refl)

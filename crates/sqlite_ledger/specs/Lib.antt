@@ -1,0 +1,4 @@
+pub mod Marks
+pub mod Outcomes
+pub mod Schema
+pub mod Taken

@@ -1,0 +1,39 @@
+-- The marks of a ledger's file: the places whose command may have been sent.
+--     IsBegun           the trees have the place's mark
+--     IsDown            whatever a crash leaves has it
+--     IsLeft            entries say of each place whether the trees have its mark
+--     LeavesEntries     entries that the next run may find after a crash
+--     LeavesCommit      while the connection is open, a crash leaves the last commit alone
+--     left_marked       a crash leaves marked what is down
+use Rattle.std.specs.Prelude.{◌≡◌, ℕ, ℤ, pos, IsTrue}
+use Rattle.std.proofs.Math.Logic.{∥∥₁_elim}
+use mathlib.Core.Bool.{Bool-set}
+use Rattle.std.specs.List.{list_any}
+use Rattle.sqlite.specs.State.{State}
+use Rattle.sqlite.specs.Tree.{Trees, has_rowid}
+use Rattle.campaign_ledger.specs.declared.entry.Entry.{Entry}
+use Rattle.campaign_ledger.specs.Entries.{HasGone}
+use Rattle.sqlite_ledger.specs.Schema.{begun_tree}
+
+-- a row of the table `begun` has the place as its key
+abbrev pub IsBegun : Trees → ℤ → Type 0
+IsBegun db place = IsTrue (list_any (has_rowid place) (db begun_tree))
+
+abbrev pub IsDown : (Trees → Type 0) → ℤ → Type 0
+IsDown may_leave place = (db : Trees) → may_leave db → IsBegun db place
+
+-- the command of a place may have been sent, by these entries, exactly if the trees have its mark
+pub record IsLeft (db : Trees) (entries : ℕ → Entry) : Type 0 where
+  pub gone : (place : ℕ) → IsBegun db (pos place) → HasGone (entries place)
+  pub begun : (place : ℕ) → HasGone (entries place) → IsBegun db (pos place)
+
+abbrev pub LeavesEntries : (Trees → Type 0) → (ℕ → Entry) → Type 0
+LeavesEntries may_leave entries = (db : Trees) × ∥ may_leave db ∥₁ × IsLeft db entries
+
+abbrev pub LeavesCommit : State → Type 0
+LeavesCommit s = IsTrue s.is_open → (db : Trees) → s.may_leave db → db ≡ s.committed.trees
+
+pub left_marked : (may_leave : Trees → Type 0) (place : ℕ) (entries : ℕ → Entry)
+    → IsDown may_leave (pos place) → LeavesEntries may_leave entries → HasGone (entries place)
+left_marked may_leave place entries down left = left.2.gone place
+    (∥∥₁_elim left.1 (Bool-set _ _) (λ may. down left.0 may))

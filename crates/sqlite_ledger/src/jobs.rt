@@ -1,0 +1,61 @@
+//! The jobs of a campaign, as a ledger has them.
+use client_core::{Job, Verb};
+use sqlite::types::ValueRef;
+use sqlite::{Alter, Error, Row, Transaction};
+
+const INSERT_JOB: &str = "INSERT INTO job (place, name, address, verb) VALUES (?1, ?2, ?3, ?4)";
+
+// Returns the word for a verb, as a list of jobs has it.
+fn verb_word(verb: Verb) -> &'static str {
+    match verb {
+        Verb::Disconnect => "disconnect",
+        Verb::Reconnect => "reconnect",
+        Verb::ReadState => "state",
+    }
+}
+
+// Writes a job at its place.
+pub(crate) fn insert_job<S: Alter>(
+    transaction: &mut Transaction<'_, S>,
+    place: u32,
+    job: &Job,
+) -> Result<usize, Error> {
+    transaction.execute(
+        INSERT_JOB,
+        &[
+            ValueRef::Int(i64::from(place)),
+            ValueRef::Text(job.id.as_slice()),
+            ValueRef::Text(job.address.as_slice()),
+            ValueRef::Text(verb_word(job.verb).as_bytes()),
+        ],
+    )
+}
+
+// Returns whether a row of the table `job` is that of the job at this place.
+fn is_row_of(row: &Row, place: u32, job: &Job) -> Result<bool, Error> {
+    let at: i64 = row.get(0)?;
+    let name: String = row.get(1)?;
+    let address: String = row.get(2)?;
+    let verb: String = row.get(3)?;
+    Ok(
+        at == i64::from(place)
+            && name.as_bytes() == job.id.as_slice()
+            && address.as_bytes() == job.address.as_slice()
+            && verb.as_str() == verb_word(job.verb),
+    )
+}
+
+// Returns whether the rows of the table `job`, in the order of their places, are these jobs.
+pub(crate) fn are_rows_of(rows: &[Row], jobs: &[Job]) -> Result<bool, Error> {
+    if rows.len() != jobs.len() {
+        return Ok(false);
+    }
+    let mut place = 0u32;
+    for (row, job) in rows.iter().zip(jobs.iter()) {
+        if !is_row_of(row, place, job)? {
+            return Ok(false);
+        }
+        place = place.saturating_add(1);
+    }
+    Ok(true)
+}

@@ -1,0 +1,38 @@
+//! `insert_begun`: writes the mark of a place.
+ghost use Rattle.std.specs.Prelude.{◌≡◌, ℤ, pos, OnOk, IfErr, IsTrue};
+ghost use Rattle.sqlite.specs.State.{HasCleanDisk};
+ghost use Rattle.sqlite.specs.Held.{state};
+ghost use Rattle.sqlite_ledger.specs.Schema.{ledger_schema};
+ghost use Rattle.sqlite_ledger.specs.Marks.{IsDown};
+ghost use Rattle.sqlite_ledger.specs.Taken.{is_taken};
+
+use sqlite::{Alter, Connection, Error, ErrorCode, params};
+
+const INSERT_BEGUN: &str = "INSERT INTO begun (place, at) VALUES (?1, ?2)";
+
+// Writes the mark of a place, in a transaction of its own: its key is the right to send the command
+// of the place. Fails if the mark is there.
+pub(crate) fn insert_begun<S: Alter>(
+    conn: &mut Connection<S>,
+    place: u32,
+    at: i64,
+) -> Result<usize, Error>
+    ensures clean { HasCleanDisk (state S.Store conn.new) → HasCleanDisk (state S.Store conn.old) }
+    ensures durable { HasCleanDisk (state S.Store conn.new) → conn.old.schema ≡ ledger_schema
+        → OnOk result (IsDown (state S.Store conn.new).may_leave (pos place)) }
+    ensures fresh { HasCleanDisk (state S.Store conn.new) → conn.old.schema ≡ ledger_schema
+        → OnOk result (¬ IsDown (state S.Store conn.old).may_leave (pos place)) }
+    ensures kept { HasCleanDisk (state S.Store conn.new) → conn.old.schema ≡ ledger_schema
+        → (other : ℤ) → IsDown (state S.Store conn.old).may_leave other
+        → IsDown (state S.Store conn.new).may_leave other }
+    ensures schema { HasCleanDisk (state S.Store conn.new) → conn.old.schema ≡ ledger_schema
+        → OnOk result (conn.new.schema ≡ ledger_schema) }
+    ensures taken { HasCleanDisk (state S.Store conn.new) → conn.old.schema ≡ ledger_schema
+        → IfErr result (λ e. IsTrue (is_taken e) → conn.new.schema ≡ ledger_schema) }
+{
+    if !conn.is_autocommit() {
+        return Err(Error::SqliteFailure(ErrorCode::TransactionState));
+    }
+    let insert = conn.prepare(INSERT_BEGUN)?;
+    insert.execute(conn, params![place, at])
+}

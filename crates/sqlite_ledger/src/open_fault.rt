@@ -1,0 +1,47 @@
+//! Why a ledger is not opened.
+ghost use Rattle.std.specs.Prelude.{◌≡◌};
+ghost use Rattle.sqlite_ledger.specs.declared.open_fault.LedgerOpenFault.TheVariants as open_fault;
+
+use sqlite::{Error as SqliteError, ErrorCode};
+use std::alloc::AllocError;
+use thiserror::Error;
+
+/// Why a ledger was not opened.
+#[derive(Clone, Copy, Debug, PartialEq, Eq, Error)]
+pub enum LedgerOpenFault {
+    /// The file is a database with other tables, or no database.
+    #[error("not a ledger")]
+    NotALedger = 1,
+    /// The ledger is that of another list of jobs.
+    #[error("the ledger of another list of jobs")]
+    OtherList = 2,
+    /// Another process has the file open.
+    #[error("another process has the ledger open")]
+    Busy = 3,
+    /// The file can't be opened, read or written.
+    #[error("can't open the file")]
+    File = 4,
+    /// Out of memory.
+    #[error("out of memory")]
+    Memory = 5,
+}
+
+/// Returns the fault for an error of SQLite while a ledger is opened.
+impl From<SqliteError> for LedgerOpenFault {
+    fn from(error: SqliteError) -> LedgerOpenFault {
+        match error {
+            SqliteError::SqliteFailure(ErrorCode::NotADatabase) => LedgerOpenFault::NotALedger,
+            SqliteError::SqliteFailure(ErrorCode::DatabaseBusy) => LedgerOpenFault::Busy,
+            SqliteError::SqliteFailure(ErrorCode::OutOfMemory) => LedgerOpenFault::Memory,
+            _ => LedgerOpenFault::File,
+        }
+    }
+}
+
+impl From<AllocError> for LedgerOpenFault {
+    ghost from_gives = { λ _ fault. fault ≡ open_fault.Memory };
+
+    fn from(_error: AllocError) -> LedgerOpenFault {
+        LedgerOpenFault::Memory
+    }
+}

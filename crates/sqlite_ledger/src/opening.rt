@@ -1,0 +1,90 @@
+//! `open_book`: opens the ledger of a campaign over a connection.
+ghost use Rattle.std.specs.Prelude.{◌≡◌, [], length, OnOk, IfOk, IsTrue, false};
+ghost use Rattle.sqlite.specs.State.{HasCleanDisk, IsUnchanged};
+ghost use Rattle.sqlite.specs.Held.{state};
+ghost use Rattle.sqlite_ledger.specs.Marks.{LeavesCommit};
+ghost use Rattle.sqlite_ledger.specs.Schema.{ledger_schema};
+
+use crate::book::SqliteBook;
+use crate::creation::create_ledger;
+use crate::open_fault::LedgerOpenFault;
+use crate::reading::{has_jobs, read_marks, read_outcomes};
+use crate::schema::is_ledger_schema;
+use campaign_ledger::{Entry, Ledger};
+use client_core::Job;
+use sqlite::{Alter, Connection};
+use sqlite_schema::schema::Schema;
+use std::alloc::Global;
+use std::rt::HostRuntime;
+
+// Returns whether the database has no tables yet.
+fn is_empty(schema: &Schema) -> bool
+    ensures { IsTrue result → schema.now.tables ≡ [] }
+{
+    schema.tables.is_empty() && schema.indexes.is_empty() && schema.views.is_empty()
+}
+
+// Makes the ledger if the database is empty.
+fn create_if_empty<S: Alter>(conn: &mut Connection<S>, jobs: &[Job]) -> Result<(), LedgerOpenFault>
+    ensures { conn.old.schema ≡ ledger_schema → conn.new ≡ conn.old }
+{
+    if !is_empty(conn.schema()) {
+        return Ok(());
+    }
+    match create_ledger(conn, jobs) {
+        Ok(()) => Ok(()),
+        Err(error) => Err(LedgerOpenFault::from(error)),
+    }
+}
+
+// Returns the entries of a ledger's places.
+fn read_ledger<S: Alter>(
+    alloc: Global,
+    conn: &mut Connection<S>,
+    jobs: &[Job],
+) -> Result<Vec<Entry>, LedgerOpenFault>
+    ensures unchanged { HasCleanDisk (state S.Store conn.new) → conn.old.schema ≡ ledger_schema
+        → OnOk result (IsUnchanged (state S.Store conn.old) (state S.Store conn.new)) }
+    ensures len { IfOk result (λ entries. length entries.items ≡ length jobs.now) }
+{
+    if !has_jobs(conn, jobs)? {
+        return Err(LedgerOpenFault::OtherList);
+    }
+    let mut entries = vec![in alloc; Entry::NotSent; jobs.len()]?;
+    read_marks(conn, &mut entries)?;
+    read_outcomes(conn, &mut entries)?;
+    Ok(entries)
+}
+
+/// Opens the ledger of a campaign with these jobs over a connection. An empty database gets the
+/// tables and the jobs, in one transaction.
+///
+/// Errors, each with the connection: `NotALedger` for a database with other tables, `OtherList` for
+/// the ledger of another list of jobs, `File` and `Memory`.
+pub fn open_book<S: Alter + Drop>(
+    rt: &HostRuntime,
+    mut conn: Connection<S>,
+    jobs: &[Job],
+) -> Result<Ledger<SqliteBook<S>>, (LedgerOpenFault, Connection<S>)>
+    ensures schema { IfOk result (λ ledger. ledger.book.schema ≡ ledger_schema) }
+    ensures entries { IfOk result (λ ledger. length ledger.entries ≡ length jobs.now) }
+    ensures unfailed { IfOk result (λ ledger. ledger.has_failed ≡ false) }
+    ensures settled { IfOk result (λ ledger. LeavesCommit (state S.Store ledger.book)) }
+    ensures unchanged { conn.schema ≡ ledger_schema → IfOk result (λ ledger.
+        HasCleanDisk (state S.Store ledger.book)
+        → IsUnchanged (state S.Store conn) (state S.Store ledger.book)) }
+{
+    if let Err(fault) = create_if_empty(&mut conn, jobs) {
+        return Err((fault, conn));
+    }
+    if !is_ledger_schema(conn.schema()) {
+        return Err((LedgerOpenFault::NotALedger, conn));
+    }
+    match read_ledger(rt.alloc(), &mut conn, jobs) {
+        Ok(entries) => match SqliteBook::new(rt, conn) {
+            Ok(book) => Ok(Ledger::new(book, entries)),
+            Err(conn) => Err((LedgerOpenFault::NotALedger, conn)),
+        },
+        Err(fault) => Err((fault, conn)),
+    }
+}

@@ -1,0 +1,100 @@
+//! What a ledger's file has: its jobs, its marks and its outcomes.
+ghost use Rattle.std.specs.Prelude.{◌≡◌, length, OnOk, vec_len};
+ghost use Rattle.sqlite.specs.State.{HasCleanDisk, IsUnchanged};
+ghost use Rattle.sqlite.specs.Given.{IsPlain};
+ghost use Rattle.sqlite.specs.Listing.{understood};
+ghost use Rattle.sqlite.specs.Held.{state};
+ghost use Rattle.sqlite_ledger.specs.Schema.{ledger_schema};
+
+use crate::jobs::are_rows_of;
+use campaign_ledger::Entry;
+use client_core::{Job, Outcome};
+use sqlite::{Alter, Connection, Error, Row};
+
+const SELECT_JOBS: &str = "SELECT place, name, address, verb FROM job ORDER BY place";
+
+const SELECT_BEGUN: &str = "SELECT place FROM begun";
+
+const SELECT_OUTCOMES: &str = "SELECT place, kind, number FROM outcome";
+
+// Returns the rows of a query.
+fn select<S: Alter>(conn: &mut Connection<S>, query: &str) -> Result<Vec<Row>, Error>
+    ensures clean { HasCleanDisk (state S.Store conn.new) → HasCleanDisk (state S.Store conn.old) }
+    ensures unchanged { HasCleanDisk (state S.Store conn.new)
+        → IsPlain (understood conn.old.schema query.now)
+        → OnOk result (IsUnchanged (state S.Store conn.old) (state S.Store conn.new)) }
+{
+    conn.query_all(query, &[])
+}
+
+// Returns whether the file has these jobs.
+pub(crate) fn has_jobs<S: Alter>(conn: &mut Connection<S>, jobs: &[Job]) -> Result<bool, Error>
+    ensures clean { HasCleanDisk (state S.Store conn.new) → HasCleanDisk (state S.Store conn.old) }
+    ensures unchanged { HasCleanDisk (state S.Store conn.new) → conn.old.schema ≡ ledger_schema
+        → OnOk result (IsUnchanged (state S.Store conn.old) (state S.Store conn.new)) }
+{
+    let rows = select(conn, SELECT_JOBS)?;
+    are_rows_of(&rows, jobs)
+}
+
+// Sets the entries of the marked places.
+fn enter_marks(entries: &mut [Entry], rows: &[Row]) -> Result<(), Error> {
+    for row in rows {
+        let place: u32 = row.get(0)?;
+        if let Some(entry) = entries.get_mut(place as usize) {
+            *entry = Entry::MaybeSent;
+        }
+    }
+    Ok(())
+}
+
+// Returns the outcome that a row of the table `outcome` says: `Unknown` for a kind that is none.
+fn outcome_in(row: &Row) -> Result<Outcome, Error> {
+    let kind: String = row.get(1)?;
+    let number: Option<u32> = row.get(2)?;
+    let number = u8::try_from(number.unwrap_or(0)).unwrap_or(u8::MAX);
+    Ok(match kind.as_str() {
+        "done" => Outcome::Done(number),
+        "refused" => Outcome::Refused(number),
+        "rejected" => Outcome::Rejected(number),
+        _ => Outcome::Unknown,
+    })
+}
+
+// Sets the entries of the places with an outcome.
+fn enter_outcomes(entries: &mut [Entry], rows: &[Row]) -> Result<(), Error> {
+    for row in rows {
+        let place: u32 = row.get(0)?;
+        let outcome = outcome_in(row)?;
+        if let Some(entry) = entries.get_mut(place as usize) {
+            *entry = Entry::Came(outcome);
+        }
+    }
+    Ok(())
+}
+
+// Sets the entries of the marked places to `MaybeSent`.
+pub(crate) fn read_marks<S: Alter>(
+    conn: &mut Connection<S>,
+    entries: &mut [Entry],
+) -> Result<(), Error>
+    ensures clean { HasCleanDisk (state S.Store conn.new) → HasCleanDisk (state S.Store conn.old) }
+    ensures unchanged { HasCleanDisk (state S.Store conn.new) → conn.old.schema ≡ ledger_schema
+        → OnOk result (IsUnchanged (state S.Store conn.old) (state S.Store conn.new)) }
+{
+    let rows = select(conn, SELECT_BEGUN)?;
+    enter_marks(entries, &rows)
+}
+
+// Sets the entries of the places with an outcome to it.
+pub(crate) fn read_outcomes<S: Alter>(
+    conn: &mut Connection<S>,
+    entries: &mut [Entry],
+) -> Result<(), Error>
+    ensures clean { HasCleanDisk (state S.Store conn.new) → HasCleanDisk (state S.Store conn.old) }
+    ensures unchanged { HasCleanDisk (state S.Store conn.new) → conn.old.schema ≡ ledger_schema
+        → OnOk result (IsUnchanged (state S.Store conn.old) (state S.Store conn.new)) }
+{
+    let rows = select(conn, SELECT_OUTCOMES)?;
+    enter_outcomes(entries, &rows)
+}
