@@ -1,20 +1,20 @@
 -- What the text of a mark means, and what it does to the marks.
-use Rattle.std.proofs.Common.{◌≡◌, ◌⊎◌, inl, inr, ℕ, ℤ, List, [], ◌∷◌, codes, Bool, true, false, None, Ok, IsTrue, refl, sym, ap, subst, ◌∙◌, not, true≢false}
-use Rattle.std.proofs.lemmas.Bool.{and_parts, or_parts, not-true}
+use Rattle.std.proofs.Common.{◌≡◌, inl, ℕ, ℤ, List, [], ◌∷◌, codes, true, None, Ok, refl, sym, ap, subst, ◌∙◌, true≢false}
+use Rattle.std.proofs.lemmas.Bool.{and_parts, not-true}
 use Rattle.std.proofs.lemmas.Cmp.{tied_itself}
 use Rattle.std.specs.List.{list_any}
 use Rattle.std.specs.Ordering.{is_eq}
 use Rattle.sqlite.specs.declared.types.Value.{Value}
 use Rattle.sqlite.specs.declared.types.Value.TheVariants.{Null, Int}
 use Rattle.sqlite_value.proofs.OrderLemmas.{value_cmp_total}
-use Rattle.sqlite.specs.Order.{Row, value_cmp}
-use Rattle.sqlite.specs.Term.{Term, lit, col}
+use Rattle.sqlite.specs.Order.{Row}
+use Rattle.sqlite.specs.Term.{lit, col}
 use Rattle.sqlite.specs.Source.{Source}
 use Rattle.sqlite.specs.Source.TheVariants.{Values}
 use Rattle.sqlite.specs.Command.TheVariants.{Insert}
 use Rattle.sqlite_tied.specs.Compute.{everything}
 use Rattle.sqlite.specs.Listing.{understood}
-use Rattle.sqlite.specs.Tree.{Trees, rowid, has_rowid}
+use Rattle.sqlite.specs.Tree.{Trees, has_rowid}
 use Rattle.sqlite.specs.Edit.{edit_of, numbered}
 use Rattle.sqlite.specs.Cast.{cast, cast_row}
 use Rattle.sqlite.specs.Kind.TheVariants.{Integer}
@@ -27,7 +27,7 @@ use Rattle.sqlite.proofs.Callers.{IsPlain, command_of}
 use Rattle.sqlite_rules.specs.Lists.{Has}
 use Rattle.sqlite_rules.proofs.ListLemmas.{some_has, some_from}
 use Rattle.sqlite_rules.proofs.TableLemmas.{put_all_adds, put_all_keeps}
-use Rattle.sqlite_ledger.specs.Schema.{ledger_schema, begun_tree, begun_table, outcome_tree}
+use Rattle.sqlite_ledger.specs.Schema.{ledger_schema, begun_tree, begun_table}
 use Rattle.sqlite_ledger.specs.Marks.{IsBegun}
 use Rattle.sqlite_ledger.proofs.InsertLemmas.{AddsRow, edit_adds, went, same_value, cast_int, cast_null}
 

@@ -1,5 +1,5 @@
 -- What the text of an outcome means, and what it does to the trees.
-use Rattle.std.proofs.Common.{◌≡◌, ◌≢◌, ◌⊎◌, inl, inr, ℕ, ℤ, List, [], ◌∷◌, codes, Bool, true, false, None, Ok, refl, sym, ap, subst, ◌∙◌, arith}
+use Rattle.std.proofs.Common.{◌≡◌, inl, ℕ, ℤ, List, [], ◌∷◌, codes, None, Ok, refl, sym, ap, subst, ◌∙◌, arith}
 use Rattle.sqlite.specs.declared.types.Value.{Value}
 use Rattle.sqlite.specs.declared.types.Value.TheVariants.{Null, Int, Text as Words}
 use Rattle.sqlite.specs.Order.{Row}
@@ -25,7 +25,7 @@ use Rattle.sqlite_rules.proofs.TableLemmas.{put_all_adds}
 use Rattle.client_core.specs.declared.job.Outcome.{Outcome}
 use Rattle.client_core.specs.declared.job.Outcome.TheVariants.{Done, Refused, Rejected, Unknown}
 use Rattle.sqlite_ledger.specs.Schema.{ledger_schema, begun_tree, outcome_tree, outcome_table}
-use Rattle.sqlite_ledger.specs.Outcomes.{kind_of, number_of, outcome_row, IsRecorded}
+use Rattle.sqlite_ledger.specs.Outcomes.{kind_of, number_of, outcome_row}
 use Rattle.sqlite_ledger.proofs.InsertLemmas.{AddsRow, edit_adds, went, same_value, cast_int, cast_null}
 
 abbrev pub outcome_text : List ℕ

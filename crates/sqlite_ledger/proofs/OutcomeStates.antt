@@ -1,11 +1,11 @@
 -- What an INSERT of an outcome does to the marks and the outcomes that a crash leaves.
-use Rattle.std.proofs.Common.{◌≡◌, ℕ, ℤ, [], ◌∷◌, Ok, Err, Result, OnOk, sym, subst}
+use Rattle.std.proofs.Common.{◌≡◌, ℕ, ℤ, Ok, Err, Result, OnOk, sym, subst}
 use Rattle.sqlite.specs.declared.types.Value.{Value}
 use Rattle.sqlite.specs.Tree.{Trees}
 use Rattle.sqlite.specs.declared.error.Error.{Error}
 use Rattle.sqlite.specs.State.{State, HasCleanDisk, IsUnchanged, Survives, Executes, CommitsBy}
 use Rattle.client_core.specs.declared.job.Outcome.{Outcome}
-use Rattle.sqlite_ledger.specs.Schema.{ledger_schema, begun_tree, outcome_tree}
+use Rattle.sqlite_ledger.specs.Schema.{ledger_schema, outcome_tree}
 use Rattle.sqlite_ledger.specs.Marks.{IsBegun, IsDown}
 use Rattle.sqlite_ledger.specs.Outcomes.{outcome_row, IsRecorded, IsSafe}
 use Rattle.sqlite_ledger.proofs.MarkLemmas.{begun_same}

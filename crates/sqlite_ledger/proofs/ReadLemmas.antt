@@ -1,5 +1,5 @@
 -- What a query of a ledger does to a connection: nothing.
-use Rattle.std.proofs.Common.{◌≡◌, ℕ, List, [], codes, Result, Ok, Err, IfOk, OnOk, refl, sym, ap, subst}
+use Rattle.std.proofs.Common.{ℕ, List, [], codes, Result, Ok, Err, IfOk, OnOk, refl, subst}
 use Rattle.sqlite.specs.Order.{Row}
 use Rattle.sqlite.specs.Listing.{understood}
 use Rattle.sqlite.specs.State.{State, IsUnchanged, Shown, ShowsRows}

@@ -1,8 +1,9 @@
 //! `SqliteBook`: a ledger's book over an SQLite connection.
-ghost use Rattle.std.specs.Prelude.{◌≡◌, ℕ, pos, IfOk, IfErr};
+ghost use Rattle.std.specs.Prelude.{◌≡◌, ℕ, pos, IfOk, IfErr, OnOk};
 ghost use Rattle.sqlite.specs.State.{HasCleanDisk};
 ghost use Rattle.sqlite.specs.Held.{state};
 ghost use Rattle.sqlite_ledger.specs.Marks.{IsDown, LeavesEntries, left_marked};
+ghost use Rattle.sqlite_ledger.specs.Outcomes.{IsSafe};
 ghost use Rattle.sqlite_ledger.specs.Schema.{ledger_schema};
 
 use crate::clock::WallClock;
@@ -94,7 +95,16 @@ impl<S: Alter + Drop> Book for SqliteBook<S> {
         }
     }
 
-    fn record(&mut self, place: u32, outcome: Outcome) -> Result<(), LedgerFault> {
+    // Beyond the trait's clauses: whatever a crash leaves has the outcome.
+    fn record(&mut self, place: u32, outcome: Outcome) -> Result<(), LedgerFault>
+        ensures honest { HasCleanDisk (state S.Store self.new)
+            → HasCleanDisk (state S.Store self.old) }
+        ensures kept { HasCleanDisk (state S.Store self.new) → (other : ℕ)
+            → IsDown (state S.Store self.old).may_leave (pos other)
+            → IsDown (state S.Store self.new).may_leave (pos other) }
+        ensures recorded { HasCleanDisk (state S.Store self.new)
+            → OnOk result (IsSafe (state S.Store self.new).may_leave (pos place) outcome) }
+    {
         if self.has_failed {
             return Err(LedgerFault::Failed);
         }

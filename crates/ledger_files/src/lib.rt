@@ -1,0 +1,84 @@
+//! The ledger of a campaign in an SQLite file.
+//!
+//! This crate owns the connection over files: it opens the file and closes it, so that a program
+//! only names its calls.
+#![tactic(auto)]
+
+mod laws;
+
+pub use laws::the_next_run_finds_what_was_left;
+
+ghost use Rattle.std.specs.Prelude.{◌≡◌, length, IfOk, false};
+ghost use Rattle.sqlite.specs.State.{HasCleanDisk};
+ghost use Rattle.sqlite.specs.Files.{file_state};
+ghost use Rattle.sqlite.specs.WalFiles.{image_at};
+ghost use Rattle.sqlite_ledger.specs.Schema.{ledger_schema};
+ghost use Rattle.ledger_files.specs.Opened.{IsOpenedFrom};
+
+use campaign_ledger::{Ledger, LedgerFault};
+use client_core::Job;
+use sqlite::{Connection, FileFrom, FileStore, Start, Unknown};
+use sqlite_ledger::{LedgerOpenFault, SqliteBook, open_book};
+use std::rt::HostRuntime;
+
+/// A book over the files at a path, where `S` stands for what they hold.
+pub type BookFrom<S> = SqliteBook<FileStore<FileFrom<S>>>;
+
+/// A book over the files at a path, whatever they hold.
+pub type FileBook = BookFrom<Unknown>;
+
+/// Opens the ledger of a campaign with these jobs at a path, where `S` stands for what the files
+/// hold. A file that is missing or empty is made, with the tables and the jobs.
+///
+/// Errors: `NotALedger` for a file that holds something else, `OtherList` for the ledger of another
+/// list of jobs, `Busy` if another process has it open, `File` and `Memory`.
+pub fn open_ledger_from<S: Start>(
+    rt: &HostRuntime,
+    path: &str,
+    jobs: &[Job],
+    start: S,
+) -> Result<Ledger<BookFrom<S>>, LedgerOpenFault>
+    ensures schema { IfOk result (λ ledger. ledger.book.schema ≡ ledger_schema) }
+    ensures entries { IfOk result (λ ledger. length ledger.entries ≡ length jobs.now) }
+    ensures unfailed { IfOk result (λ ledger. ledger.has_failed ≡ false) }
+    ensures found { IfOk result (λ ledger. HasCleanDisk (file_state ledger.book)
+        → IsOpenedFrom (image_at S.Start) ledger.book) }
+{
+    let conn = match Connection::open_from(rt, path, false, start) {
+        Ok(conn) => conn,
+        Err((error, left)) => {
+            drop(left);
+            return Err(LedgerOpenFault::from(error));
+        }
+    };
+    match open_book(rt, conn, jobs) {
+        Ok(ledger) => Ok(ledger),
+        Err((fault, conn)) => {
+            drop(conn);
+            Err(fault)
+        }
+    }
+}
+
+/// Opens the ledger of a campaign with these jobs at a path, as [`open_ledger_from`] does, whatever
+/// the files hold.
+pub fn open_ledger(
+    rt: &HostRuntime,
+    path: &str,
+    jobs: &[Job],
+) -> Result<Ledger<FileBook>, LedgerOpenFault>
+    ensures schema { IfOk result (λ ledger. ledger.book.schema ≡ ledger_schema) }
+    ensures entries { IfOk result (λ ledger. length ledger.entries ≡ length jobs.now) }
+    ensures unfailed { IfOk result (λ ledger. ledger.has_failed ≡ false) }
+{
+    open_ledger_from(rt, path, jobs, Unknown)
+}
+
+/// Closes a ledger: the file then has all of it, without its log.
+pub fn close_ledger<S: Start>(ledger: Ledger<BookFrom<S>>) -> Result<(), LedgerFault> {
+    let conn = ledger.into_book().into_connection();
+    match conn.close() {
+        Ok(()) => Ok(()),
+        Err(_) => Err(LedgerFault::Failed),
+    }
+}

@@ -1,0 +1,156 @@
+//! Ledgers in memory: what a run leaves for the next, and databases that are refused.
+use crate::samples::three_jobs;
+use campaign_ledger::{Book, Entry, Ledger};
+use client_core::{Job, Outcome};
+use sqlite::{Connection, MemStore};
+use sqlite_ledger::{LedgerOpenFault, SqliteBook, open_book};
+use std::rt::HostRuntime;
+use std::test::Fail;
+
+/// Marks the first two places, and records an outcome of the second. Returns whether each permit
+/// was given once.
+fn mark_two(ledger: &mut Ledger<SqliteBook<MemStore>>) -> bool {
+    let first = matches!(ledger.begin(0), Ok(Some(_)));
+    let second = matches!(ledger.begin(1), Ok(Some(_)));
+    let again = matches!(ledger.begin(1), Ok(None));
+    let recorded = ledger.len() > 1 && ledger.record(1, Outcome::Refused(4)).is_ok();
+    first && second && again && recorded
+}
+
+/// Runs a part of a campaign. Returns the connection, if each permit was given once.
+fn first_run(
+    rt: &HostRuntime,
+    conn: Connection<MemStore>,
+    jobs: &[Job],
+) -> Option<Connection<MemStore>> {
+    match open_book(rt, conn, jobs) {
+        Ok(mut ledger) => {
+            let is_right = mark_two(&mut ledger);
+            let conn = ledger.into_book().into_connection();
+            if is_right {
+                Some(conn)
+            } else {
+                drop(conn);
+                None
+            }
+        }
+        Err((_, conn)) => {
+            drop(conn);
+            None
+        }
+    }
+}
+
+/// Returns whether the ledger has what the first run left, and marks of its file are not new.
+fn is_left(mut ledger: Ledger<SqliteBook<MemStore>>) -> bool {
+    let found = ledger.entry(0) == Entry::MaybeSent
+        && ledger.entry(1) == Entry::Came(Outcome::Refused(4))
+        && ledger.entry(2) == Entry::NotSent;
+    let refused = matches!(ledger.begin(0), Ok(None));
+    let mut book = ledger.into_book();
+    let taken = matches!(book.mark(0), Ok(false));
+    let new = matches!(book.mark(2), Ok(true));
+    drop(book);
+    found && refused && taken && new
+}
+
+/// Returns the fault of an open, and drops what it returns.
+fn fault_of(
+    rt: &HostRuntime,
+    conn: Connection<MemStore>,
+    jobs: &[Job],
+) -> Option<LedgerOpenFault> {
+    match open_book(rt, conn, jobs) {
+        Ok(ledger) => {
+            drop(ledger);
+            None
+        }
+        Err((fault, conn)) => {
+            drop(conn);
+            Some(fault)
+        }
+    }
+}
+
+/// Returns a connection to a database in memory, on which a text has run.
+fn database(rt: &HostRuntime, text: &str) -> Option<Connection<MemStore>> {
+    match Connection::open_in_memory(rt.alloc()) {
+        Ok(mut conn) => {
+            if conn.execute_batch(text).is_ok() {
+                Some(conn)
+            } else {
+                drop(conn);
+                None
+            }
+        }
+        Err(_) => None,
+    }
+}
+
+/// Returns the fault of an open of such a database.
+fn fault_after(rt: &HostRuntime, text: &str, jobs: &[Job]) -> Option<LedgerOpenFault> {
+    match database(rt, text) {
+        Some(conn) => fault_of(rt, conn, jobs),
+        None => None,
+    }
+}
+
+/// Runs twice over a new database. Returns whether the second run found what the first left.
+fn runs_twice(rt: &HostRuntime, jobs: &[Job]) -> bool {
+    match database(rt, "") {
+        Some(conn) => match first_run(rt, conn, jobs) {
+            Some(conn) => match open_book(rt, conn, jobs) {
+                Ok(ledger) => is_left(ledger),
+                Err((_, conn)) => {
+                    drop(conn);
+                    false
+                }
+            },
+            None => false,
+        },
+        None => false,
+    }
+}
+
+/// Opens the ledger of one list with another. Returns the fault.
+fn other_list(rt: &HostRuntime, jobs: &[Job], others: &[Job]) -> Option<LedgerOpenFault> {
+    match database(rt, "") {
+        Some(conn) => match first_run(rt, conn, jobs) {
+            Some(conn) => fault_of(rt, conn, others),
+            None => None,
+        },
+        None => None,
+    }
+}
+
+#[test]
+fn a_run_finds_what_the_last_one_left(rt: HostRuntime) -> Result<(), Fail> {
+    let jobs = three_jobs(rt.alloc(), b"m3")?;
+    assert!(rt; runs_twice(&rt, &jobs));
+    Ok(())
+}
+
+#[test]
+fn another_list_is_refused(rt: HostRuntime) -> Result<(), Fail> {
+    let jobs = three_jobs(rt.alloc(), b"m3")?;
+    let others = three_jobs(rt.alloc(), b"m4")?;
+    assert!(rt; other_list(&rt, &jobs, &others) == Some(LedgerOpenFault::OtherList));
+    assert!(rt; other_list(&rt, &jobs, &others[..2]) == Some(LedgerOpenFault::OtherList));
+    Ok(())
+}
+
+#[test]
+fn other_tables_are_refused(rt: HostRuntime) -> Result<(), Fail> {
+    let jobs = three_jobs(rt.alloc(), b"m3")?;
+    for text in [
+        "CREATE TABLE note (id INTEGER PRIMARY KEY) STRICT",
+        // a mark's key that is no rowid
+        "CREATE TABLE begun (place INTEGER, at INTEGER NOT NULL) STRICT;
+CREATE TABLE outcome (place INTEGER PRIMARY KEY, kind TEXT NOT NULL, number INTEGER, at INTEGER NOT NULL) STRICT;
+CREATE TABLE job (place INTEGER PRIMARY KEY, name TEXT NOT NULL, address TEXT NOT NULL, verb TEXT NOT NULL) STRICT;
+CREATE TABLE campaign (version INTEGER PRIMARY KEY, jobs INTEGER NOT NULL) STRICT;",
+    ] {
+        assert!(rt; fault_after(&rt, text, &jobs) == Some(LedgerOpenFault::NotALedger));
+    }
+    Ok(())
+}
