@@ -21,7 +21,7 @@ module _ {D N : Type 0} {g : Ghosts D} {next : Ghosts N} (last : FileStore D g) 
     (held : Image) (may : (state last).may_leave held) (now : Held (FileStore N next)) (opened : IsOpenedFrom held now) (ledger : opened.was.schema ≡ ledger_schema)
     (entries : ℕ → Entry) (is : IsLeft (file_state opened.was).committed.trees entries) where
   pub finds_left : LeavesEntries (recovers last) entries
-  finds_left = ((file_state opened.was).committed.trees, next_run last numbered sound held may (file_state opened.was) opened.found, is)
+  finds_left = ((file_state opened.was).committed.trees, next_run last numbered sound held may (file_state opened.was) (opened.found ledger), is)
 
   pub finds_down : (place : ℕ) → HasGone (entries place) → IsDown (file_state now).may_leave (pos place)
   finds_down place gone db left =

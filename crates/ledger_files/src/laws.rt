@@ -16,7 +16,6 @@ use sqlite_disk::Disk;
 /// Proves the step from run to run: if the files hold what a crash of a store may leave of a
 /// ledger, the entries that the next open finds are entries that the crash may leave, and each
 /// place that is marked by them is marked whatever a crash of the next run leaves.
-#[tactic(auto, using(crate::proofs::NextRun::finds_left, crate::proofs::NextRun::finds_down))]
 pub fn the_next_run_finds_what_was_left<L: Disk, N: Disk>()
     ensures left { (last : Trees L L.Disk) → IsTrue (view last).is_numbered
         → AreDatabases (recovers last) → (held : Image) → (state last).may_leave held
@@ -30,5 +29,4 @@ pub fn the_next_run_finds_what_was_left<L: Disk, N: Disk>()
         → opened.was.schema ≡ ledger_schema → (entries : ℕ → Entry)
         → IsLeft (file_state opened.was).committed.trees entries
         → (place : ℕ) → HasGone (entries place) → IsDown (file_state now).may_leave (pos place) }
-{
-}
+{}

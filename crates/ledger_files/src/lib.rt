@@ -6,8 +6,6 @@
 
 mod laws;
 
-pub use laws::the_next_run_finds_what_was_left;
-
 ghost use Rattle.std.specs.Prelude.{◌≡◌, length, IfOk, false};
 ghost use Rattle.sqlite.specs.State.{HasCleanDisk};
 ghost use Rattle.sqlite.specs.Files.{file_state};
@@ -17,6 +15,7 @@ ghost use Rattle.ledger_files.specs.Opened.{IsOpenedFrom};
 
 use campaign_ledger::{Ledger, LedgerFault};
 use client_core::Job;
+pub use laws::the_next_run_finds_what_was_left;
 use sqlite::{Connection, FileFrom, FileStore, Start, Unknown};
 use sqlite_ledger::{LedgerOpenFault, SqliteBook, open_book};
 use std::rt::HostRuntime;

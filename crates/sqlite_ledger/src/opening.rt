@@ -43,6 +43,7 @@ fn read_ledger<S: Alter>(
     conn: &mut Connection<S>,
     jobs: &[Job],
 ) -> Result<Vec<Entry>, LedgerOpenFault>
+    ensures clean { HasCleanDisk (state S.Store conn.new) → HasCleanDisk (state S.Store conn.old) }
     ensures unchanged { HasCleanDisk (state S.Store conn.new) → conn.old.schema ≡ ledger_schema
         → OnOk result (IsUnchanged (state S.Store conn.old) (state S.Store conn.new)) }
     ensures len { IfOk result (λ entries. length entries.items ≡ length jobs.now) }
@@ -69,6 +70,8 @@ pub fn open_book<S: Alter + Drop>(
     ensures schema { IfOk result (λ ledger. ledger.book.schema ≡ ledger_schema) }
     ensures entries { IfOk result (λ ledger. length ledger.entries ≡ length jobs.now) }
     ensures unfailed { IfOk result (λ ledger. ledger.has_failed ≡ false) }
+    ensures clean { conn.schema ≡ ledger_schema → IfOk result (λ ledger.
+        HasCleanDisk (state S.Store ledger.book) → HasCleanDisk (state S.Store conn)) }
     ensures settled { IfOk result (λ ledger. LeavesCommit (state S.Store ledger.book)) }
     ensures unchanged { conn.schema ≡ ledger_schema → IfOk result (λ ledger.
         HasCleanDisk (state S.Store ledger.book)

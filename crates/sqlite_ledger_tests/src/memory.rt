@@ -55,11 +55,7 @@ fn is_left(mut ledger: Ledger<SqliteBook<MemStore>>) -> bool {
 }
 
 /// Returns the fault of an open, and drops what it returns.
-fn fault_of(
-    rt: &HostRuntime,
-    conn: Connection<MemStore>,
-    jobs: &[Job],
-) -> Option<LedgerOpenFault> {
+fn fault_of(rt: &HostRuntime, conn: Connection<MemStore>, jobs: &[Job]) -> Option<LedgerOpenFault> {
     match open_book(rt, conn, jobs) {
         Ok(ledger) => {
             drop(ledger);
