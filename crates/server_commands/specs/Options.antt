@@ -33,6 +33,8 @@ pub record IsFlag (found : Found) (name : List ℕ) (value : Bool) : Type 0 wher
 -- the limits and flags of `serve`
 pub record IsBounds (found : Found) (bounds : Bounds) : Type 0 where
   pub depth : IsNumber 16 found (codes "depth") bounds.depth
+  pub journal_limit : IsNumber 32 found (codes "journal-limit") bounds.journal_limit
+  pub kept_journals : IsNumber 16 found (codes "keep-journals") bounds.kept_journals
   pub connections : IsNumber 64 found (codes "connections") bounds.connections
   pub inactivity : IsNumber 32 found (codes "inactivity") bounds.inactivity
   pub session : IsNumber 32 found (codes "session") bounds.session

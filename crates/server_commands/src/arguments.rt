@@ -142,6 +142,30 @@ fn depth<'a>(alloc: Global) -> Arg<'a>
         .value_parser(value_parser!(u16).range(1..=1024))
 }
 
+// Returns the option `--journal-limit`.
+fn journal_limit<'a>(alloc: Global) -> Arg<'a>
+    ensures { default_of result ≡ Some (codes "1048576") }
+{
+    Arg::new(alloc, "journal-limit")
+        .long("journal-limit")
+        .value_name("BYTES")
+        .help("Number of bytes after which the journal is renewed, 4096 to 16777216")
+        .default_value("1048576")
+        .value_parser(value_parser!(u32).range(4096..=16777216))
+}
+
+// Returns the option `--keep-journals`.
+fn keep_journals<'a>(alloc: Global) -> Arg<'a>
+    ensures { default_of result ≡ Some (codes "0") }
+{
+    Arg::new(alloc, "keep-journals")
+        .long("keep-journals")
+        .value_name("N")
+        .help("Number of journals before a renewal to keep, as FILE.1, FILE.2 and so on, 0 to 99")
+        .default_value("0")
+        .value_parser(value_parser!(u16).range(0..=99))
+}
+
 // Returns the option `--connections`.
 fn connections<'a>(alloc: Global) -> Arg<'a>
     ensures { default_of result ≡ Some (codes "0") }
@@ -218,12 +242,15 @@ fn with_meter<'a>(
     with_argument(made, journal(alloc))
 }
 
-// Adds the options of `serve` that limit the trace, the connections and their duration.
+// Adds the options of `serve` that limit the trace, the journal, the connections and their
+// duration.
 fn with_bounds<'a>(
     alloc: Global,
     made: Result<Command<'a>, AllocError>,
 ) -> Result<Command<'a>, AllocError> {
     let made = with_argument(made, depth(alloc));
+    let made = with_argument(made, journal_limit(alloc));
+    let made = with_argument(made, keep_journals(alloc));
     let made = with_argument(made, connections(alloc));
     let made = with_argument(made, inactivity(alloc));
     with_argument(made, session(alloc))

@@ -34,6 +34,10 @@ pub struct HexOptions {
 pub struct Bounds {
     /// The number of events that the trace keeps, 1 to 1,024.
     pub depth: u16,
+    /// The number of bytes after which the journal is renewed, 4,096 to 16,777,216.
+    pub journal_limit: u32,
+    /// The number of journals before a renewal that are kept, 0 to 99.
+    pub kept_journals: u16,
     /// The number of connections to accept; 0 means no limit.
     pub connections: u64,
     /// The time limit of a read or a write of a client, in seconds; 0 means no limit.
@@ -153,6 +157,20 @@ fn depth_of(matches: &ArgMatches<'_>) -> u16
     matches.get_one::<u16>("depth").unwrap_or(0)
 }
 
+// Returns the number of bytes after which the journal is renewed.
+fn journal_limit_of(matches: &ArgMatches<'_>) -> u32
+    ensures { IsNumber 32 (found_of matches.now) (codes "journal-limit") result }
+{
+    matches.get_one::<u32>("journal-limit").unwrap_or(0)
+}
+
+// Returns the number of journals before a renewal that are kept.
+fn kept_journals_of(matches: &ArgMatches<'_>) -> u16
+    ensures { IsNumber 16 (found_of matches.now) (codes "keep-journals") result }
+{
+    matches.get_one::<u16>("keep-journals").unwrap_or(0)
+}
+
 // Returns the number of connections to accept.
 fn connections_of(matches: &ArgMatches<'_>) -> u64
     ensures { IsNumber 64 (found_of matches.now) (codes "connections") result }
@@ -180,6 +198,8 @@ fn bounds_of(matches: &ArgMatches<'_>) -> Bounds
 {
     Bounds {
         depth: depth_of(matches),
+        journal_limit: journal_limit_of(matches),
+        kept_journals: kept_journals_of(matches),
         connections: connections_of(matches),
         inactivity: seconds_of(matches, "inactivity"),
         session: seconds_of(matches, "session"),
