@@ -1,7 +1,7 @@
 -- The texts of records are ASCII: the words of replies and events, and civil dates and times.
-use Rattle.std.proofs.Common.{◌≡◌, ℕ, zero, suc, ◌+◌, ◌/◌, ◌%◌, ◌<◌, Bool, true, false, cond, nat_lt}
-use Rattle.std.proofs.Common.{◌==◌, List, [], ◌∷◌, ◌++◌, length, Option, Some, None, codes, decimal}
-use Rattle.std.proofs.Common.{refl, arith}
+use Rattle.std.proofs.Common.{◌≡◌, ℕ, zero, suc, ◌+◌, ◌/◌, ◌%◌, ◌<◌, Bool, true, false, cond}
+use Rattle.std.proofs.Common.{nat_lt, ◌==◌, List, [], ◌∷◌, ◌++◌, length, Option, Some, None, codes}
+use Rattle.std.proofs.Common.{decimal, refl, arith}
 use Rattle.std.proofs.lemmas.Bool.{and_parts}
 use Rattle.std.proofs.lemmas.Bool.Decides.{nat_tests}
 use Rattle.std.proofs.lemmas.Str.{IsAscii-append, IsUtf8-from_ascii}
@@ -14,6 +14,7 @@ use Rattle.wire_bytes.specs.Choice.{keyed_text}
 use Rattle.cosem_axdr.specs.Spelling.{text}
 use Rattle.cosem_axdr.specs.View.{tree_of}
 use Rattle.cosem_axdr.specs.declared.value.Data.{Data}
+use Rattle.cosem_datetime.proofs.Jiff.{first_day_is}
 use Rattle.cosem_datetime.specs.Calendar.{date_of_day, first_day}
 use Rattle.cosem_datetime.specs.declared.calendar.CivilDate.{CivilDate}
 use Rattle.cosem_names.specs.ResultCode.{code_of}
@@ -287,3 +288,5 @@ civil_is_ascii moment =
     let date = date_of_day (first_day + moment / 86400) in
     IsAscii-append (date_text date) (84 ∷ time_text (moment % 86400)) (date_is_ascii date)
     (one_more 84 (time_text (moment % 86400)) (omega arith) (time_is_ascii (moment % 86400)))
+
+pub ruleset civil_texts = (first_day_is, civil_is_ascii)

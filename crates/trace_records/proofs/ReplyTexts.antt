@@ -1,6 +1,6 @@
 -- The reply in the line of event 0.
-use Rattle.std.proofs.Common.{◌≡◌, ℕ, suc, ◌+◌, ◌-◌, ◌≤◌, Bool, true, false, List, [], ◌∷◌, ◌++◌}
-use Rattle.std.proofs.Common.{length, take, drop, codes, decimal, refl, sym, ap, ◌∙◌, arith}
+use Rattle.std.proofs.Common.{◌≡◌, ℕ, ◌+◌, ◌-◌, ◌≤◌, Bool, true, false, List, [], ◌∷◌, ◌++◌}
+use Rattle.std.proofs.Common.{length, take, drop, codes, decimal, refl, ap, ◌∙◌, arith}
 use Rattle.std.proofs.Math.Seq.{take-append_seam}
 use Rattle.std.proofs.lemmas.List.{length-append}
 use Rattle.std.specs.Fmt.{digits}
@@ -15,6 +15,7 @@ use Rattle.relay_events.specs.declared.reply.Reply.TheVariants.{Value, Values, C
 use Rattle.relay_events.specs.declared.reply.Reply.TheVariants.{SampledBoth, Ran, Stale}
 use Rattle.trace_lines.specs.Replies.{line_text, reply_row, supply_text}
 use Rattle.trace_words.specs.Writing.{words_after_blanks}
+use Rattle.trace_records.proofs.AsciiTexts.{reply_is_ascii}
 use Rattle.trace_records.specs.Records.{len_after_reply, reply_text}
 
 -- what follows the reply
@@ -96,3 +97,5 @@ reply_cut line =
       len_is line.state line.output,
       length-append (reply_text line.reply) after,
     )))
+
+pub ruleset replies = (line_is_long, reply_cut, reply_is_ascii)

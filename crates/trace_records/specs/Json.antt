@@ -27,7 +27,8 @@ plain_members r =
     member (codes "reply") (string r.reply) (
     member (codes "state") (number (unsigned r.state)) (
     member (codes "supply") (string (supply_text r.output)) (
-    member (codes "time") (nullable (option_map (λ n. string (civil_text n)) r.moment)) no_members)))))
+    member (codes "time") (nullable (option_map (λ n. string (civil_text n)) r.moment)) (
+    no_members))))))
 
 abbrev pub json_object : Fields → Data
 json_object r = object (event_member r.event (plain_members r))

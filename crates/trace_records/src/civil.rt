@@ -10,7 +10,7 @@ use std::alloc::{AllocError, Global};
 
 // A date of the calendar.
 #[derive(Clone, Copy, Debug)]
-struct CivilDate {
+struct CalendarDate {
     year: u16,
     month: u8,
     day: u8,
@@ -28,14 +28,14 @@ const YEAR_ZERO: u32 = 3_652_059;
 const BYTES: usize = 19;
 
 // Returns the date of a day, counted from 1 January of the year 0.
-fn date_of_day(day: u32) -> CivilDate
+fn date_of_day(day: u32) -> CalendarDate
     requires { day ≤ 1_000_000 }
     ensures year { result.year ≡ (date_of_day day).year }
     ensures month { result.month ≡ (date_of_day day).month }
     ensures day { result.day ≡ (date_of_day day).day }
 {
     let date = Date::from_plain(civil::Date::from_days_since_min(day + YEAR_ZERO)).to_plain();
-    CivilDate {
+    CalendarDate {
         year: date.year as u16,
         month: date.month,
         day: date.day,
@@ -78,7 +78,7 @@ fn add_time(out: &mut Vec<u8>, second: u32) -> Result<(), AllocError>
 }
 
 // Returns a moment, in seconds since 2000-01-01 00:00:00, as a civil date and time.
-#[tactic(auto, using(cosem_datetime::proofs::Jiff::first_day_is, crate::proofs::AsciiTexts::civil_is_ascii))]
+#[tactic(auto, using(crate::proofs::AsciiTexts::civil_texts))]
 pub(crate) fn civil_text(alloc: Global, moment: u32) -> Result<String, AllocError>
     ensures { IfOk result (λ text. string_bytes text ≡ civil_text moment) }
 {

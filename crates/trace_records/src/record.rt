@@ -62,7 +62,7 @@ fn len_after_reply(output: bool) -> usize
 
 // Returns the words of the reply of a line: the text between `0: ` and `; state ` in the line of
 // event 0.
-#[tactic(auto, using(crate::proofs::ReplyTexts::line_is_long, crate::proofs::ReplyTexts::reply_cut, crate::proofs::AsciiTexts::reply_is_ascii))]
+#[tactic(auto, using(crate::proofs::ReplyTexts::replies))]
 fn reply_text(alloc: Global, line: &Line) -> Result<String, AllocError>
     ensures { IfOk result (λ text. string_bytes text ≡ reply_text line.now.reply) }
 {
