@@ -1,11 +1,10 @@
 -- What a player of a front returns for a text that has no front.
-use Rattle.std.proofs.Common.{◌≡◌, ◌<◌, rules, ℕ, Option, List, [], length, Err, refl, ap, ◌∙◌, inl}
+use Rattle.std.proofs.Common.{◌≡◌, rules, ℕ, Option, List, [], Err, ap, ◌∙◌, inl}
 use Rattle.std.proofs.Common.{inr}
 use Rattle.std.specs.Io.KnownBytes.{Appends}
 use Rattle.wire_bytes.specs.Outcome.{Fails}
 use Rattle.trace_player.proofs.Faults.{told_too_long}
 use Rattle.trace_player.specs.Traces.{trace_of}
-use Rattle.trace_player.specs.declared.fault.PlayFault.{PlayFault}
 use Rattle.trace_words.specs.declared.fault.TraceFault.{TraceFault}
 use Rattle.trace_words.specs.declared.fault.TraceFault.TheVariants.{Line, Memory, TooLong}
 use Rattle.trace_views.proofs.WholeFronts.{text_whole}

@@ -6,7 +6,6 @@ use Rattle.wire_bytes.specs.Outcome.{◌>>=◌, ◌>>◌}
 use Rattle.wire_bytes.proofs.OutcomeLemmas.{done}
 use Rattle.relay_core.specs.declared.opening.Opening.{Opening}
 use Rattle.relay_events.specs.declared.event.Event.{Event}
-use Rattle.relay_recorder.specs.declared.trace.Trace.{Trace}
 use Rattle.trace_lines.specs.Events.{event_of}
 use Rattle.trace_lines.specs.OpenCount.{count_at}
 use Rattle.trace_openings.specs.OpeningReading.{opening_from}

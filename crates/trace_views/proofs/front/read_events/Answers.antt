@@ -1,4 +1,4 @@
-use Rattle.std.proofs.Common.{◌≡◌, Result, subst}
+use Rattle.std.proofs.Common.{Result, subst}
 use Rattle.relay_events.specs.declared.event.Event.{Event}
 use Rattle.trace_lines.specs.Events.{event_of}
 use Rattle.trace_words.specs.Places.{line_as}
