@@ -92,8 +92,8 @@ module _ {B : Type 0} (is_honest : B → Type 0) (is_down : B → ℕ → Type 0
       let seen = called.seen.1 in
       let lawful = called.lawful in
       let answers : AreAnswered is_honest is_down ((before.seen ++ called.seen.0)
-          ++ entry before.number (Begin place) answer ∷ []) =
-          rw (← seen) lawful.legal_history.answers in
+      ++ entry before.number (Begin place) answer ∷ []) =
+      rw (← seen) lawful.legal_history.answers in
       rw (is, seen) (place_given before.number (before.seen ++ called.seen.0) place answer
       (answered_last (before.seen ++ called.seen.0) (entry before.number (Begin place) answer)
       answers))

@@ -83,9 +83,11 @@ use_at old new tells_of permits_of row_of stage_of jobs found password count sam
     below =
     let within : i < length old = omega arith in
     let x = an_element old i within in
-    rw (get_or-map row_of new i x row (omega arith),
-    get_or-map stage_of new i x unused (omega arith),
-    get_or-map permits_of new i x [] (omega arith)) ((each i x within).use_is job)
+    rw (
+      get_or-map row_of new i x row (omega arith),
+      get_or-map stage_of new i x unused (omega arith),
+      get_or-map permits_of new i x [] (omega arith),
+    ) ((each i x within).use_is job)
 
 -- the lines of all jobs
 pub lines_for : {X : Type 0} (old new : List X) (tells_of : X → List ℕ → Option Forecast)
@@ -145,8 +147,15 @@ use_still NotSent asked more job password row (connected address) still also use
 use_still NotSent asked more job password row (closed address log) still also (same, inl new) =
     (same, inl new)
 use_still NotSent asked more job password row (closed address log) still also
-    (same, inr (may, stored, row_is)) = (same, inr (may_still job.verb asked.given more.given still
-    may, came_still row asked.stored more.stored also stored, row_is))
+    (same, inr (may, stored, row_is)) = (
+      same,
+      inr (
+        may_still job.verb asked.given more.given still
+            may,
+        came_still row asked.stored more.stored also stored,
+        row_is,
+      ),
+    )
 use_still MaybeSent asked more job password row stage still also use_is = use_is
 use_still (Came outcome) asked more job password row stage still also use_is = use_is
 

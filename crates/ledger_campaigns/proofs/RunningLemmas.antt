@@ -61,11 +61,23 @@ pub closed_use : {E : Type 0} (asked : Asked) (job : Job) (password : List ℕ) 
 closed_use asked job password client before after result stands new (inl (same, unknown)) =
     (refl, inl (rw same new, rw unknown refl))
 closed_use asked job password client before after (Ok outcome) stands new
-    (inr (may, stored, speaks)) = (refl, inr (may, stored,
-    (tried_closed job password client before after (Ok outcome) stands new speaks).1))
+    (inr (may, stored, speaks)) = (
+      refl,
+      inr (
+        may,
+        stored,
+        (tried_closed job password client before after (Ok outcome) stands new speaks).1,
+      ),
+    )
 closed_use asked job password client before after (Err error) stands new
-    (inr (may, stored, speaks)) = (refl, inr (may, tt,
-    (tried_closed job password client before after (Err error) stands new speaks).1))
+    (inr (may, stored, speaks)) = (
+      refl,
+      inr (
+        may,
+        tt,
+        (tried_closed job password client before after (Err error) stands new speaks).1,
+      ),
+    )
 
 -- the row of an outcome, or of none
 pub row_of : {E : Type 0} (told : Option Forecast) (verb : Verb) (result : Result Outcome E)

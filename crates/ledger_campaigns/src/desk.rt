@@ -25,7 +25,7 @@ impl<B: Book> Model for Desk<B> {
 
     ghost Value = { DeskState B };
 
-    ghost view = { λ desk. record { ledger = desk.ledger; start = desk.start.value; } };
+    ghost view = { λ desk. record { ledger = desk.ledger; start = desk.start.value } };
 }
 
 impl<B: Book> Desk<B> {

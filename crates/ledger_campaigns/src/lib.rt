@@ -19,7 +19,7 @@ mod sharing;
 pub use asking::{ask_to_send, report_outcome};
 pub use desk::Desk;
 pub use place::{LedgeredPlace, ledgered_places_for};
-pub use plan::CampaignPlan;
+pub use plan::LedgeredPlan;
 pub use request::{Answer, Request};
 pub use run::{LedgeredRun, run_ledgered_campaign};
 pub use running::{LedgeredJob, run_ledgered_job};

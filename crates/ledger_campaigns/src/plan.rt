@@ -8,7 +8,7 @@ use head_end::{Jobs, Watcher};
 /// What a campaign does: its jobs, their password of 1 to 32 bytes, the number of workers, 1 to 16,
 /// and the watcher that is called with each result.
 #[derive(Drop)]
-pub struct CampaignPlan<'a, W: Watcher> {
+pub struct LedgeredPlan<'a, W: Watcher> {
     pub jobs: &'a Jobs,
     pub password: &'a Octets,
     pub workers: u8,

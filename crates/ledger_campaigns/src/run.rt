@@ -12,7 +12,7 @@ ghost use Rattle.ledger_campaigns.specs.Desks.{permits_given};
 
 use crate::campaign::{Course, gather};
 use crate::place::{LedgeredPlace, ledgered_places_for};
-use crate::plan::CampaignPlan;
+use crate::plan::LedgeredPlan;
 use crate::sharing::{close, meet_all, share};
 use campaign_ledger::{Book, Entry, Ledger, grants_add_up};
 use head_end::{Connector, Report, ReportLine, Watcher, blank_lines};
@@ -50,7 +50,7 @@ pub fn run_ledgered_campaign<
 >(
     rt: &R,
     alloc: Global,
-    plan: &CampaignPlan<'_, W>,
+    plan: &LedgeredPlan<'_, W>,
     ledger: Ledger<B>,
     connector: &'a C,
 ) -> Result<LedgeredRun<'a, C, B>, AllocError>
@@ -91,7 +91,7 @@ pub fn run_ledgered_campaign<
 fn run_places<R: Threads + Wait + Sync, C: Connector, B: Book + Send, W: Watcher>(
     rt: &R,
     alloc: Global,
-    plan: &CampaignPlan<'_, W>,
+    plan: &LedgeredPlan<'_, W>,
     found: &[Entry],
     places: &mut [LedgeredPlace<C, B>],
     lines: &mut [ReportLine],

@@ -5,7 +5,7 @@ use campaign_ledger::{Entry, Ledger, MemoryBook};
 use client_core::Outcome;
 use cosem_axdr::Octets;
 use head_end::{Jobs, UnwatchedCampaign, report};
-use ledger_campaigns::{CampaignPlan, LedgeredRun, run_ledgered_campaign};
+use ledger_campaigns::{LedgeredPlan, LedgeredRun, run_ledgered_campaign};
 use std::alloc::{AllocError, Global};
 use std::sync::Wait;
 use std::sync::atomic::{AtomicU64, Ordering};
@@ -84,7 +84,7 @@ fn run_on<R: Threads + Wait + Sync>(
         return Err(AllocError);
     }
     let password = password(alloc)?;
-    let plan = CampaignPlan {
+    let plan = LedgeredPlan {
         jobs,
         password: &password,
         workers: 2,
