@@ -21,11 +21,13 @@ use Rattle.sqlite_ledger.specs.Schema.{ledger_schema}
 pub record AddsRow (tree : ℕ) (db after : Database) (row : Row) : Type 0 where
   pub fresh : are_fresh (db.trees tree) (row ∷ []) ≡ true
   pub rows : after.trees tree ≡ put_all (db.trees tree) (row ∷ [])
-  pub others : AllByRecursion (λ t. t.tree ≢ tree → after.trees t.tree ≡ db.trees t.tree) ledger_schema.tables
+  pub others : AllByRecursion (λ t. t.tree ≢ tree → after.trees t.tree ≡ db.trees t.tree)
+      ledger_schema.tables
   pub schema : after.schema ≡ ledger_schema
 
 -- A part that gave a value did not stop on the way.
-pub went : {B E R : Type 0} {b : B} {Stops : E → Type 0} → ((stop : E) × Stops stop × (Ok b ≡ Err stop)) ⊎ R → R
+pub went : {B E R : Type 0} {b : B} {Stops : E → Type 0} → ((stop : E) × Stops stop × (Ok b ≡ Err
+    stop)) ⊎ R → R
 went (inl stopped) = absurd (let e = stopped.2 in cc)
 went (inr on) = on
 
@@ -46,11 +48,18 @@ cast_null = either _ Null
 
 module _ (table : Table) (keys : Keys) (db next : Trees) (rows : List Row) (row : Row) where
   -- An edit that puts in one row, where no foreign key acts.
-  pub edit_adds : works ledger_schema keys 0 table.tree (taken_by db (edit_of db table [] Chosen 0 rows)) (edit_of db table [] Chosen 0 rows).news ≡ []
-      → (edit_of db table [] Chosen 0 rows).news ≡ row ∷ [] → Writes ledger_schema keys db (edit_of db table [] Chosen 0 rows) (Ok next)
-      → AddsRow table.tree (record { schema = ledger_schema; trees = db }) (record { schema = ledger_schema; trees = next }) row
+  pub edit_adds : works ledger_schema keys 0 table.tree (taken_by db (edit_of db table [] Chosen 0
+      rows)) (edit_of db table [] Chosen 0 rows).news ≡ []
+      → (edit_of db table [] Chosen 0 rows).news ≡ row ∷ [] → Writes ledger_schema keys db (edit_of
+      db table [] Chosen 0 rows) (Ok next)
+      → AddsRow table.tree (record { schema = ledger_schema; trees = db }) (record {
+        schema =
+            ledger_schema;
+        trees = next;
+      }) row
   edit_adds none news writes =
-      let step = one_step ledger_schema keys db next (edit_of db table [] Chosen 0 rows) none writes in
+      let step = one_step ledger_schema keys db next (edit_of db table [] Chosen 0 rows) none writes
+      in
       record {
         fresh = subst (λ all. are_fresh (db table.tree) all ≡ true) news step.fresh;
         rows = step.rows ∙ ap (put_all (db table.tree)) news;

@@ -1,4 +1,5 @@
--- What an INSERT of one row does to a connection that is outside a transaction, and to what a crash leaves.
+-- What an INSERT of one row does to a connection that is outside a transaction, and to what a crash
+-- leaves.
 use Rattle.std.proofs.Common.{◌≡◌, inl, inr, ℕ, List, append-nil, true, false, None, Ok, Err, Result, OnOk, IfErr, IsTrue, sym, ap, subst, ◌∙◌, arith, true≢false}
 use Rattle.std.proofs.lemmas.Bool.{cases_Bool}
 use Rattle.sqlite_trees.specs.declared.error.StoreError.{StoreError}
@@ -30,18 +31,28 @@ failure_is_no_key : (e : Error) (cause : StoreError) → e ≡ store_error cause
 failure_is_no_key e cause is taken = never_taken cause (subst (λ x. is_taken x ≡ true) is taken)
 
 -- A text that is not run leaves the database as it was, or its error is not that of a taken key.
-pub not_run_keeps : (text : List ℕ) (params : Row) (old new : State) (e : Error) → IsNotRun old new text params e → is_taken e ≡ true → new.now ≡ old.now
+pub not_run_keeps : (text : List ℕ) (params : Row) (old new : State) (e : Error) → IsNotRun old new
+    text params e → is_taken e ≡ true → new.now ≡ old.now
 unfolding IsNotRun
-not_run_keeps text params old new e h taken = elim h [ inl not_run ↦ not_run.1.0.now_is | inr failed ↦ absurd (failure_is_no_key e failed.0 failed.1 taken) ]
+not_run_keeps text params old new e h taken = elim h [
+  | inl not_run ↦ not_run.1.0.now_is
+  | inr failed
+      ↦ absurd (failure_is_no_key e failed.0 failed.1 taken)
+]
 
 -- An INSERT whose key is taken changes nothing.
-pub taken_is_unchanged : (text : List ℕ) (params : Row) (mid new : State) (e : Error) → Executes text params mid new (Err e) → is_taken e ≡ true → new.now ≡ mid.now
+pub taken_is_unchanged : (text : List ℕ) (params : Row) (mid new : State) (e : Error) → Executes
+    text params mid new (Err e) → is_taken e ≡ true → new.now ≡ mid.now
 unfolding ExecutesIn
 taken_is_unchanged text params mid new e h taken = elim h [
   | inl not_run ↦ not_run_keeps text params mid new e not_run taken
   | inr ran ↦ elim (cases_Bool (shows_rows false ran.0)) [
     | inl shows ↦ (rw shows at ran.2).1.0.now_is
-    | inr runs ↦ elim (rw runs at ran.2) [ inl refused ↦ refused.1.0.now_is | inr failed ↦ absurd (failure_is_no_key e failed.0 failed.1 taken) ]
+    | inr runs ↦ elim (rw runs at ran.2) [
+      | inl refused ↦ refused.1.0.now_is
+      | inr failed ↦ absurd
+          (failure_is_no_key e failed.0 failed.1 taken)
+    ]
   ]
 ]
 
@@ -55,11 +66,14 @@ abbrev pub IsAtRest : State → Type 0
 IsAtRest s = (s.in_transaction ≡ false) × (IsTrue s.is_open → s.now ≡ s.committed)
 
 -- A text that inserts one row into a table of the ledger.
-pub record IsInsert (text : List ℕ) (params : Row) (at : ℕ) (source : Source) (tree : ℕ) (row : Row) : Type 1 where
+pub record IsInsert (text : List ℕ) (params : Row) (at : ℕ) (source : Source) (tree : ℕ) (row : Row)
+    : Type 1 where
   pub is : command_of (understood ledger_schema text) ≡ Insert at source
   pub plain : IsPlain (understood ledger_schema text)
-  pub does : (s : State) (part : List ℕ) (after : Database) (tally : Tally) → s.now.schema ≡ ledger_schema
-      → Does s.step_limit (mode_of s) params s.now part None (Insert at source) (Ok (tally, after)) → AddsRow tree s.now after row
+  pub does : (s : State) (part : List ℕ) (after : Database) (tally : Tally) → s.now.schema ≡
+      ledger_schema
+      → Does s.step_limit (mode_of s) params s.now part None (Insert at source) (Ok (tally, after))
+      → AddsRow tree s.now after row
 
 -- An INSERT that is made adds the row, and commits it.
 pub record IsMade (tree : ℕ) (row : Row) (mid new : State) : Type 0 where
@@ -67,19 +81,25 @@ pub record IsMade (tree : ℕ) (row : Row) (mid new : State) : Type 0 where
   pub is_open : IsTrue new.is_open
   pub committed : new.committed ≡ new.now
 
-module _ (text : List ℕ) (params : Row) (at : ℕ) (source : Source) (tree : ℕ) (row : Row) (insert : IsInsert text params at source tree row) where
-  made : (mid new : State) (count : ℕ) → mid.now.schema ≡ ledger_schema → mid.in_transaction ≡ false → Executes text params mid new (Ok count) → IsMade tree row mid new
+module _ (text : List ℕ) (params : Row) (at : ℕ) (source : Source) (tree : ℕ) (row : Row) (insert :
+    IsInsert text params at source tree row) where
+  made : (mid new : State) (count : ℕ) → mid.now.schema ≡ ledger_schema → mid.in_transaction ≡ false
+      → Executes text params mid new (Ok count) → IsMade tree row mid new
   made mid new count has auto h =
-      let w : Writes mid new None (Insert at source) (statement_of text (understood ledger_schema text)) params count =
-      runs_as text params mid new ledger_schema has (Insert at source) insert.is insert.plain count h in
+      let w : Writes mid new None (Insert at source) (statement_of text (understood ledger_schema
+      text)) params count =
+      runs_as text params mid new ledger_schema has (Insert at source) insert.is insert.plain count
+      h in
       record {
-        adds = insert.does mid (statement_of text (understood ledger_schema text)) new.now w.tally has w.changed;
+        adds = insert.does mid (statement_of text (understood ledger_schema text)) new.now w.tally
+            has w.changed;
         is_open = w.shown.is_open;
         committed = rw auto at w.shown.committed_is;
       }
 
   -- What an INSERT commits is what it adds to.
-  commits_add : (s : State) (db : Trees) → s.now.schema ≡ ledger_schema → CommitsBy text params s db → (after : Database) × AddsRow tree s.now after row × (db ≡ after.trees)
+  commits_add : (s : State) (db : Trees) → s.now.schema ≡ ledger_schema → CommitsBy text params s db
+      → (after : Database) × AddsRow tree s.now after row × (db ≡ after.trees)
   unfolding CommitsBy
   commits_add s db has commits =
       let c = commits.0 in
@@ -90,10 +110,15 @@ module _ (text : List ℕ) (params : Row) (at : ℕ) (source : Source) (tree : �
       elim may [
         | inl (inl never, same) ↦ absurd cc
         | inl (inr never, same) ↦ absurd (let e = never.2 in cc)
-        | inr writes ↦ (writes.2, insert.does s (text_of text c) writes.2 writes.1 has writes.3, writes.5)
+        | inr writes ↦ (
+          writes.2,
+          insert.does s (text_of text c) writes.2 writes.1 has writes.3,
+          writes.5,
+        )
       ]
 
-  module _ (old mid new : State) (has : old.now.schema ≡ ledger_schema) (rest : IsAtRest old) (same : IsUnchanged old mid) where
+  module _ (old mid new : State) (has : old.now.schema ≡ ledger_schema) (rest : IsAtRest old) (same
+      : IsUnchanged old mid) where
     mid_has : mid.now.schema ≡ ledger_schema
     mid_has = ap (λ (d : Database). d.schema) same.0.now_is ∙ has
 
@@ -111,26 +136,39 @@ module _ (text : List ℕ) (params : Row) (at : ℕ) (source : Source) (tree : �
     is_made count h = made mid new count mid_has mid_auto h
 
     -- after an INSERT that is made, a crash leaves what the connection sees
-    pub left_is : (count : ℕ) (h : Executes text params mid new (Ok count)) → IsSettled new → (db : Trees) → new.may_leave db → db ≡ new.now.trees
-    left_is count h settled db left = let it = is_made count h in settled.settled it.is_open db left ∙ ap (λ (d : Database). d.trees) it.committed
+    pub left_is : (count : ℕ) (h : Executes text params mid new (Ok count)) → IsSettled new → (db :
+        Trees) → new.may_leave db → db ≡ new.now.trees
+    left_is count h settled db left = let it = is_made count h in settled.settled it.is_open db left
+        ∙ ap (λ (d : Database). d.trees) it.committed
 
-    pub adds : (count : ℕ) → Executes text params mid new (Ok count) → AddsRow tree mid.now new.now row
+    pub adds : (count : ℕ) → Executes text params mid new (Ok count) → AddsRow tree mid.now new.now
+        row
     adds count h = (is_made count h).adds
 
-    pub schema : (r : Result ℕ Error) → Executes text params mid new r → OnOk r (new.now.schema ≡ ledger_schema)
+    pub schema : (r : Result ℕ Error) → Executes text params mid new r → OnOk r (new.now.schema ≡
+        ledger_schema)
     schema (Ok count) h = (is_made count h).adds.schema
     schema (Err e) h = tt
 
     -- after an INSERT whose key is taken, too
-    pub taken : (r : Result ℕ Error) → Executes text params mid new r → IfErr r (λ e. IsTrue (is_taken e) → new.now.schema ≡ ledger_schema)
+    pub taken : (r : Result ℕ Error) → Executes text params mid new r → IfErr r (λ e. IsTrue
+        (is_taken e) → new.now.schema ≡ ledger_schema)
     taken (Ok count) h = tt
-    taken (Err e) h = λ is. ap (λ (d : Database). d.schema) (taken_is_unchanged text params mid new e h is) ∙ mid_has
+    taken (Err e) h = λ is. ap (λ (d : Database). d.schema) (taken_is_unchanged text params mid new
+        e h is) ∙ mid_has
 
-    -- What every crash left before, and what the row does not take away, every crash leaves after, also where the INSERT fails.
-    pub kept : IsSettled old → HasCleanDisk new → Survives old mid (λ _. ⊥) → Survives mid new (CommitsBy text params mid) → (P : Trees → Type 0)
-        → ((db after : Database) → AddsRow tree db after row → P db.trees → P after.trees) → ((db : Trees) → old.may_leave db → P db) → (db : Trees) → new.may_leave db → P db
+    -- What every crash left before, and what the row does not take away, every crash leaves after,
+    -- even if the INSERT fails.
+    pub kept : IsSettled old → HasCleanDisk new → Survives old mid (λ _. ⊥) → Survives mid new
+        (CommitsBy text params mid) → (P : Trees → Type 0)
+        → ((db after : Database) → AddsRow tree db after row → P db.trees → P after.trees) → ((db :
+        Trees) → old.may_leave db → P db) → (db : Trees) → new.may_leave db → P db
     kept start clean first second P keeps all db left = elim (second.crash clean db left) [
-      | inl was ↦ elim (first.crash (omega (arith, second.clean)) db was) [ inl before ↦ all db before | inr never ↦ absurd never ]
+      | inl was ↦ elim (first.crash (omega (arith, second.clean)) db was) [
+        | inl before ↦ all db
+            before
+        | inr never ↦ absurd never
+      ]
       | inr commits ↦
           let it = commits_add mid db mid_has commits in
           subst P (sym it.2) (keeps mid.now it.0 it.1 (all mid.now.trees (start_left start)))

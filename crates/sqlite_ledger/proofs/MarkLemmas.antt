@@ -48,44 +48,62 @@ begun_plain = (refl, refl)
 abbrev pub mark_row : ℤ → Value → Row
 mark_row place at = Int place ∷ Null ∷ cast Integer at ∷ []
 
-cast_mark : (place : ℤ) (at : Value) → cast_row begun_table (Int place ∷ Null ∷ at ∷ []) ≡ mark_row place at
+cast_mark : (place : ℤ) (at : Value) → cast_row begun_table (Int place ∷ Null ∷ at ∷ []) ≡ mark_row
+    place at
 cast_mark place at = rw (cast_int place, cast_null)
 
-pub begun_does : (place : ℤ) (at : Value) (s : State) (text : List ℕ) (after : Database) (tally : Tally) → s.now.schema ≡ ledger_schema
-    → Does s.step_limit (mode_of s) (Int place ∷ at ∷ []) s.now text None (Insert 0 begun_source) (Ok (tally, after)) → AddsRow begun_tree s.now after (mark_row place at)
+pub begun_does : (place : ℤ) (at : Value) (s : State) (text : List ℕ) (after : Database) (tally :
+    Tally) → s.now.schema ≡ ledger_schema
+    → Does s.step_limit (mode_of s) (Int place ∷ at ∷ []) s.now text None (Insert 0 begun_source)
+    (Ok (tally, after)) → AddsRow begun_tree s.now after (mark_row place at)
 begun_does place at s text after tally has does =
     let db = s.now.trees in
     let params = Int place ∷ at ∷ [] in
-    let done = went (subst (λ sc. Does s.step_limit (mode_of s) params (record s.now { schema = sc }) text None (Insert 0 begun_source) (Ok (tally, after))) has does) in
+    let done = went (subst (λ sc. Does s.step_limit (mode_of s) params (record s.now {
+      schema = sc;
+    }) text None (Insert 0 begun_source) (Ok (tally, after))) has does) in
     let now = ap (λ (p : Tally × Database). p.1) (same_value (went (went done.2).2).2) in
     let given = went done.1 in
     let written = went (went given.2).2 in
     let counted = went written.2 in
-    let trees : done.0.trees ≡ written.0 = ap (λ (it : Written). it.trees) (same_value counted.2) ∙ same_value counted.1 in
+    let trees : done.0.trees ≡ written.0 = ap (λ (it : Written). it.trees) (same_value counted.2) ∙
+    same_value counted.1 in
     let is : given.0 ≡ (Int place ∷ Null ∷ at ∷ []) ∷ [] = given.1.1 in
     let news : (edit_of db begun_table [] Chosen 0 given.0).news ≡ mark_row place at ∷ [] =
-    ap (λ all. (edit_of db begun_table [] Chosen 0 all).news) is ∙ ap (λ row. numbered Chosen (db begun_tree) (row ∷ [])) (cast_mark place at) in
-    let adds = edit_adds begun_table _ db written.0 given.0 (mark_row place at) refl news written.1 in
-    let same : after ≡ record { schema = ledger_schema; trees = written.0 } = now ∙ ap (λ (t : Trees). let d : Database = record { schema = ledger_schema; trees = t } in d) trees in
+    ap (λ all. (edit_of db begun_table [] Chosen 0 all).news) is ∙ ap (λ row. numbered Chosen (db
+    begun_tree) (row ∷ [])) (cast_mark place at) in
+    let adds = edit_adds begun_table _ db written.0 given.0 (mark_row place at) refl news written.1
+    in
+    let same : after ≡ record { schema = ledger_schema; trees = written.0 } = now ∙ ap (λ (t :
+    Trees). let d : Database = record { schema = ledger_schema; trees = t } in d) trees in
     rw same (record { fresh = adds.fresh; rows = adds.rows; others = adds.others; schema = refl })
 
 -- A row with this key is there.
-has_begun : (db : Trees) (place : ℤ) (at : Value) → Has (db begun_tree) (mark_row place at) → IsBegun db place
+has_begun : (db : Trees) (place : ℤ) (at : Value) → Has (db begun_tree) (mark_row place at) →
+    IsBegun db place
 has_begun db place at has =
-    (some_from (has_rowid place) (db begun_tree) (mark_row place at) has (ap is_eq (tied_itself value_cmp_total (Int place))))
+    (some_from (has_rowid place) (db begun_tree) (mark_row place at) has (ap is_eq (tied_itself
+    value_cmp_total (Int place))))
 
-module _ (db after : Database) (place : ℤ) (at : Value) (adds : AddsRow begun_tree db after (mark_row place at)) where
+module _ (db after : Database) (place : ℤ) (at : Value) (adds : AddsRow begun_tree db after
+    (mark_row place at)) where
   pub begun_after : IsBegun after.trees place
-  begun_after = has_begun after.trees place at (subst (λ rows. Has rows (mark_row place at)) (sym adds.rows) (put_all_adds (mark_row place at ∷ []) (db.trees begun_tree) (mark_row place at) adds.fresh (inl refl)))
+  begun_after = has_begun after.trees place at (subst (λ rows. Has rows (mark_row place at)) (sym
+      adds.rows) (put_all_adds (mark_row place at ∷ []) (db.trees begun_tree) (mark_row place at)
+      adds.fresh (inl refl)))
 
   pub begun_kept : (other : ℤ) → IsBegun db.trees other → IsBegun after.trees other
   begun_kept other was =
       let row = some_has (has_rowid other) (db.trees begun_tree) was in
-      some_from (has_rowid other) (after.trees begun_tree) row.0 (subst (λ rows. Has rows row.0) (sym adds.rows) (put_all_keeps (mark_row place at ∷ []) (db.trees begun_tree) row.0 adds.fresh row.1)) row.2
+      some_from (has_rowid other) (after.trees begun_tree) row.0 (subst (λ rows. Has rows row.0)
+      (sym adds.rows) (put_all_keeps (mark_row place at ∷ []) (db.trees begun_tree) row.0
+      adds.fresh row.1)) row.2
 
   pub not_before : ¬ IsBegun db.trees place
   not_before was = true≢false (sym was ∙ not-true _ (and_parts _ _ adds.fresh).0)
 
 -- What leaves the table of the marks alone keeps the marks.
-pub begun_same : (db after : Trees) → after begun_tree ≡ db begun_tree → (other : ℤ) → IsBegun db other → IsBegun after other
-begun_same db after same other was = subst (λ rows. list_any (has_rowid other) rows ≡ true) (sym same) was
+pub begun_same : (db after : Trees) → after begun_tree ≡ db begun_tree → (other : ℤ) → IsBegun db
+    other → IsBegun after other
+begun_same db after same other was = subst (λ rows. list_any (has_rowid other) rows ≡ true) (sym
+    same) was

@@ -16,28 +16,41 @@ use Rattle.sqlite_ledger.proofs.InsertStates as insert
 abbrev mark_params : ℤ → Value → Row
 mark_params place at = Int place ∷ at ∷ []
 
-mark : (place : ℤ) (at : Value) → IsInsert begun_text (mark_params place at) 0 begun_source begun_tree (mark_row place at)
+mark : (place : ℤ) (at : Value) → IsInsert begun_text (mark_params place at) 0 begun_source
+    begun_tree (mark_row place at)
 mark place at = record { is = begun_is; plain = begun_plain; does = begun_does place at }
 
-module _ (old mid new : State) (place : ℤ) (at : Value) (has : old.now.schema ≡ ledger_schema) (rest : IsAtRest old) (same : IsUnchanged old mid) where
-  pub durable : (r : Result ℕ Error) → Executes begun_text (mark_params place at) mid new r → IsSettled new → OnOk r (IsDown new.may_leave place)
+module _ (old mid new : State) (place : ℤ) (at : Value) (has : old.now.schema ≡ ledger_schema) (rest
+    : IsAtRest old) (same : IsUnchanged old mid) where
+  pub durable : (r : Result ℕ Error) → Executes begun_text (mark_params place at) mid new r →
+      IsSettled new → OnOk r (IsDown new.may_leave place)
   durable (Ok count) h settled = λ db left.
-      subst (λ (d : Trees). IsBegun d place) (sym (insert.left_is _ _ _ _ _ _ (mark place at) old mid new has rest same count h settled db left))
-      (begun_after mid.now new.now place at (insert.adds _ _ _ _ _ _ (mark place at) old mid new has rest same count h))
+      subst (λ (d : Trees). IsBegun d place) (sym (insert.left_is _ _ _ _ _ _ (mark place at) old
+      mid new has rest same count h settled db left))
+      (begun_after mid.now new.now place at (insert.adds _ _ _ _ _ _ (mark place at) old mid new has
+      rest same count h))
   durable (Err e) h settled = tt
 
-  pub fresh : (r : Result ℕ Error) → Executes begun_text (mark_params place at) mid new r → IsSettled old → OnOk r (¬ IsDown old.may_leave place)
+  pub fresh : (r : Result ℕ Error) → Executes begun_text (mark_params place at) mid new r →
+      IsSettled old → OnOk r (¬ IsDown old.may_leave place)
   fresh (Ok count) h settled = λ down.
-      not_before mid.now new.now place at (insert.adds _ _ _ _ _ _ (mark place at) old mid new has rest same count h)
-      (down mid.now.trees (insert.start_left _ _ _ _ _ _ (mark place at) old mid new has rest same settled))
+      not_before mid.now new.now place at (insert.adds _ _ _ _ _ _ (mark place at) old mid new has
+      rest same count h)
+      (down mid.now.trees (insert.start_left _ _ _ _ _ _ (mark place at) old mid new has rest same
+      settled))
   fresh (Err e) h settled = tt
 
-  pub schema : (r : Result ℕ Error) → Executes begun_text (mark_params place at) mid new r → OnOk r (new.now.schema ≡ ledger_schema)
+  pub schema : (r : Result ℕ Error) → Executes begun_text (mark_params place at) mid new r → OnOk r
+      (new.now.schema ≡ ledger_schema)
   schema = insert.schema _ _ _ _ _ _ (mark place at) old mid new has rest same
 
-  pub taken : (r : Result ℕ Error) → Executes begun_text (mark_params place at) mid new r → IfErr r (λ e. IsTrue (is_taken e) → new.now.schema ≡ ledger_schema)
+  pub taken : (r : Result ℕ Error) → Executes begun_text (mark_params place at) mid new r → IfErr r
+      (λ e. IsTrue (is_taken e) → new.now.schema ≡ ledger_schema)
   taken = insert.taken _ _ _ _ _ _ (mark place at) old mid new has rest same
 
-  pub kept : IsSettled old → HasCleanDisk new → Survives old mid (λ _. ⊥) → Survives mid new (CommitsBy begun_text (mark_params place at) mid) → (other : ℤ) → IsDown old.may_leave other → IsDown new.may_leave other
+  pub kept : IsSettled old → HasCleanDisk new → Survives old mid (λ _. ⊥) → Survives mid new
+      (CommitsBy begun_text (mark_params place at) mid) → (other : ℤ) → IsDown old.may_leave other →
+      IsDown new.may_leave other
   kept start clean first second other =
-      insert.kept _ _ _ _ _ _ (mark place at) old mid new has rest same start clean first second (λ d. IsBegun d other) (λ db after adds. begun_kept db after place at adds other)
+      insert.kept _ _ _ _ _ _ (mark place at) old mid new has rest same start clean first second (λ
+      d. IsBegun d other) (λ db after adds. begun_kept db after place at adds other)

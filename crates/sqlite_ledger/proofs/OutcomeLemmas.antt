@@ -58,25 +58,37 @@ bound_number (Refused code) = refl
 bound_number (Rejected diagnostic) = refl
 bound_number Unknown = refl
 
-cast_outcome : (place : ℤ) (outcome : Outcome) (at : Value) → cast_row outcome_table (Int place ∷ Null ∷ Words (kind_of outcome) ∷ number_of outcome ∷ at ∷ []) ≡ outcome_row place outcome at
+cast_outcome : (place : ℤ) (outcome : Outcome) (at : Value) → cast_row outcome_table (Int place ∷
+    Null ∷ Words (kind_of outcome) ∷ number_of outcome ∷ at ∷ []) ≡ outcome_row place outcome at
 cast_outcome place outcome at = rw (cast_int place, cast_null, cast_number outcome)
 
-pub outcome_does : (place : ℤ) (outcome : Outcome) (at : Value) (s : State) (text : List ℕ) (after : Database) (tally : Tally) → s.now.schema ≡ ledger_schema
-    → Does s.step_limit (mode_of s) (outcome_params place outcome at) s.now text None (Insert 1 outcome_source) (Ok (tally, after)) → AddsRow outcome_tree s.now after (outcome_row place outcome at)
+pub outcome_does : (place : ℤ) (outcome : Outcome) (at : Value) (s : State) (text : List ℕ) (after :
+    Database) (tally : Tally) → s.now.schema ≡ ledger_schema
+    → Does s.step_limit (mode_of s) (outcome_params place outcome at) s.now text None (Insert 1
+    outcome_source) (Ok (tally, after)) → AddsRow outcome_tree s.now after (outcome_row place
+    outcome at)
 outcome_does place outcome at s text after tally has does =
     let db = s.now.trees in
     let params = outcome_params place outcome at in
-    let done = went (subst (λ sc. Does s.step_limit (mode_of s) params (record s.now { schema = sc }) text None (Insert 1 outcome_source) (Ok (tally, after))) has does) in
+    let done = went (subst (λ sc. Does s.step_limit (mode_of s) params (record s.now {
+      schema = sc;
+    }) text None (Insert 1 outcome_source) (Ok (tally, after))) has does) in
     let now = ap (λ (p : Tally × Database). p.1) (same_value (went (went done.2).2).2) in
     let given = went done.1 in
     let written = went (went given.2).2 in
     let counted = went written.2 in
-    let trees : done.0.trees ≡ written.0 = ap (λ (it : Written). it.trees) (same_value counted.2) ∙ same_value counted.1 in
-    let is : given.0 ≡ (Int place ∷ Null ∷ Words (kind_of outcome) ∷ number_of outcome ∷ at ∷ []) ∷ [] = given.1.1 in
-    let news : (edit_of db outcome_table [] Chosen 0 given.0).news ≡ outcome_row place outcome at ∷ [] =
-    ap (λ all. (edit_of db outcome_table [] Chosen 0 all).news) is ∙ ap (λ row. numbered Chosen (db outcome_tree) (row ∷ [])) (cast_outcome place outcome at) in
-    let adds = edit_adds outcome_table _ db written.0 given.0 (outcome_row place outcome at) refl news written.1 in
-    let same : after ≡ record { schema = ledger_schema; trees = written.0 } = now ∙ ap (λ (t : Trees). let d : Database = record { schema = ledger_schema; trees = t } in d) trees in
+    let trees : done.0.trees ≡ written.0 = ap (λ (it : Written). it.trees) (same_value counted.2) ∙
+    same_value counted.1 in
+    let is : given.0 ≡ (Int place ∷ Null ∷ Words (kind_of outcome) ∷ number_of outcome ∷ at ∷ []) ∷
+    [] = given.1.1 in
+    let news : (edit_of db outcome_table [] Chosen 0 given.0).news ≡ outcome_row place outcome at ∷
+    [] =
+    ap (λ all. (edit_of db outcome_table [] Chosen 0 all).news) is ∙ ap (λ row. numbered Chosen (db
+    outcome_tree) (row ∷ [])) (cast_outcome place outcome at) in
+    let adds = edit_adds outcome_table _ db written.0 given.0 (outcome_row place outcome at) refl
+    news written.1 in
+    let same : after ≡ record { schema = ledger_schema; trees = written.0 } = now ∙ ap (λ (t :
+    Trees). let d : Database = record { schema = ledger_schema; trees = t } in d) trees in
     rw same (record { fresh = adds.fresh; rows = adds.rows; others = adds.others; schema = refl })
 
 module _ (db after : Database) (row : Row) (adds : AddsRow outcome_tree db after row) where
@@ -85,4 +97,5 @@ module _ (db after : Database) (row : Row) (adds : AddsRow outcome_tree db after
   marks_same = adds.others.0 (λ (same : begun_tree ≡ outcome_tree). absurd (omega (arith, same)))
 
   pub recorded : Has (after.trees outcome_tree) row
-  recorded = subst (λ rows. Has rows row) (sym adds.rows) (put_all_adds (row ∷ []) (db.trees outcome_tree) row adds.fresh (inl refl))
+  recorded = subst (λ rows. Has rows row) (sym adds.rows) (put_all_adds (row ∷ []) (db.trees
+      outcome_tree) row adds.fresh (inl refl))

@@ -13,20 +13,37 @@ use Rattle.sqlite_ledger.proofs.OutcomeLemmas.{outcome_text, outcome_source, out
 use Rattle.sqlite_ledger.proofs.InsertStates.{IsSettled, IsAtRest, IsInsert}
 use Rattle.sqlite_ledger.proofs.InsertStates as insert
 
-ending : (place : ℤ) (outcome : Outcome) (at : Value) → IsInsert outcome_text (outcome_params place outcome at) 1 outcome_source outcome_tree (outcome_row place outcome at)
-ending place outcome at = record { is = outcome_is; plain = outcome_plain; does = outcome_does place outcome at }
+ending : (place : ℤ) (outcome : Outcome) (at : Value) → IsInsert outcome_text (outcome_params place
+    outcome at) 1 outcome_source outcome_tree (outcome_row place outcome at)
+ending place outcome at = record {
+  is = outcome_is;
+  plain = outcome_plain;
+  does = outcome_does place
+      outcome at;
+}
 
-module _ (old mid new : State) (place : ℤ) (outcome : Outcome) (at : Value) (has : old.now.schema ≡ ledger_schema) (rest : IsAtRest old) (same : IsUnchanged old mid) where
-  pub safe : (r : Result ℕ Error) → Executes outcome_text (outcome_params place outcome at) mid new r → IsSettled new → OnOk r (IsSafe new.may_leave place outcome)
+module _ (old mid new : State) (place : ℤ) (outcome : Outcome) (at : Value) (has : old.now.schema ≡
+    ledger_schema) (rest : IsAtRest old) (same : IsUnchanged old mid) where
+  pub safe : (r : Result ℕ Error) → Executes outcome_text (outcome_params place outcome at) mid new
+      r → IsSettled new → OnOk r (IsSafe new.may_leave place outcome)
   safe (Ok count) h settled = λ db left.
-      subst (λ (d : Trees). IsRecorded d place outcome) (sym (insert.left_is _ _ _ _ _ _ (ending place outcome at) old mid new has rest same count h settled db left))
-      (at, recorded mid.now new.now (outcome_row place outcome at) (insert.adds _ _ _ _ _ _ (ending place outcome at) old mid new has rest same count h))
+      subst (λ (d : Trees). IsRecorded d place outcome) (sym (insert.left_is _ _ _ _ _ _ (ending
+      place outcome at) old mid new has rest same count h settled db left)) (
+        at,
+        recorded mid.now new.now (outcome_row place outcome at) (insert.adds _ _ _ _ _ _ (ending
+            place outcome at) old mid new has rest same count h),
+      )
   safe (Err e) h settled = tt
 
-  pub schema : (r : Result ℕ Error) → Executes outcome_text (outcome_params place outcome at) mid new r → OnOk r (new.now.schema ≡ ledger_schema)
+  pub schema : (r : Result ℕ Error) → Executes outcome_text (outcome_params place outcome at) mid
+      new r → OnOk r (new.now.schema ≡ ledger_schema)
   schema = insert.schema _ _ _ _ _ _ (ending place outcome at) old mid new has rest same
 
-  pub kept : IsSettled old → HasCleanDisk new → Survives old mid (λ _. ⊥) → Survives mid new (CommitsBy outcome_text (outcome_params place outcome at) mid) → (other : ℤ) → IsDown old.may_leave other → IsDown new.may_leave other
+  pub kept : IsSettled old → HasCleanDisk new → Survives old mid (λ _. ⊥) → Survives mid new
+      (CommitsBy outcome_text (outcome_params place outcome at) mid) → (other : ℤ) → IsDown
+      old.may_leave other → IsDown new.may_leave other
   kept start clean first second other =
-      insert.kept _ _ _ _ _ _ (ending place outcome at) old mid new has rest same start clean first second (λ d. IsBegun d other)
-      (λ db after adds. begun_same db.trees after.trees (marks_same db after (outcome_row place outcome at) adds) other)
+      insert.kept _ _ _ _ _ _ (ending place outcome at) old mid new has rest same start clean first
+      second (λ d. IsBegun d other)
+      (λ db after adds. begun_same db.trees after.trees (marks_same db after (outcome_row place
+      outcome at) adds) other)

@@ -7,13 +7,15 @@ use Rattle.sqlite.proofs.Callers.{IsPlain}
 use Rattle.sqlite_tied.specs.Compute.{everything}
 use Rattle.sqlite_ledger.specs.Schema.{ledger_schema}
 
-pub shown_unchanged : (sql : List ℕ) (old new : State) (rows : List Row) → IsPlain (understood old.now.schema sql) → Shown sql [] old new rows → IsUnchanged old new
+pub shown_unchanged : (sql : List ℕ) (old new : State) (rows : List Row) → IsPlain (understood
+    old.now.schema sql) → Shown sql [] old new rows → IsUnchanged old new
 unfolding Shown
 shown_unchanged sql old new rows plain h =
     let none = (subst IsPlain h.1.is plain).0 in
     (subst (ShowsRows old new sql h.0 _ rows) none h.2).3
 
-pub ok_then : {X E : Type 0} (r : Result X E) (P : X → Type 0) (Q : Type 0) → IfOk r P → ((x : X) → P x → Q) → OnOk r Q
+pub ok_then : {X E : Type 0} (r : Result X E) (P : X → Type 0) (Q : Type 0) → IfOk r P → ((x : X) →
+    P x → Q) → OnOk r Q
 ok_then (Ok x) P Q h f = f x h
 ok_then (Err e) P Q h f = tt
 

@@ -30,7 +30,8 @@ number_of Unknown = Null
 
 -- a row is its key, and then its columns, of which the one of the key is NULL
 abbrev pub outcome_row : ℤ → Outcome → Value → Row
-outcome_row place outcome at = Int place ∷ Null ∷ Words (kind_of outcome) ∷ number_of outcome ∷ cast Integer at ∷ []
+outcome_row place outcome at = Int place ∷ Null ∷ Words (kind_of outcome) ∷ number_of outcome ∷ cast
+    Integer at ∷ []
 
 abbrev pub IsRecorded : Trees → ℤ → Outcome → Type 0
 IsRecorded db place outcome = (at : Value) × Has (db outcome_tree) (outcome_row place outcome at)

@@ -142,8 +142,10 @@ fn other_tables_are_refused(rt: HostRuntime) -> Result<(), Fail> {
         "CREATE TABLE note (id INTEGER PRIMARY KEY) STRICT",
         // a mark's key that is no rowid
         "CREATE TABLE begun (place INTEGER, at INTEGER NOT NULL) STRICT;
-CREATE TABLE outcome (place INTEGER PRIMARY KEY, kind TEXT NOT NULL, number INTEGER, at INTEGER NOT NULL) STRICT;
-CREATE TABLE job (place INTEGER PRIMARY KEY, name TEXT NOT NULL, address TEXT NOT NULL, verb TEXT NOT NULL) STRICT;
+CREATE TABLE outcome (place INTEGER PRIMARY KEY, kind TEXT NOT NULL, number INTEGER,
+at INTEGER NOT NULL) STRICT;
+CREATE TABLE job (place INTEGER PRIMARY KEY, name TEXT NOT NULL, address TEXT NOT NULL,
+verb TEXT NOT NULL) STRICT;
 CREATE TABLE campaign (version INTEGER PRIMARY KEY, jobs INTEGER NOT NULL) STRICT;",
     ] {
         assert!(rt; fault_after(&rt, text, &jobs) == Some(LedgerOpenFault::NotALedger));

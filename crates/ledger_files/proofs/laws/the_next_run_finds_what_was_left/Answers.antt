@@ -2,7 +2,9 @@ use Rattle.ledger_files.proofs.NextRun.{finds_left, finds_down}
 use Rattle.ledger_files.proofs.laws.the_next_run_finds_what_was_left.Goals as goal
 
 pub returns-clause-left : goal.returns-clause-left
-returns-clause-left g c last numbered sound held may now opened ledger entries is = finds_left last numbered sound held may now opened ledger entries is
+returns-clause-left g c last numbered sound held may now opened ledger entries is = finds_left last
+    numbered sound held may now opened ledger entries is
 
 pub returns-clause-down : goal.returns-clause-down
-returns-clause-down g c last numbered sound held may now opened ledger entries is = finds_down last numbered sound held may now opened ledger entries is
+returns-clause-down g c last numbered sound held may now opened ledger entries is = finds_down last
+    numbered sound held may now opened ledger entries is

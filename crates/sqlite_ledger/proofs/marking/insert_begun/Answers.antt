@@ -15,33 +15,60 @@ returns-clause-durable g c clean has =
     let old = state g.S.Store c.args.conn.now in
     let mid = state g.S.Store c.prepare.new.self in
     let new = state g.S.Store c.execute.new.conn in
-    let settled : (h : Held _) → IsSettled (state g.S.Store h) = λ h. record { settled = λ o db left. g.met.S.Store.settled h.store db o left; stays = λ o. g.met.S.Store.stays h.store o } in
+    let settled : (h : Held _) → IsSettled (state g.S.Store h) = λ h. record {
+      settled = λ o db
+          left. g.met.S.Store.settled h.store db o left;
+      stays = λ o. g.met.S.Store.stays h.store o;
+    }
+    in
     let early : HasCleanDisk mid = omega (arith, c.execute.ensures.survives.clean) in
     let same = c.in_ok-insert.ensures.ok early in
     let rest : IsAtRest old = search rules in
-    durable old mid new (pos c.args.place) _ has rest same.1 c.execute.result (rw (same.0, c.params-to_sql.ensures, c.params-to_sql-2.ensures) at (c.execute.ensures.runs clean)) (settled c.execute.new.conn)
+    durable old mid new (pos c.args.place) _ has rest same.1 c.execute.result (rw (
+      same.0,
+      c.params-to_sql.ensures,
+      c.params-to_sql-2.ensures,
+    ) at (c.execute.ensures.runs clean))
+    (settled c.execute.new.conn)
 
 pub returns-clause-fresh : goal.returns-clause-fresh
 returns-clause-fresh g c clean has =
     let old = state g.S.Store c.args.conn.now in
     let mid = state g.S.Store c.prepare.new.self in
     let new = state g.S.Store c.execute.new.conn in
-    let settled : (h : Held _) → IsSettled (state g.S.Store h) = λ h. record { settled = λ o db left. g.met.S.Store.settled h.store db o left; stays = λ o. g.met.S.Store.stays h.store o } in
+    let settled : (h : Held _) → IsSettled (state g.S.Store h) = λ h. record {
+      settled = λ o db
+          left. g.met.S.Store.settled h.store db o left;
+      stays = λ o. g.met.S.Store.stays h.store o;
+    }
+    in
     let early : HasCleanDisk mid = omega (arith, c.execute.ensures.survives.clean) in
     let same = c.in_ok-insert.ensures.ok early in
     let rest : IsAtRest old = search rules in
-    fresh old mid new (pos c.args.place) _ has rest same.1 c.execute.result (rw (same.0, c.params-to_sql.ensures, c.params-to_sql-2.ensures) at (c.execute.ensures.runs clean)) (settled c.args.conn.now)
+    fresh old mid new (pos c.args.place) _ has rest same.1 c.execute.result (rw (
+      same.0,
+      c.params-to_sql.ensures,
+      c.params-to_sql-2.ensures,
+    ) at (c.execute.ensures.runs clean))
+    (settled c.args.conn.now)
 
 pub returns-clause-kept : goal.returns-clause-kept
 returns-clause-kept g c clean has other down =
     let old = state g.S.Store c.args.conn.now in
     let mid = state g.S.Store c.prepare.new.self in
     let new = state g.S.Store c.execute.new.conn in
-    let settled : (h : Held _) → IsSettled (state g.S.Store h) = λ h. record { settled = λ o db left. g.met.S.Store.settled h.store db o left; stays = λ o. g.met.S.Store.stays h.store o } in
+    let settled : (h : Held _) → IsSettled (state g.S.Store h) = λ h. record {
+      settled = λ o db
+          left. g.met.S.Store.settled h.store db o left;
+      stays = λ o. g.met.S.Store.stays h.store o;
+    }
+    in
     let early : HasCleanDisk mid = omega (arith, c.execute.ensures.survives.clean) in
     let same = c.in_ok-insert.ensures.ok early in
     let rest : IsAtRest old = search rules in
-    kept old mid new (pos c.args.place) _ has rest same.1 (settled c.args.conn.now) clean c.prepare.ensures.survives (rw (same.0, c.params-to_sql.ensures, c.params-to_sql-2.ensures) at c.execute.ensures.survives) other down
+    kept old mid new (pos c.args.place) _ has rest same.1 (settled c.args.conn.now) clean
+    c.prepare.ensures.survives (rw (same.0, c.params-to_sql.ensures, c.params-to_sql-2.ensures)
+    at c.execute.ensures.survives) other down
 
 pub returns-clause-schema : goal.returns-clause-schema
 returns-clause-schema g c clean has =
@@ -51,7 +78,11 @@ returns-clause-schema g c clean has =
     let early : HasCleanDisk mid = omega (arith, c.execute.ensures.survives.clean) in
     let same = c.in_ok-insert.ensures.ok early in
     let rest : IsAtRest old = search rules in
-    schema old mid new (pos c.args.place) _ has rest same.1 c.execute.result (rw (same.0, c.params-to_sql.ensures, c.params-to_sql-2.ensures) at (c.execute.ensures.runs clean))
+    schema old mid new (pos c.args.place) _ has rest same.1 c.execute.result (rw (
+      same.0,
+      c.params-to_sql.ensures,
+      c.params-to_sql-2.ensures,
+    ) at (c.execute.ensures.runs clean))
 
 pub returns-clause-taken : goal.returns-clause-taken
 returns-clause-taken g c clean has =
@@ -61,7 +92,11 @@ returns-clause-taken g c clean has =
     let early : HasCleanDisk mid = omega (arith, c.execute.ensures.survives.clean) in
     let same = c.in_ok-insert.ensures.ok early in
     let rest : IsAtRest old = search rules in
-    taken old mid new (pos c.args.place) _ has rest same.1 c.execute.result (rw (same.0, c.params-to_sql.ensures, c.params-to_sql-2.ensures) at (c.execute.ensures.runs clean))
+    taken old mid new (pos c.args.place) _ has rest same.1 c.execute.result (rw (
+      same.0,
+      c.params-to_sql.ensures,
+      c.params-to_sql-2.ensures,
+    ) at (c.execute.ensures.runs clean))
 
 pub returns-in_err-insert-clause-taken : goal.returns-in_err-insert-clause-taken
 returns-in_err-insert-clause-taken g c clean has =
@@ -69,5 +104,6 @@ returns-in_err-insert-clause-taken g c clean has =
     let mid = state g.S.Store c.prepare.new.self in
     let error = c.in_err-insert.field-0.0 in
     let kept : IsTrue (is_taken error) → c.prepare.new.self.schema ≡ ledger_schema =
-    λ is. ap (λ (d : Database). d.schema) (not_run_keeps begun_text [] old mid error (c.in_err-insert.ensures.err clean []) is) ∙ has in
+    λ is. ap (λ (d : Database). d.schema) (not_run_keeps begun_text [] old mid error
+    (c.in_err-insert.ensures.err clean []) is) ∙ has in
     search rules

@@ -13,12 +13,28 @@ returns-clause-recorded g c clean has =
     let mid = state g.S.Store c.prepare.new.self in
     let new = state g.S.Store c.execute.new.conn in
     let at = Int (to_z w64 (of_z w64 c.args.at)) in
-    let settled : (h : Held _) → IsSettled (state g.S.Store h) = λ h. record { settled = λ o db left. g.met.S.Store.settled h.store db o left; stays = λ o. g.met.S.Store.stays h.store o } in
+    let settled : (h : Held _) → IsSettled (state g.S.Store h) = λ h. record {
+      settled = λ o db
+          left. g.met.S.Store.settled h.store db o left;
+      stays = λ o. g.met.S.Store.stays h.store o;
+    }
+    in
     let early : HasCleanDisk mid = omega (arith, c.execute.ensures.survives.clean) in
     let same = c.in_ok-insert.ensures.ok early in
     let rest : IsAtRest old = search rules in
-    let ran : Executes outcome_text (outcome_params (pos c.args.place) c.args.outcome at) mid new c.execute.result = rw (same.0, c.params-to_sql.ensures, c.params-to_sql-2.ensures, c.params-to_sql-3.ensures, c.params-to_sql-4.ensures, c.kind_of.ensures, c.number_of.ensures, bound_number c.args.outcome) at (c.execute.ensures.runs clean) in
-    safe old mid new (pos c.args.place) c.args.outcome at has rest same.1 c.execute.result ran (settled c.execute.new.conn)
+    let ran : Executes outcome_text (outcome_params (pos c.args.place) c.args.outcome at) mid new
+    c.execute.result = rw (
+      same.0,
+      c.params-to_sql.ensures,
+      c.params-to_sql-2.ensures,
+      c.params-to_sql-3.ensures,
+      c.params-to_sql-4.ensures,
+      c.kind_of.ensures,
+      c.number_of.ensures,
+      bound_number c.args.outcome,
+    ) at (c.execute.ensures.runs clean) in
+    safe old mid new (pos c.args.place) c.args.outcome at has rest same.1 c.execute.result ran
+    (settled c.execute.new.conn)
 
 pub returns-clause-kept : goal.returns-clause-kept
 returns-clause-kept g c clean has other down =
@@ -26,12 +42,28 @@ returns-clause-kept g c clean has other down =
     let mid = state g.S.Store c.prepare.new.self in
     let new = state g.S.Store c.execute.new.conn in
     let at = Int (to_z w64 (of_z w64 c.args.at)) in
-    let settled : (h : Held _) → IsSettled (state g.S.Store h) = λ h. record { settled = λ o db left. g.met.S.Store.settled h.store db o left; stays = λ o. g.met.S.Store.stays h.store o } in
+    let settled : (h : Held _) → IsSettled (state g.S.Store h) = λ h. record {
+      settled = λ o db
+          left. g.met.S.Store.settled h.store db o left;
+      stays = λ o. g.met.S.Store.stays h.store o;
+    }
+    in
     let early : HasCleanDisk mid = omega (arith, c.execute.ensures.survives.clean) in
     let same = c.in_ok-insert.ensures.ok early in
     let rest : IsAtRest old = search rules in
-    let survives : Survives mid new (CommitsBy outcome_text (outcome_params (pos c.args.place) c.args.outcome at) mid) = rw (same.0, c.params-to_sql.ensures, c.params-to_sql-2.ensures, c.params-to_sql-3.ensures, c.params-to_sql-4.ensures, c.kind_of.ensures, c.number_of.ensures, bound_number c.args.outcome) at c.execute.ensures.survives in
-    kept old mid new (pos c.args.place) c.args.outcome at has rest same.1 (settled c.args.conn.now) clean c.prepare.ensures.survives survives other down
+    let survives : Survives mid new (CommitsBy outcome_text (outcome_params (pos c.args.place)
+    c.args.outcome at) mid) = rw (
+      same.0,
+      c.params-to_sql.ensures,
+      c.params-to_sql-2.ensures,
+      c.params-to_sql-3.ensures,
+      c.params-to_sql-4.ensures,
+      c.kind_of.ensures,
+      c.number_of.ensures,
+      bound_number c.args.outcome,
+    ) at c.execute.ensures.survives in
+    kept old mid new (pos c.args.place) c.args.outcome at has rest same.1 (settled c.args.conn.now)
+    clean c.prepare.ensures.survives survives other down
 
 pub returns-clause-schema : goal.returns-clause-schema
 returns-clause-schema g c clean has =
@@ -39,9 +71,24 @@ returns-clause-schema g c clean has =
     let mid = state g.S.Store c.prepare.new.self in
     let new = state g.S.Store c.execute.new.conn in
     let at = Int (to_z w64 (of_z w64 c.args.at)) in
-    let settled : (h : Held _) → IsSettled (state g.S.Store h) = λ h. record { settled = λ o db left. g.met.S.Store.settled h.store db o left; stays = λ o. g.met.S.Store.stays h.store o } in
+    let settled : (h : Held _) → IsSettled (state g.S.Store h) = λ h. record {
+      settled = λ o db
+          left. g.met.S.Store.settled h.store db o left;
+      stays = λ o. g.met.S.Store.stays h.store o;
+    }
+    in
     let early : HasCleanDisk mid = omega (arith, c.execute.ensures.survives.clean) in
     let same = c.in_ok-insert.ensures.ok early in
     let rest : IsAtRest old = search rules in
-    let ran : Executes outcome_text (outcome_params (pos c.args.place) c.args.outcome at) mid new c.execute.result = rw (same.0, c.params-to_sql.ensures, c.params-to_sql-2.ensures, c.params-to_sql-3.ensures, c.params-to_sql-4.ensures, c.kind_of.ensures, c.number_of.ensures, bound_number c.args.outcome) at (c.execute.ensures.runs clean) in
+    let ran : Executes outcome_text (outcome_params (pos c.args.place) c.args.outcome at) mid new
+    c.execute.result = rw (
+      same.0,
+      c.params-to_sql.ensures,
+      c.params-to_sql-2.ensures,
+      c.params-to_sql-3.ensures,
+      c.params-to_sql-4.ensures,
+      c.kind_of.ensures,
+      c.number_of.ensures,
+      bound_number c.args.outcome,
+    ) at (c.execute.ensures.runs clean) in
     schema old mid new (pos c.args.place) c.args.outcome at has rest same.1 c.execute.result ran

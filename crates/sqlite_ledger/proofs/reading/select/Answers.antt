@@ -8,4 +8,6 @@ pub returns-clause-unchanged : goal.returns-clause-unchanged
 returns-clause-unchanged g c clean plain =
     let old = state g.S.Store c.args.conn.now in
     let new = state g.S.Store c.query_all.new.self in
-    ok_then c.query_all.result (λ rows. Shown c.args.query.now [] old new rows.items) _ (c.query_all.ensures.ok clean) (λ rows shown. shown_unchanged c.args.query.now old new rows.items plain shown)
+    ok_then c.query_all.result (λ rows. Shown c.args.query.now [] old new rows.items) _
+    (c.query_all.ensures.ok clean) (λ rows shown. shown_unchanged c.args.query.now old new
+    rows.items plain shown)
