@@ -1,9 +1,11 @@
 -- What an INSERT of one row does to a connection that is outside a transaction, and to what a crash
 -- leaves.
-use Rattle.std.proofs.Common.{◌≡◌, inl, inr, ℕ, List, append-nil, true, false, None, Ok, Err, Result, OnOk, IfErr, IsTrue, sym, ap, subst, ◌∙◌, arith, true≢false}
+use Rattle.std.proofs.Common.{◌≡◌, inl, inr, ℕ, List, append-nil, true, false, None, Ok, Err}
+use Rattle.std.proofs.Common.{Result, OnOk, IfErr, IsTrue, sym, ap, subst, ◌∙◌, arith, true≢false}
 use Rattle.std.proofs.lemmas.Bool.{cases_Bool}
 use Rattle.sqlite_trees.specs.declared.error.StoreError.{StoreError}
-use Rattle.sqlite_trees.specs.declared.error.StoreError.TheVariants.{OutOfMemory, Io, Corrupt, Full, Broken, Unstorable}
+use Rattle.sqlite_trees.specs.declared.error.StoreError.TheVariants.{OutOfMemory, Io, Corrupt, Full}
+use Rattle.sqlite_trees.specs.declared.error.StoreError.TheVariants.{Broken, Unstorable}
 use Rattle.sqlite.specs.Order.{Row}
 use Rattle.sqlite.specs.Tree.{Trees}
 use Rattle.sqlite.specs.Source.{Source}
@@ -12,7 +14,9 @@ use Rattle.sqlite.specs.Does.{Tally, Does}
 use Rattle.sqlite.specs.declared.error.Error.{Error}
 use Rattle.sqlite.specs.Effect.{Database}
 use Rattle.sqlite.specs.Listing.{understood}
-use Rattle.sqlite.specs.State.{State, HasCleanDisk, IsUnchanged, Survives, Executes, CommitsBy, Writes, IsNotRun, ExecutesIn, shows_rows, store_error, text_of, mode_of}
+use Rattle.sqlite.specs.State.{State, HasCleanDisk, IsUnchanged, Survives, Executes, CommitsBy}
+use Rattle.sqlite.specs.State.{Writes, IsNotRun, ExecutesIn, shows_rows, store_error, text_of}
+use Rattle.sqlite.specs.State.{mode_of}
 use Rattle.sqlite.proofs.Callers.{IsPlain, command_of, statement_of, runs_as}
 use Rattle.sqlite_ledger.specs.Schema.{ledger_schema}
 use Rattle.sqlite_ledger.specs.Taken.{is_taken}

@@ -1,5 +1,6 @@
 -- What the text of a mark means, and what it does to the marks.
-use Rattle.std.proofs.Common.{◌≡◌, inl, ℕ, ℤ, List, [], ◌∷◌, codes, true, None, Ok, refl, sym, ap, subst, ◌∙◌, true≢false}
+use Rattle.std.proofs.Common.{◌≡◌, inl, ℕ, ℤ, List, [], ◌∷◌, codes, true, None, Ok, refl, sym, ap}
+use Rattle.std.proofs.Common.{subst, ◌∙◌, true≢false}
 use Rattle.std.proofs.lemmas.Bool.{and_parts, not-true}
 use Rattle.std.proofs.lemmas.Cmp.{tied_itself}
 use Rattle.std.specs.List.{list_any}
@@ -29,7 +30,8 @@ use Rattle.sqlite_rules.proofs.ListLemmas.{some_has, some_from}
 use Rattle.sqlite_rules.proofs.TableLemmas.{put_all_adds, put_all_keeps}
 use Rattle.sqlite_ledger.specs.Schema.{ledger_schema, begun_tree, begun_table}
 use Rattle.sqlite_ledger.specs.Marks.{IsBegun}
-use Rattle.sqlite_ledger.proofs.InsertLemmas.{AddsRow, edit_adds, went, same_value, cast_int, cast_null}
+use Rattle.sqlite_ledger.proofs.InsertLemmas.{AddsRow, edit_adds, went, same_value, cast_int}
+use Rattle.sqlite_ledger.proofs.InsertLemmas.{cast_null}
 
 abbrev pub begun_text : List ℕ
 begun_text = codes "INSERT INTO begun (place, at) VALUES (?1, ?2)"

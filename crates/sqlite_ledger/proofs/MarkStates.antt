@@ -9,7 +9,9 @@ use Rattle.sqlite.specs.State.{State, HasCleanDisk, IsUnchanged, Survives, Execu
 use Rattle.sqlite_ledger.specs.Schema.{ledger_schema, begun_tree}
 use Rattle.sqlite_ledger.specs.Taken.{is_taken}
 use Rattle.sqlite_ledger.specs.Marks.{IsBegun, IsDown}
-use Rattle.sqlite_ledger.proofs.MarkLemmas.{begun_text, begun_source, begun_is, begun_plain, begun_does, mark_row, begun_after, begun_kept, not_before}
+use Rattle.sqlite_ledger.proofs.MarkLemmas.{begun_text, begun_source, begun_is, begun_plain}
+use Rattle.sqlite_ledger.proofs.MarkLemmas.{begun_does, mark_row, begun_after, begun_kept}
+use Rattle.sqlite_ledger.proofs.MarkLemmas.{not_before}
 use Rattle.sqlite_ledger.proofs.InsertStates.{IsSettled, IsAtRest, IsInsert}
 use Rattle.sqlite_ledger.proofs.InsertStates as insert
 

@@ -1,5 +1,6 @@
 -- What the text of an outcome means, and what it does to the trees.
-use Rattle.std.proofs.Common.{◌≡◌, inl, ℕ, ℤ, List, [], ◌∷◌, codes, None, Ok, refl, sym, ap, subst, ◌∙◌, arith}
+use Rattle.std.proofs.Common.{◌≡◌, inl, ℕ, ℤ, List, [], ◌∷◌, codes, None, Ok, refl, sym, ap, subst}
+use Rattle.std.proofs.Common.{◌∙◌, arith}
 use Rattle.sqlite.specs.declared.types.Value.{Value}
 use Rattle.sqlite.specs.declared.types.Value.TheVariants.{Null, Int, Text as Words}
 use Rattle.sqlite.specs.Order.{Row}
@@ -26,7 +27,8 @@ use Rattle.client_core.specs.declared.job.Outcome.{Outcome}
 use Rattle.client_core.specs.declared.job.Outcome.TheVariants.{Done, Refused, Rejected, Unknown}
 use Rattle.sqlite_ledger.specs.Schema.{ledger_schema, begun_tree, outcome_tree, outcome_table}
 use Rattle.sqlite_ledger.specs.Outcomes.{kind_of, number_of, outcome_row}
-use Rattle.sqlite_ledger.proofs.InsertLemmas.{AddsRow, edit_adds, went, same_value, cast_int, cast_null}
+use Rattle.sqlite_ledger.proofs.InsertLemmas.{AddsRow, edit_adds, went, same_value, cast_int}
+use Rattle.sqlite_ledger.proofs.InsertLemmas.{cast_null}
 
 abbrev pub outcome_text : List ℕ
 outcome_text = codes "INSERT INTO outcome (place, kind, number, at) VALUES (?1, ?2, ?3, ?4)"

@@ -9,7 +9,9 @@ use Rattle.sqlite_ledger.specs.Schema.{ledger_schema, outcome_tree}
 use Rattle.sqlite_ledger.specs.Marks.{IsBegun, IsDown}
 use Rattle.sqlite_ledger.specs.Outcomes.{outcome_row, IsRecorded, IsSafe}
 use Rattle.sqlite_ledger.proofs.MarkLemmas.{begun_same}
-use Rattle.sqlite_ledger.proofs.OutcomeLemmas.{outcome_text, outcome_source, outcome_params, outcome_is, outcome_plain, outcome_does, marks_same, recorded}
+use Rattle.sqlite_ledger.proofs.OutcomeLemmas.{outcome_text, outcome_source, outcome_params}
+use Rattle.sqlite_ledger.proofs.OutcomeLemmas.{outcome_is, outcome_plain, outcome_does, marks_same}
+use Rattle.sqlite_ledger.proofs.OutcomeLemmas.{recorded}
 use Rattle.sqlite_ledger.proofs.InsertStates.{IsSettled, IsAtRest, IsInsert}
 use Rattle.sqlite_ledger.proofs.InsertStates as insert
 
