@@ -1,7 +1,7 @@
 -- What is given in two successive spans of calls, and what makes a run safe.
 use Rattle.std.proofs.Common.{◌≡◌, ◌⊎◌, ℕ, List, [], ◌++◌, inl, inr}
-use Rattle.campaign_ledger.specs.declared.entry.Entry.{Entry}
-use Rattle.campaign_ledger.specs.declared.entry.Entry.TheVariants.{NotSent}
+use Rattle.campaign_ledger.specs.declared.entry.LedgerEntry.{LedgerEntry}
+use Rattle.campaign_ledger.specs.declared.entry.LedgerEntry.TheVariants.{NotSent}
 use Rattle.campaign_ledger.specs.Entries.{HasGone, entry_at}
 use Rattle.campaign_ledger.specs.Grants.{LedgerState, Grants, IsFoundBy}
 use Rattle.campaign_ledger.specs.Runs.{IsSafeRun, IsIn, AreApart}
@@ -60,13 +60,13 @@ module _ {B : Type 0} (is_honest : B → Type 0) (is_down : B → ℕ → Type 0
   }
 
   -- commands that are sent with permits, each once, make a run safe
-  pub safe_run : (may_leave : B → (ℕ → Entry) → Type 0)
-      → ((book : B) (place : ℕ) (left : ℕ → Entry) → is_down book place → may_leave book left
+  pub safe_run : (may_leave : B → (ℕ → LedgerEntry) → Type 0)
+      → ((book : B) (place : ℕ) (left : ℕ → LedgerEntry) → is_down book place → may_leave book left
       → HasGone (left place))
       → (start now : LedgerState B) (permits sent : List ℕ)
       → Grants is_honest is_down start now permits → AreApart sent
       → ((place : ℕ) → IsIn place sent → IsIn place permits) → is_honest now.book
-      → (found left : ℕ → Entry) → IsFoundBy is_honest is_down found start.book
+      → (found left : ℕ → LedgerEntry) → IsFoundBy is_honest is_down found start.book
       → may_leave now.book left
       → IsSafeRun record { found = found; sent = sent; left = left }
   safe_run may_leave stays start now permits sent grants apart with_permits honest found left

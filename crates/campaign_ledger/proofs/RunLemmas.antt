@@ -1,7 +1,7 @@
 -- Over runs that follow one another no command is sent twice.
 use Rattle.std.proofs.Common.{◌≡◌, ◌⊎◌, ℕ, List, [], ◌∷◌, ◌++◌, inl, inr, refl, subst, sym}
-use Rattle.campaign_ledger.specs.declared.entry.Entry.{Entry}
-use Rattle.campaign_ledger.specs.declared.entry.Entry.TheVariants.{NotSent, MaybeSent, Came}
+use Rattle.campaign_ledger.specs.declared.entry.LedgerEntry.{LedgerEntry}
+use Rattle.campaign_ledger.specs.declared.entry.LedgerEntry.TheVariants.{NotSent, MaybeSent, Came}
 use Rattle.campaign_ledger.specs.Entries.{HasGone}
 use Rattle.campaign_ledger.specs.Runs.{Run, IsSafeRun, IsIn, AreApart, Follow, all_sent}
 
@@ -30,13 +30,13 @@ apart_both (x ∷ xs) ys (alone, first) second disjoint = (
     not_twice (inr there) = disjoint x (inl refl) there
 
 -- an entry that has not gone is NotSent
-pub not_gone : (entry : Entry) → ¬ HasGone entry → entry ≡ NotSent
+pub not_gone : (entry : LedgerEntry) → ¬ HasGone entry → entry ≡ NotSent
 not_gone NotSent still = refl
 not_gone MaybeSent still = absurd (still tt)
 not_gone (Came outcome) still = absurd (still tt)
 
 -- what has gone is not NotSent
-pub gone_not_new : (entry : Entry) → HasGone entry → entry ≡ NotSent → ⊥
+pub gone_not_new : (entry : LedgerEntry) → HasGone entry → entry ≡ NotSent → ⊥
 gone_not_new entry gone new = rw new at gone
 
 -- a run leaves marked what it sent and what was sent before, if it found that marked
@@ -55,7 +55,7 @@ all_down : (run : Run) (runs : List Run) → Follow (run ∷ runs) → (place : 
 all_down run [] safe = down_after run [] safe (λ place none. absurd none)
 all_down run (before ∷ runs) (safe, found, earlier) =
     down_after run (all_sent (before ∷ runs)) safe
-    (λ place sent. subst (λ (entries : ℕ → Entry). HasGone (entries place)) (sym found)
+    (λ place sent. subst (λ (entries : ℕ → LedgerEntry). HasGone (entries place)) (sym found)
     (all_down before runs earlier place sent))
 
 -- over runs that follow one another no command is sent twice
@@ -65,5 +65,5 @@ all_apart (run ∷ []) safe = apart_both run.sent [] safe.apart tt (λ place her
 all_apart (run ∷ (before ∷ runs)) (safe, found, earlier) =
     apart_both run.sent (all_sent (before ∷ runs)) safe.apart (all_apart (before ∷ runs) earlier)
     (λ place here there. gone_not_new (run.found place)
-    (subst (λ (entries : ℕ → Entry). HasGone (entries place)) (sym found)
+    (subst (λ (entries : ℕ → LedgerEntry). HasGone (entries place)) (sym found)
     (all_down before runs earlier place there)) (safe.fresh place here))

@@ -2,16 +2,16 @@
 --     HasGone           the command of a place may have been sent
 --     entry_at          the entry of a place in a list of entries
 use Rattle.std.specs.Prelude.{ℕ, List, slice_index_or, ⊤}
-use Rattle.campaign_ledger.specs.declared.entry.Entry.{Entry}
-use Rattle.campaign_ledger.specs.declared.entry.Entry.TheVariants.{NotSent, MaybeSent, Came}
+use Rattle.campaign_ledger.specs.declared.entry.LedgerEntry.{LedgerEntry}
+use Rattle.campaign_ledger.specs.declared.entry.LedgerEntry.TheVariants.{NotSent, MaybeSent, Came}
 
 -- the command may have been sent, by the entry of its place
-abbrev pub HasGone : Entry → Type 0
+abbrev pub HasGone : LedgerEntry → Type 0
 HasGone NotSent = ⊥
 HasGone MaybeSent = ⊤
 HasGone (Came outcome) = ⊤
 
 -- The entry of a place. A place after the last has none, and nothing may be sent for it: it counts
 -- as one whose command may have been sent.
-abbrev pub entry_at : List Entry → ℕ → Entry
+abbrev pub entry_at : List LedgerEntry → ℕ → LedgerEntry
 entry_at entries place = slice_index_or entries place MaybeSent

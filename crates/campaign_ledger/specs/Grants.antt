@@ -5,15 +5,15 @@
 --     IsFoundBy         the entries that a run found are on its disk
 --     MakesSafeRuns     the permits given since the start of a run make it safe
 use Rattle.std.specs.Prelude.{◌≡◌, ℕ, Bool, List, [], ◌∷◌, Option, Some, None, Result, Ok, Err}
-use Rattle.campaign_ledger.specs.declared.entry.Entry.{Entry}
-use Rattle.campaign_ledger.specs.declared.entry.Entry.TheVariants.{NotSent}
+use Rattle.campaign_ledger.specs.declared.entry.LedgerEntry.{LedgerEntry}
+use Rattle.campaign_ledger.specs.declared.entry.LedgerEntry.TheVariants.{NotSent}
 use Rattle.campaign_ledger.specs.Entries.{HasGone, entry_at}
 use Rattle.campaign_ledger.specs.Runs.{IsIn, AreApart, IsSafeRun}
 
 -- A ledger: its book, the entry of each place, and whether a call has failed.
 pub record LedgerState (B : Type 0) : Type 0 where
   pub book : B
-  pub entries : List Entry
+  pub entries : List LedgerEntry
   pub has_failed : Bool
 
 -- the places of the permits that a call returned
@@ -41,14 +41,14 @@ module _ {B : Type 0} (is_honest : B → Type 0) (is_down : B → ℕ → Type 0
         → is_down after.book place
 
   -- each place whose command may have been sent, by the entries found, is marked on the disk
-  abbrev pub IsFoundBy : (ℕ → Entry) → B → Type 0
+  abbrev pub IsFoundBy : (ℕ → LedgerEntry) → B → Type 0
   IsFoundBy found book = (place : ℕ) → HasGone (found place) → is_down book place
 
   -- If the commands of these places were sent with permits that the ledger gave since the start of
   -- the run, each once, then the run is safe, whatever the run found at its start and a crash in
   -- the present state leaves.
-  abbrev pub MakesSafeRuns : (B → (ℕ → Entry) → Type 0) → LedgerState B → LedgerState B → List ℕ
-      → Type 0
-  MakesSafeRuns may_leave start now sent = is_honest now.book → (found left : ℕ → Entry)
+  abbrev pub MakesSafeRuns : (B → (ℕ → LedgerEntry) → Type 0) → LedgerState B → LedgerState B
+      → List ℕ → Type 0
+  MakesSafeRuns may_leave start now sent = is_honest now.book → (found left : ℕ → LedgerEntry)
       → IsFoundBy found start.book → may_leave now.book left
       → IsSafeRun record { found = found; sent = sent; left = left }

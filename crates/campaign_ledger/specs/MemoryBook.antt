@@ -3,24 +3,24 @@
 --     Leaves            what a crash leaves: the present entries
 --     left_marked       a crash leaves marked what is marked
 use Rattle.std.specs.Prelude.{◌≡◌, ℕ, Bool, List}
-use Rattle.campaign_ledger.specs.declared.entry.Entry.{Entry}
+use Rattle.campaign_ledger.specs.declared.entry.LedgerEntry.{LedgerEntry}
 use Rattle.campaign_ledger.specs.Entries.{HasGone, entry_at}
 
 -- A book in memory: its entries, the number of calls before one fails, and whether one failed.
 pub record MemoryState : Type 0 where
-  pub entries : List Entry
+  pub entries : List LedgerEntry
   pub calls_left : ℕ
   pub has_failed : Bool
 
 -- a crash leaves the present entries
-abbrev pub Leaves : List Entry → (ℕ → Entry) → Type 0
+abbrev pub Leaves : List LedgerEntry → (ℕ → LedgerEntry) → Type 0
 Leaves entries left = (place : ℕ) → left place ≡ entry_at entries place
 
 -- the place is marked, or has an outcome
-abbrev pub IsMarked : List Entry → ℕ → Type 0
+abbrev pub IsMarked : List LedgerEntry → ℕ → Type 0
 IsMarked entries place = HasGone (entry_at entries place)
 
 -- a crash leaves marked what is marked
-pub left_marked : (entries : List Entry) (place : ℕ) (left : ℕ → Entry) → IsMarked entries place
-    → Leaves entries left → HasGone (left place)
+pub left_marked : (entries : List LedgerEntry) (place : ℕ) (left : ℕ → LedgerEntry)
+    → IsMarked entries place → Leaves entries left → HasGone (left place)
 left_marked entries place left marked leaves = rw (leaves place) marked

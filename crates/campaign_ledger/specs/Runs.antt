@@ -6,8 +6,8 @@
 --                       left
 --     all_sent          the places of all commands that the runs sent
 use Rattle.std.specs.Prelude.{◌≡◌, ◌⊎◌, ℕ, List, [], ◌∷◌, ◌++◌, ⊤}
-use Rattle.campaign_ledger.specs.declared.entry.Entry.{Entry}
-use Rattle.campaign_ledger.specs.declared.entry.Entry.TheVariants.{NotSent}
+use Rattle.campaign_ledger.specs.declared.entry.LedgerEntry.{LedgerEntry}
+use Rattle.campaign_ledger.specs.declared.entry.LedgerEntry.TheVariants.{NotSent}
 use Rattle.campaign_ledger.specs.Entries.{HasGone}
 
 -- the place is in the list
@@ -23,9 +23,9 @@ AreApart (place ∷ places) = (¬ IsIn place places) × AreApart places
 -- One run: what it found, the places whose commands it sent, and what its end left, be it a crash
 -- or not.
 pub record Run : Type 0 where
-  pub found : ℕ → Entry
+  pub found : ℕ → LedgerEntry
   pub sent : List ℕ
-  pub left : ℕ → Entry
+  pub left : ℕ → LedgerEntry
 
 -- The run sent the command of a place at most once, and only if none was sent before. It left each
 -- of these places marked, and each that it found marked.

@@ -1,9 +1,9 @@
 //! `Book`: the storage of a ledger, with what a crash may leave of it.
 ghost use Rattle.std.specs.Prelude.{ℕ, IfOk, IsTrue};
-ghost use Rattle.campaign_ledger.specs.declared.entry.Entry.{Entry};
+ghost use Rattle.campaign_ledger.specs.declared.entry.LedgerEntry.{LedgerEntry};
 ghost use Rattle.campaign_ledger.specs.Entries.{HasGone};
 
-use crate::entry::Entry;
+use crate::entry::LedgerEntry;
 use crate::fault::LedgerFault;
 use client_core::Outcome;
 
@@ -18,7 +18,7 @@ pub trait Book: Drop {
     ghost is_honest: { Self → Type 0 };
 
     // Ghost predicate: the entries that the next run may find after a crash at this moment.
-    ghost may_leave: { Self → (ℕ → Entry) → Type 0 };
+    ghost may_leave: { Self → (ℕ → LedgerEntry) → Type 0 };
 
     // Ghost predicate: whatever a crash leaves, the command of the place may have been sent.
     ghost is_down: { Self → ℕ → Type 0 };
@@ -41,6 +41,6 @@ pub trait Book: Drop {
             → is_down self.new other };
 
     // Ghost law: a crash leaves a place marked that is down.
-    ghost stays_down: { (book : Self) (place : ℕ) (left : ℕ → Entry) → is_down book place
+    ghost stays_down: { (book : Self) (place : ℕ) (left : ℕ → LedgerEntry) → is_down book place
         → may_leave book left → HasGone (left place) };
 }

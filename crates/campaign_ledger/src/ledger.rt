@@ -1,12 +1,14 @@
 //! `Ledger`: gives the permits for the commands of one run of a campaign.
-ghost use Rattle.std.specs.Prelude.{◌≡◌, ◌≢◌, ◌<◌, ℕ, [], false, length, IsTrue, IfOk, IfErr, IfSome, IfNone, IsErrOf, OnOk, OnErr};
-ghost use Rattle.campaign_ledger.specs.declared.entry.Entry.TheVariants.{NotSent, MaybeSent, Came};
+ghost use Rattle.std.specs.Prelude.{◌≡◌, ◌≢◌, ◌<◌, ℕ, [], false, length, IsTrue, IfOk, IfErr};
+ghost use Rattle.std.specs.Prelude.{IfSome, IfNone, IsErrOf, OnOk, OnErr};
+ghost use Rattle.campaign_ledger.specs.declared.entry.LedgerEntry.TheVariants.{NotSent, MaybeSent};
+ghost use Rattle.campaign_ledger.specs.declared.entry.LedgerEntry.TheVariants.{Came};
 ghost use Rattle.campaign_ledger.specs.declared.fault.LedgerFault.TheVariants.{Failed};
 ghost use Rattle.campaign_ledger.specs.Entries.{HasGone, entry_at};
 ghost use Rattle.campaign_ledger.specs.Grants.{LedgerState, permits_in, Grants};
 
 use crate::book::Book;
-use crate::entry::Entry;
+use crate::entry::LedgerEntry;
 use crate::fault::LedgerFault;
 use crate::permit::Permit;
 use client_core::Outcome;
@@ -19,7 +21,7 @@ use std::marker::Model;
 #[derive(Drop)]
 pub struct Ledger<B: Book> {
     book: B,
-    entries: Vec<Entry>,
+    entries: Vec<LedgerEntry>,
     has_failed: bool,
 }
 
@@ -38,7 +40,7 @@ impl<B: Book> Model for Ledger<B> {
 impl<B: Book> Ledger<B> {
     /// Returns the ledger of a run that has this book and found these entries in it, one for each
     /// job of the campaign.
-    pub fn new(book: B, entries: Vec<Entry>) -> Ledger<B>
+    pub fn new(book: B, entries: Vec<LedgerEntry>) -> Ledger<B>
         ensures book { result.book ≡ book }
         ensures entries { result.entries ≡ entries.items }
         ensures unfailed { result.has_failed ≡ false }
@@ -58,7 +60,7 @@ impl<B: Book> Ledger<B> {
     }
 
     /// Returns the entries, one for each place.
-    pub fn entries(&self) -> &[Entry]
+    pub fn entries(&self) -> &[LedgerEntry]
         ensures { result.now ≡ self.now.entries }
     {
         self.entries.as_slice()
@@ -79,12 +81,12 @@ impl<B: Book> Ledger<B> {
     }
 
     /// Returns the entry of a place: `MaybeSent` if the campaign has no such place.
-    pub fn entry(&self, place: u32) -> Entry
+    pub fn entry(&self, place: u32) -> LedgerEntry
         ensures { result ≡ entry_at self.now.entries place }
     {
         match self.entries.get(place as usize) {
             Some(entry) => *entry,
-            None => Entry::MaybeSent,
+            None => LedgerEntry::MaybeSent,
         }
     }
 
@@ -108,12 +110,12 @@ impl<B: Book> Ledger<B> {
         if self.has_failed {
             return Err(LedgerFault::Failed);
         }
-        if !matches!(self.entry(place), Entry::NotSent) {
+        if !matches!(self.entry(place), LedgerEntry::NotSent) {
             return Ok(None);
         }
         match self.book.mark(place) {
             Ok(is_new) => {
-                self.entries[place as usize] = Entry::MaybeSent;
+                self.entries[place as usize] = LedgerEntry::MaybeSent;
                 Ok(if is_new {
                     Some(Permit::new(place))
                 } else {
@@ -145,7 +147,7 @@ impl<B: Book> Ledger<B> {
         }
         match self.book.record(place, outcome) {
             Ok(()) => {
-                self.entries[place as usize] = Entry::Came(outcome);
+                self.entries[place as usize] = LedgerEntry::Came(outcome);
                 Ok(())
             }
             Err(fault) => {

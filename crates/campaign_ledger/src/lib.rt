@@ -16,7 +16,7 @@ mod memory_book;
 mod permit;
 
 pub use book::Book;
-pub use entry::Entry;
+pub use entry::LedgerEntry;
 pub use fault::LedgerFault;
 pub use laws::{each_command_goes_out_at_most_once, grants_add_up};
 pub use ledger::Ledger;

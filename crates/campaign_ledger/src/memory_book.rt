@@ -3,16 +3,16 @@ ghost use Rattle.std.specs.Prelude.{◌≡◌, ◌-◌, ◌^◌, ⊤, false};
 ghost use Rattle.campaign_ledger.specs.MemoryBook.{Leaves, IsMarked, left_marked};
 
 use crate::book::Book;
-use crate::entry::Entry;
+use crate::entry::LedgerEntry;
 use crate::fault::LedgerFault;
 use client_core::Outcome;
 use std::marker::Model;
 
-/// A book in memory, for tests: a crash leaves its entries. Contracts see the entries, the number of
-/// calls before one fails, and whether one failed.
+/// A book in memory, for tests: a crash leaves its entries. Contracts see the entries, the number
+/// of calls before one fails, and whether one failed.
 #[derive(Drop)]
 pub struct MemoryBook {
-    entries: Vec<Entry>,
+    entries: Vec<LedgerEntry>,
     calls_left: u64,
     has_failed: bool,
 }
@@ -32,7 +32,7 @@ impl Model for MemoryBook {
 impl MemoryBook {
     /// Returns a book with these entries. Its calls never fail in practice: only call number
     /// 18,446,744,073,709,551,616 does.
-    pub fn new(entries: Vec<Entry>) -> MemoryBook
+    pub fn new(entries: Vec<LedgerEntry>) -> MemoryBook
         ensures entries { result.entries ≡ entries.items }
         ensures calls { result.calls_left ≡ 2 ^ 64 - 1 }
         ensures unfailed { result.has_failed ≡ false }
@@ -41,7 +41,7 @@ impl MemoryBook {
     }
 
     /// Returns a book with these entries whose calls fail after this number of successful ones.
-    pub fn failing_after(entries: Vec<Entry>, calls: u64) -> MemoryBook
+    pub fn failing_after(entries: Vec<LedgerEntry>, calls: u64) -> MemoryBook
         ensures entries { result.entries ≡ entries.items }
         ensures calls { result.calls_left ≡ calls }
         ensures unfailed { result.has_failed ≡ false }
@@ -54,7 +54,7 @@ impl MemoryBook {
     }
 
     /// Returns the entries that a crash leaves.
-    pub fn into_entries(self) -> Vec<Entry>
+    pub fn into_entries(self) -> Vec<LedgerEntry>
         ensures { result.items ≡ self.entries }
     {
         self.entries
@@ -91,9 +91,9 @@ impl Book for MemoryBook {
         self.count_call()?;
         match self.entries.get_mut(place as usize) {
             Some(entry) => {
-                let is_new = matches!(entry, Entry::NotSent);
+                let is_new = matches!(entry, LedgerEntry::NotSent);
                 if is_new {
-                    *entry = Entry::MaybeSent;
+                    *entry = LedgerEntry::MaybeSent;
                 }
                 Ok(is_new)
             }
@@ -105,7 +105,7 @@ impl Book for MemoryBook {
         self.count_call()?;
         match self.entries.get_mut(place as usize) {
             Some(entry) => {
-                *entry = Entry::Came(outcome);
+                *entry = LedgerEntry::Came(outcome);
                 Ok(())
             }
             None => Ok(()),

@@ -10,8 +10,8 @@ use Rattle.turn_lock.proofs.Lists.{starts_trans}
 use Rattle.campaign_ledger.specs.Grants.{LedgerState}
 use Rattle.head_end.specs.declared.row.Row.{Row}
 use Rattle.head_end.specs.declared.row.ReportLine.{ReportLine}
-use Rattle.ledger_campaigns.specs.declared.request.Request.{Request}
-use Rattle.ledger_campaigns.specs.declared.request.Answer.{Answer}
+use Rattle.ledger_campaigns.specs.declared.request.LedgerRequest.{LedgerRequest}
+use Rattle.ledger_campaigns.specs.declared.request.LedgerAnswer.{LedgerAnswer}
 use Rattle.ledger_campaigns.specs.Campaigns.{Closes}
 use Rattle.ledger_campaigns.specs.Desks.{DeskState, IsLegalHistory, Stands}
 
@@ -55,7 +55,7 @@ seen_here xs old seen_of note after n d x same below is starts =
 
 -- a ledger that was shared
 pub closes : {B : Type 0} (is_honest : B → Type 0) (is_down : B → ℕ → Type 0)
-    (known : Known Request (Answer B) (LedgerState B)) (desk : DeskState B)
+    (known : Known LedgerRequest (LedgerAnswer B) (LedgerState B)) (desk : DeskState B)
     (ledger : LedgerState B) → ledger ≡ desk.ledger
     → Yields (λ (d : DeskState B). d.start) (Stands is_honest is_down)
     (IsLegalHistory is_honest is_down) known desk

@@ -1,12 +1,13 @@
 -- The lines of all jobs and the uses of their attempts, from the results of the places.
-use Rattle.std.proofs.Common.{arith, ◌≡◌, ◌<◌, ℕ, List, [], ◌∷◌, length, map, slice_index_or, Option, refl, sym, ap, subst, ◌∙◌, zero, suc, inl, inr}
+use Rattle.std.proofs.Common.{arith, ◌≡◌, ◌<◌, ℕ, List, [], ◌∷◌, length, map, slice_index_or}
+use Rattle.std.proofs.Common.{Option, refl, sym, ap, subst, ◌∙◌, zero, suc, inl, inr}
 use Rattle.std.proofs.lemmas.List.{get_or-map, length-map}
 use Rattle.std.proofs.lemmas.List.Elements.{All-get_or}
 use Rattle.std.specs.List.{All}
 use Rattle.client_core.specs.declared.job.Job.{Job}
 use Rattle.client_core.specs.declared.job.Outcome.{Outcome}
-use Rattle.campaign_ledger.specs.declared.entry.Entry.{Entry as LedgerEntry}
-use Rattle.campaign_ledger.specs.declared.entry.Entry.TheVariants.{NotSent, MaybeSent, Came}
+use Rattle.campaign_ledger.specs.declared.entry.LedgerEntry.{LedgerEntry}
+use Rattle.campaign_ledger.specs.declared.entry.LedgerEntry.TheVariants.{NotSent, MaybeSent, Came}
 use Rattle.campaign_ledger.specs.Entries.{entry_at}
 use Rattle.campaign_ledger.specs.Runs.{IsIn}
 use Rattle.head_end.specs.declared.row.Row.{Row}

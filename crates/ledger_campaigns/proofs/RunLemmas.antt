@@ -1,9 +1,9 @@
 -- A run as a whole: its permits, what they were used for, and why it is safe.
-use Rattle.std.proofs.Common.{arith, ◌≡◌, ◌<◌, ℕ, List, [], ◌++◌, length, map, take, slice_index_or, Option, Some, None, refl, ap, ◌∙◌, inl, inr}
+use Rattle.std.proofs.Common.{arith, ◌≡◌, ◌<◌, ℕ, List, [], ◌++◌, length, map, take, slice_index_or}
+use Rattle.std.proofs.Common.{Option, Some, None, refl, ap, ◌∙◌, inl, inr}
 use Rattle.std.proofs.lemmas.List.{get_or-map, take_at}
 use Rattle.std.specs.List.{All}
 use Rattle.std.specs.Prelude.{IfSome}
-use Rattle.turn_lock.specs.declared.turned.Entry.{Entry}
 use Rattle.turn_lock.specs.declared.known.Known.{Known}
 use Rattle.turn_lock.specs.Calls.{IsLegal}
 use Rattle.turn_lock.specs.History.{StartsWith}
@@ -11,8 +11,8 @@ use Rattle.turn_lock.specs.Shown.{ShownPort, IsSame}
 use Rattle.client_core.specs.declared.job.Job.{Job}
 use Rattle.client_core.specs.declared.job.Verb.{Verb}
 use Rattle.client_core.specs.declared.job.Verb.TheVariants.{Disconnect, Reconnect, ReadState}
-use Rattle.campaign_ledger.specs.declared.entry.Entry.{Entry as LedgerEntry}
-use Rattle.campaign_ledger.specs.declared.entry.Entry.TheVariants.{NotSent, MaybeSent, Came}
+use Rattle.campaign_ledger.specs.declared.entry.LedgerEntry.{LedgerEntry}
+use Rattle.campaign_ledger.specs.declared.entry.LedgerEntry.TheVariants.{NotSent, MaybeSent, Came}
 use Rattle.campaign_ledger.specs.Entries.{entry_at}
 use Rattle.campaign_ledger.specs.Grants.{LedgerState, Grants, MakesSafeRuns}
 use Rattle.campaign_ledger.specs.Runs.{IsIn, AreApart}
@@ -20,10 +20,10 @@ use Rattle.head_end.specs.declared.row.Row.{Row}
 use Rattle.head_end.specs.declared.row.ReportLine.{ReportLine}
 use Rattle.head_end.specs.Attempts.{State, unused, refused, connected, closed}
 use Rattle.head_end.specs.Campaigns.{EachChange}
-use Rattle.ledger_campaigns.specs.declared.request.Request.{Request}
-use Rattle.ledger_campaigns.specs.declared.request.Answer.{Answer}
+use Rattle.ledger_campaigns.specs.declared.request.LedgerRequest.{LedgerRequest}
+use Rattle.ledger_campaigns.specs.declared.request.LedgerAnswer.{LedgerAnswer}
 use Rattle.ledger_campaigns.specs.Campaigns.{AreUses, AreUsesBy, AreSwitched, Closes, IsLedgeredRun}
-use Rattle.ledger_campaigns.specs.Desks.{IsLegalHistory, permits_given}
+use Rattle.ledger_campaigns.specs.Desks.{LedgerCalls, IsLegalHistory, permits_given}
 use Rattle.ledger_campaigns.specs.Uses.{Asked, IsUse, MayAsk, IsSwitching, HasSwitched, permit_in}
 use Rattle.ledger_campaigns.proofs.PlaceLemmas.{an_element, uses_all}
 use Rattle.ledger_campaigns.proofs.RunningLemmas.{given_kept}
@@ -48,7 +48,7 @@ told_all places source_of connector tells_of all = λ i x below. ap tells_of (al
 
 -- a permit that the port of a place has seen is one that a port has seen that met them all
 pub permits_kept : {X B : Type 0} (places : List X)
-    (seen_of : X → List (Entry Request (Answer B))) (seen : List (Entry Request (Answer B)))
+    (seen_of : X → LedgerCalls B) (seen : LedgerCalls B)
     → All (λ x. StartsWith seen (seen_of x)) places → (i : ℕ) → i < length places
     → IsIn i (slice_index_or (map (λ x. permits_given (seen_of x)) places) i [])
     → IsIn i (permits_given seen)
@@ -72,8 +72,8 @@ switched_given NotSent asked job password row (closed address None) is (switchin
     absurd talked
 switched_given NotSent asked job password row (closed address (Some log)) (same, inl (new, unknown))
     (switching, talked) = absurd (talked new)
-switched_given NotSent asked job password row (closed address (Some log)) (same, inr (may, stored, row_is))
-    (switching, talked) = with_permit job.verb switching may
+switched_given NotSent asked job password row (closed address (Some log))
+    (same, inr (may, stored, row_is)) (switching, talked) = with_permit job.verb switching may
   where
     with_permit : (verb : Verb) → IsSwitching verb → MayAsk verb asked.given → asked.given
     with_permit Disconnect switching may = may
@@ -88,7 +88,7 @@ module _ {B : Type 0} (is_honest : B → Type 0) (is_down : B → ℕ → Type 0
   -- the run, by what a port has seen that met all others
   pub run_by : (jobs : List Job) (password : List ℕ) (start : LedgerState B)
       (now : Option (LedgerState B)) (lines : List ReportLine) (stages : List State)
-      (seen : List (List ℕ)) (known : Known Request (Answer B) (LedgerState B))
+      (seen : List (List ℕ)) (known : Known LedgerRequest (LedgerAnswer B) (LedgerState B))
       → known.origin ≡ Some start
       → AreUsesBy jobs start.entries password seen lines stages
       → ((i : ℕ) → i < length jobs → IsIn i (slice_index_or seen i [])

@@ -1,7 +1,7 @@
 -- The use of an attempt by a job, and the permits that a port has seen.
-use Rattle.std.proofs.Common.{◌≡◌, ◌⊎◌, ℕ, List, [], ◌++◌, Option, Some, None, Ok, Err, refl, inl, inr, false}
+use Rattle.std.proofs.Common.{◌≡◌, ◌⊎◌, ℕ, List, [], ◌++◌, Option, Some, None, Ok, Err, refl, inl}
+use Rattle.std.proofs.Common.{inr, false}
 use Rattle.std.specs.Prelude.{Result, IfOk}
-use Rattle.turn_lock.specs.declared.turned.Entry.{Entry}
 use Rattle.turn_lock.specs.History.{StartsWith}
 use Rattle.client_core.specs.declared.client.Client.{Client}
 use Rattle.client_core.specs.declared.job.Job.{Job}
@@ -19,14 +19,14 @@ use Rattle.head_end.specs.Conversations.{Speaks, Converses}
 use Rattle.head_end.specs.Logs.{Happening, IsNewLog}
 use Rattle.head_end.specs.Rows.{IsOutcome, IsRow}
 use Rattle.head_end.proofs.JobOutcomes.{connected, tried_closed}
-use Rattle.ledger_campaigns.specs.declared.request.Request.{Request}
-use Rattle.ledger_campaigns.specs.declared.request.Answer.{Answer}
-use Rattle.ledger_campaigns.specs.Desks.{permits_given}
+use Rattle.ledger_campaigns.specs.declared.request.LedgerRequest.{LedgerRequest}
+use Rattle.ledger_campaigns.specs.declared.request.LedgerAnswer.{LedgerAnswer}
+use Rattle.ledger_campaigns.specs.Desks.{LedgerCalls, permits_given}
 use Rattle.ledger_campaigns.specs.Uses.{Asked, MayAsk, IsNewUse, IsToldOutcome, SpeaksIfGiven}
 use Rattle.ledger_campaigns.proofs.DeskLemmas.{given_both, in_first}
 
 -- a permit that was given remains given
-pub given_kept : {B : Type 0} (place : ℕ) (new old : List (Entry Request (Answer B)))
+pub given_kept : {B : Type 0} (place : ℕ) (new old : LedgerCalls B)
     → StartsWith new old → IsIn place (permits_given old) → IsIn place (permits_given new)
 given_kept place new old (rest, same) is = rw (same, given_both old rest)
     (in_first place (permits_given old) (permits_given rest) is)

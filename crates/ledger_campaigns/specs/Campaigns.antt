@@ -6,12 +6,11 @@
 --     IsLedgeredRun     the permits of a run, and what they were used for
 --     Closes            a ledger that was shared: it has given at least the permits that a port saw
 use Rattle.std.specs.Prelude.{◌≡◌, ℕ, ◌<◌, List, [], length, slice_index_or, Option, Some, IfSome}
-use Rattle.turn_lock.specs.declared.turned.Entry.{Entry}
 use Rattle.turn_lock.specs.declared.known.Known.{Known}
 use Rattle.turn_lock.specs.History.{StartsWith}
 use Rattle.client_core.specs.declared.job.Job.{Job}
-use Rattle.campaign_ledger.specs.declared.entry.Entry.{Entry as LedgerEntry}
-use Rattle.campaign_ledger.specs.declared.entry.Entry.TheVariants.{NotSent}
+use Rattle.campaign_ledger.specs.declared.entry.LedgerEntry.{LedgerEntry}
+use Rattle.campaign_ledger.specs.declared.entry.LedgerEntry.TheVariants.{NotSent}
 use Rattle.campaign_ledger.specs.Entries.{entry_at}
 use Rattle.campaign_ledger.specs.Grants.{LedgerState, Grants}
 use Rattle.campaign_ledger.specs.Runs.{IsIn, AreApart}
@@ -19,9 +18,9 @@ use Rattle.head_end.specs.declared.row.Row.{Row}
 use Rattle.head_end.specs.declared.row.ReportLine.{ReportLine}
 use Rattle.head_end.specs.Attempts.{State, unused}
 use Rattle.head_end.specs.Connections.{Forecast}
-use Rattle.ledger_campaigns.specs.declared.request.Request.{Request}
-use Rattle.ledger_campaigns.specs.declared.request.Answer.{Answer}
-use Rattle.ledger_campaigns.specs.Desks.{permits_given}
+use Rattle.ledger_campaigns.specs.declared.request.LedgerRequest.{LedgerRequest}
+use Rattle.ledger_campaigns.specs.declared.request.LedgerAnswer.{LedgerAnswer}
+use Rattle.ledger_campaigns.specs.Desks.{LedgerCalls, permits_given}
 use Rattle.ledger_campaigns.specs.Uses.{IsUse, IsRowFor, HasSwitched, permit_in}
 
 -- the result of a place: the row of its job, and the use of its attempt
@@ -74,17 +73,17 @@ AreSwitched jobs stages places = (place : ℕ) → IsIn place places → (place 
 module _ {B : Type 0} (is_honest : B → Type 0) (is_down : B → ℕ → Type 0) where
   -- The ledger was shared in the state `start`, and has given at least the permits that the port
   -- has seen.
-  pub record Closes (known : Known Request (Answer B) (LedgerState B)) (now : LedgerState B)
-      : Type 0 where
+  pub record Closes (known : Known LedgerRequest (LedgerAnswer B) (LedgerState B))
+      (now : LedgerState B) : Type 0 where
     pub start : LedgerState B
     pub origin_is : known.origin ≡ Some start
-    pub calls : List (Entry Request (Answer B))
+    pub calls : LedgerCalls B
     pub seen : StartsWith calls known.seen
     pub grants : Grants is_honest is_down start now (permits_given calls)
 
   -- The permits that a run gave: each place at most one, and none to a place whose command may have
-  -- been sent before. The attempts were used with these permits, and the ledger at the end has given
-  -- them.
+  -- been sent before. The attempts were used with these permits, and the ledger at the end has
+  -- given them.
   pub record IsLedgeredRun (jobs : List Job) (password : List ℕ) (start : LedgerState B)
       (now : Option (LedgerState B)) (lines : List ReportLine) (stages : List State)
       : Type 0 where

@@ -13,9 +13,9 @@ use Rattle.client_core.specs.declared.job.Outcome.{Outcome}
 use Rattle.client_core.specs.declared.job.Outcome.TheVariants.{Unknown}
 use Rattle.client_core.specs.declared.job.Verb.{Verb}
 use Rattle.client_core.specs.declared.job.Verb.TheVariants.{Disconnect, Reconnect, ReadState}
-use Rattle.campaign_ledger.specs.declared.entry.Entry.{Entry}
-use Rattle.campaign_ledger.specs.declared.entry.Entry.TheVariants.{NotSent, MaybeSent}
-use Rattle.campaign_ledger.specs.declared.entry.Entry.TheVariants as entry
+use Rattle.campaign_ledger.specs.declared.entry.LedgerEntry.{LedgerEntry}
+use Rattle.campaign_ledger.specs.declared.entry.LedgerEntry.TheVariants.{NotSent, MaybeSent}
+use Rattle.campaign_ledger.specs.declared.entry.LedgerEntry.TheVariants as entry
 use Rattle.campaign_ledger.specs.Runs.{IsIn}
 use Rattle.head_end.specs.declared.row.Row.{Row}
 use Rattle.head_end.specs.declared.row.Row.TheVariants.{Came, Memory}
@@ -24,8 +24,8 @@ use Rattle.head_end.specs.Connections.{Forecast}
 use Rattle.head_end.specs.Conversations.{Speaks, Converses}
 use Rattle.head_end.specs.Logs.{Happening, IsNewLog}
 use Rattle.head_end.specs.Rows.{IsRow}
-use Rattle.ledger_campaigns.specs.declared.request.Request.{Request}
-use Rattle.ledger_campaigns.specs.declared.request.Answer.{Answer}
+use Rattle.ledger_campaigns.specs.declared.request.LedgerRequest.{LedgerRequest}
+use Rattle.ledger_campaigns.specs.declared.request.LedgerAnswer.{LedgerAnswer}
 use Rattle.ledger_campaigns.specs.Desks.{permits_given, IsAskedToStore}
 
 -- the verb operates the switch
@@ -45,7 +45,7 @@ abbrev pub IfCame : Row → (Outcome → Type 0) → Type 0
 IfCame (Came outcome) stored = stored outcome
 IfCame Memory stored = ⊤
 
--- What the ledger was asked: whether the permit was given, and which outcomes it was asked to store.
+-- What the ledger was asked: whether the permit was given, and which outcomes it was to store.
 pub record Asked : Type 1 where
   pub given : Type 0
   pub stored : Outcome → Type 0
@@ -56,8 +56,8 @@ abbrev pub IsClosedUse : Asked → Job → List ℕ → Row → Option (List Hap
 IsClosedUse asked job password row log = (IsNewLog log × (row ≡ Came Unknown))
     ⊎ (MayAsk job.verb asked.given × IfCame row asked.stored × HasRow job.verb password row log)
 
--- The use of its attempt by a job whose command was not sent before: unused, if out of memory before
--- the connect; a refused connect to the job's address; or one connection to this address.
+-- The use of its attempt by a job whose command was not sent before: unused, if out of memory
+-- before the connect; a refused connect to the job's address; or one connection to this address.
 abbrev pub IsNewUse : Asked → Job → List ℕ → Row → State → Type 0
 IsNewUse asked job password row unused = row ≡ Memory
 IsNewUse asked job password row (refused address) = (address ≡ job.address) × (row ≡ Came Unknown)
@@ -66,7 +66,7 @@ IsNewUse asked job password row (closed address log) = (address ≡ job.address)
     × IsClosedUse asked job password row log
 
 -- The use of its attempt by a job: none, if its command may have been sent before.
-abbrev pub IsUse : Entry → Asked → Job → List ℕ → Row → State → Type 0
+abbrev pub IsUse : LedgerEntry → Asked → Job → List ℕ → Row → State → Type 0
 IsUse NotSent asked job password row stage = IsNewUse asked job password row stage
 IsUse MaybeSent asked job password row stage = stage ≡ unused
 IsUse (entry.Came outcome) asked job password row stage = stage ≡ unused
@@ -75,17 +75,17 @@ IsUse (entry.Came outcome) asked job password row stage = stage ≡ unused
 abbrev pub permit_in : ℕ → List ℕ → Asked
 permit_in place permits = record { given = IsIn place permits; stored = λ outcome. ⊤ }
 
--- what a port has asked: a permit that it has seen given, and outcomes of the place, unless all turns
--- of the lock were drawn
-abbrev pub asked_through : {B O : Type 0} → ℕ → ShownPort Request (Answer B) O → Asked
+-- what a port has asked: a permit that it has seen given, and outcomes of the place, unless all
+-- turns of the lock were drawn
+abbrev pub asked_through : {B O : Type 0} → ℕ → ShownPort LedgerRequest (LedgerAnswer B) O → Asked
 asked_through place port = record {
   given = IsIn place (permits_given port.known.seen);
   stored = λ outcome. IsAskedToStore place outcome port;
 }
 
--- The row of a job: the outcome that was found; unknown, if its command may have been sent before or
--- no permit was given; else that of its run.
-abbrev pub IsRowFor : (List ℕ → Option Forecast) → Job → Entry → Row → Type 0
+-- The row of a job: the outcome that was found; unknown, if its command may have been sent before
+-- or no permit was given; else that of its run.
+abbrev pub IsRowFor : (List ℕ → Option Forecast) → Job → LedgerEntry → Row → Type 0
 IsRowFor tells job NotSent row = IsRow tells job row ⊎ (row ≡ Came Unknown)
 IsRowFor tells job MaybeSent row = row ≡ Came Unknown
 IsRowFor tells job (entry.Came outcome) row = row ≡ Came outcome

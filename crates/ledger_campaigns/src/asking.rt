@@ -3,10 +3,11 @@ ghost use Rattle.std.specs.Prelude.{◌≡◌, IfOk, IfSome, OnOk, OnSome};
 ghost use Rattle.turn_lock.specs.History.{StartsWith};
 ghost use Rattle.turn_lock.specs.Shown.{IsSame};
 ghost use Rattle.campaign_ledger.specs.Runs.{IsIn};
-ghost use Rattle.ledger_campaigns.specs.Desks.{permit_result, permits_given, stored_result, EndsStored, IsAskedToStore};
+ghost use Rattle.ledger_campaigns.specs.Desks.{permit_result, permits_given, stored_result};
+ghost use Rattle.ledger_campaigns.specs.Desks.{EndsStored, IsAskedToStore};
 
 use crate::desk::Desk;
-use crate::request::{Answer, Request};
+use crate::request::{LedgerAnswer, LedgerRequest};
 use campaign_ledger::{Book, LedgerFault, Permit};
 use client_core::Outcome;
 use std::alloc::Global;
@@ -30,7 +31,7 @@ pub fn ask_to_send<B: Book, W: Wait>(
     ensures given { IfOk result (λ given. OnSome given
         (IsIn place (permits_given port.new.known.seen))) }
 {
-    match port.call(rt, alloc, Request::Begin(place)) {
+    match port.call(rt, alloc, LedgerRequest::Begin(place)) {
         Ok(answer) => permit_in(answer),
         Err(_) => Err(LedgerFault::Failed),
     }
@@ -50,32 +51,32 @@ pub fn report_outcome<B: Book, W: Wait>(
     ensures stored { OnOk result (EndsStored place outcome port.new.known.seen) }
     ensures asked { IsAskedToStore place outcome port.new }
 {
-    match port.call(rt, alloc, Request::Record(place, outcome)) {
+    match port.call(rt, alloc, LedgerRequest::Record(place, outcome)) {
         Ok(answer) => stored_in(answer),
         Err(_) => Err(LedgerFault::Failed),
     }
 }
 
 // Returns whether an answer says that the outcome is stored.
-fn stored_in<B: Book>(answer: Answer<B>) -> Result<(), LedgerFault>
+fn stored_in<B: Book>(answer: LedgerAnswer<B>) -> Result<(), LedgerFault>
     ensures { result ≡ stored_result answer }
 {
     match answer {
-        Answer::Given(_permit, _book) => Err(LedgerFault::Failed),
-        Answer::Refused => Err(LedgerFault::Failed),
-        Answer::Recorded => Ok(()),
-        Answer::Failed(fault) => Err(fault),
+        LedgerAnswer::Given(_permit, _book) => Err(LedgerFault::Failed),
+        LedgerAnswer::Refused => Err(LedgerFault::Failed),
+        LedgerAnswer::Recorded => Ok(()),
+        LedgerAnswer::Failed(fault) => Err(fault),
     }
 }
 
 // Returns the permit of an answer.
-fn permit_in<B: Book>(answer: Answer<B>) -> Result<Option<Permit>, LedgerFault>
+fn permit_in<B: Book>(answer: LedgerAnswer<B>) -> Result<Option<Permit>, LedgerFault>
     ensures { result ≡ permit_result answer }
 {
     match answer {
-        Answer::Given(permit, _book) => Ok(Some(permit)),
-        Answer::Refused => Ok(None),
-        Answer::Recorded => Ok(None),
-        Answer::Failed(fault) => Err(fault),
+        LedgerAnswer::Given(permit, _book) => Ok(Some(permit)),
+        LedgerAnswer::Refused => Ok(None),
+        LedgerAnswer::Recorded => Ok(None),
+        LedgerAnswer::Failed(fault) => Err(fault),
     }
 }

@@ -1,5 +1,6 @@
 //! Runs many jobs at many meters in parallel, with permits of one ledger.
-ghost use Rattle.std.specs.Prelude.{◌≡◌, ◌<◌, ◌≤◌, ℕ, List, Option, length, map, slice_index_or, IfOk, IfSome};
+ghost use Rattle.std.specs.Prelude.{◌≡◌, ◌<◌, ◌≤◌, ℕ, List, Option, length, map, slice_index_or};
+ghost use Rattle.std.specs.Prelude.{IfOk, IfSome};
 ghost use Rattle.std.specs.List.{All};
 ghost use Rattle.acse_ber.specs.Password.{IsPassword};
 ghost use Rattle.turn_lock.specs.Shown.{IsSame};
@@ -16,7 +17,7 @@ ghost use Rattle.ledger_campaigns.specs.Desks.{permits_given};
 
 use crate::place::LedgeredPlace;
 use crate::running::{LedgeredJob, run_ledgered_job};
-use campaign_ledger::{Book, Entry};
+use campaign_ledger::{Book, LedgerEntry};
 use client_core::Job;
 use cosem_axdr::Octets;
 use head_end::{Connector, ReportLine, Watcher};
@@ -29,7 +30,7 @@ use std::thread::Threads;
 #[derive(Drop)]
 pub(crate) struct Course<'a, W: Watcher> {
     pub jobs: &'a [Job],
-    pub found: &'a [Entry],
+    pub found: &'a [LedgerEntry],
     pub password: &'a Octets,
     pub workers: usize,
     pub watcher: &'a W,
@@ -101,12 +102,12 @@ impl<'a, W: Watcher> Course<'a, W> {
 }
 
 // Returns the entry of a place: `MaybeSent` if there is none.
-fn entry_of(found: &[Entry], place: usize) -> Entry
+fn entry_of(found: &[LedgerEntry], place: usize) -> LedgerEntry
     ensures { result ≡ entry_at found.now place }
 {
     match found.get(place) {
         Some(entry) => *entry,
-        None => Entry::MaybeSent,
+        None => LedgerEntry::MaybeSent,
     }
 }
 

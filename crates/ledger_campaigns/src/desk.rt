@@ -1,10 +1,11 @@
 //! `Desk`: a ledger as the value of a turn lock, which answers one request at each turn.
 ghost use Rattle.std.specs.Prelude.{◌≡◌, [], ⊤, false};
 ghost use Rattle.campaign_ledger.specs.Grants.{Grants};
-ghost use Rattle.ledger_campaigns.specs.declared.request.Request.TheVariants.{Begin, Record};
-ghost use Rattle.ledger_campaigns.specs.Desks.{DeskState, IsAnswer, IsLegalHistory, Stands, permits_of};
+ghost use Rattle.ledger_campaigns.specs.declared.request.LedgerRequest.TheVariants.{Begin, Record};
+ghost use Rattle.ledger_campaigns.specs.Desks.{DeskState, IsAnswer, IsLegalHistory, Stands};
+ghost use Rattle.ledger_campaigns.specs.Desks.{permits_of};
 
-use crate::request::{Answer, Request};
+use crate::request::{LedgerAnswer, LedgerRequest};
 use campaign_ledger::{Book, Ledger};
 use client_core::Outcome;
 use std::alloc::{AllocError, Global};
@@ -12,8 +13,8 @@ use std::marker::Model;
 use std::snapshot::Snapshot;
 use turn_lock::Turned;
 
-/// A ledger that can be the value of a turn lock. Contracts see the ledger, and the ledger as it was
-/// when this value was made.
+/// A ledger that can be the value of a turn lock. Contracts see the ledger, and the ledger as it
+/// was when this value was made.
 #[derive(Drop)]
 pub struct Desk<B: Book> {
     ledger: Ledger<B>,
@@ -47,53 +48,53 @@ impl<B: Book> Desk<B> {
     }
 
     // Asks the ledger for the permit of a place.
-    fn begin(&mut self, place: u32) -> Answer<B>
+    fn begin(&mut self, place: u32) -> LedgerAnswer<B>
         ensures start { self.new.start ≡ self.old.start }
         ensures answer { IsAnswer B.is_honest B.is_down (Begin place) result }
         ensures grants { Grants B.is_honest B.is_down self.old.ledger self.new.ledger
             (permits_of result) }
     {
         match self.ledger.begin(place) {
-            Ok(Some(permit)) => Answer::Given(permit, Snapshot::of(self.ledger.book())),
-            Ok(None) => Answer::Refused,
-            Err(fault) => Answer::Failed(fault),
+            Ok(Some(permit)) => LedgerAnswer::Given(permit, Snapshot::of(self.ledger.book())),
+            Ok(None) => LedgerAnswer::Refused,
+            Err(fault) => LedgerAnswer::Failed(fault),
         }
     }
 
     // Stores the outcome of a place.
-    fn record(&mut self, place: u32, outcome: Outcome) -> Answer<B>
+    fn record(&mut self, place: u32, outcome: Outcome) -> LedgerAnswer<B>
         ensures start { self.new.start ≡ self.old.start }
         ensures answer { IsAnswer B.is_honest B.is_down (Record place outcome) result }
         ensures grants { Grants B.is_honest B.is_down self.old.ledger self.new.ledger
             (permits_of result) }
     {
         if place as usize >= self.ledger.len() {
-            return Answer::Refused;
+            return LedgerAnswer::Refused;
         }
         match self.ledger.record(place, outcome) {
-            Ok(()) => Answer::Recorded,
-            Err(fault) => Answer::Failed(fault),
+            Ok(()) => LedgerAnswer::Recorded,
+            Err(fault) => LedgerAnswer::Failed(fault),
         }
     }
 
     // Answers a request.
-    fn answer(&mut self, request: Request) -> Answer<B>
+    fn answer(&mut self, request: LedgerRequest) -> LedgerAnswer<B>
         ensures start { self.new.start ≡ self.old.start }
         ensures answer { IsAnswer B.is_honest B.is_down request result }
         ensures grants { Grants B.is_honest B.is_down self.old.ledger self.new.ledger
             (permits_of result) }
     {
         match request {
-            Request::Begin(place) => self.begin(place),
-            Request::Record(place, outcome) => self.record(place, outcome),
+            LedgerRequest::Begin(place) => self.begin(place),
+            LedgerRequest::Record(place, outcome) => self.record(place, outcome),
         }
     }
 }
 
 impl<B: Book> Turned for Desk<B> {
-    type Event = Request;
+    type Event = LedgerRequest;
 
-    type Reply = Answer<B>;
+    type Reply = LedgerAnswer<B>;
 
     type Origin = Ledger<B>;
 
@@ -111,7 +112,11 @@ impl<B: Book> Turned for Desk<B> {
       not_sent = stands.grants.not_sent;
     } };
 
-    fn turn(&mut self, _alloc: Global, event: Request) -> Result<Answer<B>, AllocError> {
+    fn turn(
+        &mut self,
+        _alloc: Global,
+        event: LedgerRequest,
+    ) -> Result<LedgerAnswer<B>, AllocError> {
         Ok(self.answer(event))
     }
 }

@@ -20,6 +20,6 @@ pub use asking::{ask_to_send, report_outcome};
 pub use desk::Desk;
 pub use place::{LedgeredPlace, ledgered_places_for};
 pub use plan::LedgeredPlan;
-pub use request::{Answer, Request};
+pub use request::{LedgerAnswer, LedgerRequest};
 pub use run::{LedgeredRun, run_ledgered_campaign};
 pub use running::{LedgeredJob, run_ledgered_job};

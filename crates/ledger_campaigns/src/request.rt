@@ -5,7 +5,7 @@ use std::snapshot::Snapshot;
 
 /// A request to a shared ledger.
 #[derive(Clone, Copy, Debug, PartialEq, Eq)]
-pub enum Request {
+pub enum LedgerRequest {
     /// Asks for the permit to send the command of a place.
     Begin(u32),
     /// Stores the outcome of a place.
@@ -14,7 +14,7 @@ pub enum Request {
 
 /// The answer of a shared ledger.
 #[derive(Drop)]
-pub enum Answer<B> {
+pub enum LedgerAnswer<B> {
     /// The permit, and the book as it then was, for contracts only: it occupies no memory.
     Given(Permit, Snapshot<B>),
     /// No permit: the command of the place may have been sent before.

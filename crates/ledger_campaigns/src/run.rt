@@ -7,14 +7,15 @@ ghost use Rattle.campaign_ledger.specs.Runs.{AreApart};
 ghost use Rattle.head_end.specs.Attempts.{unused};
 ghost use Rattle.head_end.specs.Campaigns.{EachChange};
 ghost use Rattle.head_end.specs.Connections.{Forecast};
-ghost use Rattle.ledger_campaigns.specs.Campaigns.{AreLinesFor, AreSwitched, AreUsesBy, IsLedgeredRun};
+ghost use Rattle.ledger_campaigns.specs.Campaigns.{AreLinesFor, AreSwitched, AreUsesBy};
+ghost use Rattle.ledger_campaigns.specs.Campaigns.{IsLedgeredRun};
 ghost use Rattle.ledger_campaigns.specs.Desks.{permits_given};
 
 use crate::campaign::{Course, gather};
 use crate::place::{LedgeredPlace, ledgered_places_for};
 use crate::plan::LedgeredPlan;
 use crate::sharing::{close, meet_all, share};
-use campaign_ledger::{Book, Entry, Ledger, grants_add_up};
+use campaign_ledger::{Book, Ledger, LedgerEntry, grants_add_up};
 use head_end::{Connector, Report, ReportLine, Watcher, blank_lines};
 use std::alloc::{AllocError, Global};
 use std::sync::Wait;
@@ -92,7 +93,7 @@ fn run_places<R: Threads + Wait + Sync, C: Connector, B: Book + Send, W: Watcher
     rt: &R,
     alloc: Global,
     plan: &LedgeredPlan<'_, W>,
-    found: &[Entry],
+    found: &[LedgerEntry],
     places: &mut [LedgeredPlace<C, B>],
     lines: &mut [ReportLine],
 )

@@ -3,18 +3,19 @@ ghost use Rattle.std.specs.Prelude.{◌≡◌, ◌⊎◌, IfOk, OnSome};
 ghost use Rattle.acse_ber.specs.Password.{IsPassword};
 ghost use Rattle.turn_lock.specs.Shown.{IsSame};
 ghost use Rattle.client_core.specs.declared.job.Outcome.TheVariants.{Unknown};
-ghost use Rattle.campaign_ledger.specs.declared.entry.Entry.TheVariants.{NotSent};
+ghost use Rattle.campaign_ledger.specs.declared.entry.LedgerEntry.TheVariants.{NotSent};
 ghost use Rattle.campaign_ledger.specs.Runs.{IsIn};
 ghost use Rattle.head_end.specs.Attempts.{unused, row_in};
 ghost use Rattle.head_end.specs.Conversations.{Converses, Speaks};
 ghost use Rattle.head_end.specs.Rows.{IsOutcome};
 ghost use Rattle.ledger_campaigns.specs.Desks.{permits_given};
-ghost use Rattle.ledger_campaigns.specs.Uses.{IsNewUse, IsRowFor, IsToldOutcome, IsUse, MayAsk, SpeaksIfGiven, asked_through};
+ghost use Rattle.ledger_campaigns.specs.Uses.{IsNewUse, IsRowFor, IsToldOutcome, IsUse, MayAsk};
+ghost use Rattle.ledger_campaigns.specs.Uses.{SpeaksIfGiven, asked_through};
 
 use crate::asking::{ask_to_send, report_outcome};
 use crate::desk::Desk;
 use crate::place::LedgeredPlace;
-use campaign_ledger::{Book, Entry, Permit};
+use campaign_ledger::{Book, LedgerEntry, Permit};
 use client_core::{Client, Job, Outcome, Verb};
 use cosem_axdr::Octets;
 use head_end::{Attempt, Connection, Connector, Row, converse, give_up};
@@ -28,7 +29,7 @@ use turn_lock::Port;
 pub struct LedgeredJob<'a> {
     pub job: &'a Job,
     pub place: u32,
-    pub found: Entry,
+    pub found: LedgerEntry,
     pub password: &'a Octets,
 }
 
@@ -60,12 +61,12 @@ pub fn run_ledgered_job<C: Connector, B: Book, W: Wait>(
     ensures port { IsSame place.old.port place.new.port }
 {
     match task.found {
-        Entry::NotSent => {
+        LedgerEntry::NotSent => {
             let row = run_new_job(rt, alloc, task, &mut place.attempt, &mut place.port);
             place.row = row;
         }
-        Entry::MaybeSent => place.row = Row::Came(Outcome::Unknown),
-        Entry::Came(outcome) => place.row = Row::Came(outcome),
+        LedgerEntry::MaybeSent => place.row = Row::Came(Outcome::Unknown),
+        LedgerEntry::Came(outcome) => place.row = Row::Came(outcome),
     }
 }
 

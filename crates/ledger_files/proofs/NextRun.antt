@@ -11,7 +11,7 @@ use Rattle.sqlite.specs.Files.{file_state}
 use Rattle.sqlite.specs.Recovery.{Image}
 use Rattle.sqlite.specs.Tree.{Trees}
 use Rattle.sqlite.proofs.Theorems.{next_run}
-use Rattle.campaign_ledger.specs.declared.entry.Entry.{Entry}
+use Rattle.campaign_ledger.specs.declared.entry.LedgerEntry.{LedgerEntry}
 use Rattle.campaign_ledger.specs.Entries.{HasGone}
 use Rattle.sqlite_ledger.specs.Schema.{ledger_schema}
 use Rattle.sqlite_ledger.specs.Marks.{IsBegun, IsDown, IsLeft, LeavesEntries}
@@ -21,7 +21,7 @@ module _ {D N : Type 0} {g : Ghosts D} {next : Ghosts N} (last : FileStore D g) 
     (view last).is_numbered) (sound : AreDatabases (recovers last))
     (held : Image) (may : (state last).may_leave held) (now : Held (FileStore N next)) (opened :
         IsOpenedFrom held now) (ledger : opened.was.schema ≡ ledger_schema)
-    (entries : ℕ → Entry) (is : IsLeft (file_state opened.was).committed.trees entries) where
+    (entries : ℕ → LedgerEntry) (is : IsLeft (file_state opened.was).committed.trees entries) where
   pub finds_left : LeavesEntries (recovers last) entries
   finds_left = ((file_state opened.was).committed.trees, next_run last numbered sound held may
       (file_state opened.was) (opened.found ledger), is)

@@ -1,7 +1,7 @@
 //! Campaigns on a ledger: a second run on what the first left commands no meter again, and a ledger
 //! that fails lets no command out.
 use crate::meters::{Meters, jobs_at, password};
-use campaign_ledger::{Entry, Ledger, MemoryBook};
+use campaign_ledger::{Ledger, LedgerEntry, MemoryBook};
 use client_core::Outcome;
 use cosem_axdr::Octets;
 use head_end::{Jobs, UnwatchedCampaign, report};
@@ -16,11 +16,11 @@ use std::thread::Threads;
 const ADDRESSES: &[&[u8]] = &[b"a", b"none", b"b", b"c"];
 
 /// The command of `b` may have been sent, and `c` has refused.
-const FOUND: [Entry; 4] = [
-    Entry::NotSent,
-    Entry::NotSent,
-    Entry::MaybeSent,
-    Entry::Came(Outcome::Refused(2)),
+const FOUND: [LedgerEntry; 4] = [
+    LedgerEntry::NotSent,
+    LedgerEntry::NotSent,
+    LedgerEntry::MaybeSent,
+    LedgerEntry::Came(Outcome::Refused(2)),
 ];
 
 /// The report after `a` was disconnected.
@@ -33,14 +33,14 @@ const NO_REPORT: &[u8] = b"a unknown\nnone unknown\nb unknown\nc refused 2\n";
 #[derive(Drop)]
 struct Ended {
     text: Octets,
-    entries: Vec<Entry>,
+    entries: Vec<LedgerEntry>,
 }
 
 /// Returns the ledger of a run that finds these entries, on a book that fails after this number of
 /// calls.
 fn ledger_of(
     alloc: Global,
-    entries: &[Entry],
+    entries: &[LedgerEntry],
     calls: u64,
 ) -> Result<Ledger<MemoryBook>, AllocError> {
     let found = Vec::from_slice(alloc, entries)?;
@@ -99,7 +99,7 @@ fn run_on<R: Threads + Wait + Sync>(
 fn run_from<R: Threads + Wait + Sync>(
     rt: &R,
     alloc: Global,
-    entries: &[Entry],
+    entries: &[LedgerEntry],
     calls: u64,
     received: &AtomicU64,
 ) -> Result<Ended, AllocError> {

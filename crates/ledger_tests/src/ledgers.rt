@@ -1,14 +1,16 @@
 //! A ledger on a book in memory: permits, outcomes, and a book whose calls fail.
-use campaign_ledger::{Entry, Ledger, LedgerFault, MemoryBook, each_command_goes_out_at_most_once};
+use campaign_ledger::{
+    Ledger, LedgerEntry, LedgerFault, MemoryBook, each_command_goes_out_at_most_once,
+};
 use client_core::Outcome;
 use std::alloc::{AllocError, Global};
 use std::test::Fail;
 
 /// A place that was not sent, one that may have been, and one with an outcome.
-const THREE: [Entry; 3] = [
-    Entry::NotSent,
-    Entry::MaybeSent,
-    Entry::Came(Outcome::Done(0)),
+const THREE: [LedgerEntry; 3] = [
+    LedgerEntry::NotSent,
+    LedgerEntry::MaybeSent,
+    LedgerEntry::Came(Outcome::Done(0)),
 ];
 
 /// Returns the ledger of a run that found these three entries, on a book that fails after this
@@ -20,10 +22,7 @@ fn ledger(alloc: Global, calls: u64) -> Result<Ledger<MemoryBook>, AllocError> {
 }
 
 /// Returns the place of the permit that a ledger gives for a place.
-fn permit_for(
-    ledger: &mut Ledger<MemoryBook>,
-    place: u32,
-) -> Result<Option<u32>, LedgerFault> {
+fn permit_for(ledger: &mut Ledger<MemoryBook>, place: u32) -> Result<Option<u32>, LedgerFault> {
     match ledger.begin(place) {
         Ok(Some(permit)) => Ok(Some(permit.place())),
         Ok(None) => Ok(None),
@@ -39,7 +38,7 @@ fn a_place_gets_one_permit(rt: HostRuntime) -> Result<(), Fail> {
     assert!(rt; permit_for(&mut ledger, 1) == Ok(None));
     assert!(rt; permit_for(&mut ledger, 2) == Ok(None));
     assert!(rt; permit_for(&mut ledger, 3) == Ok(None));
-    assert!(rt; ledger.entry(0) == Entry::MaybeSent);
+    assert!(rt; ledger.entry(0) == LedgerEntry::MaybeSent);
     assert!(rt; !ledger.has_failed());
     drop(ledger);
     each_command_goes_out_at_most_once();
@@ -56,7 +55,7 @@ fn an_outcome_is_found_by_the_next_run(rt: HostRuntime) -> Result<(), Fail> {
         assert!(rt; ledger.record(0, refused) == Ok(()));
     }
     let entries = ledger.into_book().into_entries();
-    assert!(rt; entries.first() == Some(&Entry::Came(refused)));
+    assert!(rt; entries.first() == Some(&LedgerEntry::Came(refused)));
     drop(entries);
     Ok(())
 }

@@ -34,7 +34,8 @@ impl<'a> Connection for Counted<'a> {
     }
 
     fn write_all(&mut self, bytes: &[u8]) -> Result<(), StreamFault> {
-        self.received.fetch_add(bytes.len() as u64, Ordering::SeqCst);
+        self.received
+            .fetch_add(bytes.len() as u64, Ordering::SeqCst);
         Ok(())
     }
 }

@@ -11,7 +11,7 @@ use mathlib.Core.Bool.{Bool-set}
 use Rattle.std.specs.List.{list_any}
 use Rattle.sqlite.specs.State.{State}
 use Rattle.sqlite.specs.Tree.{Trees, has_rowid}
-use Rattle.campaign_ledger.specs.declared.entry.Entry.{Entry}
+use Rattle.campaign_ledger.specs.declared.entry.LedgerEntry.{LedgerEntry}
 use Rattle.campaign_ledger.specs.Entries.{HasGone}
 use Rattle.sqlite_ledger.specs.Schema.{begun_tree}
 
@@ -23,17 +23,17 @@ abbrev pub IsDown : (Trees → Type 0) → ℤ → Type 0
 IsDown may_leave place = (db : Trees) → may_leave db → IsBegun db place
 
 -- the command of a place may have been sent, by these entries, exactly if the trees have its mark
-pub record IsLeft (db : Trees) (entries : ℕ → Entry) : Type 0 where
+pub record IsLeft (db : Trees) (entries : ℕ → LedgerEntry) : Type 0 where
   pub gone : (place : ℕ) → IsBegun db (pos place) → HasGone (entries place)
   pub begun : (place : ℕ) → HasGone (entries place) → IsBegun db (pos place)
 
-abbrev pub LeavesEntries : (Trees → Type 0) → (ℕ → Entry) → Type 0
+abbrev pub LeavesEntries : (Trees → Type 0) → (ℕ → LedgerEntry) → Type 0
 LeavesEntries may_leave entries = (db : Trees) × ∥ may_leave db ∥₁ × IsLeft db entries
 
 abbrev pub LeavesCommit : State → Type 0
 LeavesCommit s = IsTrue s.is_open → (db : Trees) → s.may_leave db → db ≡ s.committed.trees
 
-pub left_marked : (may_leave : Trees → Type 0) (place : ℕ) (entries : ℕ → Entry)
+pub left_marked : (may_leave : Trees → Type 0) (place : ℕ) (entries : ℕ → LedgerEntry)
     → IsDown may_leave (pos place) → LeavesEntries may_leave entries → HasGone (entries place)
 left_marked may_leave place entries down left = left.2.gone place
     (∥∥₁_elim left.1 (Bool-set _ _) (λ may. down left.0 may))

@@ -10,7 +10,7 @@ use crate::creation::create_ledger;
 use crate::open_fault::LedgerOpenFault;
 use crate::reading::{has_jobs, read_marks, read_outcomes};
 use crate::schema::is_ledger_schema;
-use campaign_ledger::{Entry, Ledger};
+use campaign_ledger::{LedgerEntry, Ledger};
 use client_core::Job;
 use sqlite::{Alter, Connection};
 use sqlite_schema::schema::Schema;
@@ -42,7 +42,7 @@ fn read_ledger<S: Alter>(
     alloc: Global,
     conn: &mut Connection<S>,
     jobs: &[Job],
-) -> Result<Vec<Entry>, LedgerOpenFault>
+) -> Result<Vec<LedgerEntry>, LedgerOpenFault>
     ensures clean { HasCleanDisk (state S.Store conn.new) → HasCleanDisk (state S.Store conn.old) }
     ensures unchanged { HasCleanDisk (state S.Store conn.new) → conn.old.schema ≡ ledger_schema
         → OnOk result (IsUnchanged (state S.Store conn.old) (state S.Store conn.new)) }
@@ -51,7 +51,7 @@ fn read_ledger<S: Alter>(
     if !has_jobs(conn, jobs)? {
         return Err(LedgerOpenFault::OtherList);
     }
-    let mut entries = vec![in alloc; Entry::NotSent; jobs.len()]?;
+    let mut entries = vec![in alloc; LedgerEntry::NotSent; jobs.len()]?;
     read_marks(conn, &mut entries)?;
     read_outcomes(conn, &mut entries)?;
     Ok(entries)

@@ -7,7 +7,7 @@ ghost use Rattle.sqlite.specs.Held.{state};
 ghost use Rattle.sqlite_ledger.specs.Schema.{ledger_schema};
 
 use crate::jobs::are_rows_of;
-use campaign_ledger::Entry;
+use campaign_ledger::LedgerEntry;
 use client_core::{Job, Outcome};
 use sqlite::{Alter, Connection, Error, Row};
 
@@ -38,11 +38,11 @@ pub(crate) fn has_jobs<S: Alter>(conn: &mut Connection<S>, jobs: &[Job]) -> Resu
 }
 
 // Sets the entries of the marked places.
-fn enter_marks(entries: &mut [Entry], rows: &[Row]) -> Result<(), Error> {
+fn enter_marks(entries: &mut [LedgerEntry], rows: &[Row]) -> Result<(), Error> {
     for row in rows {
         let place: u32 = row.get(0)?;
         if let Some(entry) = entries.get_mut(place as usize) {
-            *entry = Entry::MaybeSent;
+            *entry = LedgerEntry::MaybeSent;
         }
     }
     Ok(())
@@ -62,12 +62,12 @@ fn outcome_in(row: &Row) -> Result<Outcome, Error> {
 }
 
 // Sets the entries of the places with an outcome.
-fn enter_outcomes(entries: &mut [Entry], rows: &[Row]) -> Result<(), Error> {
+fn enter_outcomes(entries: &mut [LedgerEntry], rows: &[Row]) -> Result<(), Error> {
     for row in rows {
         let place: u32 = row.get(0)?;
         let outcome = outcome_in(row)?;
         if let Some(entry) = entries.get_mut(place as usize) {
-            *entry = Entry::Came(outcome);
+            *entry = LedgerEntry::Came(outcome);
         }
     }
     Ok(())
@@ -76,7 +76,7 @@ fn enter_outcomes(entries: &mut [Entry], rows: &[Row]) -> Result<(), Error> {
 // Sets the entries of the marked places to `MaybeSent`.
 pub(crate) fn read_marks<S: Alter>(
     conn: &mut Connection<S>,
-    entries: &mut [Entry],
+    entries: &mut [LedgerEntry],
 ) -> Result<(), Error>
     ensures clean { HasCleanDisk (state S.Store conn.new) → HasCleanDisk (state S.Store conn.old) }
     ensures unchanged { HasCleanDisk (state S.Store conn.new) → conn.old.schema ≡ ledger_schema
@@ -89,7 +89,7 @@ pub(crate) fn read_marks<S: Alter>(
 // Sets the entries of the places with an outcome to it.
 pub(crate) fn read_outcomes<S: Alter>(
     conn: &mut Connection<S>,
-    entries: &mut [Entry],
+    entries: &mut [LedgerEntry],
 ) -> Result<(), Error>
     ensures clean { HasCleanDisk (state S.Store conn.new) → HasCleanDisk (state S.Store conn.old) }
     ensures unchanged { HasCleanDisk (state S.Store conn.new) → conn.old.schema ≡ ledger_schema

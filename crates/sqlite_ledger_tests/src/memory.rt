@@ -1,6 +1,6 @@
 //! Ledgers in memory: what a run leaves for the next, and databases that are refused.
 use crate::samples::three_jobs;
-use campaign_ledger::{Book, Entry, Ledger};
+use campaign_ledger::{Book, LedgerEntry, Ledger};
 use client_core::{Job, Outcome};
 use sqlite::{Connection, MemStore};
 use sqlite_ledger::{LedgerOpenFault, SqliteBook, open_book};
@@ -43,9 +43,9 @@ fn first_run(
 
 /// Returns whether the ledger has what the first run left, and marks of its file are not new.
 fn is_left(mut ledger: Ledger<SqliteBook<MemStore>>) -> bool {
-    let found = ledger.entry(0) == Entry::MaybeSent
-        && ledger.entry(1) == Entry::Came(Outcome::Refused(4))
-        && ledger.entry(2) == Entry::NotSent;
+    let found = ledger.entry(0) == LedgerEntry::MaybeSent
+        && ledger.entry(1) == LedgerEntry::Came(Outcome::Refused(4))
+        && ledger.entry(2) == LedgerEntry::NotSent;
     let refused = matches!(ledger.begin(0), Ok(None));
     let mut book = ledger.into_book();
     let taken = matches!(book.mark(0), Ok(false));

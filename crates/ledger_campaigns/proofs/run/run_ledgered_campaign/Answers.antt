@@ -1,7 +1,8 @@
 use Rattle.std.proofs.Common.{arith, ◌≡◌, ◌∙◌, Option, Some, length, map, ap}
 use Rattle.turn_lock.specs.declared.known.Known.{Known}
 use Rattle.ledger_campaigns.specs.Desks.{permits_given}
-use Rattle.ledger_campaigns.proofs.RunLemmas.{written, told_all, permits_kept, run_by, run_safe, taken_run}
+use Rattle.ledger_campaigns.proofs.RunLemmas.{written, told_all, permits_kept, run_by, run_safe}
+use Rattle.ledger_campaigns.proofs.RunLemmas.{taken_run}
 use Rattle.ledger_campaigns.proofs.run.run_ledgered_campaign.Goals as goal
 
 pub returns-clause-lines : goal.returns-clause-lines

@@ -13,8 +13,8 @@ loop-i-preserved g c =
       seen_more c.args.places.now (λ place. place.port.known.seen) c.loop-i.port.known.seen
           c.meet.new.self.known.seen c.loop-i.i meets.watches.sees.seen c.loop-i.invariant.3
           (λ place. seen_here c.loop-i.places c.args.places.now (λ p. p.port.known.seen)
-          c.tell-note.result.seen c.meet.new.self.known.seen c.loop-i.i c.index-places-i.result place
-          c.loop-i.invariant.0 (omega (arith, c.loop-i-test.true)) c.tell-note.ensures.note.2
+          c.tell-note.result.seen c.meet.new.self.known.seen c.loop-i.i c.index-places-i.result
+          place c.loop-i.invariant.0 (omega (arith, c.loop-i-test.true)) c.tell-note.ensures.note.2
           meets.note_seen),
     )
 
