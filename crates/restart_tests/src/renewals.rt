@@ -1,11 +1,13 @@
 //! Journals that are renewed: the new file, and what a crash leaves.
 use crate::texts::{BEGUN, DISCONNECTED, EVENTS, joined};
-use durable_lines::{DurableFile, MemoryFile, MemoryPlace, PlacePaths, StoredFile, StoredPlace};
+use durable_lines::{
+    DurableFile, FileFault, MemoryFile, MemoryPlace, PlacePaths, StoredFile, StoredPlace,
+};
 use journal_files::{RenewalTerms, RenewedFile, StartFault, renew_journal};
 use std::alloc::{AllocError, Global};
-use std::fs;
 use std::fs::File;
 use std::test::Fail;
+use std::{fs, io};
 
 // The maximum length of a file of the operating system, in bytes.
 const MAX_LEN: usize = 4_096;
@@ -89,11 +91,15 @@ fn place_of(
     Ok(StoredPlace::new(rt, File::open(&rt, ".")?, paths, MAX_LEN))
 }
 
-#[test]
-fn a_file_is_renewed_once_it_has_grown(rt: HostRuntime) -> Result<(), Fail> {
-    let alloc = rt.alloc();
-    let path = "renewed_journal";
-    fs::write(&rt, path, joined(alloc, &[BEGUN, EVENTS])?.as_slice())?;
+// Appends a line to a file, and syncs it.
+fn append_line(file: &mut RenewedFile<HostRuntime>, line: &[u8]) -> Result<(), FileFault> {
+    file.append(line)?;
+    file.sync()
+}
+
+// Appends three lines to the journal of a path, which is renewed once it has grown by more than 16
+// bytes and then keeps one event. Returns whether all calls returned `Ok`.
+fn append_three(rt: HostRuntime, path: &str) -> Result<bool, Fail> {
     let opened = File::options().read(true).write(true).open(&rt, path)?;
     let file = StoredFile::try_lock(opened, MAX_LEN)?;
     let place = place_of(rt, path, "renewed_journal.new", "renewed_journal.1")?;
@@ -101,22 +107,29 @@ fn a_file_is_renewed_once_it_has_grown(rt: HostRuntime) -> Result<(), Fail> {
         limit: 16,
         depth: 1,
     };
-    let mut file = RenewedFile::new(alloc, place, file, terms);
-    file.append(b"moment 5\n")?;
-    file.sync()?;
-    let first = joined(alloc, &[BEGUN, EVENTS, b"moment 5\n"])?;
-    assert!(rt; fs::read(&rt, path)?.as_slice() == first.as_slice());
-    file.append(b"moment 6\n")?;
-    file.sync()?;
-    file.append(b"button\n")?;
-    file.sync()?;
-    let bytes = fs::read(&rt, path)?;
+    let mut file = RenewedFile::new(rt.alloc(), place, file, terms);
+    let first = append_line(&mut file, b"moment 5\n");
+    let second = append_line(&mut file, b"moment 6\n");
+    let third = append_line(&mut file, b"button\n");
+    drop(file);
+    Ok(first.is_ok() && second.is_ok() && third.is_ok())
+}
+
+// Returns the bytes of a file, and removes it.
+fn taken(rt: &HostRuntime, path: &str) -> Result<Vec<u8>, io::Error> {
+    let bytes = fs::read(rt, path)?;
+    fs::remove_file(rt, path)?;
+    Ok(bytes)
+}
+
+#[test]
+fn a_file_is_renewed_once_it_has_grown(rt: HostRuntime) -> Result<(), Fail> {
+    let path = "renewed_journal";
+    fs::write(&rt, path, joined(rt.alloc(), &[BEGUN, EVENTS])?.as_slice())?;
+    assert!(rt; append_three(rt, path)?);
+    let bytes = taken(&rt, path)?;
     assert!(rt; bytes.as_slice().ends_with(b"events -\nmoment 6\nbutton\n"));
-    let older = fs::read(&rt, "renewed_journal.1")?;
-    assert!(rt;
-        older.as_slice().starts_with(first.as_slice()) && older.as_slice().ends_with(b"moment 6\n")
-    );
-    fs::remove_file(&rt, path)?;
-    fs::remove_file(&rt, "renewed_journal.1")?;
+    let older = joined(rt.alloc(), &[BEGUN, EVENTS, b"moment 5\nmoment 6\n"])?;
+    assert!(rt; taken(&rt, "renewed_journal.1")?.as_slice() == older.as_slice());
     Ok(())
 }

@@ -8,16 +8,33 @@ use relay_recorder::Recorder;
 use std::alloc::Global;
 use std::test::Fail;
 
-// Resumes a file of these texts, for the meter with this name. Returns the result and the bytes of
-// the file after it.
+// Resumes the journal of a file. Returns the number of bytes that were cut, and the state of the
+// supply.
+fn resume(
+    alloc: Global,
+    file: &mut MemoryFile,
+    device: &Octets,
+) -> Result<(usize, ControlState), StartFault> {
+    match resume_journal(alloc, file, device, 16) {
+        Ok(Resumed { recorder, cut }) => {
+            let state = recorder.core().state();
+            drop(recorder);
+            Ok((cut, state))
+        }
+        Err(fault) => Err(fault),
+    }
+}
+
+// Resumes a file of these texts, for the meter with this name. Returns the number of bytes that
+// were cut, the state of the supply, and the bytes of the file after it.
 fn resumed(
     alloc: Global,
     texts: &[&[u8]],
     name: &[u8],
-) -> Result<(Result<Resumed, StartFault>, Vec<u8>), StartFault> {
+) -> Result<(Result<(usize, ControlState), StartFault>, Vec<u8>), StartFault> {
     let device = Octets::from_slice(alloc, name)?;
     let mut file = MemoryFile::new(alloc, joined(alloc, texts)?);
-    let found = resume_journal(alloc, &mut file, &device, 16);
+    let found = resume(alloc, &mut file, &device);
     let bytes = file.bytes()?;
     Ok((found, bytes))
 }
@@ -32,13 +49,22 @@ fn refusal(alloc: Global, texts: &[&[u8]], name: &[u8]) -> Result<Option<StartFa
     }
 }
 
+// Begins the journal of a new meter with the name METER7.
+fn begin(alloc: Global, place: &mut MemoryPlace) -> Result<MemoryFile, StartFault> {
+    let device = Octets::from_slice(alloc, b"METER7")?;
+    let recorder = Recorder::new(alloc, &device, 16);
+    drop(device);
+    let recorder = recorder?;
+    let file = begin_journal(alloc, place, &recorder);
+    drop(recorder);
+    file
+}
+
 #[test]
 fn a_new_meter_begins_its_journal(rt: HostRuntime) -> Result<(), Fail> {
     let alloc = rt.alloc();
-    let device = Octets::from_slice(alloc, b"METER7")?;
-    let recorder = Recorder::new(alloc, &device, 16)?;
     let mut place = MemoryPlace::new(alloc, Vec::new(alloc));
-    let file = begin_journal(alloc, &mut place, &recorder)?;
+    let file = begin(alloc, &mut place)?;
     assert!(rt; file.bytes()?.as_slice() == BEGUN);
     assert!(rt; place.after_crash(place.moment(), false, &[])?.as_slice() == BEGUN);
     Ok(())
@@ -49,9 +75,7 @@ fn a_killed_meter_goes_on(rt: HostRuntime) -> Result<(), Fail> {
     let alloc = rt.alloc();
     for tail in [b"".as_slice(), b"butt", b"\0\0\0\0", b"\0but\nton\n"] {
         let (found, bytes) = resumed(alloc, &[BEGUN, EVENTS, tail], b"METER7")?;
-        let found = found?;
-        assert!(rt; found.cut == tail.len());
-        assert!(rt; found.recorder.core().state() == ControlState::Disconnected);
+        assert!(rt; found == Ok((tail.len(), ControlState::Disconnected)));
         assert!(rt; bytes.as_slice() == joined(alloc, &[BEGUN, EVENTS])?.as_slice());
     }
     Ok(())
