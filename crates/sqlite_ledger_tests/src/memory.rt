@@ -131,7 +131,9 @@ fn another_list_is_refused(rt: HostRuntime) -> Result<(), Fail> {
     let jobs = three_jobs(rt.alloc(), b"m3")?;
     let others = three_jobs(rt.alloc(), b"m4")?;
     assert!(rt; other_list(&rt, &jobs, &others) == Some(LedgerOpenFault::OtherList));
-    assert!(rt; other_list(&rt, &jobs, &others[..2]) == Some(LedgerOpenFault::OtherList));
+    assert!(rt;
+        other_list(&rt, &jobs, &others[..others.len() / 2]) == Some(LedgerOpenFault::OtherList)
+    );
     Ok(())
 }
 
