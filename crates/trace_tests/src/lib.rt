@@ -1,6 +1,6 @@
-//! Tests of `trace_words`, `trace_openings`, `trace_lines`, `trace_player`, `trace_views` and
-//! `trace_records`: lines of a trace that are read and written, traces that are read, written and
-//! played, views and records of a run, and what a recorder exports.
+//! Tests of `trace_words`, `trace_openings`, `trace_lines`, `trace_player` and `trace_views`: lines
+//! of a trace that are read and written, traces that are read, written and played, views of a run,
+//! and what a recorder exports.
 //!
 //! The tests have a crate of their own, because checking tests proves their whole crate again.
 #![tactic(auto)]
@@ -15,8 +15,6 @@ mod lines;
 mod openings;
 #[cfg(test)]
 mod plays;
-#[cfg(test)]
-mod records;
 #[cfg(test)]
 mod views;
 #[cfg(test)]

@@ -33,44 +33,6 @@ fn a_view_is_written(rt: HostRuntime) {
     assert!(rt; shows(rt.alloc(), TRACE, &view, WITH_EVENTS));
 }
 
-// Its events as comma-separated values. The clock has no moment before event 8, which sets it to 5;
-// event 9 is a moment before that one, and changes nothing.
-const CSV: &[u8] = b"number,reply,state,supply,moment,time
-1,code 0,1,on,,
-2,code 0,0,off,,
-3,code 2,0,off,,
-4,code 0,2,off,,
-5,code 0,1,on,,
-6,value 0301,1,on,,
-7,sampled 0 1,1,on,,
-8,ran 0,1,on,5,2000-01-01T00:00:05
-9,stale 5,1,on,5,2000-01-01T00:00:05
-";
-
-// Its events 7 and 8 as JSON, with their lines in the trace.
-const JSON: &[u8] = b"{\"event\":\"samples 10 20\",\"moment\":null,\"number\":7,\
-\"reply\":\"sampled 0 1\",\"state\":1,\"supply\":\"on\",\"time\":null}
-{\"event\":\"moment 5\",\"moment\":5,\"number\":8,\
-\"reply\":\"ran 0\",\"state\":1,\"supply\":\"on\",\"time\":\"2000-01-01T00:00:05\"}
-";
-
-#[test]
-fn records_are_written(rt: HostRuntime) {
-    let csv = TraceView {
-        format: TraceFormat::Csv,
-        ..TraceView::whole()
-    };
-    assert!(rt; shows(rt.alloc(), TRACE, &csv, CSV));
-    let json = TraceView {
-        first: Some(7),
-        last: Some(8),
-        changes_only: false,
-        with_events: true,
-        format: TraceFormat::Json,
-    };
-    assert!(rt; shows(rt.alloc(), TRACE, &json, JSON));
-}
-
 // Returns whether a view of the front of a text shows these lines and ends with this fault.
 fn shows_front(alloc: Global, text: &[u8], view: &TraceView, lines: &[u8], line: u64) -> bool {
     let mut writer = Counted::new(Vec::new(alloc));
