@@ -298,6 +298,49 @@ def a_journal_needs_its_folder(name, folder):
     check(f"{name}: a folder as the file", is_refused and not list(inner.iterdir()), made)
 
 
+@in_folder
+def a_journal_is_renewed(name, folder):
+    """A journal that grows is renewed while the server runs, and at a start: it stays short, it
+    plays, and a killed meter continues from it. The last journals before it are kept."""
+    path, depth, limit = folder / "journal", 4, 4096
+    for turn in range(2):
+        server = journaled(path, "--depth", str(depth), "--keep-journals", "2", limit=limit)
+        client = server.client()
+        for number in range(301):
+            assert client.set(MODE, f"160{number % 2 + 2}") == "code 0"
+        server.stop()
+        client.close()
+        length = path.stat().st_size
+        check(f"{name}: run {turn}, its length", length < 2 * limit, length)
+        played = lines_played(path)
+        check(f"{name}: run {turn}, its lines", len(played) >= depth, played[-1:])
+        server = journaled(path, limit=limit)
+        client = server.client()
+        check(f"{name}: run {turn}, continued", client.get(MODE) == "value 1602")
+        client.close()
+        check(f"{name}: run {turn}, end", server.ended()[0] == 0)
+    held = sorted(it.name for it in folder.iterdir() if it.name != "journal.lock")
+    check(f"{name}: what is kept", held == ["journal", "journal.1", "journal.2"], held)
+    older = (folder / "journal.1").read_bytes()
+    check(f"{name}: a journal before it", len(older) > limit and lines_played(folder / "journal.1"))
+
+
+@in_folder
+def a_long_journal_is_renewed_at_a_start(name, folder):
+    journal = journal_with_events(folder / "journal")
+    with open(journal.path, "ab") as file:
+        file.write(LINE * 300)
+    server = journaled(journal.path, "--depth", "1", "--keep-journals", "1", limit=4096)
+    client = server.client()
+    check(f"{name}: the mode", client.get(MODE) == "value 1602")
+    held = journal.path.read_bytes()
+    check(f"{name}: its events", held.endswith(f"\n{OPEN_COUNT}\n".encode() + LINE), held)
+    check(f"{name}: the journal before it",
+          (folder / "journal.1").read_bytes() == journal.text + LINE * 300)
+    client.close()
+    check(f"{name}: end", server.ended()[0] == 0)
+
+
 def trace_of_a_run():
     """A trace of mode 4, disconnected, 70 W and second 300."""
     server = Server("--stop-with-input")
@@ -586,7 +629,8 @@ def a_short_or_interrupted_call_changes_nothing(name):
 
 TESTS = (a_journal_changes_no_answer, an_answer_has_its_line, a_torn_end_is_cut,
          a_wrong_journal_is_refused, another_meter_is_refused, one_server_has_a_journal,
-         a_journal_needs_its_folder, a_journal_begins_from_a_trace, a_start_may_be_killed,
+         a_journal_needs_its_folder, a_journal_begins_from_a_trace, a_journal_is_renewed,
+         a_long_journal_is_renewed_at_a_start, a_start_may_be_killed,
          killed_servers_lose_no_answer, a_full_disk_ends_the_server,
          a_failed_sync_is_never_answered, a_failed_read_or_write_loses_no_answer,
          a_short_or_interrupted_call_changes_nothing)

@@ -88,8 +88,10 @@ def model_lines(text):
             for number, line in enumerate(lines[opening + 1:], 1)]
 
 
-def journaled(path, *options, **how):
-    return Server("--journal", str(path), "--stop-with-input", *options, **how)
+def journaled(path, *options, limit=16_777_216, **how):
+    """A server on a journal, which is renewed after `limit` bytes."""
+    return Server("--journal", str(path), "--journal-limit", str(limit), "--stop-with-input",
+                  *options, **how)
 
 
 def restart(journal, *options, **how):

@@ -5,13 +5,17 @@ ghost use Rattle.meter_server_cli.specs.Endings.{PrintsText};
 
 use crate::ending::print_trace;
 use crate::serving::{ClientParameters, meter_sources};
-use durable_lines::{LockFault, LockFile, StoredFile, StoredPlace};
-use journal_files::{Resumed, StartFault, begin_journal, resume_journal};
+use durable_lines::{LockFault, LockFile, PlacePaths, StoredFile, StoredPlace};
+use journal_files::{
+    RenewalTerms, RenewedFile, Resumed, StartFault, begin_journal, renew_long_journal,
+    resume_journal,
+};
 use meter_journal::{FailureAction, JournalFault};
 use meter_run::{JournaledRun, MeterJournal, RunTerms, run_journaled_meter};
 use meter_server::{ServeFault, Served};
 use program::Fault;
 use relay_recorder::Recorder;
+use server_commands::Bounds;
 use server_io::{Closing, ConsoleSources, Sockets, SourcesEnd};
 use std::alloc::AllocError;
 use std::fs::File;
@@ -30,7 +34,7 @@ const DRAFT_SUFFIX: &str = ".new";
 #[derive(Drop)]
 pub(crate) struct OpenJournal {
     path: String,
-    file: StoredFile,
+    file: RenewedFile<HostRuntime>,
     lock: LockFile,
 }
 
@@ -82,14 +86,39 @@ fn folder_of(path: &str) -> &str {
     }
 }
 
-// Writes the journal of a recorder as a new file.
-fn begin_file(rt: &HostRuntime, path: &str, recorder: &Recorder) -> Result<StoredFile, StartFault> {
+// Returns the paths of the journals before the last renewals, as many as are kept: that of the
+// journal, a period and a number, counted from 1.
+fn older_paths(rt: &HostRuntime, path: &str, count: u16) -> Result<Vec<String>, AllocError> {
+    let mut paths = Vec::new(rt.alloc());
+    for number in 1..=count {
+        paths.push(format!(in rt.alloc(); "{path}.{number}")?)?;
+    }
+    Ok(paths)
+}
+
+// Returns the place of a journal, which keeps this number of files that were replaced.
+fn place_of(
+    rt: &HostRuntime,
+    path: &str,
+    kept: u16,
+) -> Result<StoredPlace<HostRuntime>, StartFault> {
     let Ok(folder) = File::open(rt, folder_of(path)) else {
         return Err(StartFault::File);
     };
-    let draft_path = with_suffix(rt, path, DRAFT_SUFFIX)?;
-    let mut place = StoredPlace::new(rt, folder, path, draft_path.as_str(), MAX_BYTES);
-    begin_journal(rt.alloc(), &mut place, recorder)
+    let paths = PlacePaths {
+        path: with_suffix(rt, path, "")?,
+        draft: with_suffix(rt, path, DRAFT_SUFFIX)?,
+        older: older_paths(rt, path, kept)?,
+    };
+    Ok(StoredPlace::new(*rt, folder, paths, MAX_BYTES))
+}
+
+// Returns when a journal is renewed, and how many events stay in it.
+fn terms_of(bounds: &Bounds) -> RenewalTerms {
+    RenewalTerms {
+        limit: bounds.journal_limit as usize,
+        depth: usize::from(bounds.depth),
+    }
 }
 
 // Resumes the journal of an open file, for the meter with the name of this recorder.
@@ -114,13 +143,35 @@ fn resume_file(
     }
 }
 
+// Renews the journal of a file that was resumed, if it is long. Returns the file that lines are
+// appended to, and the recorder.
+fn renew_resumed(
+    rt: &HostRuntime,
+    place: &mut StoredPlace<HostRuntime>,
+    file: StoredFile,
+    recorder: Recorder,
+    terms: RenewalTerms,
+) -> Result<(StoredFile, Option<Recorder>), StartFault>
+    requires { length recorder.events ≡ 0 }
+    ensures { IfOk result (λ r. IfSome r.1 (λ resumed. length resumed.events ≡ 0)) }
+{
+    match renew_long_journal(rt.alloc(), place, file, terms.depth, terms.limit) {
+        Ok(file) => Ok((file, Some(recorder))),
+        Err(fault) => {
+            drop(recorder);
+            Err(fault)
+        }
+    }
+}
+
 // Opens the journal of a path, or begins it with this recorder if there is no file. Returns its
 // file, and the recorder that goes on where it ends, or `None` if it was begun.
 fn open_file(
     rt: &HostRuntime,
     path: &str,
+    place: &mut StoredPlace<HostRuntime>,
     recorder: &Recorder,
-    depth: u16,
+    bounds: &Bounds,
 ) -> Result<(StoredFile, Option<Recorder>), StartFault>
     ensures { IfOk result (λ r. IfSome r.1 (λ resumed. length resumed.events ≡ 0)) }
 {
@@ -128,16 +179,35 @@ fn open_file(
     options.read(true).write(true);
     match options.open(rt, path) {
         Ok(file) => {
-            let (file, Resumed { recorder, cut }) = resume_file(rt, file, recorder, depth)?;
+            let (file, Resumed { recorder, cut }) = resume_file(rt, file, recorder, bounds.depth)?;
             if cut > 0 {
                 let _ = eprintln!(rt; "{path}: cut {cut} bytes of an interrupted write");
             }
-            Ok((file, Some(recorder)))
+            renew_resumed(rt, place, file, recorder, terms_of(bounds))
         }
         Err(error) if error.kind() == ErrorKind::NotFound => {
-            Ok((begin_file(rt, path, recorder)?, None))
+            Ok((begin_journal(rt.alloc(), place, recorder)?, None))
         }
         Err(_) => Err(StartFault::File),
+    }
+}
+
+// Opens the journal of a path as `open_file` does, with a file that is renewed when it has grown.
+fn open_renewed(
+    rt: &HostRuntime,
+    path: &str,
+    recorder: &Recorder,
+    bounds: &Bounds,
+) -> Result<(RenewedFile<HostRuntime>, Option<Recorder>), StartFault>
+    ensures { IfOk result (λ r. IfSome r.1 (λ resumed. length resumed.events ≡ 0)) }
+{
+    let mut place = place_of(rt, path, bounds.kept_journals)?;
+    match open_file(rt, path, &mut place, recorder, bounds) {
+        Ok((file, resumed)) => {
+            let file = RenewedFile::new(rt.alloc(), place, file, terms_of(bounds));
+            Ok((file, resumed))
+        }
+        Err(fault) => Err(fault),
     }
 }
 
@@ -171,7 +241,7 @@ fn fault_of(fault: StartFault) -> Fault {
 fn journal_with(
     rt: &HostRuntime,
     path: &str,
-    file: StoredFile,
+    file: RenewedFile<HostRuntime>,
     lock: LockFile,
 ) -> Result<OpenJournal, Fault> {
     match with_suffix(rt, path, "") {
@@ -186,7 +256,7 @@ fn open_with_lock(
     rt: &HostRuntime,
     path: &str,
     recorder: &Recorder,
-    depth: u16,
+    bounds: &Bounds,
 ) -> Result<(OpenJournal, Option<Recorder>), Fault>
     ensures { IfOk result (λ r. IfSome r.1 (λ resumed. length resumed.events ≡ 0)) }
 {
@@ -195,7 +265,7 @@ fn open_with_lock(
         return Err(Fault::Input);
     }
     let lock = lock(rt, path)?;
-    match open_file(rt, path, recorder, depth) {
+    match open_renewed(rt, path, recorder, bounds) {
         Ok((file, resumed)) => match journal_with(rt, path, file, lock) {
             Ok(journal) => Ok((journal, resumed)),
             Err(fault) => {
@@ -216,12 +286,12 @@ pub(crate) fn open_journal(
     rt: &HostRuntime,
     path: &str,
     recorder: Recorder,
-    depth: u16,
+    bounds: &Bounds,
 ) -> Result<(OpenJournal, Recorder), Fault>
     requires { length recorder.events ≡ 0 }
     ensures { IfOk result (λ r. length r.1.events ≡ 0) }
 {
-    match open_with_lock(rt, path, &recorder, depth) {
+    match open_with_lock(rt, path, &recorder, bounds) {
         Ok((journal, None)) => Ok((journal, recorder)),
         Ok((journal, Some(resumed))) => {
             drop(recorder);
@@ -251,7 +321,8 @@ pub(crate) fn run_journaled<R: Threads + Wait + Copy + Drop + Send + 'static, W:
 )
     requires unused { length recorder.events ≡ 0 }
     ensures { OnOk result.2
-        (PrintsText (IsJournaledRun ⊥ (λ _. []) (λ _. 0) (λ _ _ _. ⊥) parts.journal.file recorder
+        (PrintsText (IsJournaledRun ⊥ (λ _. []) (λ _. 0) (λ _ _ _. ⊥) (λ _. ⊥)
+        parts.journal.file recorder
         (record { blocks = None; moments = None; presses = None; password = meter.now.password })
         result.0)
         (W.contents output.old) (W.contents output.new)) }

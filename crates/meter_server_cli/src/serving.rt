@@ -255,7 +255,7 @@ fn with_journal(
         recorder,
         input,
     } = plan;
-    match open_journal(rt, path.as_str(), recorder, bounds.depth) {
+    match open_journal(rt, path.as_str(), recorder, &bounds) {
         Ok((journal, recorder)) => Ok((
             ServePlan {
                 bounds,
