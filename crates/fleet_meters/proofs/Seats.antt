@@ -1,0 +1,203 @@
+-- The sessions of one meter of a fleet.
+use Rattle.std.proofs.Common.{◌≡◌, ◌≢◌, ◌<◌, ◌+◌, ℕ, zero, suc, List, [], ◌∷◌, Option, Some, None, Result, Ok, Err, refl, sym, ◌∙◌, ap, subst, arith, length, slice_index_or, slice_set}
+use Rattle.std.proofs.lemmas.List.{get_or_default, get_or-set_same, get_or-set_other, length-set}
+use Rattle.std.proofs.lemmas.Option.{same_Some, none-some}
+use Rattle.embedded_meter.specs.Calls.{Resumes, Opens, OpensBy, ClosesBy}
+use Rattle.embedded_meter.specs.MeterStates.{MeterState, dialogue_at, max_sessions}
+use Rattle.embedded_meter.specs.declared.fault.MeterFault.{MeterFault}
+use Rattle.embedded_meter.specs.declared.fault.MeterFault.TheVariants.{NoSession, SessionTaken, TooManySamples, Uneven}
+use Rattle.embedded_meter.specs.declared.fault.MeterFault.TheVariants as fault
+use Rattle.fleet_links.specs.declared.link.Turn.{Turn}
+use Rattle.fleet_meters.specs.Clients.{ClientState, ClientTurns}
+use Rattle.fleet_meters.specs.Places.{Seats, SeatsBy, OpensFirst, IsFull, Frees, TurnsAt, Makes, PlacesStay, meter_in, session_in, session_of}
+use Rattle.fleet_meters.specs.declared.place.Refusal.{Refusal}
+use Rattle.fleet_meters.specs.declared.place.Refusal.TheVariants.{NoMeter, Full}
+use Rattle.fleet_meters.specs.declared.place.Refusal.TheVariants as refusal
+use Rattle.fleet_meters.specs.declared.terms.MeterTerms.{MeterTerms}
+
+-- a session that is open is not missing
+pub some_not_none : {A : Type 0} (o : Option A) (a : A) → o ≡ Some a → o ≢ None
+some_not_none o a e none = none-some a (sym none ∙ e)
+
+-- ---- the sessions of a place after a call
+
+at_some : (o : Option MeterState) (m : MeterState) (number : ℕ) → o ≡ Some m
+    → session_of o number ≡ dialogue_at m number
+at_some o m number e = ap (λ (x : Option MeterState). session_of x number) e
+
+-- the other sessions stay, where the meter is there before and after
+others_at : (old new : Option MeterState) (m m' : MeterState) (other : ℕ) → old ≡ Some m
+    → new ≡ Some m' → dialogue_at m' other ≡ dialogue_at m other
+    → session_of new other ≡ session_of old other
+others_at old new m m' other was is same =
+    at_some new m' other is ∙ same ∙ sym (at_some old m other was)
+
+-- a new meter has no session before
+makes_others : (terms : MeterTerms) (old : Option MeterState) (m : MeterState) (number : ℕ)
+    → Makes terms old m → dialogue_at m number ≡ session_of old number
+makes_others terms None m number makes = makes.sessions number
+makes_others terms (Some old) m number makes =
+    ap (λ (q : MeterState). dialogue_at q number) makes
+
+pub seats_others : (terms : MeterTerms) (old new : Option MeterState) (number other : ℕ)
+    → Seats terms old number new → other ≢ number → session_of new other ≡ session_of old other
+seats_others terms old new number other seats apart =
+    at_some new seats.after other seats.is ∙ seats.opens.stay.others other apart
+    ∙ makes_others terms old seats.before other seats.makes
+
+pub seats_free : (terms : MeterTerms) (old new : Option MeterState) (number : ℕ)
+    → Seats terms old number new → session_of old number ≡ None
+seats_free terms old new number seats =
+    sym (makes_others terms old seats.before number seats.makes) ∙ seats.opens.free
+
+pub seats_open : (terms : MeterTerms) (old new : Option MeterState) (number : ℕ)
+    → Seats terms old number new → session_of new number ≢ None
+seats_open terms old new number seats none =
+    seats.opens.is_open (sym (at_some new seats.after number seats.is) ∙ none)
+
+pub frees_others : (old new : Option MeterState) (number other : ℕ) → Frees old number new
+    → other ≢ number → session_of new other ≡ session_of old other
+frees_others old new number other frees apart =
+    others_at old new frees.before frees.after other frees.was frees.is
+    (frees.closes.stay.others other apart)
+
+pub turns_others : (room : ℕ) (old new : Option MeterState) (c c' : ClientState) (turn : Turn)
+    (other : ℕ) → TurnsAt room old c turn new c' → other ≢ c.number
+    → session_of new other ≡ session_of old other
+turns_others room old new c c' turn other turns apart =
+    others_at old new turns.before turns.after other turns.was turns.is
+    (turns.turns.turns.serves.stay.others other apart)
+
+pub turns_open : (room : ℕ) (old new : Option MeterState) (c c' : ClientState) (turn : Turn)
+    → TurnsAt room old c turn new c' → session_of new c.number ≢ None
+turns_open room old new c c' turn turns =
+    some_not_none (session_of new c.number) turns.turns.turns.serves.after
+    (at_some new turns.after c.number turns.is ∙ turns.turns.turns.serves.is)
+
+-- ---- the calls
+
+pub new_seats : (terms : MeterTerms) (trace : List ℕ) (m m' v : MeterState)
+    → trace ≡ terms.trace → Resumes trace terms.password terms.kept_events m → Opens m 0 m'
+    → v ≡ m' → Seats terms None 0 (Some v)
+new_seats terms trace m m' v same resumes opens is = record {
+  before = m;
+  after = m';
+  makes = subst (λ (t : List ℕ). Resumes t terms.password terms.kept_events m) same resumes;
+  is = ap Some is;
+  opens = opens;
+}
+
+pub opens_unchanged : (m m' : MeterState) (number : ℕ) (why : MeterFault)
+    → OpensBy m number (Err why) m' → m' ≡ m
+opens_unchanged m m' number NoSession opens = opens.1
+opens_unchanged m m' number SessionTaken opens = opens.1
+opens_unchanged m m' number fault.Memory opens = opens.2
+opens_unchanged m m' number TooManySamples opens = absurd opens
+opens_unchanged m m' number Uneven opens = absurd opens
+
+pub close_frees : (o : Option MeterState) (m m' : MeterState) (number : ℕ)
+    (result : Result Unit MeterFault) → o ≡ Some m → session_of o number ≢ None
+    → ClosesBy m number result m' → Frees o number (Some m')
+close_frees o m m' number (Ok done) is is_open closes = record {
+  before = m;
+  after = m';
+  was = is;
+  is = refl;
+  closes = closes;
+}
+close_frees o m m' number (Err why) is is_open closes =
+    absurd (is_open (at_some o m number is ∙ closes.1))
+
+pub turns_at : (room : ℕ) (o : Option MeterState) (m m' : MeterState) (c c' : ClientState)
+    (turn : Turn) → o ≡ Some m → ClientTurns room m c turn m' c'
+    → TurnsAt room o c turn (Some m') c'
+turns_at room o m m' c c' turn is turns = record {
+  before = m;
+  after = m';
+  was = is;
+  is = refl;
+  turns = turns;
+}
+
+-- ---- the place in the list of places
+
+-- the meter at a place does not depend on what stands for a missing one
+meter_is : (places : List (Option MeterState)) (at : ℕ) (x : Option MeterState)
+    → at < length places → x ≡ slice_index_or places at x → meter_in places at ≡ x
+meter_is places at x within is = get_or_default places at None x within ∙ sym is
+
+meter_set : (places : List (Option MeterState)) (at : ℕ) (y : Option MeterState)
+    → at < length places → meter_in (slice_set places at y) at ≡ y
+meter_set places at y within = get_or-set_same places at y None within
+
+pub frees_in : (places : List (Option MeterState)) (at : ℕ) (x y : Option MeterState)
+    (number : ℕ) → at < length places → x ≡ slice_index_or places at x → Frees x number y
+    → Frees (meter_in places at) number (meter_in (slice_set places at y) at)
+frees_in places at x y number within is frees =
+    subst (λ (o : Option MeterState). Frees o number (meter_in (slice_set places at y) at))
+    (sym (meter_is places at x within is))
+    (subst (λ (o : Option MeterState). Frees x number o)
+    (sym (meter_set places at y within)) frees)
+
+pub seats_by : (terms : MeterTerms) (o : Option MeterState) (m m' : MeterState)
+    (result : Result ℕ Refusal) → o ≡ Some m → OpensFirst m result m'
+    → SeatsBy terms o result (Some m')
+seats_by terms o m m' (Ok number) is opens = record {
+  before = m;
+  after = m';
+  makes = subst (λ (x : Option MeterState). Makes terms x m) (sym is) refl;
+  is = refl;
+  opens = opens;
+}
+seats_by terms o m m' (Err NoMeter) is opens = absurd opens
+seats_by terms o m m' (Err Full) is opens = (
+  subst (λ (x : Option MeterState). IsFull x) (sym is) opens.0,
+  ap Some opens.1 ∙ sym is,
+)
+seats_by terms o m m' (Err refusal.Memory) is opens = ap Some opens ∙ sym is
+
+pub seats_in : (terms : MeterTerms) (places : List (Option MeterState)) (at : ℕ)
+    (x y : Option MeterState) (number : ℕ) → at < length places
+    → x ≡ slice_index_or places at x → Seats terms x number y
+    → Seats terms (meter_in places at) number (meter_in (slice_set places at y) at)
+seats_in terms places at x y number within is seats =
+    subst (λ (o : Option MeterState).
+    Seats terms o number (meter_in (slice_set places at y) at))
+    (sym (meter_is places at x within is))
+    (subst (λ (o : Option MeterState). Seats terms x number o)
+    (sym (meter_set places at y within)) seats)
+
+pub turns_in : (room : ℕ) (places : List (Option MeterState)) (at : ℕ)
+    (x y : Option MeterState) (c c' : ClientState) (turn : Turn) → at < length places
+    → x ≡ slice_index_or places at x → TurnsAt room x c turn y c'
+    → TurnsAt room (meter_in places at) c turn (meter_in (slice_set places at y) at) c'
+turns_in room places at x y c c' turn within is turns =
+    subst (λ (o : Option MeterState).
+    TurnsAt room o c turn (meter_in (slice_set places at y) at) c')
+    (sym (meter_is places at x within is))
+    (subst (λ (o : Option MeterState). TurnsAt room x c turn o c')
+    (sym (meter_set places at y within)) turns)
+
+pub places_set : (places : List (Option MeterState)) (at : ℕ) (y : Option MeterState)
+    → PlacesStay places at (slice_set places at y)
+places_set places at y = record {
+  places = λ other far. get_or-set_other places at other y None far;
+  count = length-set places at y;
+}
+
+-- a meter with a session is at one of the places
+pub within_places : (places : List (Option MeterState)) (at number : ℕ)
+    → session_in places at number ≢ None → at < length places
+within_places [] at number is_open = absurd (is_open refl)
+within_places (x ∷ places) zero number is_open = omega arith
+within_places (x ∷ places) (suc at) number is_open =
+    let rest = within_places places at number is_open in
+    omega (arith, rest)
+
+pub open_at_place : (places : List (Option MeterState)) (at place number : ℕ)
+    (x : Option MeterState) → at ≡ place → x ≡ slice_index_or places at x
+    → session_in places place number ≢ None → session_of x number ≢ None
+open_at_place places at place number x same is is_open none =
+    let there = subst (λ (p : ℕ). session_in places p number ≢ None) (sym same) is_open in
+    there (ap (λ (m : Option MeterState). session_of m number)
+    (meter_is places at x (within_places places at number there) is) ∙ none)

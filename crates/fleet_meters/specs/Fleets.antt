@@ -1,0 +1,110 @@
+-- A fleet: its meters and the connections of their clients.
+--     FleetState     the two
+--     IsFleet        each connection has a session of its meter for itself
+--     Isolated       what one connection does leaves the others unchanged
+--     Admits, Runs, Releases     a connection was admitted, ran, or was closed
+use Rattle.std.specs.Prelude.{◌≡◌, ◌≢◌, ◌≤◌, ◌+◌, ℕ, List, [], Option, Some, None, Result, Ok, Err, length}
+use Rattle.slab.specs.Slab.{Slab, get}
+use Rattle.embedded_meter.specs.MeterStates.{MeterState}
+use Rattle.fleet_links.specs.Streams.{StreamState}
+use Rattle.fleet_links.specs.declared.link.Turn.{Turn}
+use Rattle.fleet_meters.specs.Clients.{ClientState}
+use Rattle.fleet_meters.specs.Places.{Seats, Frees, TurnsAt, IsFull, meter_in, session_in}
+use Rattle.fleet_meters.specs.declared.place.Refusal.{Refusal}
+use Rattle.fleet_meters.specs.declared.place.Refusal.TheVariants.{NoMeter, Full, Memory}
+use Rattle.fleet_meters.specs.declared.terms.MeterTerms.{MeterTerms}
+
+-- a fleet: what its meters have in common, the meter at each place, and the connections
+pub record FleetState : Type 0 where
+  pub terms : MeterTerms
+  pub places : List (Option MeterState)
+  pub clients : Slab ClientState
+
+-- The invariant of every fleet: the session of each connection is open, and no other connection has
+-- it. A meter has eight sessions, so at most eight connections.
+pub record IsFleet (f : FleetState) : Type 0 where
+  pub is_open : (key : ℕ) (c : ClientState) → get f.clients key ≡ Some c
+      → session_in f.places c.place c.number ≢ None
+  pub apart : (key other : ℕ) (c d : ClientState) → get f.clients key ≡ Some c
+      → get f.clients other ≡ Some d → c.place ≡ d.place → c.number ≡ d.number → key ≡ other
+
+-- a new fleet: no meter is made, and there are no connections
+pub record IsNewFleet (terms : MeterTerms) (count : ℕ) (f : FleetState) : Type 0 where
+  pub terms_are : f.terms ≡ terms
+  pub counted : length f.places ≡ count
+  pub unmade : (place : ℕ) → meter_in f.places place ≡ None
+  pub unused : (key : ℕ) → get f.clients key ≡ None
+
+-- the other connections, and their sessions, are unchanged
+pub record Isolated (old : FleetState) (key : ℕ) (new : FleetState) : Type 0 where
+  pub clients : (other : ℕ) → other ≢ key → get new.clients other ≡ get old.clients other
+  pub sessions : (other : ℕ) (c : ClientState) → other ≢ key → get old.clients other ≡ Some c
+      → session_in new.places c.place c.number ≡ session_in old.places c.place c.number
+
+-- the meters at the other places are unchanged, and so is what the meters have in common
+pub record MetersStay (old : FleetState) (place : ℕ) (new : FleetState) : Type 0 where
+  pub places : (other : ℕ) → other ≢ place → meter_in new.places other ≡ meter_in old.places other
+  pub count : length new.places ≡ length old.places
+  pub terms : new.terms ≡ old.terms
+
+-- a connection to the meter at a place was admitted under this key
+pub record Admits (old : FleetState) (place : ℕ) (stream : StreamState) (key : ℕ)
+    (new : FleetState) : Type 0 where
+  pub number : ℕ
+  pub vacant : get old.clients key ≡ None
+  pub client : get new.clients key
+      ≡ Some (record { place = place; number = number; stream = stream; pending = [] })
+  pub seats : Seats old.terms (meter_in old.places place) number (meter_in new.places place)
+  pub isolated : Isolated old key new
+  pub stay : MetersStay old place new
+
+-- the meters and the connections are unchanged
+pub record Unchanged (old new : FleetState) : Type 0 where
+  pub terms : new.terms ≡ old.terms
+  pub places : new.places ≡ old.places
+  pub clients : (key : ℕ) → get new.clients key ≡ get old.clients key
+
+module _ {S : Type 0} where
+  -- the result of a connection, without the stream that was refused
+  abbrev pub without_stream : Result ℕ (S × Refusal) → Result ℕ Refusal
+  without_stream (Ok key) = Ok key
+  without_stream (Err refused) = Err refused.1
+
+-- the result of a connection to the meter with a number, counted from 1
+abbrev pub AdmitsBy : FleetState → ℕ → StreamState → Result ℕ Refusal → FleetState → Type 0
+AdmitsBy old number stream (Ok key) new = (place : ℕ) × (number ≡ place + 1)
+    × Admits old place stream key new
+AdmitsBy old number stream (Err NoMeter) new = ((place : ℕ) → number ≡ place + 1
+    → length old.places ≤ place) × Unchanged old new
+AdmitsBy old number stream (Err Full) new = ((place : ℕ) → number ≡ place + 1
+    → IsFull (meter_in old.places place)) × Unchanged old new
+AdmitsBy old number stream (Err Memory) new = Unchanged old new
+
+-- the connection with this key ran
+pub record Runs (room : ℕ) (old : FleetState) (key : ℕ) (turn : Turn) (new : FleetState) : Type 0
+  where
+    pub before : ClientState
+    pub after : ClientState
+    pub was : get old.clients key ≡ Some before
+    pub is : get new.clients key ≡ Some after
+    pub turns : TurnsAt room (meter_in old.places before.place) before turn
+        (meter_in new.places before.place) after
+    pub isolated : Isolated old key new
+    pub stay : MetersStay old before.place new
+
+-- the result of a turn of the connection with a key
+abbrev pub RunsBy : ℕ → FleetState → ℕ → Option Turn → FleetState → Type 0
+RunsBy room old key (Some turn) new = Runs room old key turn new
+RunsBy room old key None new = (get old.clients key ≡ None) × (new ≡ old)
+
+-- the connection with this key was closed, and its session with it
+pub record Releases (old : FleetState) (key : ℕ) (stream : StreamState) (new : FleetState)
+    : Type 0 where
+  pub client : ClientState
+  pub left : client.stream ≡ stream
+  pub was : get old.clients key ≡ Some client
+  pub gone : get new.clients key ≡ None
+  pub frees : Frees (meter_in old.places client.place) client.number
+      (meter_in new.places client.place)
+  pub isolated : Isolated old key new
+  pub stay : MetersStay old client.place new

@@ -1,0 +1,3 @@
+pub mod Clients
+pub mod Fleets
+pub mod Places

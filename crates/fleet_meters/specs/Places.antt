@@ -1,0 +1,94 @@
+-- The places of the meters of a fleet.
+--     meter_in, session_in     the meter at a place, and a session of it
+--     Seats, Frees             a meter opened a session for a connection, or closed it
+--     TurnsAt                  a meter ran a connection
+--     SeatsIn                  the meter with a number opened a session
+--     PlacesStay               the meters at other places are unchanged
+use Rattle.std.specs.Prelude.{◌≡◌, ◌≢◌, ◌<◌, ◌≤◌, ◌+◌, ℕ, List, Option, Some, None, Result, Ok, Err, length, slice_index_or}
+use Rattle.embedded_meter.specs.Calls.{Resumes, Opens, Closes}
+use Rattle.embedded_meter.specs.Dialogues.{Dialogue}
+use Rattle.embedded_meter.specs.MeterStates.{MeterState, dialogue_at, max_sessions}
+use Rattle.fleet_links.specs.declared.link.Turn.{Turn}
+use Rattle.fleet_meters.specs.Clients.{ClientState, ClientTurns}
+use Rattle.fleet_meters.specs.declared.place.Refusal.{Refusal}
+use Rattle.fleet_meters.specs.declared.place.Refusal.TheVariants.{NoMeter, Full, Memory}
+use Rattle.fleet_meters.specs.declared.terms.MeterTerms.{MeterTerms}
+
+-- the meter at a place; `None` if it has not been made
+abbrev pub meter_in : List (Option MeterState) → ℕ → Option MeterState
+meter_in places place = slice_index_or places place None
+
+-- the session of a meter that may not have been made
+abbrev pub session_of : Option MeterState → ℕ → Option Dialogue
+session_of None number = None
+session_of (Some m) number = dialogue_at m number
+
+-- the session with this number of the meter at a place
+abbrev pub session_in : List (Option MeterState) → ℕ → ℕ → Option Dialogue
+session_in places place number = session_of (meter_in places place) number
+
+-- the meter of a place before its session is opened: the one that is there, or a new one
+abbrev pub Makes : MeterTerms → Option MeterState → MeterState → Type 0
+Makes terms None m = Resumes terms.trace terms.password terms.kept_events m
+Makes terms (Some old) m = m ≡ old
+
+-- the meter of a place opened a session
+pub record Seats (terms : MeterTerms) (old : Option MeterState) (number : ℕ)
+    (new : Option MeterState) : Type 0 where
+  pub before : MeterState
+  pub after : MeterState
+  pub makes : Makes terms old before
+  pub is : new ≡ Some after
+  pub opens : Opens before number after
+
+-- all sessions of the meter of a place are open
+abbrev pub IsFull : Option MeterState → Type 0
+IsFull m = (number : ℕ) → number < max_sessions → session_of m number ≢ None
+
+-- a meter was asked for its first free session
+abbrev pub OpensFirst : MeterState → Result ℕ Refusal → MeterState → Type 0
+OpensFirst old (Ok number) new = Opens old number new
+OpensFirst old (Err NoMeter) new = ⊥
+OpensFirst old (Err Full) new = IsFull (Some old) × (new ≡ old)
+OpensFirst old (Err Memory) new = new ≡ old
+
+-- a place was asked for a session
+abbrev pub SeatsBy : MeterTerms → Option MeterState → Result ℕ Refusal → Option MeterState → Type 0
+SeatsBy terms old (Ok number) new = Seats terms old number new
+SeatsBy terms old (Err NoMeter) new = ⊥
+SeatsBy terms old (Err Full) new = IsFull old × (new ≡ old)
+SeatsBy terms old (Err Memory) new = new ≡ old
+
+-- the meter of a place closed a session
+pub record Frees (old : Option MeterState) (number : ℕ) (new : Option MeterState) : Type 0 where
+  pub before : MeterState
+  pub after : MeterState
+  pub was : old ≡ Some before
+  pub is : new ≡ Some after
+  pub closes : Closes before number after
+
+-- the meter of a place ran a connection
+pub record TurnsAt (room : ℕ) (old : Option MeterState) (c : ClientState) (turn : Turn)
+    (new : Option MeterState) (c' : ClientState) : Type 0 where
+  pub before : MeterState
+  pub after : MeterState
+  pub was : old ≡ Some before
+  pub is : new ≡ Some after
+  pub turns : ClientTurns room before c turn after c'
+
+-- only the meter at this place changed
+pub record PlacesStay (old : List (Option MeterState)) (place : ℕ) (new : List (Option MeterState))
+    : Type 0 where
+  pub places : (other : ℕ) → other ≢ place → meter_in new other ≡ meter_in old other
+  pub count : length new ≡ length old
+
+-- the meter with a number, counted from 1, was asked for a session
+abbrev pub SeatsIn : MeterTerms → List (Option MeterState) → ℕ → Result (ℕ × ℕ) Refusal
+    → List (Option MeterState) → Type 0
+SeatsIn terms old number (Ok seat) new = (number ≡ seat.0 + 1)
+    × Seats terms (meter_in old seat.0) seat.1 (meter_in new seat.0) × PlacesStay old seat.0 new
+SeatsIn terms old number (Err NoMeter) new = ((place : ℕ) → number ≡ place + 1
+    → length old ≤ place) × (new ≡ old)
+SeatsIn terms old number (Err Full) new = ((place : ℕ) → number ≡ place + 1
+    → IsFull (meter_in old place)) × (new ≡ old)
+SeatsIn terms old number (Err Memory) new = new ≡ old

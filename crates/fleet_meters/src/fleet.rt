@@ -1,0 +1,182 @@
+//! `Fleet`: meters, and the connections of their clients.
+ghost use Rattle.std.specs.Prelude.{◌≡◌, ◌≢◌, ◌<◌, None, IfOk, IfErr, IfSome, IfNone, length, All};
+ghost use Rattle.slab.specs.Slab.{get};
+ghost use Rattle.fleet_meters.specs.Places.{SeatsIn, Frees, PlacesStay, meter_in, session_in};
+
+use crate::client::FleetClient;
+use crate::place::{MeterPlace, Refusal};
+use crate::terms::MeterTerms;
+use fleet_links::{Stream, Turn};
+use slab::Slab;
+use std::alloc::{AllocError, Global};
+use std::marker::Model;
+
+/// Meters, numbered from 1, and the connections of their clients, each under a key.
+#[derive(Drop)]
+pub struct Fleet<S: Stream + Drop> {
+    terms: MeterTerms,
+    places: Vec<MeterPlace>,
+    clients: Slab<FleetClient<S>>,
+}
+
+impl<S: Stream + Drop> Model for Fleet<S> {
+    ghost use Rattle.std.specs.Coded.{codes};
+    ghost use Rattle.slab.specs.Slab.{slab_code};
+    ghost use Rattle.fleet_meters.specs.Fleets.{FleetState, IsFleet};
+    ghost use Rattle.fleet_meters.specs.contracts.place.MeterPlace as place_row;
+    ghost use Rattle.fleet_meters.specs.contracts.terms.MeterTerms as terms_row;
+
+    ghost Value = { FleetState };
+
+    ghost coded = { Prim.hlevel (
+      codes,
+      terms_row.the_row.coded,
+      place_row.the_row.coded,
+      slab_code,
+    ) };
+
+    ghost view = { λ f. record {
+      terms = f.terms;
+      places = f.places.items;
+      clients = f.clients;
+    } };
+
+    ghost invariant = { λ f.
+        IsFleet (record { terms = f.terms; places = f.places.items; clients = f.clients }) };
+}
+
+// Returns places whose meters are not made.
+fn new_places(alloc: Global, count: usize) -> Result<Vec<MeterPlace>, AllocError>
+    ensures count { IfOk result (λ places. length places.items ≡ count) }
+    ensures empty { IfOk result (λ places. All (λ place. place ≡ None) places.items) }
+{
+    let mut places = Vec::with_capacity(alloc, count)?;
+    'places: for _ in 0..count {
+        places.push(MeterPlace::new())?;
+    }
+    Ok(places)
+}
+
+// Opens a session of the meter with this number. Returns the place of the meter and the number of
+// the session.
+fn seat(
+    alloc: Global,
+    terms: &MeterTerms,
+    places: &mut Vec<MeterPlace>,
+    number: usize,
+) -> Result<(usize, u8), Refusal>
+    ensures { SeatsIn terms.now places.old.items number result places.new.items }
+{
+    let Some(at) = number.checked_sub(1) else {
+        return Err(Refusal::NoMeter);
+    };
+    let Some(place) = places.get_mut(at) else {
+        return Err(Refusal::NoMeter);
+    };
+    match place.open(alloc, terms) {
+        Ok(session) => Ok((at, session)),
+        Err(refusal) => Err(refusal),
+    }
+}
+
+// Closes a session of the meter at a place.
+fn release(places: &mut Vec<MeterPlace>, at: usize, session: u8)
+    requires { session_in places.now.items at session ≢ None }
+    ensures frees { Frees (meter_in places.old.items at) session (meter_in places.new.items at) }
+    ensures stay { PlacesStay places.old.items at places.new.items }
+{
+    match places.get_mut(at) {
+        Some(place) => place.close(session),
+        None => unreachable!(),
+    }
+}
+
+impl<S: Stream + Drop> Fleet<S> {
+    ghost use Rattle.fleet_meters.specs.Fleets.{IsNewFleet, AdmitsBy, RunsBy, Releases};
+    ghost use Rattle.fleet_meters.specs.Fleets.{without_stream};
+
+    /// Returns a fleet of `count` meters without connections. A meter is made when its first client
+    /// connects.
+    pub fn new(alloc: Global, terms: MeterTerms, count: usize) -> Result<Fleet<S>, AllocError>
+        ensures { IfOk result (IsNewFleet terms count) }
+    {
+        match new_places(alloc, count) {
+            Ok(places) => Ok(Fleet {
+                terms,
+                places,
+                clients: Slab::new(alloc),
+            }),
+            Err(fault) => {
+                drop(terms);
+                Err(fault)
+            }
+        }
+    }
+
+    /// Returns the key that the next connection will have.
+    pub fn next_key(&self) -> usize
+        ensures { result ≡ self.now.clients.vacant_key }
+    {
+        self.clients.vacant_key()
+    }
+
+    /// Opens a session of the meter with this number for a connection, and returns the key of the
+    /// connection. Refuses it if the fleet has no such meter, if the meter has eight connections,
+    /// or if memory runs out. Then no meter and no connection has changed, and the stream is
+    /// returned as it was.
+    pub fn admit(&mut self, alloc: Global, number: usize, stream: S) -> Result<usize, (S, Refusal)>
+        ensures admits { AdmitsBy self.old number (S.state stream) (without_stream result)
+            self.new }
+        ensures key { IfOk result (λ key. key ≡ self.old.clients.vacant_key) }
+        ensures refused { IfErr result (λ refused. refused.0 ≡ stream) }
+    {
+        if self.clients.reserve(1).is_err() {
+            return Err((stream, Refusal::Memory));
+        }
+        match seat(alloc, &self.terms, &mut self.places, number) {
+            Ok((place, session)) => {
+                let client = FleetClient::new(alloc, stream, place, session);
+                Ok(self.clients.insert_reserved(client))
+            }
+            Err(refusal) => Err((stream, refusal)),
+        }
+    }
+
+    /// Runs the connection with this key until its stream blocks, it is over, or it has done its
+    /// share. `None` if there is no such connection. `input` and `frame` are buffers, whose
+    /// contents mean nothing between calls; `input` is not empty.
+    pub fn turn(
+        &mut self,
+        alloc: Global,
+        key: usize,
+        input: &mut [u8],
+        frame: &mut [u8],
+    ) -> Option<Turn>
+        requires { 0 < length input.now }
+        ensures { RunsBy (length frame.old) self.old key result self.new }
+    {
+        let Some(client) = self.clients.get_mut(key) else {
+            return None;
+        };
+        let at = client.place();
+        let Some(place) = self.places.get_mut(at) else {
+            unreachable!()
+        };
+        Some(place.turn(alloc, client, input, frame))
+    }
+
+    /// Closes the connection with this key and its session, and returns its stream. `None` if there
+    /// is no such connection.
+    pub fn close(&mut self, key: usize) -> Option<S>
+        ensures closed { IfSome result (λ stream. Releases self.old key (S.state stream) self.new) }
+        ensures absent { IfNone result ((get self.old.clients key ≡ None) × (self.new ≡ self.old)) }
+    {
+        match self.clients.try_remove(key) {
+            Some(client) => {
+                release(&mut self.places, client.place(), client.number());
+                Some(client.into_stream())
+            }
+            None => None,
+        }
+    }
+}
