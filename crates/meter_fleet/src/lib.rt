@@ -1,0 +1,12 @@
+//! The loop of a fleet of meters: waits for the network, admits clients, and runs the connections
+//! that are ready.
+//!
+//! It owns the fleet, and reaches the network through the trait [`Network`].
+#![tactic(auto)]
+
+mod network;
+mod rounds;
+mod serving;
+
+pub use network::{Network, NetworkFault, NextClient};
+pub use serving::{FleetFault, serve_fleet};

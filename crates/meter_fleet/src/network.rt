@@ -1,0 +1,33 @@
+//! `Network`: where clients come from, and which connections are ready.
+use fleet_links::Stream;
+use thiserror::Error;
+
+/// The network failed: it can't wait for further events.
+#[derive(Clone, Copy, Debug, PartialEq, Eq, Error)]
+#[error("the network failed")]
+pub struct NetworkFault;
+
+/// The result of accepting a connection.
+#[derive(Drop)]
+pub enum NextClient<S> {
+    /// A connection, and the IPv4 address of this machine that the client named.
+    Client(S, [u8; 4]),
+    /// A connection that was closed at once: it failed, or its address is not one of IPv4.
+    Closed,
+    /// No connection is waiting.
+    None,
+}
+
+/// A network that reports which connections are ready. It reports each change once: a connection
+/// is ready again after it has blocked.
+pub trait Network {
+    type Stream: Stream + Drop;
+
+    /// Waits until a connection is ready or clients are waiting; returns at once if `may_wait` is
+    /// false. Appends the keys of connections that are ready, and returns whether clients may be
+    /// waiting.
+    fn wait(&mut self, may_wait: bool, ready: &mut Vec<usize>) -> Result<bool, NetworkFault>;
+
+    /// Accepts a connection, whose events are then reported under this key.
+    fn accept(&mut self, key: usize) -> NextClient<Self::Stream>;
+}

@@ -1,0 +1,57 @@
+//! `serve_fleet`: the whole run of a fleet.
+use crate::network::Network;
+use crate::rounds::Rounds;
+use fleet_meters::{Fleet, MeterTerms};
+use std::alloc::Global;
+use std::sync::Wait;
+use thiserror::Error;
+
+/// Why a fleet ended.
+#[derive(Clone, Copy, Debug, PartialEq, Eq, Error)]
+pub enum FleetFault {
+    /// The network failed.
+    #[error("the network failed")]
+    Network,
+    /// Out of memory.
+    #[error("out of memory")]
+    Memory,
+}
+
+// Serves clients until the network fails or memory runs out.
+fn serve<R: Wait, N: Network>(
+    rt: &R,
+    alloc: Global,
+    network: &mut N,
+    fleet: &mut Fleet<N::Stream>,
+) -> FleetFault {
+    match Rounds::new(alloc) {
+        Ok(mut rounds) => {
+            for _ in rt.forever() {
+                if let Err(fault) = rounds.run(alloc, network, fleet) {
+                    return fault;
+                }
+            }
+            unreachable!()
+        }
+        Err(_) => FleetFault::Memory,
+    }
+}
+
+/// Serves the clients of `count` meters until the network fails or memory runs out. The address
+/// that a client names is its meter: 127.0.0.1 is meter 1.
+pub fn serve_fleet<R: Wait, N: Network>(
+    rt: &R,
+    alloc: Global,
+    network: &mut N,
+    terms: MeterTerms,
+    count: usize,
+) -> FleetFault {
+    match Fleet::new(alloc, terms, count) {
+        Ok(mut fleet) => {
+            let fault = serve(rt, alloc, network, &mut fleet);
+            drop(fleet);
+            fault
+        }
+        Err(_) => FleetFault::Memory,
+    }
+}

@@ -1,0 +1,118 @@
+//! The command line and its help.
+use clap::{Arg, ArgAction, Command, value_parser};
+use program::{with_argument, with_subcommand};
+use std::alloc::{AllocError, Global};
+
+// The end of `--help`.
+const STATUSES: &str = "\
+A fault is the line `fault: WORD` on standard error. \
+With --verbose, a line before it says what was expected and what was found.
+Exit status: 2 the command line is wrong; 3 listening failed; 4 out of memory.
+Example: meter_fleet serve --meters 1000 --password 12345678 --mode 1 --listen 0.0.0.0";
+
+// The end of `serve --help`.
+const ADDRESSES: &str = "\
+The address that a client names is its meter: 127.0.0.1 is meter 1, 127.0.1.0 is meter 256. \
+A connection to any other address, or to a meter that the fleet does not have, is closed at once. \
+So is the ninth connection to one meter.";
+
+// Returns an option with a value.
+fn option<'a>(
+    alloc: Global,
+    name: &'static str,
+    value: &'static str,
+    help: &'static str,
+) -> Arg<'a> {
+    Arg::new(alloc, name)
+        .long(name)
+        .value_name(value)
+        .help(help)
+}
+
+// Returns the option `--meters`.
+fn meters<'a>(alloc: Global) -> Arg<'a> {
+    option(alloc, "meters", "N", "Number of meters, 1 to 16777215")
+        .required(true)
+        .value_parser(value_parser!(u32).range(1..=16_777_215))
+}
+
+// Returns the option `--password`.
+fn password<'a>(alloc: Global) -> Arg<'a> {
+    option(
+        alloc,
+        "password",
+        "TEXT",
+        "Password of the management client, 1 to 32 bytes",
+    )
+    .required(true)
+    .action(ArgAction::Set)
+}
+
+// Returns the option `--listen`.
+fn listen<'a>(alloc: Global) -> Arg<'a> {
+    option(
+        alloc,
+        "listen",
+        "ADDRESS",
+        "Address to listen on; 0.0.0.0 reaches every meter",
+    )
+    .default_value("127.0.0.1")
+}
+
+// Returns the option `--port`.
+fn port<'a>(alloc: Global) -> Arg<'a> {
+    option(alloc, "port", "N", "Port of every meter")
+        .value_parser(value_parser!(u16))
+        .default_value("4059")
+}
+
+// Returns the option `--mode`.
+fn mode<'a>(alloc: Global) -> Arg<'a> {
+    option(
+        alloc,
+        "mode",
+        "N",
+        "Control mode of a new meter, 0 to 6 (class 70, attribute 4)",
+    )
+    .value_parser(value_parser!(u8).range(0..=6))
+    .default_value("0")
+}
+
+// Returns the option `--verbose`.
+fn verbose<'a>(alloc: Global) -> Arg<'a> {
+    Arg::new(alloc, "verbose")
+        .long("verbose")
+        .help("Report the address, and faults in full, on standard error")
+        .action(ArgAction::SetTrue)
+}
+
+// Returns the command `serve`.
+fn serve_command<'a>(alloc: Global) -> Result<Command<'a>, AllocError> {
+    let made = Ok(
+        Command::new(alloc, "serve")
+            .about("Serves the clients of many meters, each at its own loopback address")
+            .after_help(ADDRESSES),
+    );
+    let made = with_argument(made, meters(alloc));
+    let made = with_argument(made, password(alloc));
+    let made = with_argument(made, listen(alloc));
+    let made = with_argument(made, port(alloc));
+    let made = with_argument(made, mode(alloc));
+    with_argument(made, verbose(alloc))
+}
+
+// Returns the program without its command.
+fn program<'a>(alloc: Global) -> Result<Command<'a>, AllocError> {
+    let program = Command::new(alloc, "meter_fleet")
+        .bin_name("meter_fleet")?
+        .version("0.1.0")
+        .about("Many DLMS/COSEM supply meters in one process, for tests of head ends")
+        .after_help(STATUSES)
+        .subcommand_required(true);
+    Ok(program)
+}
+
+/// Returns the command line of the program.
+pub(crate) fn command_line<'a>(alloc: Global) -> Result<Command<'a>, AllocError> {
+    with_subcommand(program(alloc), serve_command(alloc))
+}

@@ -1,0 +1,197 @@
+#!/usr/bin/env python3
+"""Tests `meter_fleet serve` with clients over TCP at addresses 127.a.b.c. 300 meters are switched
+and asked by hand-written frames, and by a campaign of `head_end` if that is built. Every wait has a
+time limit."""
+
+import os
+import pathlib
+import re
+import socket
+import subprocess
+import sys
+import threading
+
+TOP = pathlib.Path(__file__).resolve().parent.parent
+CRATES = TOP / "crates"
+FLEET = os.environ.get("METER_FLEET") or CRATES / "meter_fleet_cli" / "out" / "meter_fleet_cli"
+HEAD_END = os.environ.get("HEAD_END") or CRATES / "head_end_cli" / "out" / "head_end_cli"
+
+PASSWORD = "12345678"
+PATIENCE = 20  # the time limit of each wait, in seconds
+METERS = 300
+
+# Frames of the management client at port 1 and their answers (IEC 62056-4-7, IEC 62056-5-3; class
+# 70, attribute 3 and method 1).
+AARQ = bytes.fromhex("00010001000100386036A1090607608574050801018A0207808B0760857405080201AC0A80083132333435363738BE10040E01000000065F1F0400001C190400")
+AARE = bytes.fromhex("000100010001002B6129A109060760857405080101A203020100A305A103020100BE10040E0800065F1F0400001C1904000007")
+DISCONNECT = bytes.fromhex("000100010001000FC301C10046000060030AFF01010F00")
+DONE = bytes.fromhex("0001000100010005C701C10000")
+STATE = bytes.fromhex("000100010001000DC001C10046000060030AFF0300")
+DISCONNECTED, CONNECTED = (bytes.fromhex(f"0001000100010006C401C10016{state}") for state in ("00", "01"))
+WRONG_VERSION = bytes.fromhex("0002000100010000")
+
+failed = 0
+
+
+def tell(name, is_so):
+    global failed
+    failed += not is_so
+    print(f"{'ok' if is_so else 'FAILED'}: {name}", flush=True)
+
+
+def address_of(meter):
+    """The address of a meter: the three bytes of its number."""
+    return "127." + ".".join(str(byte) for byte in meter.to_bytes(3, "big"))
+
+
+class Fleet:
+    """A running `meter_fleet serve` of METERS meters in mode 1, on a free port."""
+
+    def __enter__(self):
+        words = ["serve", "--meters", str(METERS), "--password", PASSWORD, "--mode", "1",
+                 "--listen", "0.0.0.0", "--port", "0", "--verbose"]
+        self.process = subprocess.Popen([str(FLEET), *words], stderr=subprocess.PIPE, text=True)
+        guard = threading.Timer(PATIENCE, self.process.kill)
+        guard.start()
+        line = self.process.stderr.readline()
+        guard.cancel()
+        self.port = int(re.search(r":(\d+)$", line.strip()).group(1))
+        return self
+
+    def __exit__(self, *_):
+        self.process.kill()
+        self.process.wait()
+        self.process.stderr.close()
+
+    def connect(self, meter):
+        return socket.create_connection((address_of(meter), self.port), timeout=PATIENCE)
+
+
+def received(client, count):
+    """The next bytes that a client receives, at most `count`."""
+    text = b""
+    while len(text) < count:
+        piece = client.recv(count - len(text))
+        if not piece:
+            break
+        text += piece
+    return text
+
+
+def ask(client, request, answer):
+    """Whether a request has exactly this answer."""
+    client.sendall(request)
+    return received(client, len(answer)) == answer
+
+
+def is_closed(client):
+    """Whether a connection was closed without a byte."""
+    try:
+        return client.recv(1) == b""
+    except ConnectionResetError:
+        return True
+
+
+def talk(fleet, meter, *exchanges):
+    """Whether a new association with a meter has these answers."""
+    with fleet.connect(meter) as client:
+        return all(ask(client, *exchange) for exchange in ((AARQ, AARE), *exchanges))
+
+
+def meters_are_apart(fleet):
+    """Disconnects the meters with odd numbers, and asks all for their states."""
+    done = all(talk(fleet, meter, (DISCONNECT, DONE)) for meter in range(1, METERS + 1, 2))
+    tell("the odd meters are disconnected", done)
+    wanted = {meter: DISCONNECTED if meter % 2 else CONNECTED for meter in range(1, METERS + 1)}
+    agree = all(talk(fleet, meter, (STATE, state)) for meter, state in wanted.items())
+    tell("two meters share no state", agree)
+
+
+def a_ninth_is_closed(fleet):
+    clients = [fleet.connect(5) for _ in range(8)]
+    tell("eight connections to a meter associate", all(ask(it, AARQ, AARE) for it in clients))
+    with fleet.connect(5) as ninth:
+        tell("a ninth is closed with no byte sent", is_closed(ninth))
+    tell("the eight go on", all(ask(it, STATE, DISCONNECTED) for it in clients))
+    clients.pop().close()
+    with fleet.connect(5) as again:
+        tell("a place that is free is taken", ask(again, AARQ, AARE))
+    for client in clients:
+        client.close()
+
+
+def others_are_closed(fleet):
+    for meter in (0, METERS + 1, 65_536):
+        with fleet.connect(meter) as client:
+            tell(f"a connection to {address_of(meter)} is closed", is_closed(client))
+
+
+def frames_are_cut(fleet):
+    with fleet.connect(7) as client:
+        client.setsockopt(socket.IPPROTO_TCP, socket.TCP_NODELAY, 1)
+        for byte in AARQ:
+            client.sendall(bytes([byte]))
+        tell("a frame of single bytes is answered", received(client, len(AARE)) == AARE)
+        client.sendall(STATE * 5_000)
+        answers = received(client, 5_000 * len(DISCONNECTED))
+        tell("5,000 requests at once are answered", answers == 5_000 * DISCONNECTED)
+        client.sendall(AARQ[:20])
+    tell("a client that goes in a frame disturbs nobody", talk(fleet, 7, (STATE, DISCONNECTED)))
+
+
+def connections_end(fleet):
+    with fleet.connect(9) as client:
+        opened = ask(client, AARQ, AARE)
+        client.sendall(WRONG_VERSION)
+        tell("a wrong version ends the connection", opened and is_closed(client))
+    with fleet.connect(9) as client:
+        client.sendall(AARQ)
+        client.shutdown(socket.SHUT_WR)
+        answered = received(client, len(AARE)) == AARE
+        tell("a client that has ended its side is answered", answered and is_closed(client))
+
+
+def run_head_end(fleet, verb):
+    """The rows of a campaign over all meters."""
+    jobs = "".join(f"m{meter} {address_of(meter)}:{fleet.port} {verb}\n" for meter in range(1, METERS + 1))
+    ran = subprocess.run([str(HEAD_END), "run", "--password", PASSWORD, "--workers", "16"], input=jobs,
+                         capture_output=True, text=True, timeout=6 * PATIENCE, check=False)
+    return ran.stdout.splitlines()
+
+
+def campaigns_agree(fleet):
+    wanted = [f"m{meter} done 0" for meter in range(1, METERS + 1)]
+    tell("a campaign disconnects every meter", run_head_end(fleet, "disconnect") == wanted)
+    tell("a campaign finds every meter disconnected", run_head_end(fleet, "state") == wanted)
+
+
+def wrong_words_are_refused():
+    for words in (["--meters", "0"], ["--meters", "16777216"], ["--meters", "3", "--mode", "7"],
+                  ["--meters", "3", "--listen", "nowhere"]):
+        ran = subprocess.run([str(FLEET), "serve", "--password", PASSWORD, *words], capture_output=True,
+                             timeout=PATIENCE, check=False)
+        tell(f"{' '.join(words)} is refused", ran.returncode == 2)
+    ran = subprocess.run([str(FLEET), "serve", "--password", "", "--meters", "3"], capture_output=True,
+                         text=True, timeout=PATIENCE, check=False)
+    tell("an empty password is refused", (ran.returncode, ran.stderr) == (2, "fault: input\n"))
+
+
+def main():
+    if not os.path.exists(FLEET):
+        sys.exit(f"{FLEET} is not built")
+    wrong_words_are_refused()
+    with Fleet() as fleet:
+        meters_are_apart(fleet)
+        a_ninth_is_closed(fleet)
+        others_are_closed(fleet)
+        frames_are_cut(fleet)
+        connections_end(fleet)
+        if os.path.exists(HEAD_END):
+            campaigns_agree(fleet)
+        else:
+            print(f"skipped: the campaigns, since {HEAD_END} is not built")
+    sys.exit(failed > 0)
+
+
+if __name__ == "__main__":
+    main()
