@@ -280,6 +280,22 @@ fn open_with_lock(
     }
 }
 
+// Returns the recorder that goes on where a journal ends, or the given one if the journal was begun
+// with it.
+fn last_recorder(resumed: Option<Recorder>, recorder: Recorder) -> Recorder
+    requires given { length recorder.events ≡ 0 }
+    requires unused { IfSome resumed (λ resumed. length resumed.events ≡ 0) }
+    ensures { length result.events ≡ 0 }
+{
+    match resumed {
+        Some(resumed) => {
+            drop(recorder);
+            resumed
+        }
+        None => recorder,
+    }
+}
+
 // Opens the journal of a path. Returns it, and the recorder of the meter: the one that goes on
 // where the journal ends, or the given one if the journal was begun with it.
 pub(crate) fn open_journal(
@@ -292,11 +308,7 @@ pub(crate) fn open_journal(
     ensures { IfOk result (λ r. length r.1.events ≡ 0) }
 {
     match open_with_lock(rt, path, &recorder, bounds) {
-        Ok((journal, None)) => Ok((journal, recorder)),
-        Ok((journal, Some(resumed))) => {
-            drop(recorder);
-            Ok((journal, resumed))
-        }
+        Ok((journal, resumed)) => Ok((journal, last_recorder(resumed, recorder))),
         Err(fault) => {
             drop(recorder);
             Err(fault)
