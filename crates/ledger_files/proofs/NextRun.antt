@@ -20,16 +20,20 @@ use Rattle.ledger_files.specs.Opened.{IsOpenedFrom}
 module _ {D N : Type 0} {g : Ghosts D} {next : Ghosts N} (last : FileStore D g) (numbered : IsTrue
     (view last).is_numbered) (sound : AreDatabases (recovers last))
     (held : Image) (may : (state last).may_leave held) (now : Held (FileStore N next)) (opened :
-        IsOpenedFrom held now) (ledger : opened.was.schema ≡ ledger_schema)
+    IsOpenedFrom held now) (ledger : opened.was.schema ≡ ledger_schema)
     (entries : ℕ → LedgerEntry) (is : IsLeft (file_state opened.was).committed.trees entries) where
   pub finds_left : LeavesEntries (recovers last) entries
-  finds_left = ((file_state opened.was).committed.trees, next_run last numbered sound held may
-      (file_state opened.was) (opened.found ledger), is)
+  finds_left = (
+    (file_state opened.was).committed.trees,
+    next_run last numbered sound held may
+        (file_state opened.was) (opened.found ledger),
+    is,
+  )
 
   pub finds_down : (place : ℕ) → HasGone (entries place) → IsDown (file_state now).may_leave (pos
       place)
   finds_down place gone db left =
       let same = opened.unchanged ledger in
       let committed = opened.settled same.0.is_open db left ∙ ap (λ (d : Database). d.trees)
-          same.0.committed_is in
+      same.0.committed_is in
       subst (λ (d : Trees). IsBegun d (pos place)) (sym committed) (is.begun place gone)

@@ -10,7 +10,7 @@ use crate::creation::create_ledger;
 use crate::open_fault::LedgerOpenFault;
 use crate::reading::{has_jobs, read_marks, read_outcomes};
 use crate::schema::is_ledger_schema;
-use campaign_ledger::{LedgerEntry, Ledger};
+use campaign_ledger::{Ledger, LedgerEntry};
 use client_core::Job;
 use sqlite::{Alter, Connection};
 use sqlite_schema::schema::Schema;

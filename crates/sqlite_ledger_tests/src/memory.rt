@@ -1,6 +1,6 @@
 //! Ledgers in memory: what a run leaves for the next, and databases that are refused.
 use crate::samples::three_jobs;
-use campaign_ledger::{Book, LedgerEntry, Ledger};
+use campaign_ledger::{Book, Ledger, LedgerEntry};
 use client_core::{Job, Outcome};
 use sqlite::{Connection, MemStore};
 use sqlite_ledger::{LedgerOpenFault, SqliteBook, open_book};

@@ -8,7 +8,7 @@ pub returns-in-Ok-open_book-clause-found : goal.returns-in-Ok-open_book-clause-f
 returns-in-Ok-open_book-clause-found g c clean =
     let was = c.in-Ok.conn in
     let early : was.schema ≡ ledger_schema → HasCleanDisk (file_state was) = λ ledger.
-        c.in-Ok-open_book.ensures.clean ledger clean in
+    c.in-Ok-open_book.ensures.clean ledger clean in
     record {
       was = was;
       opened = λ ledger. c.in-Ok.ensures.opened (early ledger);
