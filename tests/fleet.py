@@ -30,13 +30,15 @@ STATE = bytes.fromhex("000100010001000DC001C10046000060030AFF0300")
 DISCONNECTED, CONNECTED = (bytes.fromhex(f"0001000100010006C401C10016{state}") for state in ("00", "01"))
 WRONG_VERSION = bytes.fromhex("0002000100010000")
 
-failed = 0
+passed = failed = 0
 
 
-def tell(name, is_so):
-    global failed
-    failed += not is_so
-    print(f"{'ok' if is_so else 'FAILED'}: {name}", flush=True)
+def check(name, holds):
+    """Counts a check, and prints its name if it fails."""
+    global passed, failed
+    passed, failed = passed + holds, failed + (not holds)
+    if not holds:
+        print(f"FAILED {name}", flush=True)
 
 
 def address_of(meter):
@@ -101,21 +103,21 @@ def talk(fleet, meter, *exchanges):
 def meters_are_apart(fleet):
     """Disconnects the meters with odd numbers, and asks all for their states."""
     done = all(talk(fleet, meter, (DISCONNECT, DONE)) for meter in range(1, METERS + 1, 2))
-    tell("the odd meters are disconnected", done)
+    check("the odd meters are disconnected", done)
     wanted = {meter: DISCONNECTED if meter % 2 else CONNECTED for meter in range(1, METERS + 1)}
     agree = all(talk(fleet, meter, (STATE, state)) for meter, state in wanted.items())
-    tell("two meters share no state", agree)
+    check("two meters share no state", agree)
 
 
 def a_ninth_is_closed(fleet):
     clients = [fleet.connect(5) for _ in range(8)]
-    tell("eight connections to a meter associate", all(ask(it, AARQ, AARE) for it in clients))
+    check("eight connections to a meter associate", all(ask(it, AARQ, AARE) for it in clients))
     with fleet.connect(5) as ninth:
-        tell("a ninth is closed with no byte sent", is_closed(ninth))
-    tell("the eight go on", all(ask(it, STATE, DISCONNECTED) for it in clients))
+        check("a ninth is closed with no byte sent", is_closed(ninth))
+    check("the eight go on", all(ask(it, STATE, DISCONNECTED) for it in clients))
     clients.pop().close()
     with fleet.connect(5) as again:
-        tell("a place that is free is taken", ask(again, AARQ, AARE))
+        check("a place that is free is taken", ask(again, AARQ, AARE))
     for client in clients:
         client.close()
 
@@ -123,7 +125,7 @@ def a_ninth_is_closed(fleet):
 def others_are_closed(fleet):
     for meter in (0, METERS + 1, 65_536):
         with fleet.connect(meter) as client:
-            tell(f"a connection to {address_of(meter)} is closed", is_closed(client))
+            check(f"a connection to {address_of(meter)} is closed", is_closed(client))
 
 
 def frames_are_cut(fleet):
@@ -131,24 +133,24 @@ def frames_are_cut(fleet):
         client.setsockopt(socket.IPPROTO_TCP, socket.TCP_NODELAY, 1)
         for byte in AARQ:
             client.sendall(bytes([byte]))
-        tell("a frame of single bytes is answered", received(client, len(AARE)) == AARE)
+        check("a frame of single bytes is answered", received(client, len(AARE)) == AARE)
         client.sendall(STATE * 5_000)
         answers = received(client, 5_000 * len(DISCONNECTED))
-        tell("5,000 requests at once are answered", answers == 5_000 * DISCONNECTED)
+        check("5,000 requests at once are answered", answers == 5_000 * DISCONNECTED)
         client.sendall(AARQ[:20])
-    tell("a client that goes in a frame disturbs nobody", talk(fleet, 7, (STATE, DISCONNECTED)))
+    check("a client that goes in a frame disturbs nobody", talk(fleet, 7, (STATE, DISCONNECTED)))
 
 
 def connections_end(fleet):
     with fleet.connect(9) as client:
         opened = ask(client, AARQ, AARE)
         client.sendall(WRONG_VERSION)
-        tell("a wrong version ends the connection", opened and is_closed(client))
+        check("a wrong version ends the connection", opened and is_closed(client))
     with fleet.connect(9) as client:
         client.sendall(AARQ)
         client.shutdown(socket.SHUT_WR)
         answered = received(client, len(AARE)) == AARE
-        tell("a client that has ended its side is answered", answered and is_closed(client))
+        check("a client that has ended its side is answered", answered and is_closed(client))
 
 
 def run_head_end(fleet, verb):
@@ -161,8 +163,8 @@ def run_head_end(fleet, verb):
 
 def campaigns_agree(fleet):
     wanted = [f"m{meter} done 0" for meter in range(1, METERS + 1)]
-    tell("a campaign disconnects every meter", run_head_end(fleet, "disconnect") == wanted)
-    tell("a campaign finds every meter disconnected", run_head_end(fleet, "state") == wanted)
+    check("a campaign disconnects every meter", run_head_end(fleet, "disconnect") == wanted)
+    check("a campaign finds every meter disconnected", run_head_end(fleet, "state") == wanted)
 
 
 def wrong_words_are_refused():
@@ -170,10 +172,10 @@ def wrong_words_are_refused():
                   ["--meters", "3", "--listen", "nowhere"]):
         ran = subprocess.run([str(FLEET), "serve", "--password", PASSWORD, *words], capture_output=True,
                              timeout=PATIENCE, check=False)
-        tell(f"{' '.join(words)} is refused", ran.returncode == 2)
+        check(f"{' '.join(words)} is refused", ran.returncode == 2)
     ran = subprocess.run([str(FLEET), "serve", "--password", "", "--meters", "3"], capture_output=True,
                          text=True, timeout=PATIENCE, check=False)
-    tell("an empty password is refused", (ran.returncode, ran.stderr) == (2, "fault: input\n"))
+    check("an empty password is refused", (ran.returncode, ran.stderr) == (2, "fault: input\n"))
 
 
 def main():
@@ -190,8 +192,9 @@ def main():
             campaigns_agree(fleet)
         else:
             print(f"skipped: the campaigns, since {HEAD_END} is not built")
-    sys.exit(failed > 0)
+    print(f"{passed} passed, {failed} failed")
+    return 1 if failed else 0
 
 
 if __name__ == "__main__":
-    main()
+    sys.exit(main())
