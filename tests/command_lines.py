@@ -4,11 +4,15 @@ error and status."""
 
 import os
 import pathlib
+import re
 import subprocess
 import sys
 import tempfile
 
 TOP = pathlib.Path(__file__).resolve().parent.parent
+# The time at the head of a line of a server's log.
+TIME = re.compile(rb"^\d{4}-\d\d-\d\dT\d\d:\d\d:\d\d\.\d{3}Z ", re.M)
+
 # The environment without a password.
 ENVIRONMENT = {name: value for name, value in os.environ.items() if name != "METER_PASSWORD"}
 
@@ -566,7 +570,7 @@ def main():
             continue
         wrong = [
             f"{what}: expected {want!r}, found {got[:200]!r}"
-            for what, want, got in [("standard output", stdout, run.stdout), ("standard error", stderr, run.stderr)]
+            for what, want, got in [("standard output", stdout, run.stdout), ("standard error", stderr, TIME.sub(b"", run.stderr))]
             if differs(want, got)
         ]
         if run.returncode != status:
