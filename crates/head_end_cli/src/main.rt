@@ -7,7 +7,6 @@
 
 mod arguments;
 mod campaign;
-mod ledgered;
 mod progress;
 mod telling;
 mod text_filter;
@@ -15,19 +14,16 @@ mod warnings;
 
 use crate::arguments::command_line;
 use crate::campaign::{CampaignPlan, PASSWORD_VARIABLE};
-use crate::ledgered::run_on_ledger;
 use crate::telling::{ListFault, input_fault, jobs_fault};
 use crate::warnings::warn;
 use clap::ArgMatches;
 use counted_io::{Counted, read_to_end_within};
-use head_end::{Connector, Jobs, JobsFault, TcpConnector, count_jobs, read_jobs};
+use head_end::{Jobs, JobsFault, TcpConnector, count_jobs, read_jobs};
 use program::{Fault, exit_code, has_option, print_text, without_work, words};
 use std::env;
 use std::env::VarError;
 use std::io::Read;
 use std::process::ExitCode;
-use std::sync::Wait;
-use std::thread::Threads;
 
 // The maximum number of bytes of a list of jobs.
 const MAX_INPUT: usize = 1_048_576;
@@ -128,25 +124,13 @@ fn begin(rt: &HostRuntime) -> Result<HeadEndCommand, Fault> {
     }
 }
 
-// Runs a campaign, on its ledger if it has one.
-fn run_plan<R: Threads + Wait + Sync, C: Connector>(
-    rt: &HostRuntime,
-    threads: &R,
-    connector: &C,
-    plan: &CampaignPlan,
-) -> Result<(), Fault> {
-    match &plan.ledger {
-        Some(path) => run_on_ledger(rt, threads, connector, plan, path.as_str(), &mut rt.stdout()),
-        None => campaign::run(rt, threads, connector, plan, &mut rt.stdout()),
-    }
-}
-
 fn main(rt: HostRuntime) -> ExitCode {
     match begin(&rt) {
         Ok(HeadEndCommand::Ended(status)) => ExitCode::from(status),
         Ok(HeadEndCommand::Campaign(plan)) => {
             let connector = TcpConnector::new(rt, plan.limits);
-            exit_code(&rt, run_plan(&rt, &rt, &connector, &plan).map(|_| 0))
+            let done = campaign::run(&rt, &rt, &connector, &plan, &mut rt.stdout()).map(|_| 0);
+            exit_code(&rt, done)
         }
         Err(fault) => exit_code(&rt, Err(fault)),
     }
