@@ -1,4 +1,3 @@
-//! The error of the conversions from a number to a variant.
 use thiserror::Error;
 
 /// The number that no value of the type has.

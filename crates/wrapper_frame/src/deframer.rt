@@ -23,7 +23,7 @@ use wire_bytes::Octets;
 #[derive(Debug, Drop)]
 pub struct Deframer {
     pending: BytesMut,
-    // The result of `judge` for the pending bytes.
+    // What `judge` says of the pending bytes.
     front: Head,
 }
 
