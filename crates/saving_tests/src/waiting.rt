@@ -50,7 +50,7 @@ fn run_journal<W: Wait>(
 }
 
 #[test]
-fn a_wait_returns_true_for_the_lines_that_are_saved(rt: HostRuntime) -> Result<(), Fail> {
+fn a_wait_returns_true_for_saved_lines(rt: HostRuntime) -> Result<(), Fail> {
     let alloc = rt.alloc();
     let Some(port) = asked_port(&rt, alloc)? else {
         return Ok(());
