@@ -1,4 +1,4 @@
--- What is given in two successive spans of calls, and what makes a run safe.
+-- The permits of two successive spans of calls, and the reasons why a run is safe.
 use Rattle.std.proofs.Common.{◌≡◌, ◌⊎◌, ℕ, List, [], ◌++◌, inl, inr}
 use Rattle.campaign_ledger.specs.declared.entry.LedgerEntry.{LedgerEntry}
 use Rattle.campaign_ledger.specs.declared.entry.LedgerEntry.TheVariants.{NotSent}

@@ -1,4 +1,4 @@
--- What a ledger says of the places of its campaign.
+-- The entries of a ledger for the places of its campaign.
 --     HasGone           the command of a place may have been sent
 --     entry_at          the entry of a place in a list of entries
 use Rattle.std.specs.Prelude.{ℕ, List, slice_index_or, ⊤}

@@ -119,7 +119,7 @@ turns_on number k room a b c turn first then_ = record {
       first.stops.0 first.stops.1 first.stops.2 then_.stops);
 }
 
--- the same, for a number and a room that were kept
+-- the same, for a number and a capacity that were kept
 pub turns_more : (number number' k room room' : ℕ) (a b c : LinkState) (turn : Turn)
     → number' ≡ number → room' ≡ room → Turns number k room a Again b
     → Turns number' 1 room' b turn c → Turns number (k + 1) room a turn c

@@ -24,7 +24,7 @@ pub record LinkState : Type 0 where
 abbrev pub max_steps : ℕ
 max_steps = 1024
 
--- a frame must be sent that is longer than the room for it
+-- a frame must be sent that is longer than the buffer for it
 pub record NeedsRoom (room : ℕ) (d : Dialogue) : Type 0 where
   pub frame : List ℕ
   pub due : d.under_way ≡ Due frame

@@ -29,7 +29,7 @@ pub struct LedgeredRun<'a, C: Connector, B: Book> {
     /// A place for each job, in their order.
     pub places: Vec<LedgeredPlace<'a, C, B>>,
     /// The ledger, or `None` if a turn of its lock has not ended. All calls have returned, so it
-    /// has; no contract says so.
+    /// has; no contract states it.
     pub ledger: Option<Ledger<B>>,
 }
 

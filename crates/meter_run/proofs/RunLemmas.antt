@@ -128,7 +128,7 @@ unfolding run_of
 run_seen first recorder given served text p q o start is silent serves traces =
     traces.yields.seen
 
--- what the serving says of the calls of each session's port holds of the calls of the run
+-- a fact about the calls of each session's port holds for the calls of the run
 pub run_sessions : (Fact : List ℕ → Calls → Type 0) (first : ℕ) (recorder : Recording)
     (given : Given) (served : Result Served ServeFault) (text : List ℕ) (p q : MeterPort)
     (o : Opening) → (start : StartsFrom first o p) (is : o ≡ opening_of recorder.core)

@@ -1,4 +1,4 @@
-//! The journal of `serve`: its lock file, its file, and the recorder that goes on where it ends.
+//! The journal of `serve`: its lock file, its file, and the recorder that resumes where it ends.
 ghost use Rattle.std.specs.Prelude.{◌≡◌, [], None, IfOk, IfSome, OnOk, length};
 ghost use Rattle.meter_run.specs.Journaled.{IsJournaledRun};
 ghost use Rattle.meter_server_cli.specs.Endings.{PrintsText};
@@ -165,7 +165,7 @@ fn renew_resumed(
 }
 
 // Opens the journal of a path, or begins it with this recorder if there is no file. Returns its
-// file, and the recorder that goes on where it ends, or `None` if it was begun.
+// file, and the recorder that resumes where it ends, or `None` if it was begun.
 fn open_file(
     rt: &HostRuntime,
     path: &str,
@@ -250,7 +250,7 @@ fn journal_with(
     }
 }
 
-// Opens the journal of a path. Returns it, and the recorder that goes on where it ends, or `None`
+// Opens the journal of a path. Returns it, and the recorder that resumes where it ends, or `None`
 // if it was begun with the given one. Reports on standard error why it is not open.
 fn open_with_lock(
     rt: &HostRuntime,
@@ -280,7 +280,7 @@ fn open_with_lock(
     }
 }
 
-// Returns the recorder that goes on where a journal ends, or the given one if the journal was begun
+// Returns the recorder that resumes where a journal ends, or the given one if the journal was begun
 // with it.
 fn last_recorder(resumed: Option<Recorder>, recorder: Recorder) -> Recorder
     requires given { length recorder.events ≡ 0 }
@@ -296,7 +296,7 @@ fn last_recorder(resumed: Option<Recorder>, recorder: Recorder) -> Recorder
     }
 }
 
-// Opens the journal of a path. Returns it, and the recorder of the meter: the one that goes on
+// Opens the journal of a path. Returns it, and the recorder of the meter: the one that resumes
 // where the journal ends, or the given one if the journal was begun with it.
 pub(crate) fn open_journal(
     rt: &HostRuntime,

@@ -239,7 +239,7 @@ fn plan_server(rt: &HostRuntime, options: &ServeOptions) -> Result<ServePlan<Std
     }
 }
 
-// Opens the journal of the options, if they name one. The meter of the plan then goes on where it
+// Opens the journal of the options, if they name one. The meter of the plan then resumes where it
 // ends.
 fn with_journal(
     rt: &HostRuntime,

@@ -19,7 +19,7 @@ pub(crate) struct LoggedClient {
     pub(crate) address: SocketAddr,
 }
 
-// What a line of the log says of a client.
+// The news of a client in a line of the log.
 #[derive(Drop)]
 enum ClientNews<'a> {
     Connected,

@@ -1,5 +1,5 @@
-//! What the log of a server says of its sessions: the meaning of each answer of the meter, how many
-//! requests a session had refused, and the time of a line.
+//! The contents of a server's log about its sessions: the meaning of each answer of the meter, how
+//! many requests a session had refused, and the time of a line.
 #![tactic(auto)]
 
 mod answer;

@@ -133,7 +133,7 @@ fn requests_are_counted(rt: HostRuntime) -> Result<(), Fail> {
     Ok(())
 }
 
-// A clock that stands at 2026-11-27 08:05:09.042 UTC.
+// A clock that always shows 2026-11-27 08:05:09.042 UTC.
 struct Stopped;
 
 impl Clock for Stopped {

@@ -1,7 +1,7 @@
 -- The outcomes of a ledger's file.
 --     kind_of           the word for an outcome's kind
 --     number_of         its number, if it has one
---     outcome_row       the row that says so
+--     outcome_row       the row of an outcome
 --     IsRecorded        the trees have the outcome of the place
 --     IsSafe            whatever a crash leaves has it
 use Rattle.std.specs.Prelude.{ℕ, ℤ, pos, List, [], ◌∷◌, codes}
