@@ -1,6 +1,5 @@
-//! Tests of `session_core` and `embedded_meter`: sessions of clients with a meter, frame by frame;
-//! a meter with its sessions, its own events, and its trace. `tests/firmware.py` tests the C
-//! library, which depends on them.
+//! Tests of `embedded_meter`: a meter with its sessions, its own events, and its trace.
+//! `tests/firmware.py` tests the C library, which depends on it.
 //!
 //! Tests are in a crate of their own because a check of tests proves their whole crate again.
 #![tactic(auto)]
@@ -11,7 +10,3 @@ mod clients;
 mod events;
 #[cfg(test)]
 mod meters;
-#[cfg(test)]
-mod prepared;
-#[cfg(test)]
-mod sessions;

@@ -1,6 +1,5 @@
-//! Tests of `trace_words`, `trace_openings`, `trace_lines`, `trace_player` and `trace_views`: lines
-//! of a trace that are read and written, traces that are read, written and played, views of a run,
-//! and what a recorder exports.
+//! Tests of `trace_player` and `trace_views`: traces that are read, written and played, journals,
+//! views of a run, and what a recorder exports.
 //!
 //! The tests have a crate of their own, because checking tests proves their whole crate again.
 #![tactic(auto)]
@@ -9,10 +8,6 @@
 mod exports;
 #[cfg(test)]
 mod journals;
-#[cfg(test)]
-mod lines;
-#[cfg(test)]
-mod openings;
 #[cfg(test)]
 mod plays;
 #[cfg(test)]
