@@ -51,7 +51,7 @@ seconds_looked_back = 86400
 abbrev pub window_start : ℕ → ℕ → ℕ
 window_start previous now = max previous (now - seconds_looked_back)
 
--- some second after that and up to now matches one of the entries
+-- some second after `after`, and at most `upto`, matches one of the entries
 abbrev pub has_match : List EntryPattern → ℕ → ℕ → Bool
 has_match entries after upto = list_any (λ entry. matches_in entry after upto) entries
 

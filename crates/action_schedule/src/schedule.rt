@@ -1,5 +1,5 @@
 //! A single action schedule (IEC 62056-6-2, class 22): its script, type and entries, how clients
-//! read and write them, and when it is due.
+//! read and write them, and the moments at which the schedule runs.
 ghost use Rattle.std.specs.Prelude.{◌≡◌, ◌↔◌, [], IsOk, IfOk, OnErr, IsErrOf, IsTrue, Err};
 ghost use Rattle.action_schedule.specs.Attributes.{is_plain};
 ghost use Rattle.cosem_names.specs.declared.write_fault.WriteFault.TheVariants.{Unmatched, Value};

@@ -1,4 +1,5 @@
--- `==` of Datas, and of items, is equality, and so an equivalence relation.
+-- `==` of Datas, and of items, is equality, and so an equivalence relation. It compares codes: the
+-- code of a value is the tree of numbers that `stored` makes of it (Stored.antt).
 use Rattle.std.proofs.Common.{◌≡◌, ◌↔◌, IsTrue, Bool, true, refl, sym, ap, ap₂, ◌∙◌, subst}
 use Rattle.std.specs.Cmp.{IsEquivalence}
 use Rattle.std.proofs.lemmas.Bool.Decides.{same_from_decides}

@@ -1,3 +1,4 @@
+//! The error of the conversions from a number to a variant.
 use thiserror::Error;
 
 /// The number that no value of the type has.

@@ -42,11 +42,12 @@ g = record { trigger = LocalDisconnect; from = Connected; to = ReadyForReconnect
 abbrev pub h : Row
 h = record { trigger = LocalReconnect; from = ReadyForReconnection; to = Connected }
 
--- the transitions that have `true` in their column, a to h
+-- these transitions, with one more before them if it is allowed
 abbrev pub only_if : Bool → Row → List Row → List Row
 only_if true row rest = row ∷ rest
 only_if false row rest = rest
 
+-- the transitions that have `true` in their column, a to h
 abbrev pub columns : Bool → Bool → Bool → Bool → Bool → Bool → Bool → Bool → List Row
 columns has_a has_b has_c has_d has_e has_f has_g has_h =
     only_if has_a a (only_if has_b b

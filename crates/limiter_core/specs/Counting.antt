@@ -3,7 +3,7 @@ use Rattle.std.specs.Prelude.{ℕ, ◌+◌, ◌-◌, ◌^◌, min, Bool, false, 
 use Rattle.limiter_core.specs.declared.count.Count.{Count}
 use Rattle.limiter_core.specs.Rows.{Row, Side, run, has_fired}
 
--- the longest run that is counted: the need of the longest duration
+-- the longest run that is counted: as many samples, ten a second, as the longest duration needs
 abbrev pub cap : ℕ
 cap = 42949672950
 
@@ -11,6 +11,7 @@ cap = 42949672950
 unfoldable pub count_of : Side → List Row → Count
 count_of side rows = record { run = min (run side rows) cap; fired = has_fired side rows }
 
+-- the count of an empty run
 abbrev pub no_run : Count
 no_run = record { run = 0; fired = false }
 

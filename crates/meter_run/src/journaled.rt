@@ -146,7 +146,7 @@ fn journal_fault(end: Option<Result<(), CallFault>>) -> Result<(), Fault>
     }
 }
 
-// Makes known that a crash leaves the lines of a file of which all are on the disk. Does nothing at
+// Proves that a crash leaves the lines of a file of which all are on the disk. Does nothing at
 // run time.
 fn file_is_idle<F: DurableFile>(file: &F)
     requires { F.acts_as_file → IsSettled F.seen F.may_leave F.stored file.now }

@@ -33,8 +33,8 @@ client_steps IsDurable None = PortSteps
 client_steps IsDurable (Some journal) = JournalSteps IsDurable
 
 -- The calls of the port with this number are the earlier ones, then some that were answered, and at
--- most one that was not. If any was answered, the lines of a history are on the disk that has all
--- these calls but the one without an answer.
+-- most one that was not. Some history has the earlier and the answered ones as the calls of this
+-- port, and its lines are on the disk if any was answered.
 pub record AreAnswered (IsDurable : ℕ → Type 0) (number : List ℕ) (earlier calls : Calls) : Type 0
   where
     pub answered : Calls

@@ -9,9 +9,9 @@ use program::{Fault, first_fault, print_text};
 use server_io::ConsoleEnd;
 use std::io::Write;
 
-// Returns the fault of a run, by the result of its connections and whether the listener failed. It
-// is not a fault that no further client was accepted if the listener did not fail: standard input
-// had ended.
+// Returns the fault of a run, by the result of its connections and whether the listener failed.
+// `ServeFault::Listen` is a fault only if the listener failed; else the server itself stopped it,
+// because standard input had ended.
 pub(crate) fn run_fault(served: Result<Served, ServeFault>, has_failed: bool) -> Result<(), Fault>
     ensures served { OnOk served (result ≡ Ok tt) }
     ensures ended { served ≡ Err ServeFault.Listen → has_failed ≡ false → result ≡ Ok tt }

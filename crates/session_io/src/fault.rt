@@ -67,7 +67,7 @@ impl From<ServeFault> for u8 {
 #[derive(Clone, Copy, Debug, PartialEq, Eq, Error)]
 pub enum HexFault {
     /// The text isn't pairs of hexadecimal digits.
-    #[error("no pairs of hexadecimal digits")]
+    #[error("expected pairs of hexadecimal digits")]
     Digits = 1,
     /// The text has more than 1,048,576 characters.
     #[error("a text of more than 1,048,576 characters")]

@@ -101,8 +101,8 @@ impl PendingLines {
         }
     }
 
-    // Appends the text of a line. If there is no memory for it, or there are 2^64 - 1 lines already,
-    // the line is lost.
+    // Appends the text of a line. The line is lost if there is no memory for it, or there are
+    // 2^64 - 1 lines already.
     fn add(&mut self, text: &[u8])
         ensures { (line : List ℕ) → IsTextOfLine line text.now → (lines : List (List ℕ))
             → Pends self.old lines → Pends self.new (lines ++ line ∷ []) }

@@ -1,4 +1,4 @@
--- Numbers as words: decimal digits without leading zeros.
+-- Numbers as words: decimal digits without leading zeros. The byte 48 is the digit 0.
 use Rattle.std.specs.Prelude.{ℕ, Bool, not, ◌&&◌, ◌||◌, ◌==◌, nat_lt, nat_le, if◌then◌else◌, List, length, slice_index, Option, Some, None}
 use Rattle.std.specs.Char.{is_ascii_digit}
 use Rattle.std.specs.List.{list_all}

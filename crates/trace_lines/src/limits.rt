@@ -42,7 +42,7 @@ fn is_parameter_held(parameter: &Option<Data>) -> bool
     }
 }
 
-/// Makes known that the numbers of an event are in the ranges of their types, so an event that fits
+/// Proves that the numbers of an event are in the ranges of their types, so an event that fits
 /// a line is read back from it.
 #[tactic(auto, unfolding(crate::specs::Traced::IsTraced))]
 pub fn event_is_traced(event: &Event)
@@ -59,7 +59,7 @@ pub fn event_is_traced(event: &Event)
     }
 }
 
-// Makes known that the numbers and the bytes of an event's names are in the ranges of their types.
+// Proves that the numbers and the bytes of an event's names are in the ranges of their types.
 pub(crate) fn event_is_named(event: &Event)
     ensures { IsNamed event.now }
 {
@@ -75,7 +75,7 @@ pub(crate) fn event_is_named(event: &Event)
     }
 }
 
-// Makes known, by a read, that a borrowed number is in the range of its type.
+// Proves, by a read, that a borrowed number is in the range of its type.
 fn look_at(_number: u32) {}
 
 fn attribute_is_named(attr: &AttrRef)

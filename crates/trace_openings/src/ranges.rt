@@ -12,7 +12,7 @@ use limiter_core::Profile;
 use relay_core::{LimiterOpening, Opening, Schedules};
 use script_steps::{Script, Step};
 
-/// Makes known that the numbers of an opening are in the ranges of their types: if a core can start
+/// Proves that the numbers of an opening are in the ranges of their types: if a core can start
 /// from the opening, it is read back from its lines.
 pub fn opening_is_writable(opening: &Opening)
     ensures { IsFitOpening opening.now → IsWritable opening.now }
@@ -34,7 +34,7 @@ pub fn opening_is_writable(opening: &Opening)
     schedule_is_traced(fourth);
 }
 
-// Makes known, by a read, that a borrowed number is in the range of its type.
+// Proves, by a read, that a borrowed number is in the range of its type.
 fn look_at<T: Drop>(_number: T) {}
 
 fn are_bytes(_bytes: &[u8])

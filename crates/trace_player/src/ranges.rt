@@ -15,7 +15,7 @@ use relay_recorder::Trace;
 use trace_lines::event_is_traced;
 use trace_openings::opening_is_writable;
 
-// Makes known that each event that fits its line is read back from it.
+// Proves that each event that fits its line is read back from it.
 fn events_are_traced(events: &[Event])
     ensures { All (λ event. FitsLine event → IsTraced event) events.now }
 {
@@ -24,7 +24,7 @@ fn events_are_traced(events: &[Event])
     }
 }
 
-// Makes known that a trace that fits its text is read back from it if the text has at most
+// Proves that a trace that fits its text is read back from it if the text has at most
 // 33,554,432 bytes, as the text of at most 1,024 events has.
 #[tactic(auto, using(crate::proofs::RangeLemmas::is_writable, crate::proofs::RangeLemmas::is_short))]
 pub(crate) fn trace_is_read_again(trace: &Trace)
@@ -38,7 +38,7 @@ pub(crate) fn trace_is_read_again(trace: &Trace)
     written_trace_is_read();
 }
 
-// Makes known that a journal with an opening and events that fit it is read back, also after it has
+// Proves that a journal with an opening and events that fit it is read back, also after it has
 // grown and with a torn tail, if the text has at most 33,554,432 bytes.
 #[tactic(auto, using(crate::proofs::RangeLemmas::journals))]
 pub(crate) fn journal_is_read_again(trace: &Trace)

@@ -1,5 +1,6 @@
 -- The values of single words.
 --     number_in, flag_in, bytes_in, data_in, value_in    the value of a word
+--     canonical_data                                     a Data, if its bytes are its encoding
 --     next_as, last_as                                   the value of the next word, or of the last
 use Rattle.std.specs.Prelude.{ℕ, Bool, ◌==◌, nat_eq, List, Result, Ok}
 use Rattle.std.specs.Cmp.Lexicographic.{pointwise}

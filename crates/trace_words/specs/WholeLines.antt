@@ -2,7 +2,7 @@
 --     has_zero      whether bytes have a byte 0
 --     has_end       whether bytes have a byte 0A
 --     before_zero   the lines before the first one that has a byte 0
---     whole_lines   the place at these lines, after which nothing is left
+--     whole_lines   the place at these lines, without the rest of the text
 --     whole_text    the text of these lines
 --     IsTail        bytes that have no whole line before their first byte 0
 --     FirstWhole    the first line of a text is whole, and has no byte 0
@@ -28,7 +28,7 @@ abbrev pub before_zero : List Row → List Row
 before_zero [] = []
 before_zero (row ∷ rows) = if has_zero (line_of row) then [] else row ∷ before_zero rows
 
--- the lines before the first one that has a byte 0, after which nothing is left
+-- the place at the lines before the first one that has a byte 0, without the rest of the text
 abbrev pub whole_lines : Place → Place
 whole_lines place = record {
   number = place.number;

@@ -29,7 +29,7 @@ pub fn add_data(alloc: Global, out: &mut Vec<u8>, value: &Data) -> Result<(), Al
     add_hex(alloc, out, text.as_slice())
 }
 
-// Makes known that the hexadecimal digits of bytes have neither a byte 0 nor a byte 0A.
+// Proves that the hexadecimal digits of bytes have neither a byte 0 nor a byte 0A.
 #[tactic(auto, using(text_lines::proofs::PlainLemmas::hex_is_plain))]
 fn digits_are_plain(_bytes: &[u8])
     ensures { IsPlain (encode_upper _bytes.now) }

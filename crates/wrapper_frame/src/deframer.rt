@@ -23,7 +23,7 @@ use wire_bytes::Octets;
 #[derive(Debug, Drop)]
 pub struct Deframer {
     pending: BytesMut,
-    // What `judge` says of the pending bytes.
+    // The result of `judge` for the pending bytes.
     front: Head,
 }
 

@@ -11,10 +11,10 @@ use thiserror::Error;
 #[derive(Clone, Copy, Debug, PartialEq, Eq, Error)]
 pub enum ApduFault {
     /// There are no bytes, or the first byte is not the tag of a known service.
-    #[error("no service that is known")]
+    #[error("unknown service")]
     UnknownTag = 1,
     /// The second byte is not a known form of the service.
-    #[error("no form of the service that is known")]
+    #[error("unknown form of the service")]
     UnknownForm = 2,
     /// The bytes end too early or too late, or one of them is not valid at its position.
     #[error("the bytes are not those of the service")]

@@ -10,7 +10,7 @@ use std::alloc::Global;
 use wire_bytes::{Cursor, Listed};
 
 // The least number of bytes of an attribute in a list: its class, name and number, and no access
-// selection. Memory is allocated at once for the attributes that the bytes have room for.
+// selection. Memory is allocated once, for at most the number of bytes divided by this.
 const MIN_TARGET: usize = 10;
 
 // Reads a count and that number of attributes.
