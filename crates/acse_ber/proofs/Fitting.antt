@@ -7,7 +7,7 @@ use Rattle.std.proofs.lemmas.List.{length-append}
 use Rattle.wire_bytes.specs.ByteFormats.{IsByte}
 use Rattle.wire_bytes.specs.Format.{IsJoined, AreItems}
 use Rattle.wire_bytes.proofs.ByteLaws.{bytes_at, bytes_all}
-use Rattle.wire_bytes.proofs.Lawful.{AreAll, first_all, others_all}
+use Rattle.wire_bytes.proofs.Lawful.{AreAll, parts_all}
 use Rattle.cosem_axdr.specs.Spelling.{IsBytes, length_text}
 use Rattle.acse_ber.specs.Fit.{IsFitAarq, IsFitInfo, IsFitAare}
 use Rattle.acse_ber.specs.Parts.{IsLength, contents_part, tagged_part, Field, field_part}
@@ -36,8 +36,8 @@ contents_fit : (contents bytes : List ℕ) → AreAll IsByte bytes → contents_
     → AreAll IsByte contents × (least contents ≤ 1 + length bytes)
 contents_fit contents bytes all j =
     let short = length_is_short j.first (length contents)
-    (bytes_at j.first (first_all IsByte all j)) j.is_first in (
-      subst (AreAll IsByte) j.are_others (others_all IsByte all j),
+    (bytes_at j.first (parts_all IsByte all j).0) j.is_first in (
+      subst (AreAll IsByte) j.are_others (parts_all IsByte all j).1,
       omega (
         arith,
         short.1,
@@ -52,7 +52,7 @@ after_fits : {P : List ℕ → Type 0} (tag : ℕ) (contents bytes : List ℕ) �
     → (j : IsJoined P (contents_part.Spells contents) bytes) → j.first ≡ tag ∷ []
     → AreAll IsByte contents × (least contents ≤ length bytes)
 after_fits tag contents bytes all j one =
-    let fit = contents_fit contents j.others (others_all IsByte all j) j.are_others in (
+    let fit = contents_fit contents j.others (parts_all IsByte all j).1 j.are_others in (
       fit.0,
       omega (
         arith,
@@ -76,11 +76,11 @@ contents_are_bytes tag (f ∷ fs) body contents bytes are one =
           let here : f.contents ∷ contents_of tag fs ≡ contents ∷ [] = sym (rw e refl) ∙ one in
           let same : f.contents ≡ contents = ap (λ (l : List (List ℕ)). get_or l 0 []) here in
           subst (AreAll IsByte) same (after_fits f.tag f.contents are.first
-          (first_all IsByte bytes are) are.is_first are.is_first.is_first.1).0
+          (parts_all IsByte bytes are).0 are.is_first are.is_first.is_first.1).0
       | inr e ↦
           let later : contents_of tag fs ≡ contents ∷ [] = sym (rw e refl) ∙ one in
           contents_are_bytes tag fs are.others contents
-          (others_all IsByte bytes are) are.are_others later
+          (parts_all IsByte bytes are).1 are.are_others later
     ]
 
 -- the minimum number of bytes of the fields of a tag
@@ -119,9 +119,9 @@ fields_long : (fields : List Field) (body : List ℕ) → AreAll IsByte body
     + leasts (contents_of 0xAC fields) + leasts (contents_of 0xBE fields) ≤ length body
 fields_long [] body bytes are = omega arith
 fields_long (f ∷ fs) body bytes are =
-    let first = after_fits f.tag f.contents are.first (first_all IsByte bytes are) are.is_first
+    let first = after_fits f.tag f.contents are.first (parts_all IsByte bytes are).0 are.is_first
     are.is_first.is_first.1 in
-    let others = fields_long fs are.others (others_all IsByte bytes are) are.are_others in
+    let others = fields_long fs are.others (parts_all IsByte bytes are).1 are.are_others in
     omega (
       arith,
       first.1,
@@ -173,7 +173,7 @@ body_short : (tag : ℕ) (body bytes : List ℕ) → AreAll IsByte bytes
     → (tagged_part tag).Spells body bytes → length bytes ≤ 65535 → length body ≤ 65531
 body_short tag body bytes all is short =
     let j = is.are_others in
-    let text = first_all IsByte (others_all IsByte all is) j in
+    let text = (parts_all IsByte (parts_all IsByte all is).1 j).0 in
     short_by j.first (length body) (length bytes) text j.is_first
     (omega (
       arith,

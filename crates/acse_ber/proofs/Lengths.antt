@@ -1,8 +1,9 @@
 -- Lengths: the shortest form of a length is one of its forms, and no form is shorter.
-use Rattle.std.proofs.Common.{◌≡◌, ℕ, ◌^◌, ◌<◌, ◌≤◌, true, false, ltb, cond, List, [], ◌∷◌}
+use Rattle.std.proofs.Common.{◌≡◌, ℕ, ◌^◌, ◌<◌, ◌≤◌, List, [], ◌∷◌}
 use Rattle.std.proofs.Common.{length, refl, sym, ap, subst, arith, inl, inr}
 use Rattle.std.specs.Int.{w16, to_be_bytes, bytes_high_first}
 use Rattle.std.proofs.lemmas.Bool.{cases_lt, lt-ltb, le-ltb}
+use Rattle.std.proofs.lemmas.Bool.Decides.{nat_tests}
 use Rattle.std.proofs.lemmas.Nat.{from_be_bytes-to_be_bytes_2}
 use Rattle.cosem_axdr.specs.Spelling.{IsBytes, IsUnsigned, length_text}
 use Rattle.cosem_axdr.specs.Spelling as axdr
@@ -52,57 +53,4 @@ length_is_short text n bytes is =
 
 -- a greater length has no shorter form
 pub form_grows : (m n : ℕ) → m ≤ n → length (length_text m) ≤ length (length_text n)
-form_grows m n le =
-    elim (cases_lt m 0x80) [
-      | inl a ↦ rw (lt-ltb m 0x80 a) (some n)
-      | inr a ↦ rw (le-ltb m 0x80 a, le-ltb n 0x80 (omega arith)) (elim (cases_lt m (2 ^ 8)) [
-        | inl b ↦ rw (lt-ltb m (2 ^ 8) b) (two n)
-        | inr b ↦ rw (le-ltb m (2 ^ 8) b, le-ltb n (2 ^ 8) (omega arith))
-            (elim (cases_lt m (2 ^ 16)) [
-              | inl c ↦ rw (lt-ltb m (2 ^ 16) c) (three n)
-              | inr c ↦ rw (le-ltb m (2 ^ 16) c, le-ltb n (2 ^ 16) (omega arith))
-                  (elim (cases_lt m (2 ^ 24)) [
-                    | inl d ↦ rw (lt-ltb m (2 ^ 24) d) (four n)
-                    | inr d ↦ rw (le-ltb m (2 ^ 24) d, le-ltb n (2 ^ 24) (omega arith))
-                        (omega arith)
-                  ])
-            ])
-      ])
-    ]
-  where
-    four : (n : ℕ) → 4 ≤ length (cond (ltb n (2 ^ 24)) (0x83 ∷ bytes_high_first 3 n) (0x84
-        ∷ bytes_high_first 4 n))
-    four n = elim (ltb n (2 ^ 24)) as (λ b. 4 ≤ length (cond b (0x83 ∷ bytes_high_first 3 n) (0x84
-        ∷ bytes_high_first 4 n))) [ true ↦ omega arith | false ↦ omega arith ]
-
-    three : (n : ℕ) → 3 ≤ length (cond (ltb n (2 ^ 16)) (0x82 ∷ bytes_high_first 2 n)
-        (cond (ltb n (2 ^ 24)) (0x83 ∷ bytes_high_first 3 n) (0x84 ∷ bytes_high_first 4 n)))
-    three n =
-        elim (ltb n (2 ^ 16)) as (λ b. 3 ≤ length
-        (cond b (0x82 ∷ bytes_high_first 2 n)
-        (cond (ltb n (2 ^ 24)) (0x83 ∷ bytes_high_first 3 n) (0x84 ∷ bytes_high_first 4 n)))) [
-          | true ↦ omega arith
-          | false ↦ omega (arith, four n)
-        ]
-
-    two : (n : ℕ) → 2 ≤ length (cond (ltb n (2 ^ 8)) (0x81 ∷ bytes_high_first 1 n)
-        (cond (ltb n (2 ^ 16)) (0x82 ∷ bytes_high_first 2 n)
-        (cond (ltb n (2 ^ 24)) (0x83 ∷ bytes_high_first 3 n) (0x84 ∷ bytes_high_first 4 n))))
-    two n =
-        elim (ltb n (2 ^ 8)) as (λ b. 2 ≤ length
-        (cond b (0x81 ∷ bytes_high_first 1 n)
-        (cond (ltb n (2 ^ 16)) (0x82 ∷ bytes_high_first 2 n)
-        (cond (ltb n (2 ^ 24)) (0x83 ∷ bytes_high_first 3 n) (0x84 ∷ bytes_high_first 4 n))))) [
-          | true ↦ omega arith
-          | false ↦ omega (arith, three n)
-        ]
-
-    some : (n : ℕ) → 1 ≤ length (length_text n)
-    some n =
-        elim (ltb n 0x80) as (λ b. 1 ≤ length
-        (cond b (n ∷ []) (cond (ltb n (2 ^ 8)) (0x81 ∷ bytes_high_first 1 n)
-        (cond (ltb n (2 ^ 16)) (0x82 ∷ bytes_high_first 2 n)
-        (cond (ltb n (2 ^ 24)) (0x83 ∷ bytes_high_first 3 n) (0x84 ∷ bytes_high_first 4 n)))))) [
-          | true ↦ omega arith
-          | false ↦ omega (arith, two n)
-        ]
+form_grows m n le = grind (arith, nat_tests)

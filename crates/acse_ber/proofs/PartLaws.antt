@@ -8,12 +8,12 @@ use Rattle.std.proofs.lemmas.Bool.{ltb-true, lt-ltb, eqb-true}
 use Rattle.std.proofs.lemmas.Slice.Eq.{bytes_eq-Decides}
 use Rattle.wire_bytes.specs.ByteFormats.{IsByte, one_of}
 use Rattle.wire_bytes.specs.Choice.{Parts, value_of}
+use Rattle.wire_bytes.specs.Outcome.{guard}
 use Rattle.wire_bytes.specs.Reading.{first_bytes}
-use Rattle.wire_bytes.proofs.Agreeing.{Took, IsMade, AreBytes, join, then_agrees, made_agrees}
-use Rattle.wire_bytes.proofs.Agreeing.{seen_as, bytes_agrees}
 use Rattle.wire_bytes.proofs.ByteLaws.{bytes_at, byte_lawful, number_16_lawful, one_of_lawful}
 use Rattle.wire_bytes.proofs.ByteLaws.{byte_formats}
-use Rattle.wire_bytes.proofs.Lawful.{IsLawful, first_all}
+use Rattle.wire_bytes.proofs.Lawful.{Took, join, found_agrees, then_agrees, AreBytes, bytes_agrees}
+use Rattle.wire_bytes.proofs.Lawful.{IsLawful, parts_all, guard_holds}
 use Rattle.wire_bytes.proofs.OutcomeLemmas.{done, ok_is, bind_ok, guard_ok, chosen}
 use Rattle.cosem_axdr.specs.Spelling.{length_text}
 use Rattle.acse_ber.specs.Parts.{Part, literal, with_test, IsLength, length_read}
@@ -29,33 +29,18 @@ use Rattle.acse_ber.proofs.Lengths.{length_spells, length_is_short}
 
 pub literal_lawful : (expected : List ℕ) → IsLawful IsByte (literal expected)
 literal_lawful expected = record {
-  agrees = record {
-    takes = takes;
-    again = λ nothing text rest s. rw (
-      s,
-      (bytes_agrees Unreadable (length expected)).again expected expected rest (refl, refl),
-      (bytes_eq-Decides expected expected).1 refl,
-    ) refl;
-  };
+  agrees = found_agrees (λ there. guard (bytes_eq there expected) Unreadable)
+      (literal expected).Spells (bytes_agrees Unreadable (length expected))
+      (λ there nothing text e s. sym s.1
+      ∙ (bytes_eq-Decides there expected).0 (guard_holds (bytes_eq there expected) Unreadable e))
+      (λ nothing text s. (
+        expected,
+        rw ((bytes_eq-Decides expected expected).1 refl) refl,
+        (ap (λ (bytes : List ℕ). length bytes) s, sym s),
+      ));
   written = λ nothing fit. refl;
   fitting = λ nothing text all s. tt;
 }
-  where
-    takes : (bytes : List ℕ) (x : Unit {0} × List ℕ) → (literal expected).read bytes ≡ Ok x
-        → Took (Unit {0}) (literal expected).Spells bytes x
-    takes bytes x e =
-        let b = bind_ok (first_bytes Unreadable (length expected) bytes) _ x e in
-        let g = guard_ok (bytes_eq b.0.0 expected) Unreadable (done AcseFault (tt {0}, b.0.1)) x b.2
-        in
-        let t = (bytes_agrees Unreadable (length expected)).takes bytes b.0 b.1 in
-        let same : t.text ≡ expected =
-        sym t.spelled.1 ∙ (bytes_eq-Decides b.0.0 expected).0 g.0 in
-        record {
-          text = expected;
-          parts = t.parts ∙ ap₂ (λ (a r : List ℕ). a ++ r) same
-              (ap (λ (z : Unit {0} × List ℕ). z.1) (ok_is {F = AcseFault} (tt {0}, b.0.1) x g.1));
-          spelled = refl;
-        }
 
 pub tested_lawful : {A : Type 0} (test : A → Bool) (part : Part A) → IsLawful IsByte part
     → IsLawful IsByte (with_test test part)
@@ -133,18 +118,21 @@ length_lawful = record {
 
 pub contents_lawful : IsLawful IsByte contents_part
 contents_lawful = record {
-  agrees = then_agrees length_read (first_bytes Unreadable) IsCount AreBytes contents_part.Spells
-      length_lawful.agrees (bytes_agrees Unreadable)
-      (λ n contents text j. record {
+  agrees = found_agrees (λ p. done AcseFault p.1) contents_part.Spells
+      (then_agrees (first_bytes Unreadable) AreBytes length_lawful.agrees
+      (bytes_agrees Unreadable))
+      (λ p contents text e j.
+      let same = sym j.are_others.1 ∙ ok_is p.1 contents e in record {
         first = j.first;
         others = j.others;
         parts = j.parts;
-        is_first = subst (λ (m : ℕ). IsLength j.first m) (sym j.are_others.0
-            ∙ ap (λ (s : List ℕ). length s) (sym j.are_others.1)) j.is_first;
-        are_others = sym j.are_others.1;
+        is_first = subst (λ (n : ℕ). IsLength j.first n)
+            (sym j.are_others.0 ∙ ap (λ (s : List ℕ). length s) same) j.is_first;
+        are_others = same;
       })
       (λ contents text j. (
-        length contents,
+        (length contents, contents),
+        refl,
         record {
           first = j.first;
           others = j.others;
@@ -156,7 +144,7 @@ contents_lawful = record {
   written = λ contents fit. join (length_text (length contents)) contents
       (length_spells (length contents) fit) refl;
   fitting = λ contents text all j.
-      length_lawful.fitting (length contents) j.first (first_all IsByte all j) j.is_first;
+      length_lawful.fitting (length contents) j.first (parts_all IsByte all j).0 j.is_first;
 }
 
 -- ---- user information
@@ -170,10 +158,10 @@ bits_of three = from_be_bytes w32 (0x00 ∷ three)
 
 pub bits_lawful : IsLawful IsByte bits_part
 bits_lawful = record {
-  agrees = seen_as bits_part.read (IsMade bits_of (AreBytes 3)) bits_part.Spells
-      (made_agrees bits_of (first_bytes Unreadable 3) (AreBytes 3) (bytes_agrees Unreadable 3))
-      (λ n text s. (s.2.0, sym s.1 ∙ ap bits_of s.2.1))
-      (λ n text s. (text, sym s.1, (s.0, refl)));
+  agrees = found_agrees (λ three. done AcseFault (bits_of three)) bits_part.Spells
+      (bytes_agrees Unreadable 3)
+      (λ three n text e s. (s.0, sym (ok_is {F = AcseFault} _ n e) ∙ ap bits_of s.1))
+      (λ n text s. (text, ap (done AcseFault) (sym s.1), (s.0, refl)));
   written = λ n fit. (refl, three_back n fit);
   fitting = λ n text all s. let at = bytes_at text all in
       subst (λ (m : ℕ). m < 2 ^ 24) (sym s.1) (omega (arith, at 0, at 1, at 2));
@@ -184,9 +172,8 @@ byte_made None = refl
 byte_made (Some n) = refl
 
 made_byte : (p : Parts byte_forms) → byte_parts (value_of byte_forms p) ≡ p
-made_byte (inl u) = refl
-made_byte (inr (inl n)) = refl
 made_byte (inr (inr none)) = absurd none
+made_byte p = refl
 
 pub optional_lawful : IsLawful IsByte (one_of Unreadable byte_forms byte_parts)
 optional_lawful = one_of_lawful Unreadable byte_forms byte_parts byte_made made_byte refl
@@ -197,9 +184,8 @@ source_made true = refl
 source_made false = refl
 
 made_source : (p : Parts source_forms) → source_parts (value_of source_forms p) ≡ p
-made_source (inl u) = refl
-made_source (inr (inl u)) = refl
 made_source (inr (inr none)) = absurd none
+made_source p = refl
 
 pub source_lawful : IsLawful IsByte (one_of Unreadable source_forms source_parts)
 source_lawful = one_of_lawful Unreadable source_forms source_parts source_made made_source refl
@@ -221,9 +207,8 @@ info_made (inl response) = refl
 info_made (inr error) = refl
 
 made_info : (p : Parts info_forms) → info_parts (value_of info_forms p) ≡ p
-made_info (inl response) = refl
-made_info (inr (inl error)) = refl
 made_info (inr (inr none)) = absurd none
+made_info p = refl
 
 pub info_lawful : IsLawful IsByte info_part
 info_lawful = one_of_lawful Unreadable info_forms info_parts info_made made_info refl

@@ -1,6 +1,6 @@
 -- The RLRQ that a client sends.
 use Rattle.std.proofs.Common.{[], ◌∷◌, refl, arith}
-use Rattle.wire_bytes.proofs.Agreeing.{join}
+use Rattle.wire_bytes.proofs.Lawful.{join}
 use Rattle.acse_ber.specs.Spelling.{SpellsRelease}
 use Rattle.acse_ber.specs.Text.{reason_text, release_request}
 use Rattle.acse_ber.proofs.PartLaws.{tagged_lawful, field_lawful}

@@ -6,8 +6,7 @@ use Rattle.std.specs.Int.{bytes_high_first}
 use Rattle.std.proofs.lemmas.List.{length-append}
 use Rattle.std.specs.List.{flat_map}
 use Rattle.wire_bytes.specs.Format.{AreItems}
-use Rattle.wire_bytes.proofs.Agreeing.{join}
-use Rattle.wire_bytes.proofs.Lawful.{AreAll}
+use Rattle.wire_bytes.proofs.Lawful.{join, AreAll}
 use Rattle.cosem_axdr.specs.Spelling.{length_text}
 use Rattle.acse_ber.specs.Fit.{IsFitAarq, IsFitInfo, IsFitAare}
 use Rattle.acse_ber.specs.Parts.{Field, tagged_part, is_field_tag, field_part, info_part, result_part}

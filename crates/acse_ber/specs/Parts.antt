@@ -11,7 +11,8 @@ use Rattle.std.proofs.Common.{inl, inr}
 use Rattle.std.specs.Int.{w16, w32, from_be_bytes, bytes_high_first}
 use Rattle.wire_bytes.specs.ByteFormats.{same_byte, byte, octets, number, one_of}
 use Rattle.wire_bytes.specs.Choice.{Choice, on, otherwise, Parts}
-use Rattle.wire_bytes.specs.Format.{Format, IsJoined, iso, empty, ◌&◌, exactly, placeholder}
+use Rattle.wire_bytes.specs.Format.{Format, IsJoined, iso, empty, ◌▷◌, ◌&◌, exactly}
+use Rattle.wire_bytes.specs.Format.{placeholder}
 use Rattle.wire_bytes.specs.Outcome.{◌>>=◌, ◌>>◌, guard}
 use Rattle.wire_bytes.specs.Reading.{read_as, first_bytes}
 use Rattle.cosem_axdr.specs.Spelling.{length_text, string_text, IsUnsigned}
@@ -84,7 +85,7 @@ length_part = record {
 -- a length followed by that number of bytes
 abbrev pub contents_part : Part (List ℕ)
 contents_part = record {
-  read = λ bytes. length_read bytes >>= λ n. first_bytes Unreadable n.0 n.1;
+  read = λ bytes. read_as (λ p. p.1) ((length_part ▷ octets Unreadable).read bytes);
   text = string_text;
   Fits = λ contents. length contents < 2 ^ 16;
   Spells = λ contents bytes.

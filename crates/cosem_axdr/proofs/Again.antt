@@ -5,7 +5,9 @@ use Rattle.std.proofs.lemmas.Bool.{and_from, lt-ltb, le-ltb, le-leb}
 use Rattle.std.proofs.lemmas.List.{take_at, drop_at, length-append}
 use Rattle.wire_bytes.proofs.OutcomeLemmas.{done}
 use Rattle.cosem_axdr.specs.Limits.{max_items, bytes_for}
-use Rattle.cosem_axdr.specs.Reading.{Place, Read, read_as, bytes_at, byte_at, length_at, string_at, unsigned_at, bits_at, fixed_at, leaf_at, items_at, counted_at, value_at, nested_at}
+use Rattle.wire_bytes.specs.Format.{items_read}
+use Rattle.wire_bytes.specs.Reading.{read_as}
+use Rattle.cosem_axdr.specs.Reading.{Place, Read, bytes_at, byte_at, length_at, string_at, unsigned_at, bits_at, fixed_at, leaf_at, counted_at, value_at, nested_at}
 use Rattle.cosem_axdr.specs.Spelling.{IsLength, IsString, IsBits, IsCounted, IsUnsigned, IsSigned, IsFixed, AreContents, AreSpelled, Spells, tag_of}
 use Rattle.cosem_axdr.specs.Tree.{Tree, Trees, count_of, nesting, nests, null, array, structure, boolean, bit_string, double_long, double_long_unsigned, octet_string, visible_string, utf8_string, integer, long, unsigned, long_unsigned, long64, long64_unsigned, enumerated, date_time, date, time, no_trees, tree}
 use Rattle.cosem_axdr.specs.View.{data_of, list_of}
@@ -207,8 +209,8 @@ value_again levels counted again t text old new taken f flat =
 items_again : (levels : ℕ) (item_at : Place → Read Data) → IsValueAgain levels item_at
     → (ts : Trees) (text : List ℕ) (old new : Place) → Takes old text new → AreSpelled text ts
     → nests ts ≤ levels
-    → items_at item_at (count_of ts) old ≡ Ok (list_of ts, new)
-unfolding items_at
+    → items_read item_at (count_of ts) old ≡ Ok (list_of ts, new)
+unfolding items_read
 items_again levels item_at again no_trees text old new t f flat =
     ap (λ (p : Place). read [] p) (same_place old new (subst (λ (x : List ℕ). Takes old x new) f t))
 items_again levels item_at again (tree v ts) text old new t f flat =

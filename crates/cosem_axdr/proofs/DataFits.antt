@@ -7,7 +7,8 @@ use Rattle.std.specs.Int.{Width, w8, w16, w32, w64, from_be_bytes, cast_signed}
 use Rattle.std.proofs.Math.Facts.{Fits-bits, sfits_to_z}
 use Rattle.std.proofs.Math.Nat.{div-mul-le_self, mul-div_cancel}
 use Rattle.std.proofs.lemmas.Nat.{pow_pos}
-use Rattle.std.proofs.lemmas.Bool.{cases_lt, lt-ltb, le-ltb}
+use Rattle.std.proofs.lemmas.Bool.{lt-ltb}
+use Rattle.std.proofs.lemmas.Bool.Decides.{nat_tests}
 use Rattle.std.proofs.lemmas.List.{length-append, length-set, get_or-append-add}
 use Rattle.cosem_axdr.specs.Limits.{highest_bits, without_unused_bits}
 use Rattle.cosem_axdr.specs.Spelling.{IsLength, IsString, IsBits, IsUnsigned, IsSigned, IsFixed}
@@ -73,63 +74,26 @@ cleared_bytes k raw bytes = λ i.
 
 -- ---- lengths
 
--- the length of a length's text, by the number of bits of the length
-short_form : (n : ℕ) → ((n < 2 ^ 8) → length (length_text n) ≤ 2)
-    × ((n < 2 ^ 16) → length (length_text n) ≤ 3) × ((n < 2 ^ 24) → length (length_text n) ≤ 4)
-    × (length (length_text n) ≤ 5)
-short_form n =
-    elim (cases_lt n 0x80) [
-      | inl h ↦ rw (lt-ltb n 0x80 h) (
-        (λ _. omega arith),
-        (λ _. omega arith),
-        (λ _. omega arith),
-        omega arith,
-      )
-      | inr h ↦ rw (le-ltb n 0x80 h) (elim (cases_lt n (2 ^ 8)) [
-        | inl a ↦ rw (lt-ltb n (2 ^ 8) a) (
-          (λ _. omega arith),
-          (λ _. omega arith),
-          (λ _. omega arith),
-          omega arith,
-        )
-        | inr a ↦ rw (le-ltb n (2 ^ 8) a) (elim (cases_lt n (2 ^ 16)) [
-          | inl b ↦ rw (lt-ltb n (2 ^ 16) b) (
-            (λ lt. omega arith),
-            (λ _. omega arith),
-            (λ _. omega arith),
-            omega arith,
-          )
-          | inr b ↦ rw (le-ltb n (2 ^ 16) b) (elim (cases_lt n (2 ^ 24)) [
-            | inl c ↦ rw (lt-ltb n (2 ^ 24) c)
-                ((λ lt. omega arith), (λ lt. omega arith), (λ _. omega arith), omega arith)
-            | inr c ↦ rw (le-ltb n (2 ^ 24) c)
-                ((λ lt. omega arith), (λ lt. omega arith), (λ lt. omega arith), omega arith)
-          ])
-        ])
-      ])
-    ]
-
 -- any form of a length below 2 ^ 32 is at least as long as the shortest
 pub length_is_short : (text : List ℕ) (n : ℕ) → IsBytes text → IsLength text n → (n < 2 ^ 32)
     × (length (length_text n) ≤ length text)
 length_is_short [] n bytes is = absurd is
-length_is_short (first ∷ []) n bytes (inl h) =
+length_is_short (first ∷ more) n bytes (inl h) =
     let below : n < 0x80 = omega (arith, h.0, h.2) in
     (omega arith, rw (lt-ltb n 0x80 below) (omega arith))
-length_is_short (first ∷ a ∷ more) n bytes (inl h) = absurd cc
 length_is_short (first ∷ []) n bytes (inr h) = absurd (omega (arith, h.0, h.2))
 length_is_short (first ∷ a ∷ []) n bytes (inr h) =
     let below : n < 2 ^ 8 = omega (arith, h.3, bytes 1) in
-    (omega arith, (short_form n).0 below)
+    (omega arith, grind (arith, nat_tests))
 length_is_short (first ∷ a ∷ b ∷ []) n bytes (inr h) =
     let below : n < 2 ^ 16 = omega (arith, h.3, bytes 1, bytes 2) in
-    (omega arith, (short_form n).1 below)
+    (omega arith, grind (arith, nat_tests))
 length_is_short (first ∷ a ∷ b ∷ c ∷ []) n bytes (inr h) =
     let below : n < 2 ^ 24 = omega (arith, h.3, bytes 1, bytes 2, bytes 3) in
-    (omega arith, (short_form n).2 below)
+    (omega arith, grind (arith, nat_tests))
 length_is_short (first ∷ a ∷ b ∷ c ∷ d ∷ []) n bytes (inr h) =
     let below : n < 2 ^ 32 = omega (arith, h.3, bytes 1, bytes 2, bytes 3, bytes 4) in
-    (below, (short_form n).3)
+    (below, grind (arith, nat_tests))
 length_is_short (first ∷ a ∷ b ∷ c ∷ d ∷ e ∷ more) n bytes (inr h) =
     absurd (omega (arith, h.1, h.2))
 
@@ -170,15 +134,15 @@ signed_fits : (w : Width) (k : ℕ) → ((n : ℕ) → n < 2 ^ k → FitsSigned 
     → ((s : List ℕ) → IsBytes s → from_be_bytes w s < 2 ^ k) → (contents : List ℕ) (z : ℤ)
     → IsBytes contents → IsSigned w contents z → FitsSigned w z
 signed_fits w k fits below contents z bytes is =
-    subst (λ (y : ℤ). FitsSigned w y) (sym is.1)
-    (fits (from_be_bytes w contents) (below contents bytes))
+    rw is.1 (fits (from_be_bytes w contents) (below contents bytes))
 
 string_fits : (contents string : List ℕ) → IsBytes contents → IsString contents string
-    → IsBytes string × (length (string_text string) ≤ length contents)
+    → IsBytes string × Unit {0} × (length (string_text string) ≤ length contents)
 string_fits contents string bytes is =
     let l = length_is_short is.length_text (length string)
     (front_bytes is.length_text string contents is.parts bytes) is.is_length in (
       back_bytes is.length_text string contents is.parts bytes,
+      tt,
       omega (
         arith,
         l.1,
@@ -189,10 +153,8 @@ string_fits contents string bytes is =
     )
 
 fixed_fits : (n : ℕ) (contents bytes : List ℕ) → IsBytes contents → IsFixed n contents bytes
-    → ((length bytes ≡ n) × IsBytes bytes) × (length bytes ≤ length contents)
-fixed_fits n contents bytes are is =
-    subst (λ (s : List ℕ). ((length s ≡ n) × IsBytes s) × (length s ≤ length contents)) (sym is.1)
-    ((is.0, are), omega arith)
+    → ((length bytes ≡ n) × IsBytes bytes) × Unit {0} × (length bytes ≤ length contents)
+fixed_fits n contents bytes are is = rw is.1 ((is.0, are), tt, omega arith)
 
 bits_fit : (contents : List ℕ) (k : ℕ) (bytes : List ℕ) → IsBytes contents → IsBits contents k bytes
     → FitsIn contents (bit_string k bytes)
@@ -256,12 +218,9 @@ mutual
   )
   contents_fit (double_long_unsigned n) contents bytes is =
       (unsigned_fits w32 (2 ^ 32) below_32 contents n bytes is, tt, omega (arith, is.0))
-  contents_fit (octet_string s) contents bytes is = let f = string_fits contents s bytes is in
-      (f.0, tt, f.1)
-  contents_fit (visible_string s) contents bytes is = let f = string_fits contents s bytes is in
-      (f.0, tt, f.1)
-  contents_fit (utf8_string s) contents bytes is = let f = string_fits contents s bytes is in
-      (f.0, tt, f.1)
+  contents_fit (octet_string s) contents bytes is = string_fits contents s bytes is
+  contents_fit (visible_string s) contents bytes is = string_fits contents s bytes is
+  contents_fit (utf8_string s) contents bytes is = string_fits contents s bytes is
   contents_fit (integer z) contents bytes is = (
     signed_fits w8 8 (λ n lt. sfits_to_z (Fits-bits 8 tt lt)) below_8 contents z bytes is,
     tt,
@@ -286,12 +245,9 @@ mutual
       (unsigned_fits w64 (2 ^ 64) below_64 contents n bytes is, tt, omega (arith, is.0))
   contents_fit (enumerated n) contents bytes is =
       (unsigned_fits w8 (2 ^ 8) below_8 contents n bytes is, tt, omega (arith, is.0))
-  contents_fit (date_time s) contents bytes is = let f = fixed_fits 12 contents s bytes is in
-      (f.0, tt, f.1)
-  contents_fit (date s) contents bytes is = let f = fixed_fits 5 contents s bytes is in
-      (f.0, tt, f.1)
-  contents_fit (time s) contents bytes is = let f = fixed_fits 4 contents s bytes is in
-      (f.0, tt, f.1)
+  contents_fit (date_time s) contents bytes is = fixed_fits 12 contents s bytes is
+  contents_fit (date s) contents bytes is = fixed_fits 5 contents s bytes is
+  contents_fit (time s) contents bytes is = fixed_fits 4 contents s bytes is
 
   items_fit : (ts : Trees) (items : List ℕ) → IsBytes items → AreSpelled items ts → AreWithin ts
       × AreFine ts × (length (texts ts) ≤ length items)

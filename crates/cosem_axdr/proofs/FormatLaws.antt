@@ -2,24 +2,21 @@
 use Rattle.std.proofs.Common.{◌≡◌, ℕ, ◌+◌, ◌-◌, ◌<◌, ◌≤◌, true, false, ◌&&◌, nat_lt, nat_le, List}
 use Rattle.std.proofs.Common.{[], ◌∷◌, ◌++◌, length, take, drop, Result, Ok, Err, refl, sym, ap}
 use Rattle.std.proofs.Common.{subst, ◌∙◌, arith, inl, inr}
-use Rattle.std.specs.List.{flat_map}
 use Rattle.std.proofs.lemmas.Bool.{and_parts, and_from, ltb-true, leb-true, lt-ltb, le-ltb, le-leb}
 use Rattle.std.proofs.lemmas.List.{drop_at, take-append-drop}
-use Rattle.wire_bytes.specs.ByteFormats.{IsByte}
-use Rattle.wire_bytes.specs.Format.{Format, AreItems, IsJoined, items_read}
+use Rattle.wire_bytes.specs.ByteFormats.{IsByte, octets}
+use Rattle.wire_bytes.specs.Format.{Format, ◌▷◌, items}
 use Rattle.wire_bytes.specs.Reading.{read_as, first_bytes}
-use Rattle.wire_bytes.proofs.Agreeing.{Took, AreBytes, join, with_others, then_agrees}
-use Rattle.wire_bytes.proofs.Agreeing.{bytes_agrees}
-use Rattle.wire_bytes.proofs.ByteLaws.{bytes_at}
-use Rattle.wire_bytes.proofs.Items.{AreCounted, items_agrees, items_written, items_fit}
-use Rattle.wire_bytes.proofs.Lawful.{first_all, others_all, IsLawful}
+use Rattle.wire_bytes.proofs.ByteLaws.{bytes_at, fixed_lawful}
+use Rattle.wire_bytes.proofs.Items.{items_lawful}
+use Rattle.wire_bytes.proofs.Lawful.{Took, bytes_agrees, IsLawful, seen_lawful, then_lawful}
 use Rattle.wire_bytes.proofs.OutcomeLemmas.{done, ok_is, bind_ok, guard_ok, chosen}
-use Rattle.cosem_axdr.specs.Formats.{count_read, count, raw, list, front_or, axdr_data}
+use Rattle.cosem_axdr.specs.Formats.{count_read, count, with_count, raw, list, front_or, axdr_data}
 use Rattle.cosem_axdr.specs.Reading.{big_endian, first_data}
-use Rattle.cosem_axdr.specs.Spelling.{IsLength, length_text}
+use Rattle.cosem_axdr.specs.Spelling.{IsLength}
 use Rattle.cosem_axdr.specs.View.{tree_of}
 use Rattle.cosem_axdr.specs.declared.value.Data.{Data}
-use Rattle.cosem_axdr.proofs.DataFits.{front_bytes, length_is_short, spelled_data_fits}
+use Rattle.cosem_axdr.proofs.DataFits.{length_is_short, spelled_data_fits}
 use Rattle.cosem_axdr.proofs.Texts.{length_spells, text_spells}
 use Rattle.cosem_axdr.proofs.Values.{data_found, data_again}
 
@@ -82,55 +79,25 @@ count_lawful fault = record {
   fitting = λ n text all s. (length_is_short text n (bytes_at text all) s).0;
 }
 
--- ---- bytes after their length
+-- ---- elements after their count
+
+with_count_lawful : {F A : Type 0} (fault : F) (part : ℕ → Format ℕ F (List A))
+    → ((n : ℕ) → IsLawful IsByte (part n))
+    → ((n : ℕ) (xs : List A) (text : List ℕ) → (part n).Spells xs text → length xs ≡ n)
+    → IsLawful IsByte (with_count fault part)
+with_count_lawful {A = A} fault part lawful long =
+    seen_lawful (λ p. p.1) (λ xs. (length xs, xs)) (count fault ▷ part) (λ xs. refl)
+    (λ p text j. ap (λ (n : ℕ). (n, p.1)) (long p.0 p.1 j.others j.are_others))
+    (then_lawful (count fault) part (count_lawful fault) lawful)
 
 pub raw_lawful : {F : Type 0} (fault : F) → IsLawful IsByte (raw fault)
-raw_lawful fault = record {
-  agrees = then_agrees (count_read fault) (first_bytes fault) IsCount AreBytes (raw fault).Spells
-      (count_lawful fault).agrees (bytes_agrees fault)
-      (λ n bytes text j. record {
-        length_text = j.first;
-        parts = j.parts ∙ ap (λ (s : List ℕ). j.first ++ s) (sym j.are_others.1);
-        is_length = subst (λ (m : ℕ). IsLength j.first m)
-            (sym j.are_others.0 ∙ ap (λ (s : List ℕ). length s) (sym j.are_others.1)) j.is_first;
-      })
-      (λ bytes text s. (
-        length bytes,
-        record {
-          first = s.length_text;
-          others = bytes;
-          parts = s.parts;
-          is_first = s.is_length;
-          are_others = (refl, refl);
-        },
-      ));
-  written = λ bytes fit. record {
-    length_text = length_text (length bytes);
-    parts = refl;
-    is_length = length_spells (length bytes) fit;
-  };
-  fitting = λ bytes text all s. (length_is_short s.length_text (length bytes)
-      (front_bytes s.length_text bytes text s.parts (bytes_at text all)) s.is_length).0;
-}
-
--- ---- items after their count
+raw_lawful fault = with_count_lawful fault (octets fault) (fixed_lawful fault)
+    (λ n xs text s. ap (λ (bytes : List ℕ). length bytes) s.1 ∙ s.0)
 
 pub list_lawful : {F A : Type 0} (fault : F) (item : Format ℕ F A) → IsLawful IsByte item
     → IsLawful IsByte (list fault item)
-list_lawful {A = A} fault item lawful = record {
-  agrees = then_agrees (count_read fault) (items_read item.read) IsCount (AreCounted item.Spells)
-      (list fault item).Spells (count_lawful fault).agrees
-      (items_agrees item.read item.Spells lawful.agrees)
-      (λ n items text j. subst (λ (m : ℕ). IsJoined (IsCount m) (AreItems item.Spells items) text)
-      (sym j.are_others.0) (with_others j j.are_others.1))
-      (λ items text j. (length items, with_others j (refl, j.are_others)));
-  written = λ items fit. join (length_text (length items)) (flat_map item.text items)
-      (length_spells (length items) fit.0) (items_written item lawful items fit.1);
-  fitting = λ items text all j. (
-    (count_lawful fault).fitting (length items) j.first (first_all IsByte all j) j.is_first,
-    items_fit IsByte item lawful items j.others (others_all IsByte all j) j.are_others,
-  );
-}
+list_lawful fault item lawful =
+    with_count_lawful fault (items item) (items_lawful item lawful) (λ n xs text s. s.0)
 
 -- ---- a Data
 

@@ -4,7 +4,6 @@ pub mod BigEndian
 pub mod DataFits
 pub mod FormatLaws
 pub mod OneTree
-pub mod Steps
 pub mod Taken
 pub mod Texts
 pub mod Values

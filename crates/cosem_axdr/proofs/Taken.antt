@@ -9,7 +9,9 @@ use Rattle.std.proofs.lemmas.List.{take-append-drop, length-append, length-take}
 use Rattle.wire_bytes.specs.Outcome.{◌>>=◌, ◌>>◌, guard}
 use Rattle.wire_bytes.proofs.OutcomeLemmas.{done, failed, ok_is, bind_ok, guard_ok, chosen}
 use Rattle.cosem_axdr.specs.Limits.{max_items, bytes_for, without_unused_bits}
-use Rattle.cosem_axdr.specs.Reading.{Place, Read, read_as, bytes_at, byte_at, big_endian, length_at, string_at, unsigned_at, bits_at, fixed_at, leaf_at, items_at, counted_at, value_at, nested_at}
+use Rattle.wire_bytes.specs.Format.{items_read}
+use Rattle.wire_bytes.specs.Reading.{read_as}
+use Rattle.cosem_axdr.specs.Reading.{Place, Read, bytes_at, byte_at, big_endian, length_at, string_at, unsigned_at, bits_at, fixed_at, leaf_at, counted_at, value_at, nested_at}
 use Rattle.cosem_axdr.specs.Spelling.{IsLength, IsString, IsBits, IsCounted, IsUnsigned, IsFixed, AreContents, AreSpelled, Spells, tag_of}
 use Rattle.cosem_axdr.specs.Tree.{Trees, trees_of, count_of, nesting, nests}
 use Rattle.cosem_axdr.specs.View.{tree_of, all_trees}
@@ -423,8 +425,8 @@ abbrev pub IsTaking : (X : Type 0) → (List ℕ → X → Type 0) → (Place �
 IsTaking X IsX read_at = (place : Place) (x : X × Place) → read_at place ≡ Ok x → Took X IsX place x
 
 pub items_take : (levels : ℕ) (item_at : Place → Read Data) → IsTaking Data (IsValue levels) item_at
-    → (n : ℕ) → IsTaking (List Data) (AreValues levels n) (items_at item_at n)
-unfolding items_at
+    → (n : ℕ) → IsTaking (List Data) (AreValues levels n) (items_read item_at n)
+unfolding items_read
 items_take levels item_at takes zero place x e =
     subst (λ (z : List Data × Place). Took (List Data) (AreValues levels 0) place z)
     (ok_is ([], place) x e) (record {
@@ -433,9 +435,9 @@ items_take levels item_at takes zero place x e =
       spelled = (refl, least levels, refl);
     })
 items_take levels item_at takes (suc n) place x e =
-    let b = bind_ok (item_at place) (λ first. items_at item_at n first.1
+    let b = bind_ok (item_at place) (λ first. items_read item_at n first.1
     >>= λ others. done DataFault (first.0 ∷ others.0, others.1)) x e in
-    let c = bind_ok (items_at item_at n b.0.1)
+    let c = bind_ok (items_read item_at n b.0.1)
     (λ others. done DataFault (b.0.0 ∷ others.0, others.1)) x b.2 in
     let t = takes place b.0 b.1 in
     let u = items_take levels item_at takes n b.0.1 c.0 c.1 in
@@ -463,15 +465,15 @@ pub counted_takes : (levels : ℕ) (item_at : Place → Read Data)
 unfolding counted_at
 counted_takes levels item_at takes place x e =
     let b = bind_ok (length_at place) (λ count. guard (nat_le count.0 max_items) TooLong >> read_as
-    (λ items. trees_of (all_trees items)) (items_at item_at count.0 count.1)) x e in
+    (λ items. trees_of (all_trees items)) (items_read item_at count.0 count.1)) x e in
     let g = guard_ok (nat_le b.0.0 max_items) TooLong
-    (read_as (λ items. trees_of (all_trees items)) (items_at item_at b.0.0 b.0.1)) x b.2 in
+    (read_as (λ items. trees_of (all_trees items)) (items_read item_at b.0.0 b.0.1)) x b.2 in
     let few : b.0.0 ≤ max_items = leb-true b.0.0 max_items g.0 in
     let t = length_takes place b.0 b.1 in
     let AreItems : List ℕ → Trees → Type 0 = λ text ts. AreSpelled text ts × (nests ts ≤ levels)
     × (count_of ts ≡ b.0.0) in
     let u = read_as_takes (AreValues levels b.0.0) AreItems (λ items. trees_of (all_trees items))
-    (λ text ds f. f) b.0.1 (items_at item_at b.0.0 b.0.1) x
+    (λ text ds f. f) b.0.1 (items_read item_at b.0.0 b.0.1) x
     (items_take levels item_at takes b.0.0 b.0.1) g.1 in
     let count : b.0.0 ≡ count_of x.0 = sym u.spelled.2 in
     let counted : IsCounted (λ items. AreSpelled items x.0) (t.text ++ u.text)

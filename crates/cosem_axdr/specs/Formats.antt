@@ -1,15 +1,15 @@
 -- Parts of an APDU in A-XDR as formats (A-XDR: IEC 61334-6, IEC 62056-5-3).
---     count, raw, list      a length or count; bytes after their length; items after their count
+--     count, with_count     a length or count; elements after their count
+--     raw, list             bytes after their length; items after their count
 --     axdr_data             a Data
-use Rattle.std.specs.Prelude.{ℕ, ◌^◌, ◌<◌, ◌-◌, ◌&&◌, nat_lt, nat_le, if◌then◌else◌, List, ◌++◌}
-use Rattle.std.specs.Prelude.{length, drop, All, Result, Ok, Err}
-use Rattle.std.specs.List.{flat_map}
-use Rattle.wire_bytes.specs.Format.{Format, IsJoined, items_read, AreItems}
+use Rattle.std.specs.Prelude.{ℕ, ◌^◌, ◌<◌, ◌-◌, ◌&&◌, nat_lt, nat_le, if◌then◌else◌, List, length}
+use Rattle.std.specs.Prelude.{drop, Result, Ok, Err}
+use Rattle.wire_bytes.specs.ByteFormats.{octets}
+use Rattle.wire_bytes.specs.Format.{Format, iso, ◌▷◌, items}
 use Rattle.wire_bytes.specs.Outcome.{◌>>=◌, ◌>>◌, guard}
 use Rattle.wire_bytes.specs.Reading.{read_as, first_byte, first_bytes}
 use Rattle.cosem_axdr.specs.Reading.{big_endian, first_data}
-use Rattle.cosem_axdr.specs.Spelling.{IsLength, IsString, IsSpelling, length_text, string_text}
-use Rattle.cosem_axdr.specs.Spelling.{text, IsFit}
+use Rattle.cosem_axdr.specs.Spelling.{IsLength, IsSpelling, length_text, text, IsFit}
 use Rattle.cosem_axdr.specs.View.{tree_of}
 use Rattle.cosem_axdr.specs.declared.value.Data.{Data}
 
@@ -30,24 +30,17 @@ count fault = record {
   Spells = λ n bytes. IsLength bytes n;
 }
 
+-- a count followed by that number of elements
+abbrev pub with_count : {F A : Type 0} → F → (ℕ → Format ℕ F (List A)) → Format ℕ F (List A)
+with_count fault part = iso (λ p. p.1) (λ xs. (length xs, xs)) (count fault ▷ part)
+
 -- a length followed by that number of bytes
 abbrev pub raw : {F : Type 0} → F → Format ℕ F (List ℕ)
-raw fault = record {
-  read = λ bytes. count_read fault bytes >>= λ n. first_bytes fault n.0 n.1;
-  text = string_text;
-  Fits = λ string. length string < 2 ^ 32;
-  Spells = λ string bytes. IsString bytes string;
-}
+raw fault = with_count fault (octets fault)
 
 -- a count followed by that number of items
 abbrev pub list : {F A : Type 0} → F → Format ℕ F A → Format ℕ F (List A)
-list fault item = record {
-  read = λ bytes. count_read fault bytes >>= λ n. items_read item.read n.0 n.1;
-  text = λ items. length_text (length items) ++ flat_map item.text items;
-  Fits = λ items. (length items < 2 ^ 32) × All item.Fits items;
-  Spells = λ items bytes.
-      IsJoined (λ first. IsLength first (length items)) (AreItems item.Spells items) bytes;
-}
+list fault item = with_count fault (items item)
 
 -- what was read from the front of bytes, and the bytes after it; every fault becomes this one
 abbrev pub front_or : {F G A : Type 0} → F → List ℕ → Result (A × ℕ) G → Result (A × List ℕ) F

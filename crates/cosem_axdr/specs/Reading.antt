@@ -4,11 +4,13 @@
 --     bytes_at                 the next bytes, requested at once: TooLong before Truncated
 --     length_at .. leaf_at     a length, a string, a number, a bit-string, a value of a fixed
 --                              length, a value with no items
---     items_at .. value_at     consecutive items, a counted list of items, a value
+--     counted_at, value_at     a counted list of items, a value
 --     first_data               the Data at the front of bytes, and its number of bytes
 use Rattle.std.specs.Prelude.{◌≡◌, ℕ, zero, suc, ◌+◌, ◌-◌, ◌*◌, not, ◌&&◌, List, [], ◌∷◌, length, take, drop, fold, Result, Ok, Err, nat_lt, nat_le, ◌==◌, slice_index, if◌then◌else◌}
 use Rattle.std.specs.Int.{Width, w8, w16, w32, w64, byte_len, from_be_bytes, cast_signed}
+use Rattle.wire_bytes.specs.Format.{items_read}
 use Rattle.wire_bytes.specs.Outcome.{◌>>=◌, ◌>>◌, guard, Fails}
+use Rattle.wire_bytes.specs.Reading.{read_as}
 use Rattle.cosem_axdr.specs.Limits.{max_text, max_items, max_nesting, bytes_for, without_unused_bits}
 use Rattle.cosem_axdr.specs.Tree.{Trees, trees_of}
 use Rattle.cosem_axdr.specs.View.{all_trees}
@@ -34,12 +36,6 @@ Read X = Result (X × Place) DataFault
 abbrev pub Reads : {X Y : Type 0} → (X → Y) → Result X DataFault → Place → Read Y → Type 0
 Reads view (Ok x) new given = given ≡ Ok (view x, new)
 Reads view (Err fault) new given = Fails Memory fault given
-
--- a reading whose value is converted
-abbrev pub read_as : {X Y : Type 0} → (X → Y) → Read X → Read Y
-read_as make read = do
-  x ← read
-  Ok (make x.0, x.1)
 
 -- the next bytes, requested at once: first those past the limit of a Data are refused, then those
 -- past the end
@@ -110,20 +106,12 @@ leaf_at tag place =
     if tag == 0x0C then read_as Utf8String (string_at place) else
     fixed_at tag place
 
--- the given number of consecutive items, each read by the given reader
-unfoldable pub items_at : (Place → Read Data) → ℕ → Place → Read (List Data)
-items_at item_at zero place = Ok ([], place)
-items_at item_at (suc n) place = do
-  first ← item_at place
-  others ← items_at item_at n first.1
-  Ok (first.0 ∷ others.0, others.1)
-
 -- the number of items, followed by the items
 unfoldable pub counted_at : (Place → Read Data) → Place → Read Trees
 counted_at item_at place = do
   count ← length_at place
   guard (nat_le count.0 max_items) TooLong
-  read_as (λ items. trees_of (all_trees items)) (items_at item_at count.0 count.1)
+  read_as (λ items. trees_of (all_trees items)) (items_read item_at count.0 count.1)
 
 -- a value, whose items after the tag of an array or structure are read by the given reader
 unfoldable pub value_at : (Place → Read Trees) → Place → Read Data

@@ -5,7 +5,8 @@ ghost use Rattle.cosem_axdr.specs.Spelling.{IsSpelling};
 ghost use Rattle.cosem_axdr.specs.View.{tree_of};
 ghost use Rattle.cosem_axdr.specs.declared.value.Data.{Data};
 ghost use Rattle.wire_bytes.specs.Outcome.{Gives};
-ghost use Rattle.cosem_axdr.specs.Reading.{Reads, string_at, bits_at, fixed_at, leaf_at, items_at, nested_at, value_at, first_data};
+ghost use Rattle.wire_bytes.specs.Format.{items_read};
+ghost use Rattle.cosem_axdr.specs.Reading.{Reads, string_at, bits_at, fixed_at, leaf_at, nested_at, value_at, first_data};
 
 use crate::fault::DataFault;
 use crate::limits::{MAX_ITEMS, MAX_NESTING, bytes_for, clear_unused};
@@ -78,6 +79,7 @@ fn read_counted(alloc: Global, levels: usize, reader: &mut DataReader) -> Result
 
 // Reads `count` consecutive values.
 #[cycle(reading)]
+#[tactic(auto, using(wire_bytes::proofs::Items::item_loops))]
 fn read_items(
     alloc: Global,
     levels: usize,
@@ -85,7 +87,7 @@ fn read_items(
     reader: &mut DataReader,
 ) -> Result<Vec<Data>, DataFault>
     ensures { Reads (λ items. items.items) result reader.new
-        (items_at (value_at (nested_at levels)) count reader.old) }
+        (items_read (value_at (nested_at levels)) count reader.old) }
 {
     let mut items = Vec::new(alloc);
     'items: for _ in 0..count {

@@ -1,4 +1,3 @@
-pub mod Agreeing
 pub mod ByteLaws
 pub mod ChoiceLaws
 pub mod Items

@@ -3,12 +3,12 @@
 --                               first
 --     flag, optional            whether something holds; a part that may be absent
 --     one_of, read_one_of       a choice by the next byte
-use Rattle.std.specs.Prelude.{◌≡◌, ℕ, ◌*◌, ◌^◌, ◌<◌, Bool, true, not, ◌==◌, if◌then◌else◌, Option}
-use Rattle.std.specs.Prelude.{Some, None, List, [], ◌∷◌, length, Result, Ok}
+use Rattle.std.specs.Prelude.{◌≡◌, ℕ, ◌*◌, ◌^◌, ◌<◌, Bool, true, false, not, ◌==◌, if◌then◌else◌}
+use Rattle.std.specs.Prelude.{Option, Some, None, List, [], ◌∷◌, length, Result, Ok}
 use Rattle.std.specs.Int.{Width, byte_len, from_be_bytes, to_be_bytes}
-use Rattle.wire_bytes.specs.Outcome.{◌>>=◌}
 use Rattle.wire_bytes.specs.Reading.{read_as, first_byte, first_bytes}
-use Rattle.wire_bytes.specs.Format.{Format, IsJoined}
+use Rattle.wire_bytes.specs.Format.{Format, IsJoined, narrow}
+use Rattle.wire_bytes.specs.Outcome.{◌>>=◌}
 use Rattle.wire_bytes.specs.Choice.{Choice, Parts, next_read, choice_by}
 
 -- a number that is a byte
@@ -46,18 +46,10 @@ number fault w = record {
   Spells = λ n bytes. (length bytes ≡ byte_len w) × (n ≡ from_be_bytes w bytes);
 }
 
--- a byte that is a flag: false for 0, true for any other
-abbrev pub IsFlag : Bool → List ℕ → Type 0
-IsFlag flag bytes = (n : ℕ) × (bytes ≡ n ∷ []) × (flag ≡ not (n == 0))
-
--- a flag; 1 is written for true
+-- a flag: false for 0, true for any other byte; 1 is written for true
 abbrev pub flag : {F : Type 0} → F → Format ℕ F Bool
-flag fault = record {
-  read = λ bytes. read_as (λ n. not (n == 0)) (first_byte fault bytes);
-  text = λ holds. (if holds then 0x01 else 0x00) ∷ [];
-  Fits = λ holds. Unit {0};
-  Spells = IsFlag;
-}
+flag fault =
+    narrow fault (λ n. Some (not (n == 0))) (λ holds. if holds then 0x01 else 0x00) (byte fault)
 
 -- ---- a part that may be absent
 
@@ -69,9 +61,10 @@ abbrev pub OptionalFits : {A : Type 0} → (A → Type 0) → Option A → Type 
 OptionalFits Fits None = Unit {0}
 OptionalFits Fits (Some a) = Fits a
 
-abbrev pub OptionalSpells : {A : Type 0} → (A → List ℕ → Type 0) → Option A → List ℕ → Type 0
-OptionalSpells Spells None bytes = bytes ≡ 0x00 ∷ []
-OptionalSpells Spells (Some a) bytes = IsJoined (IsFlag true) (Spells a) bytes
+abbrev pub OptionalSpells : {A : Type 0} → (Bool → List ℕ → Type 0) → (A → List ℕ → Type 0)
+    → Option A → List ℕ → Type 0
+OptionalSpells IsFlag Spells None = IsFlag false
+OptionalSpells IsFlag Spells (Some a) = IsJoined (IsFlag true) (Spells a)
 
 -- a flag, followed by the part if it is true
 abbrev pub optional : {F A : Type 0} → F → Format ℕ F A → Format ℕ F (Option A)
@@ -80,7 +73,7 @@ optional fault part = record {
       if present.0 then read_as Some (part.read present.1) else Ok (None, present.1);
   text = optional_text part.text;
   Fits = OptionalFits part.Fits;
-  Spells = OptionalSpells part.Spells;
+  Spells = OptionalSpells (flag fault).Spells part.Spells;
 }
 
 -- ---- a choice by the next byte

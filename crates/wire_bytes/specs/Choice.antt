@@ -9,7 +9,7 @@ use Rattle.std.specs.Prelude.{Result, Err}
 use Rattle.std.proofs.Common.{inl, inr}
 use Rattle.wire_bytes.specs.Outcome.{◌>>=◌}
 use Rattle.wire_bytes.specs.Reading.{read_as, first_token}
-use Rattle.wire_bytes.specs.Format.{Format, IsTagged}
+use Rattle.wire_bytes.specs.Format.{Format, IsTagged, IsMade}
 
 -- What may follow, in order.
 --     on key part make others            after this token a part, of which the value is made
@@ -72,14 +72,13 @@ KeyedFits (on key part make others) (inr p) = KeyedFits others p
 KeyedFits (under key missing inner others) (inl p) = KeyedFits inner p
 KeyedFits (under key missing inner others) (inr p) = KeyedFits others p
 
--- the first tokens, followed by a spelling of the part
-abbrev pub KeyedSpells : {T F A : Type 0} → (c : Choice T F A) → Parts c → List T → Type 0
-KeyedSpells (otherwise fault) none tokens = absurd none
-KeyedSpells (on key part make others) (inl x) tokens = IsTagged key (part.Spells x) tokens
-KeyedSpells (on key part make others) (inr p) tokens = KeyedSpells others p tokens
-KeyedSpells (under key missing inner others) (inl p) tokens =
-    IsTagged key (KeyedSpells inner p) tokens
-KeyedSpells (under key missing inner others) (inr p) tokens = KeyedSpells others p tokens
+-- a first token, followed by a spelling of a part of which the value is made
+abbrev pub KeyedSpells : {T F A : Type 0} → Choice T F A → A → List T → Type 0
+KeyedSpells (otherwise fault) a tokens = ⊥
+KeyedSpells (on key part make others) a tokens =
+    IsTagged key (IsMade make part.Spells a) tokens ⊎ KeyedSpells others a tokens
+KeyedSpells (under key missing inner others) a tokens =
+    IsTagged key (KeyedSpells inner a) tokens ⊎ KeyedSpells others a tokens
 
 -- ---- a choice as a format
 
@@ -104,5 +103,5 @@ choice_by same missing c parts = record {
   read = next_read same missing c;
   text = λ a. keyed_text c (parts a);
   Fits = λ a. KeyedFits c (parts a);
-  Spells = λ a tokens. KeyedSpells c (parts a) tokens;
+  Spells = KeyedSpells c;
 }

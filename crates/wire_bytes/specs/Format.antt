@@ -1,12 +1,15 @@
 -- A format as one value, and formats made from others. A token is a byte, or a word of a line.
 --     Format                    a format: how it is read, written and spelled
 --     IsJoined, IsTagged        two spellings, one after the other; a spelling after one token
+--     IsMade                    a spelling of what a value is made of
 --     iso, narrow               the same tokens, as another value; as one of the known values
---     empty, ◌&◌                no tokens; one format, and then another
+--     empty, ◌▷◌, ◌&◌           no tokens; one format, and then another
 --     exactly, placeholder      one token; a part whose value is not kept
---     items_read, AreItems      a number of consecutive items
+--     items_read, AreItems      consecutive items
+--     items                     a given number of them
 use Rattle.std.specs.Prelude.{◌≡◌, ℕ, zero, suc, Bool, Option, Some, None, List, [], ◌∷◌, ◌++◌}
-use Rattle.std.specs.Prelude.{Result, Ok, Err}
+use Rattle.std.specs.Prelude.{length, All, Result, Ok, Err}
+use Rattle.std.specs.List.{flat_map}
 use Rattle.wire_bytes.specs.Outcome.{◌>>=◌, ◌>>◌, guard}
 use Rattle.wire_bytes.specs.Reading.{read_as, first_token}
 
@@ -39,6 +42,10 @@ pub record IsTagged {T : Type 0} (tag : T) (IsContents : List T → Type 0) (tok
     pub parts : tokens ≡ tag ∷ contents
     pub are_contents : IsContents contents
 
+-- a spelling of a value of which this one is made
+abbrev pub IsMade : {T A B : Type 0} → (A → B) → (A → List T → Type 0) → B → List T → Type 0
+IsMade {A = A} make Spells b tokens = (a : A) × (make a ≡ b) × Spells a tokens
+
 -- ---- formats made from others
 
 -- a part seen as another type, both ways
@@ -59,28 +66,34 @@ empty = record {
   Spells = λ nothing tokens. tokens ≡ [];
 }
 
+-- one format, and then another that may depend on the value of the first
+infixr 6 ◌▷◌
+abbrev pub ◌▷◌ : {T F A : Type 0} {B : A → Type 0} → Format T F A → ((a : A) → Format T F (B a))
+    → Format T F ((a : A) × B a)
+first ▷ next = record {
+  read = λ tokens. first.read tokens >>= λ a. read_as (λ b. (a.0, b)) ((next a.0).read a.1);
+  text = λ both. first.text both.0 ++ (next both.0).text both.1;
+  Fits = λ both. first.Fits both.0 × (next both.0).Fits both.1;
+  Spells = λ both. IsJoined (first.Spells both.0) ((next both.0).Spells both.1);
+}
+
 -- one format, and then another
 infixr 6 ◌&◌
 abbrev pub ◌&◌ : {T F A B : Type 0} → Format T F A → Format T F B → Format T F (A × B)
-first & second = record {
-  read = λ tokens. first.read tokens >>= λ a. read_as (λ b. (a.0, b)) (second.read a.1);
-  text = λ both. first.text both.0 ++ second.text both.1;
-  Fits = λ both. first.Fits both.0 × second.Fits both.1;
-  Spells = λ both tokens. IsJoined (first.Spells both.0) (second.Spells both.1) tokens;
-}
+first & second = first ▷ (λ _. second)
 
 -- what was found, or the fault if nothing was
-abbrev pub found_or : {T F A : Type 0} → F → Option A → List T → Result (A × List T) F
-found_or fault None rest = Err fault
-found_or fault (Some a) rest = Ok (a, rest)
+abbrev pub some_or : {F A : Type 0} → F → Option A → Result A F
+some_or fault None = Err fault
+some_or fault (Some a) = Ok a
 
--- a part whose value names another; the fault if it names none
+-- a part for whose value another is found, or the fault; `of` is what is written for it
 abbrev pub narrow : {T F A B : Type 0} → F → (A → Option B) → (B → A) → Format T F A → Format T F B
-narrow fault find of part = record {
-  read = λ tokens. part.read tokens >>= λ a. found_or fault (find a.0) a.1;
+narrow {A = A} fault find of part = record {
+  read = λ tokens. part.read tokens >>= λ a. some_or fault (find a.0) >>= λ b. Ok (b, a.1);
   text = λ b. part.text (of b);
   Fits = λ b. part.Fits (of b);
-  Spells = λ b tokens. part.Spells (of b) tokens;
+  Spells = λ b tokens. (a : A) × (find a ≡ Some b) × part.Spells a tokens;
 }
 
 -- this token, and no other
@@ -104,11 +117,11 @@ placeholder {A = A} sample part = record {
 -- ---- consecutive items
 
 -- the given number of consecutive items, each read by the given reader
-unfoldable pub items_read : {T F A : Type 0} → (List T → Result (A × List T) F) → ℕ → List T
-    → Result (List A × List T) F
-items_read item_read zero tokens = Ok ([], tokens)
-items_read item_read (suc n) tokens = do
-  first ← item_read tokens
+unfoldable pub items_read : {S F A : Type 0} → (S → Result (A × S) F) → ℕ → S
+    → Result (List A × S) F
+items_read item_read zero rest = Ok ([], rest)
+items_read item_read (suc n) rest = do
+  first ← item_read rest
   others ← items_read item_read n first.1
   Ok (first.0 ∷ others.0, others.1)
 
@@ -116,3 +129,12 @@ items_read item_read (suc n) tokens = do
 abbrev pub AreItems : {T A : Type 0} → (A → List T → Type 0) → List A → List T → Type 0
 AreItems IsItem [] tokens = tokens ≡ []
 AreItems IsItem (x ∷ xs) tokens = IsJoined (IsItem x) (AreItems IsItem xs) tokens
+
+-- the given number of consecutive items
+abbrev pub items : {T F A : Type 0} → Format T F A → ℕ → Format T F (List A)
+items item n = record {
+  read = items_read item.read n;
+  text = flat_map item.text;
+  Fits = λ xs. (length xs ≡ n) × All item.Fits xs;
+  Spells = λ xs tokens. (length xs ≡ n) × AreItems item.Spells xs tokens;
+}

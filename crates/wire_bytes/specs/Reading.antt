@@ -15,7 +15,7 @@ Reads view (Ok x) new given = given ≡ Ok (view x, new)
 Reads view (Err fault) new given = given ≡ Err fault
 
 -- what was read, as another value
-abbrev pub read_as : {T X Y F : Type 0} → (X → Y) → Result (X × List T) F → Result (Y × List T) F
+abbrev pub read_as : {S X Y F : Type 0} → (X → Y) → Result (X × S) F → Result (Y × S) F
 read_as make read = do
   x ← read
   Ok (make x.0, x.1)
