@@ -34,7 +34,7 @@ pub fn read_aare(_alloc: Global, bytes: &[u8]) -> Result<Aare, AcseFault>
     ensures found { IfOk result (SpellsAare bytes.now) }
 
     // If the bytes spell an AARE, that AARE is read.
-    ensures only { (aare : Aare) → SpellsAare bytes.now aare → result ≡ Ok aare }
+    ensures unique { (aare : Aare) → SpellsAare bytes.now aare → result ≡ Ok aare }
 
     // The fault is never out of memory.
     ensures exact { result ≡ aare_of bytes.now }

@@ -27,7 +27,7 @@ pub fn read(alloc: Global, bytes: &[u8]) -> Result<(Data, usize), DataFault>
     ensures found { IfOk result (λ read. (read.1 ≤ length bytes.now)
         × IsSpelling (take read.1 bytes.now) (tree_of read.0)) }
     // If the bytes begin with a spelling of a value, that value is read, unless out of memory.
-    ensures only { (d : Data) (n : ℕ) → n ≤ length bytes.now
+    ensures unique { (d : Data) (n : ℕ) → n ≤ length bytes.now
         → IsSpelling (take n bytes.now) (tree_of d)
         → MatchResult result (λ read. (read.0 ≡ d)
         × (read.1 ≡ n)) (λ fault. fault ≡ DataFault.Memory) }

@@ -87,7 +87,7 @@ impl SupplyMeter {
     ) -> Result<SupplyMeter, AllocError>
         requires device { IsDeviceName device.now }
         requires password { IsPassword password.now }
-        requires kept { (1 ≤ kept_events) × (kept_events ≤ 1024) }
+        requires kept_events { (1 ≤ kept_events) × (kept_events ≤ 1024) }
         ensures { IfOk result (IsNew device.now password.now kept_events) }
     {
         let password = password.try_clone(alloc)?;

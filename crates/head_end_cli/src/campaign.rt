@@ -124,7 +124,7 @@ fn environment_password(rt: &HostRuntime, is_verbose: bool) -> Result<String, Fa
 // if there is none or it does not have 1 to 32 bytes, with a line if `is_verbose`; `Memory`.
 fn password(rt: &HostRuntime, matches: &ArgMatches<'_>, is_verbose: bool) -> Result<Octets, Fault>
     ensures sized { IfOk result IsPassword }
-    ensures given { IfOk result (λ password. (text : List ℕ)
+    ensures from_option { IfOk result (λ password. (text : List ℕ)
         → first_value (found_of matches.now) (codes "password") ≡ Some text → password ≡ text) }
     ensures of_file { IfOk result (λ password. (path : List ℕ)
         → first_value (found_of matches.now) (codes "password") ≡ None

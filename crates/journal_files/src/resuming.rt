@@ -25,7 +25,7 @@ pub struct Resumed {
 
 // Reads the trace of a journal's text, for the meter of this name.
 fn judged_trace(alloc: Global, text: &[u8], device: &Octets) -> Result<Trace, StartFault>
-    ensures told { IfOk result (λ trace. trace_of text.now ≡ Ok trace) }
+    ensures trace { IfOk result (λ trace. trace_of text.now ≡ Ok trace) }
     ensures journal { OnOk result (IsJournal text.now) }
     ensures fit { IfOk result (λ trace. IsFitOpening trace.opening) }
     ensures device { IfOk result (λ trace. trace.opening.device ≡ device.now) }

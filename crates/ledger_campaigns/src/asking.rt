@@ -49,7 +49,7 @@ pub fn report_outcome<B: Book, W: Wait>(
     ensures same { IsSame port.old port.new }
     ensures seen { StartsWith port.new.known.seen port.old.known.seen }
     ensures stored { OnOk result (EndsStored place outcome port.new.known.seen) }
-    ensures asked { IsAskedToStore place outcome port.new }
+    ensures asked_to_store { IsAskedToStore place outcome port.new }
 {
     match port.call(rt, alloc, LedgerRequest::Record(place, outcome)) {
         Ok(answer) => stored_in(answer),

@@ -375,12 +375,12 @@ impl Limiter {
     /// Swaps the `emergency_profile_group_id_list` (attribute 9) of two limiters. Does not
     /// allocate.
     pub fn swap_groups(&mut self, other: &mut Limiter)
-        ensures own { self.new
+        ensures self_after { self.new
             ≡ record self.old {
               settings = record self.old.settings
                   { groups = other.old.settings.groups };
             } }
-        ensures other { other.new
+        ensures other_after { other.new
             ≡ record other.old {
               settings = record other.old.settings
                   { groups = self.old.settings.groups };

@@ -37,7 +37,7 @@ impl MeterHandle {
     pub(crate) fn take(&mut self, alloc: Global) -> Option<Box<SupplyMeter, Global>>
         ensures taken { IfSome result (λ b. self.old.slot.held ≡ Some b.value) }
         ensures none { result ≡ None → self.old.slot.held ≡ None }
-        ensures shut { self.new.slot.held ≡ None }
+        ensures closed { self.new.slot.held ≡ None }
     {
         if !self.is_open {
             return None;

@@ -62,7 +62,7 @@ pub fn with_argument<'a>(
     made: Result<Command<'a>, AllocError>,
     argument: Arg<'a>,
 ) -> Result<Command<'a>, AllocError>
-    ensures made { IfOk result (λ _. IsOk made.entry) }
+    ensures made_ok { IfOk result (λ _. IsOk made.entry) }
     ensures added { IfOk result
         (λ command. IfOk made.entry (λ before. AddsArg before argument.entry command)) }
 {
@@ -81,7 +81,7 @@ fn add_subcommand<'a>(
     program: Command<'a>,
     made: Result<Command<'a>, AllocError>,
 ) -> Result<Command<'a>, AllocError>
-    ensures made { IfOk result (λ _. IsOk made.entry) }
+    ensures made_ok { IfOk result (λ _. IsOk made.entry) }
     ensures added { IfOk result
         (λ command. IfOk made.entry
         (λ subcommand. AddsSubcommand program.entry subcommand command)) }
@@ -102,7 +102,7 @@ pub fn with_subcommand<'a>(
     made: Result<Command<'a>, AllocError>,
 ) -> Result<Command<'a>, AllocError>
     ensures program { IfOk result (λ _. IsOk program.entry) }
-    ensures made { IfOk result (λ _. IsOk made.entry) }
+    ensures made_ok { IfOk result (λ _. IsOk made.entry) }
     ensures added { IfOk result
         (λ command. IfOk program.entry
         (λ before. IfOk made.entry (λ subcommand. AddsSubcommand before subcommand command))) }

@@ -120,7 +120,7 @@ impl LimiterOpening {
     fn limiter(&self, alloc: Global, moment: Option<u32>) -> Result<Limiter, AllocError>
         requires { IsFitLimiterOpening self.now }
         ensures same { IfOk result (λ limiter. limiter_opening_of limiter ≡ self.now) }
-        ensures stands { IfOk result
+        ensures limiter_state { IfOk result
             (λ limiter. LimiterStateStands limiter moment (opened_limiter self.now)) }
     {
         let limiter = Limiter::from_parts(self.settings.try_clone(alloc)?, moment);
@@ -186,7 +186,7 @@ impl RelayCore {
     pub fn from_opening(alloc: Global, opening: &Opening) -> Result<RelayCore, OpeningFault>
         ensures unfit { IsErrOf result OpeningFault.Unfit ↔ (¬ IsFitOpening opening.now) }
         ensures fit { IfOk result (λ _. IsFitOpening opening.now) }
-        ensures stands { IfOk result (λ core. StandsFor core (world_of_opening opening.now)) }
+        ensures world { IfOk result (λ core. StandsFor core (world_of_opening opening.now)) }
         ensures same { IfOk result (λ core. opening_of core ≡ opening.now) }
     {
         let Some(control) = opening.fit_control() else {

@@ -44,7 +44,7 @@ impl FiringCounts {
     pub(crate) fn count(&mut self, which: Which, fire: Fire)
         requires { AreAtMost 512 self.old }
         ensures firings { self.new ≡ with_firing which fire self.old }
-        ensures most { (n : ℕ) → AreAtMost n self.old → AreAtMost (n + 1) self.new }
+        ensures within_one { (n : ℕ) → AreAtMost n self.old → AreAtMost (n + 1) self.new }
     {
         match (which, fire) {
             (_, Fire::Quiet) => {}

@@ -128,7 +128,7 @@ fn password_of<R: Env + AllocGlobal + Eprint + Files<File = File>>(
     rt: &R,
     matches: &ArgMatches<'_>,
 ) -> Result<String, Fault>
-    ensures given { IfOk result (λ password. (text : List ℕ)
+    ensures from_option { IfOk result (λ password. (text : List ℕ)
         → first_value (found_of matches.now) (codes "password") ≡ Some text
         → string_bytes password ≡ text) }
     ensures of_file { IfOk result (λ password. (path : List ℕ)

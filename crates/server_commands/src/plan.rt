@@ -56,7 +56,8 @@ fn new_recorder(alloc: Global, device: &Octets, depth: u16) -> Result<Recorder, 
     requires depth { (1 ≤ depth) × (depth ≤ 1024) }
     ensures unused { IfOk result (λ recorder. recorder.events ≡ []) }
     ensures capacity { IfOk result (λ recorder. recorder.capacity ≡ depth) }
-    ensures begun { IfOk result (λ recorder. StandsForHistory recorder [] (new_world device.now)) }
+    ensures new_world { IfOk result
+        (λ recorder. StandsForHistory recorder [] (new_world device.now)) }
     ensures err { IfErr result (λ fault. fault ≡ Memory) }
 {
     match Recorder::new(alloc, device, depth) {
@@ -76,7 +77,7 @@ fn first_recorder<I: Read>(
     requires { IsDeviceName device.now }
     ensures unused { IfOk result (λ recorder. recorder.events ≡ []) }
     ensures capacity { IfOk result (λ recorder. recorder.capacity ≡ bounds.depth) }
-    ensures begun { bounds.resumes ≡ false
+    ensures new_world { bounds.resumes ≡ false
         → IfOk result (λ recorder. StandsForHistory recorder [] (new_world device.now)) }
     ensures unread { bounds.resumes ≡ false
         → left_in I.remaining input.new ≡ left_in I.remaining input.old }
@@ -125,7 +126,7 @@ pub fn make_plan<I: Read + Drop>(
     ensures bounds { IfOk result (λ plan. plan.bounds ≡ options.now.bounds) }
     ensures password { IfOk result (λ plan. plan.password ≡ string_bytes options.now.password) }
     ensures capacity { IfOk result (λ plan. plan.recorder.capacity ≡ options.now.bounds.depth) }
-    ensures begun { options.now.bounds.resumes ≡ false
+    ensures new_world { options.now.bounds.resumes ≡ false
         → IfOk result (λ plan.
         StandsForHistory plan.recorder [] (new_world (string_bytes options.now.device))) }
     ensures unread { options.now.bounds.resumes ≡ false

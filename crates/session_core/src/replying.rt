@@ -407,7 +407,7 @@ fn give_first(
         ≡ way_text way link.source
         (answer_text (Service (block_response id (next_piece outgoing.old))))) }
     ensures last { IfOk result (λ first. first.1 ≡ (next_piece outgoing.old).last) }
-    ensures after { OnOk result (outgoing.new ≡ after_next outgoing.old) }
+    ensures new_state { OnOk result (outgoing.new ≡ after_next outgoing.old) }
 {
     match outgoing.next(alloc, 0) {
         Ok(piece) => {

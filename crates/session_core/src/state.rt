@@ -64,7 +64,7 @@ impl State {
     ) -> Result<TurnStep, AllocError>
         ensures outcome { IfOk result (λ step. step_outcome step
             ≡ outcome_at password.now self.old (heard_frame src payload.now)) }
-        ensures after { OnOk result (self.new
+        ensures new_state { OnOk result (self.new
             ≡ state_after password.now self.old (heard_frame src payload.now) None) }
         ensures err { OnErr result (self.new ≡ self.old) }
     {
@@ -137,7 +137,7 @@ impl State {
     ) -> Result<TurnStep, AllocError>
         ensures outcome { IfOk result (λ step. step_outcome step
             ≡ says src (opening_answer password.now src (aarq_of payload.now))) }
-        ensures after { OnOk result (self.new
+        ensures new_state { OnOk result (self.new
             ≡ record {
               link = opened_by password.now (heard_frame src payload.now);
               incoming = None;
@@ -164,7 +164,7 @@ impl State {
         ensures outcome { IfOk result (λ step. step_outcome step
             ≡ outcome_of_turn self.old.outgoing
             (call_turn link self.old.incoming (call_of link.conformance.0 payload.now))) }
-        ensures after { OnOk result (self.new
+        ensures new_state { OnOk result (self.new
             ≡ state_by_call link (call_of link.conformance.0 payload.now) self.old) }
         ensures err { OnErr result (self.new ≡ self.old) }
     {
@@ -186,7 +186,7 @@ impl State {
     fn serve(&mut self, alloc: Global, link: Link, request: Request) -> Result<TurnStep, AllocError>
         ensures outcome { IfOk result (λ step. step_outcome step
             ≡ outcome_of_turn self.old.outgoing (request_turn link self.old.incoming request)) }
-        ensures after { OnOk result (self.new
+        ensures new_state { OnOk result (self.new
             ≡ state_by_call link (Call.Service request) self.old) }
         ensures err { OnErr result (self.new ≡ self.old) }
     {
@@ -232,7 +232,7 @@ impl State {
     // Returns the step that passes an event to the meter. This ends the transfers.
     fn ask(&mut self, event: Event, link: Link, form: ReplyForm) -> TurnStep
         ensures step { step_outcome result ≡ asks event (record { link = link; form = form }) }
-        ensures after { self.new
+        ensures new_state { self.new
             ≡ record { link = self.old.link; incoming = None; outgoing = None } }
     {
         self.incoming = None;
@@ -250,7 +250,7 @@ impl State {
     ) -> Result<TurnStep, AllocError>
         ensures outcome { IfOk result (λ step. step_outcome step
             ≡ says link.source (Service (continued_response id number self.old.outgoing))) }
-        ensures after { OnOk result (self.new
+        ensures new_state { OnOk result (self.new
             ≡ record {
               link = self.old.link;
               incoming = None;
@@ -274,7 +274,7 @@ impl State {
     ) -> Result<TurnStep, AllocError>
         ensures outcome { IfOk result (λ step. step_outcome step
             ≡ block_outcome_of link id purpose block no_blocks) }
-        ensures after { OnOk result (self.new
+        ensures new_state { OnOk result (self.new
             ≡ record {
               link = self.old.link;
               incoming = block_after purpose block no_blocks;
@@ -316,7 +316,7 @@ impl State {
     ) -> Result<TurnStep, AllocError>
         ensures outcome { IfOk result (λ step. step_outcome step
             ≡ later_outcome link service id block (transfer_of service self.old.incoming)) }
-        ensures after { OnOk result (self.new
+        ensures new_state { OnOk result (self.new
             ≡ record {
               link = self.old.link;
               incoming = later_after block (transfer_of service self.old.incoming);
@@ -365,7 +365,7 @@ fn read_opening(
 ) -> Result<(Option<Link>, Due), AllocError>
     ensures link { IfOk result (λ opening. opening.0
         ≡ opened_by password.now (heard_frame src payload.now)) }
-    ensures to { IfOk result (λ opening. opening.1.to ≡ src) }
+    ensures receiver { IfOk result (λ opening. opening.1.to ≡ src) }
     ensures answer { IfOk result (λ opening. opening.1.answer
         ≡ opening_answer password.now src (aarq_of payload.now)) }
 {

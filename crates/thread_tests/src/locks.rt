@@ -175,7 +175,7 @@ fn call_when_told<T: Turned, W: Wait>(
 ) -> Result<(T::Reply, T::Reply), CallFault>
     requires { one.old.lock ≡ two.old.lock }
     ensures lock { (one.new.lock ≡ one.old.lock) × (two.new.lock ≡ two.old.lock) }
-    ensures behind { IfOk result
+    ensures follows { IfOk result
         (λ r. FollowsCall T.legal (entry one.old.known.number first r.0)
         (entry two.old.known.number second r.1) two.new.known) }
 {

@@ -42,7 +42,7 @@ pub fn read_opening_is_written()
         → opening_from place ≡ Ok ((Two, opening), behind)
         → (forms : Forms) × AreFormsOf opening forms
         × (place.rows ≡ rows_with opening forms ++ behind.rows) }
-    ensures behind { (place behind : Place) (opening : Opening)
+    ensures place_after { (place behind : Place) (opening : Opening)
         → opening_from place ≡ Ok ((Two, opening), behind)
         → (behind.number ≡ place.number + 30) × (behind.unended ≡ place.unended) }
     ensures written { (opening : Opening)

@@ -128,7 +128,7 @@ pub(crate) fn play_text(alloc: Global, text: Vec<u8>) -> Result<PlayedLines, Tra
     ensures ok { IfOk result
         (λ output. PlaysTrace (trace_of text.items) output.lines.items output.count) }
     ensures err { IfErr result (λ fault. Fails trace_fault.Memory fault (trace_of text.items)) }
-    ensures long { IsErrOf result trace_fault.TooLong → max_bytes < length text.items }
+    ensures too_long { IsErrOf result trace_fault.TooLong → max_bytes < length text.items }
 {
     if text.len() > MAX_BYTES {
         drop(text);

@@ -35,8 +35,8 @@ pub fn resumed_recorder(alloc: Global, trace: &Trace, capacity: u16) -> Result<R
     requires capacity { (1 ≤ capacity) × (capacity ≤ 1024) }
     ensures empty { IfOk result (λ recorder. recorder.events ≡ []) }
     ensures capacity { IfOk result (λ recorder. recorder.capacity ≡ capacity) }
-    ensures stands { IfOk result (λ recorder. StandsFor recorder.core (world_of trace.now)) }
-    ensures goes_on { ContinuesRun trace.now (world_of trace.now) }
+    ensures world { IfOk result (λ recorder. StandsFor recorder.core (world_of trace.now)) }
+    ensures continues_run { ContinuesRun trace.now (world_of trace.now) }
 {
     has_range(&trace.opening);
     let mut core = RelayCore::from_fit_opening(alloc, &trace.opening)?;

@@ -51,9 +51,9 @@ fn try_draw<T: Turned>(top: &Top<T>, place: &mut Place<T>, turn: u64) -> bool
     requires table { (place.old.table_id ≡ top.now.table_id) × IsSized top.now.table_id }
     requires bound { turn < max_turns }
     ensures seat { place.new.table_id ≡ place.old.table_id }
-    ensures yes { IsTrue result
+    ensures on_true { IsTrue result
         → state_of place.new ≡ at_stage (state_of place.old) (Waiting turn) }
-    ensures no { IsFalse result → state_of place.new ≡ state_of place.old }
+    ensures on_false { IsFalse result → state_of place.new ≡ state_of place.old }
 {
     top.compare_exchange::<Draw>(place, TICKET, turn, turn + 1) == turn
 }
@@ -88,8 +88,8 @@ pub(crate) fn draw<T: Turned, W: Wait>(
     requires ready { IsReady place.old Idle [] × IsLegal T.legal (known_of place.old) }
     ensures seat { place.new.table_id ≡ place.old.table_id }
     ensures watches { Watches T.legal (known_of place.old) (known_of place.new) }
-    ensures some { IfSome result (λ n. IsReady place.new (Waiting n) [] × (n < bound)) }
-    ensures next { IfSome result (λ n. (known_of place.old).drawn ≤ n) }
+    ensures waiting { IfSome result (λ n. IsReady place.new (Waiting n) [] × (n < bound)) }
+    ensures at_least_drawn { IfSome result (λ n. (known_of place.old).drawn ≤ n) }
     ensures none { IfNone result (IsReady place.new Idle []
         × (bound ≤ (known_of place.new).drawn)) }
 {
@@ -113,9 +113,9 @@ fn try_reach<T: Turned>(top: &Top<T>, place: &mut Place<T>, turn: u64) -> bool
     requires table { (place.old.table_id ≡ top.now.table_id) × IsSized top.now.table_id }
     requires waiting { IsReady place.old (Waiting turn) [] }
     ensures seat { place.new.table_id ≡ place.old.table_id }
-    ensures yes { IsTrue result
+    ensures on_true { IsTrue result
         → TakesTurn T.origin T.stands T.legal turn (state_of place.old) (state_of place.new) }
-    ensures no { IsFalse result → state_of place.new ≡ state_of place.old }
+    ensures on_false { IsFalse result → state_of place.new ≡ state_of place.old }
 {
     top.load::<Reach<T>>(place, SERVING) == turn
 }
@@ -297,7 +297,7 @@ pub(crate) fn take_in<T: Turned>(top: &Top<T>, place: &mut Place<T>, other: Plac
         × IsSized top.now.table_id }
     requires ready { IsReady place.old Idle [] × (carried_by other ≡ []) }
     ensures seat { (place.new.table_id ≡ place.old.table_id) × (carried_by place.new ≡ []) }
-    ensures both { KnowsBoth T.legal (known_of place.old) (view_of other) (view_of place.new) }
+    ensures merged { KnowsBoth T.legal (known_of place.old) (view_of other) (view_of place.new) }
 {
     top.join_seat::<TakeIn>(place, other);
     top.load::<Merge<T>>(place, SERVING);

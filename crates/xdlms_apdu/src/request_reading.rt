@@ -32,7 +32,7 @@ pub fn read_request(alloc: Global, bytes: &[u8]) -> Result<Request, ApduFault>
     ensures found { IfOk result (SpellsRequest bytes.now) }
 
     // If the bytes spell a request, that request is read, unless out of memory.
-    ensures only { (request : Request) → SpellsRequest bytes.now request
+    ensures unique { (request : Request) → SpellsRequest bytes.now request
         → MatchResult result (λ read. read ≡ request) (λ fault. fault ≡ ApduFault.Memory) }
 
     // The fault is that of the definition, or out of memory.

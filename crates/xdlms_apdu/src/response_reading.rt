@@ -38,7 +38,7 @@ pub fn read_response(alloc: Global, bytes: &[u8]) -> Result<Response, ApduFault>
     ensures found { IfOk result (SpellsResponse bytes.now) }
 
     // If the bytes spell a response, that response is read, unless out of memory.
-    ensures only { (response : Response) → SpellsResponse bytes.now response
+    ensures unique { (response : Response) → SpellsResponse bytes.now response
         → MatchResult result (λ read. read ≡ response) (λ fault. fault ≡ ApduFault.Memory) }
 
     // The fault is that of the definition, or out of memory.
