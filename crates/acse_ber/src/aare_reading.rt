@@ -2,9 +2,9 @@
 //! fields (IEC 62056-5-3).
 ghost use Rattle.std.specs.Prelude.{◌≡◌, Ok, IfOk, option_map};
 ghost use Rattle.wire_bytes.specs.Reading.{Reads, read_as};
-ghost use Rattle.acse_ber.specs.Parts.{byte_part, after, result_part, diagnostic_part, info_part};
+ghost use Rattle.acse_ber.specs.Parts.{byte_part, part_after, result_part, diagnostic_part, info_part};
 ghost use Rattle.acse_ber.specs.Parts.{response_part};
-ghost use Rattle.acse_ber.specs.Reading.{whole, known_info, known_info_of, info_of, is_response};
+ghost use Rattle.acse_ber.specs.Reading.{whole_value, known_info, known_info_of, info_of, is_response};
 ghost use Rattle.acse_ber.specs.Reading.{aare_of, aare_in, aare_with_result, aare_with_diagnostic};
 ghost use Rattle.acse_ber.specs.Spelling.{SpellsAare};
 ghost use Rattle.acse_ber.specs.declared.aare.Aare.{Aare};
@@ -90,7 +90,7 @@ const ACCEPTED: u8 = 0;
 
 // Reads the association result: an integer of one byte.
 fn read_result(contents: &[u8]) -> Result<u8, AcseFault>
-    ensures { result ≡ whole (result_part.read contents.now) }
+    ensures { result ≡ whole_value (result_part.read contents.now) }
 {
     let mut reader = Cursor::new(contents);
     let outcome = read_byte_after(&[tag::INTEGER, 1], &mut reader)?;
@@ -99,7 +99,7 @@ fn read_result(contents: &[u8]) -> Result<u8, AcseFault>
 
 // Reads the diagnostic, of the service user or the service provider: an integer of one byte.
 fn read_diagnostic(contents: &[u8]) -> Result<u8, AcseFault>
-    ensures { result ≡ whole (diagnostic_part.read contents.now) }
+    ensures { result ≡ whole_value (diagnostic_part.read contents.now) }
 {
     let mut reader = Cursor::new(contents);
     let (tag::SERVICE_USER | tag::SERVICE_PROVIDER) = reader.byte(AcseFault::Unreadable)? else {
@@ -112,7 +112,7 @@ fn read_diagnostic(contents: &[u8]) -> Result<u8, AcseFault>
 // Reads the expected bytes and returns the byte after them.
 fn read_byte_after(expected: &[u8], reader: &mut Cursor) -> Result<u8, AcseFault>
     ensures { Reads (λ byte. byte) result reader.new
-        ((after expected.now byte_part).read reader.old) }
+        ((part_after expected.now byte_part).read reader.old) }
 {
     read_literal(expected, reader)?;
     reader.byte(AcseFault::Unreadable)

@@ -1,6 +1,6 @@
 //! Processing of the bytes from the meter, frame by frame.
 ghost use Rattle.std.specs.Prelude.{◌≡◌, ◌++◌, IfOk};
-ghost use Rattle.client_core.specs.Steps.{after_frame, Hears};
+ghost use Rattle.client_core.specs.Steps.{progress_after_frame, Hears};
 
 use crate::job::Verb;
 use crate::progress::Progress;
@@ -55,7 +55,7 @@ fn receive(
 
 // Returns the progress after one more frame. Frames of other ports are skipped.
 fn after_frame(alloc: Global, verb: Verb, progress: Progress, frame: &Frame) -> Progress
-    ensures { result ≡ after_frame verb progress frame.now }
+    ensures { result ≡ progress_after_frame verb progress frame.now }
 {
     if frame.src == PORT && frame.dst == PORT {
         after(alloc, verb, progress, frame.payload.as_slice())

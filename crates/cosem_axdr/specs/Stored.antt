@@ -108,14 +108,15 @@ by_tag tag fields items =
     null
 
 -- a cell decoded as a tree and as items at once
-abbrev pub back : Gv → Tree × Trees
-back gnil = (null, no_trees)
-back (gnum n) = (null, no_trees)
-back (gcons a b) = (by_tag (num a) b (back b).1, tree (back a).0 (back b).1)
+abbrev pub decoded_cell : Gv → Tree × Trees
+decoded_cell gnil = (null, no_trees)
+decoded_cell (gnum n) = (null, no_trees)
+decoded_cell (gcons a b) = (by_tag (num a) b (decoded_cell b).1, tree (decoded_cell a).0
+    (decoded_cell b).1)
 
 -- decoding a stored tree returns the tree
 mutual
-  pub stored_back : (t : Tree) → (back (stored t)).0 ≡ t
+  pub stored_back : (t : Tree) → (decoded_cell (stored t)).0 ≡ t
   stored_back null = refl
   stored_back (array ts) = ap array (stored_all_back ts)
   stored_back (structure ts) = ap structure (stored_all_back ts)
@@ -137,7 +138,7 @@ mutual
   stored_back (date bytes) = ap date (octets_back-code bytes)
   stored_back (time bytes) = ap time (octets_back-code bytes)
 
-  pub stored_all_back : (ts : Trees) → (back (stored_all ts)).1 ≡ ts
+  pub stored_all_back : (ts : Trees) → (decoded_cell (stored_all ts)).1 ≡ ts
   stored_all_back no_trees = refl
   stored_all_back (tree t ts) = ap₂ tree (stored_back t) (stored_all_back ts)
 
@@ -145,5 +146,5 @@ mutual
 abbrev pub coded_trees : Coded Trees
 coded_trees = record {
   code = stored_all;
-  inj = λ x y e. sym (stored_all_back x) ∙ ap (λ g. (back g).1) e ∙ stored_all_back y;
+  inj = λ x y e. sym (stored_all_back x) ∙ ap (λ g. (decoded_cell g).1) e ∙ stored_all_back y;
 }

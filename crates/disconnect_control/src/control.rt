@@ -163,7 +163,7 @@ impl DisconnectControl {
     ///
     /// Returns `Success` if there is a transition or the state is already what the trigger asks
     /// for, else `TemporaryFailure`. Without a transition nothing changes.
-    #[tactic(auto, unfolding(crate::specs::Transitions::allowed_transition, crate::specs::Transitions::after, crate::specs::Transitions::result_of))]
+    #[tactic(auto, unfolding(crate::specs::Transitions::allowed_transition, crate::specs::Transitions::control_state_after, crate::specs::Transitions::result_of))]
     pub fn apply(&mut self, trigger: Trigger) -> ResultCode
         ensures control { self.new ≡ control_after trigger self.old }
         ensures code { result ≡ result_of self.old.mode trigger self.old.state }

@@ -1,6 +1,6 @@
 //! A long GET response that is sent in blocks, one for each GET-next (IEC 62056-5-3).
 ghost use Rattle.std.specs.Prelude.{◌≡◌, ◌≢◌, ◌*◌, ◌-◌, ◌<◌, ◌≤◌, ◌↔◌, length, true, false, IsErrOf, IfOk, IfErr, OnOk, OnErr, Err};
-ghost use Rattle.session_core.specs.Outgoing.{unsent_by, get_code, block_response, continued_response, transfer_after_next};
+ghost use Rattle.session_core.specs.Outgoing.{unsent_transfer, get_code, block_response, continued_response, transfer_after_next};
 ghost use Rattle.session_core.specs.Standard.{block_header, greatest_raw};
 ghost use Rattle.session_core.specs.declared.answer.Answer.TheVariants.{Service};
 ghost use Rattle.xdlms_blocks.specs.Limits.{max_blocks};
@@ -39,7 +39,7 @@ impl Outgoing {
     pub(crate) fn new(raw: Octets, limit: Limit) -> Outgoing
         requires non_empty { 0 < length raw }
         requires numbered { length raw ≤ max_blocks * (limit - block_header) }
-        ensures { result ≡ unsent_by limit raw }
+        ensures { result ≡ unsent_transfer limit raw }
     {
         Outgoing {
             blocks: GetBlocks::new(raw, limit.raw()),

@@ -44,7 +44,7 @@ impl Debug for Session {
 }
 
 impl Session {
-    ghost use Rattle.session_core.specs.Remaining.{is_asking, is_asking_value, reported_end, is_finished, is_idle, load};
+    ghost use Rattle.session_core.specs.Remaining.{is_asking, is_asking_value, reported_end, is_finished, is_idle, load_of};
     ghost use Rattle.session_core.specs.Remaining.{is_asking_command};
     ghost use Rattle.session_core.specs.Progress.{Owes, IsQuiet, Feeds, Finishes, StepsBy};
     ghost use Rattle.session_core.specs.Progress.{Leaves, Takes};
@@ -126,7 +126,7 @@ impl Session {
             → (result ≡ Ok (Next.End end)) × (self.new ≡ self.old) }
         // If out of memory, no reply is awaited, and the load is no greater than before.
         ensures not_asking { OnErr result (is_asking self.new ≡ false) }
-        ensures kept { OnErr result (load self.new ≤ load self.old) }
+        ensures kept { OnErr result (load_of self.new ≤ load_of self.old) }
     {
         if self.asking() {
             return Ok(Next::Wait);

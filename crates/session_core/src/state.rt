@@ -2,7 +2,7 @@
 //! effect of each frame on it.
 ghost use Rattle.std.specs.Prelude.{◌≡◌, ◌≤◌, Some, None, length, true, false, IfSome, IfNone, IfOk, OnOk, OnErr};
 ghost use Rattle.acse_ber.specs.Reading.{aarq_of};
-ghost use Rattle.session_core.specs.Association.{opened_by};
+ghost use Rattle.session_core.specs.Association.{link_by_opening};
 ghost use Rattle.session_core.specs.Rules.{heard_frame, opening_answer};
 ghost use Rattle.session_core.specs.Calls.{call_of};
 ghost use Rattle.session_core.specs.Incoming.{block_outcome_of, block_after, no_blocks, transfer_of, later_outcome, later_after};
@@ -139,7 +139,7 @@ impl State {
             ≡ says src (opening_answer password.now src (aarq_of payload.now))) }
         ensures new_state { OnOk result (self.new
             ≡ record {
-              link = opened_by password.now (heard_frame src payload.now);
+              link = link_by_opening password.now (heard_frame src payload.now);
               incoming = None;
               outgoing = None;
             }) }
@@ -356,7 +356,7 @@ fn set_event(level: Level, target: AttributeSelection, value: Data) -> Event
 }
 
 // Returns the association that a frame with an AARQ opens, and the answer.
-#[tactic(auto, unfolding(crate::specs::Association::opened_by))]
+#[tactic(auto, unfolding(crate::specs::Association::link_by_opening))]
 fn read_opening(
     alloc: Global,
     password: &Password,
@@ -364,7 +364,7 @@ fn read_opening(
     payload: &[u8],
 ) -> Result<(Option<Link>, Due), AllocError>
     ensures link { IfOk result (λ opening. opening.0
-        ≡ opened_by password.now (heard_frame src payload.now)) }
+        ≡ link_by_opening password.now (heard_frame src payload.now)) }
     ensures receiver { IfOk result (λ opening. opening.1.to ≡ src) }
     ensures answer { IfOk result (λ opening. opening.1.answer
         ≡ opening_answer password.now src (aarq_of payload.now)) }

@@ -6,7 +6,7 @@ ghost use Rattle.wire_bytes.specs.Outcome.{Gives};
 ghost use Rattle.limiter_core.specs.Counting.{cap};
 ghost use Rattle.limiter_core.specs.State.{IsFit};
 ghost use Rattle.limiter_core.specs.declared.settings.TheConstants.{MAX_GROUPS};
-ghost use Rattle.trace_words.specs.Labels.{behind, labelled_value};
+ghost use Rattle.trace_words.specs.Labels.{words_after, labelled_value};
 ghost use Rattle.trace_openings.specs.OpeningFields.{label, start_in, id_from, profile_from, groups_from, actions_from, count_from, over_from, under_from};
 ghost use Rattle.trace_words.specs.Reading.{number_in, value_in};
 ghost use Rattle.trace_words.specs.Rows.{Reads, all_at};
@@ -37,9 +37,9 @@ fn is_label(which: Which, name: &[u8], word: &[u8]) -> bool
 }
 
 // Reads the first word of a limiter's line, which must be the label `name`. Errors: `Wrong`.
-#[tactic(auto, unfolding(trace_words::specs::Labels::behind))]
+#[tactic(auto, unfolding(trace_words::specs::Labels::words_after))]
 fn behind_label(which: Which, name: &[u8], words: &mut Words) -> Result<(), RowFault>
-    ensures { Reads (λ done. done) result words.new (behind (label which name.now) words.old) }
+    ensures { Reads (λ done. done) result words.new (words_after (label which name.now) words.old) }
 {
     if is_label(which, name, next_word(words)?) {
         Ok(())

@@ -15,7 +15,7 @@ use Rattle.trace_words.specs.Rows.{Row}
 use Rattle.trace_words.specs.declared.fault.TraceFault.{TraceFault}
 use Rattle.trace_words.specs.declared.fault.TraceFault.TheVariants.{TooLong}
 use Rattle.trace_words.specs.declared.version.Version.{Version}
-use Rattle.trace_views.specs.Fronts.{End, before, events_front, front_from, front_of, front_with}
+use Rattle.trace_views.specs.Fronts.{End, events_with, events_front, front_from, front_of, front_with}
 use Rattle.trace_views.specs.Fronts.{trace_by}
 
 -- the events that were read, if nothing is left after them
@@ -69,7 +69,7 @@ events_whole version (suc count) place =
         ≡ whole_events (events_front version count behind))
         → ended_events (read >>= λ event. events_at version count event.1 >>= λ others.
         done TraceFault (event.0 ∷ others.0, others.1))
-        ≡ whole_events (before read (λ behind. events_front version count behind))
+        ≡ whole_events (events_with read (λ behind. events_front version count behind))
     one_whole version count (Ok read) others =
         first_ended read.0 (events_at version count read.1)
         ∙ ap (with_first read.0) (others read.1)
