@@ -102,7 +102,8 @@ fn read_diagnostic(contents: &[u8]) -> Result<u8, AcseFault>
     ensures { result ≡ whole_value (diagnostic_part.read contents.now) }
 {
     let mut reader = Cursor::new(contents);
-    let (tag::SERVICE_USER | tag::SERVICE_PROVIDER) = reader.byte(AcseFault::Unreadable)? else {
+    let (tag::SERVICE_USER | tag::SERVICE_PROVIDER) = reader.read_byte(AcseFault::Unreadable)?
+        else {
         return Err(AcseFault::Unreadable);
     };
     let diagnostic = read_byte_after(&[3, tag::INTEGER, 1], &mut reader)?;
@@ -115,7 +116,7 @@ fn read_byte_after(expected: &[u8], reader: &mut Cursor) -> Result<u8, AcseFault
         ((part_after expected.now byte_part).read reader.old) }
 {
     read_literal(expected, reader)?;
-    reader.byte(AcseFault::Unreadable)
+    reader.read_byte(AcseFault::Unreadable)
 }
 
 // Reads user information, if it is present.
@@ -153,7 +154,7 @@ fn read_known_info(reader: &mut Cursor) -> Result<Info, AcseFault>
     ensures { Reads (λ info. info) result reader.new
         (read_as known_info (info_part.read reader.old)) }
 {
-    match reader.byte(AcseFault::Unreadable)? {
+    match reader.read_byte(AcseFault::Unreadable)? {
         RESPONSE_TAG => {
             let (bits, limit) = read_response(reader)?;
             Ok(Info::Response { bits, limit })
@@ -169,9 +170,9 @@ fn read_response(reader: &mut Cursor) -> Result<(u32, u16), AcseFault>
     ensures { Reads (λ response. response) result reader.new (response_part.read reader.old) }
 {
     skip_optional_byte(reader)?;
-    let _version = reader.byte(AcseFault::Unreadable)?;
+    let _version = reader.read_byte(AcseFault::Unreadable)?;
     let conformance = read_conformance(reader)?;
     let limit = read_size(reader)?;
-    let _name = reader.bytes(2, AcseFault::Unreadable)?;
+    let _name = reader.read_bytes(2, AcseFault::Unreadable)?;
     Ok((conformance.bits(), limit))
 }

@@ -150,7 +150,7 @@ impl Place for MemoryPlace {
 
     ghost only_now = { λ p c left. only_present MayHave p.past.items p.state c left };
 
-    fn draft(&mut self) -> Result<MemoryFile, FileFault> {
+    fn create_draft(&mut self) -> Result<MemoryFile, FileFault> {
         Ok(MemoryFile::new(self.alloc, Vec::new(self.alloc)))
     }
 

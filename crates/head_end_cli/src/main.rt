@@ -19,7 +19,7 @@ use crate::warnings::warn;
 use clap::ArgMatches;
 use counted_io::{Counted, read_to_end_within};
 use head_end::{Jobs, JobsFault, TcpConnector, count_jobs, read_jobs};
-use program::{Fault, exit_code, has_option, print_text, without_work, words};
+use program::{Fault, exit_code, has_option, print_text, without_work, read_arguments};
 use std::env;
 use std::env::VarError;
 use std::io::Read;
@@ -113,7 +113,7 @@ fn begin_command(rt: &HostRuntime, matches: &ArgMatches<'_>) -> Result<HeadEndCo
 // status is 2 if the command line is not valid.
 fn begin(rt: &HostRuntime) -> Result<HeadEndCommand, Fault> {
     let alloc = rt.alloc();
-    let words = words(rt)?;
+    let words = read_arguments(rt)?;
     // (clap's `required_unless_present` would print the options of the usage in another order)
     let has_password = has_option(words.as_slice(), "--password-file")
         || !matches!(env::var(rt, PASSWORD_VARIABLE), Err(VarError::NotPresent));

@@ -36,7 +36,8 @@ fn take_events(alloc: Global, core: &mut RelayCore, events: &[Event]) -> Result<
 }
 
 // Applies events to a core, and returns its saved state after them.
-fn state_after(alloc: Global, core: &mut RelayCore, events: &[Event]) -> Result<Opening, AllocError>
+fn apply_and_save(alloc: Global, core: &mut RelayCore, events: &[Event]) -> Result<Opening,
+    AllocError>
     ensures fit { IfOk result IsFitOpening }
     ensures range { IfOk result (λ opening. IsWorld (world_of_opening opening)) }
     ensures agrees { IfOk result (λ opening. (w : World) → StandsFor core.old w
@@ -55,7 +56,7 @@ fn opening_after(alloc: Global, opening: &Opening, events: &[Event]) -> Result<O
         (world_after events.now (world_of_opening opening.now))) }
 {
     let mut core = RelayCore::from_fit_opening(alloc, opening)?;
-    let later = state_after(alloc, &mut core, events);
+    let later = apply_and_save(alloc, &mut core, events);
     drop(core);
     later
 }

@@ -19,7 +19,7 @@ pub struct Count {
 
 impl Count {
     /// Returns the count of an empty run.
-    pub const fn none() -> Count
+    pub const fn zero() -> Count
         ensures { result ≡ no_run }
     {
         Count {
@@ -35,7 +35,7 @@ impl Count {
         ensures fires { result ≡ fires_at past need self.old }
     {
         if !past {
-            *self = Count::none();
+            *self = Count::zero();
             return false;
         }
         self.run = self.run.saturating_add(1).min(RUN_LIMIT);

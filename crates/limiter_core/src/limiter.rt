@@ -84,8 +84,8 @@ impl Limiter {
             settings,
             moment,
             last: 0,
-            over: Count::none(),
-            under: Count::none(),
+            over: Count::zero(),
+            under: Count::zero(),
         }
     }
 
@@ -124,7 +124,7 @@ impl Limiter {
         ensures moment { self.new.moment ≡ self.old.moment }
         ensures last { self.new.last ≡ self.old.last }
     {
-        let ended = Count::none();
+        let ended = Count::zero();
         self.over = ended;
         self.under = ended;
     }
@@ -181,15 +181,15 @@ impl Limiter {
         match kind {
             Kind::Over => {
                 self.over.skip(n);
-                self.under = Count::none();
+                self.under = Count::zero();
             }
             Kind::Under => {
                 self.under.skip(n);
-                self.over = Count::none();
+                self.over = Count::zero();
             }
             Kind::Equal => {
-                self.over = Count::none();
-                self.under = Count::none();
+                self.over = Count::zero();
+                self.under = Count::zero();
             }
         }
     }

@@ -50,7 +50,7 @@ pub extern "C" fn meter_samples(
     let Some(mut held) = meter.take(alloc) else {
         return CallResult::NotOpen.code();
     };
-    let sampled = held.samples(alloc, watts);
+    let sampled = held.sample(alloc, watts);
     meter.put(held);
     *fired = firings_of(sampled);
     sampled_outcome(sampled).code()
@@ -95,7 +95,7 @@ pub extern "C" fn meter_moment(
     let Some(mut held) = meter.take(alloc) else {
         return CallResult::NotOpen.code();
     };
-    let tick = held.moment(alloc, moment);
+    let tick = held.tick(alloc, moment);
     meter.put(held);
     *ran = ran_schedules(tick);
     tick_outcome(tick).code()

@@ -26,7 +26,7 @@ impl MeterHandle {
     pub fn closed(alloc: Global) -> MeterHandle
         ensures { result.slot.held ≡ None }
     {
-        let at = nowhere();
+        let at = null_pointer();
         MeterHandle {
             slot: HandleSlot::from_null(at, alloc),
             is_open: false,
@@ -58,6 +58,6 @@ impl MeterHandle {
 }
 
 // Returns the null pointer of a closed handle.
-fn nowhere() -> *mut u8 {
+fn null_pointer() -> *mut u8 {
     null_mut()
 }

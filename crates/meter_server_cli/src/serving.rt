@@ -202,7 +202,7 @@ pub(crate) struct Server {
 
 // Listens on the address of the command line. If `is_verbose`, prints the address, or why
 // listening failed, on standard error.
-fn listening(
+fn listen_on(
     rt: &HostRuntime,
     address: &str,
     is_verbose: bool,
@@ -274,7 +274,7 @@ fn with_journal(
 pub(crate) fn begin(rt: &HostRuntime, options: &ServeOptions) -> Result<Server, Fault> {
     let plan = plan_server(rt, options)?;
     let (plan, journal) = with_journal(rt, options, plan)?;
-    match listening(rt, options.address.as_str(), options.bounds.is_verbose) {
+    match listen_on(rt, options.address.as_str(), options.bounds.is_verbose) {
         Ok((listener, address)) => Ok(Server {
             plan,
             journal,

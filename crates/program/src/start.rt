@@ -29,7 +29,7 @@ fn words_fault(kind: io::ErrorKind) -> Fault
 
 /// Reads the words of the command line. Errors: `Input` if a word is not valid text, `Memory` if
 /// out of memory.
-pub fn words<R: Env + AllocGlobal>(rt: &R) -> Result<Vec<String>, Fault>
+pub fn read_arguments<R: Env + AllocGlobal>(rt: &R) -> Result<Vec<String>, Fault>
     ensures { IfErr result (λ fault. is_of_words fault ≡ true) }
 {
     let words = match env::args(rt) {

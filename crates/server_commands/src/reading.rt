@@ -5,7 +5,7 @@ ghost use Rattle.server_commands.specs.Asking.{is_of_asking};
 use crate::arguments::command_line;
 use crate::options::{HexOptions, PASSWORD_VARIABLE, ServeOptions, hex_options, serve_options};
 use clap::ArgMatches;
-use program::{Fault, has_option, without_work, words};
+use program::{Fault, has_option, without_work, read_arguments};
 use std::alloc::{AllocGlobal, Global};
 use std::env;
 use std::env::VarError;
@@ -74,7 +74,7 @@ pub fn parse_command_line<R: Env + AllocGlobal + Print + Eprint + Files<File = F
 ) -> Result<Work, Fault>
     ensures { IfErr result (λ fault. is_of_asking fault ≡ true) }
 {
-    let words = words(rt)?;
+    let words = read_arguments(rt)?;
     // (clap's `required_unless_present` would print the options of the usage in another order)
     let has_password = has_option(words.as_slice(), "--password-file")
         || !matches!(env::var(rt, PASSWORD_VARIABLE), Err(VarError::NotPresent));

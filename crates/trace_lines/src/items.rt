@@ -54,7 +54,7 @@ pub(crate) fn next_selection(
 }
 
 // Reads a number of attributes, at most 102, and the attributes.
-pub(crate) fn selections(
+pub(crate) fn read_selections(
     alloc: Global,
     words: &mut Words,
 ) -> Result<Vec<AttributeSelection>, RowFault>

@@ -49,7 +49,8 @@ fn behind_label(which: Which, name: &[u8], words: &mut Words) -> Result<(), RowF
 }
 
 // Reads a line of one value, in watts or seconds.
-pub(crate) fn value(which: Which, name: &[u8], words: &mut Words) -> Result<u32, RowFault>
+pub(crate) fn read_labelled_number(which: Which, name: &[u8], words: &mut Words) -> Result<u32,
+    RowFault>
     ensures { Gives Memory (λ value. value) result
         (labelled_value (label which name.now) value_in words.old) }
 {
@@ -71,7 +72,8 @@ fn start_in(alloc: Global, word: &[u8]) -> Result<DateTimeField, RowFault>
 
 // Reads the line of the emergency profile: id, start and duration.
 #[tactic(auto, unfolding(crate::specs::OpeningFields::profile_from))]
-pub(crate) fn profile(alloc: Global, which: Which, words: &mut Words) -> Result<Profile, RowFault>
+pub(crate) fn read_profile(alloc: Global, which: Which, words: &mut Words) -> Result<Profile,
+    RowFault>
     ensures { Gives Memory (λ profile. profile) result (profile_from which words.old) }
 {
     behind_label(which, b"profile", words)?;
@@ -87,7 +89,7 @@ pub(crate) fn profile(alloc: Global, which: Which, words: &mut Words) -> Result<
 }
 
 // Reads group ids up to the end of the line, at most 32.
-fn ids(alloc: Global, words: &mut Words) -> Result<Vec<u16>, RowFault>
+fn read_ids(alloc: Global, words: &mut Words) -> Result<Vec<u16>, RowFault>
     ensures ids { Gives Memory (λ ids. ids.items) result (all_at id_from MAX_GROUPS words.old) }
     ensures within_max { IfOk result (λ ids. length ids.items ≤ MAX_GROUPS) }
 {
@@ -103,7 +105,7 @@ fn ids(alloc: Global, words: &mut Words) -> Result<Vec<u16>, RowFault>
 
 // Reads the line of the group ids, at most 32.
 #[tactic(auto, unfolding(crate::specs::OpeningFields::groups_from))]
-pub(crate) fn groups(
+pub(crate) fn read_groups(
     alloc: Global,
     which: Which,
     words: &mut Words,
@@ -112,13 +114,13 @@ pub(crate) fn groups(
     ensures within_max { IfOk result (λ groups. length groups ≤ 32) }
 {
     behind_label(which, b"groups", words)?;
-    let ids = ids(alloc, words)?;
+    let ids = read_ids(alloc, words)?;
     Ok(Listed::from_vec(ids))
 }
 
 // Reads the line of the actions: the script selectors over and under the threshold.
 #[tactic(auto, unfolding(crate::specs::OpeningFields::actions_from))]
-pub(crate) fn actions(which: Which, words: &mut Words) -> Result<Actions, RowFault>
+pub(crate) fn read_actions(which: Which, words: &mut Words) -> Result<Actions, RowFault>
     ensures { Gives Memory (λ actions. actions) result (actions_from which words.old) }
 {
     behind_label(which, b"actions", words)?;
@@ -137,7 +139,7 @@ fn run_in(word: &[u8]) -> Result<u64, RowFault>
 
 // Reads a line of a run: its length in samples, and whether it has fired.
 #[tactic(auto, unfolding(crate::specs::OpeningFields::count_from))]
-fn count(which: Which, name: &[u8], words: &mut Words) -> Result<Count, RowFault>
+fn read_count(which: Which, name: &[u8], words: &mut Words) -> Result<Count, RowFault>
     ensures { Gives Memory (λ count. count) result (count_from (label which name.now) words.old) }
 {
     behind_label(which, name, words)?;
@@ -150,11 +152,11 @@ fn count(which: Which, name: &[u8], words: &mut Words) -> Result<Count, RowFault
 // Reads the line of the run over the threshold. Errors: `Wrong` if the last sample contradicts the
 // run; `Memory`.
 #[tactic(auto, unfolding(crate::specs::OpeningFields::over_from))]
-pub(crate) fn over(which: Which, last: u32, words: &mut Words) -> Result<Count, RowFault>
+pub(crate) fn read_over(which: Which, last: u32, words: &mut Words) -> Result<Count, RowFault>
     ensures { Gives Memory (λ over. over) result (over_from which last words.old) }
 {
-    let over = count(which, b"over", words)?;
-    if are_fit(last, over, Count::none()) {
+    let over = read_count(which, b"over", words)?;
+    if are_fit(last, over, Count::zero()) {
         Ok(over)
     } else {
         Err(RowFault::Wrong)
@@ -164,7 +166,7 @@ pub(crate) fn over(which: Which, last: u32, words: &mut Words) -> Result<Count, 
 // Reads the line of the run under the threshold. Errors: `Wrong` if the last sample or the run
 // over the threshold contradicts it; `Memory`.
 #[tactic(auto, unfolding(crate::specs::OpeningFields::under_from))]
-pub(crate) fn under(
+pub(crate) fn read_under(
     which: Which,
     last: u32,
     over: Count,
@@ -173,7 +175,7 @@ pub(crate) fn under(
     ensures under { Gives Memory (λ under. under) result (under_from which last over words.old) }
     ensures fit { IfOk result (λ under. IsFit last over under) }
 {
-    let under = count(which, b"under", words)?;
+    let under = read_count(which, b"under", words)?;
     if are_fit(last, over, under) {
         Ok(under)
     } else {

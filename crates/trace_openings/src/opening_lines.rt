@@ -6,7 +6,7 @@ ghost use Rattle.trace_openings.specs.OpeningReading.{IsFitStart, opening_behind
 ghost use Rattle.trace_words.specs.Places.{ReadsLines, line_as};
 
 use crate::limiter_lines::{read_export, read_last, read_limiter};
-use crate::opening_fields::{device, mode, moment, schedule, state, table, version};
+use crate::opening_fields::{read_device, read_mode, read_moment, read_schedule_words, read_state, read_table, read_version};
 use action_schedule::ActionSchedule;
 use cosem_axdr::Octets;
 use cosem_names::Which;
@@ -26,7 +26,7 @@ fn read_schedule(
     ensures { ReadsLines (λ schedule. schedule) result lines.new
         (line_as (schedule_from number) lines.old) }
 {
-    lines.read(|words| schedule(alloc, number, words))
+    lines.read(|words| read_schedule_words(alloc, number, words))
 }
 
 // Reads the lines of the four schedules.
@@ -77,7 +77,7 @@ fn read_behind_import(
     let ((start, import), export) = and_keep((start, import), read_export(alloc, version, lines))?;
     let ((start, import, export), scripts) = and_keep(
         (start, import, export),
-        lines.read(|words| table(alloc, words)),
+        lines.read(|words| read_table(alloc, words)),
     )?;
     let ((start, import, export, scripts), schedules) = and_keep(
         (start, import, export, scripts),
@@ -114,7 +114,7 @@ fn read_behind_mode(
     ensures fit { IfOk result IsFitOpening }
 {
     let (start, last) = and_keep(start, read_last(Which::Import, lines))?;
-    let (start, moment) = and_keep(start, lines.read(moment))?;
+    let (start, moment) = and_keep(start, lines.read(read_moment))?;
     let (start, import) = and_keep(start, read_limiter(alloc, Which::Import, last, lines))?;
     let opening = read_behind_import(alloc, version, start, moment, import, lines)?;
     Ok(opening)
@@ -131,9 +131,9 @@ fn read_parts(
         (opening_in version lines.old) }
     ensures fit { IfOk result IsFitOpening }
 {
-    let device = lines.read(|words| device(alloc, words))?;
-    let (device, state) = and_keep(device, lines.read(state))?;
-    let (device, mode) = and_keep(device, lines.read(|words| mode(state, words)))?;
+    let device = lines.read(|words| read_device(alloc, words))?;
+    let (device, state) = and_keep(device, lines.read(read_state))?;
+    let (device, mode) = and_keep(device, lines.read(|words| read_mode(state, words)))?;
     let start = Start {
         device,
         state,
@@ -150,7 +150,7 @@ pub fn read_opening(alloc: Global, lines: &mut TraceLines) -> Result<(Version, O
     ensures reads { ReadsLines (λ parts. parts) result lines.new (opening_from lines.old) }
     ensures fit { IfOk result (λ parts. IsFitOpening parts.1) }
 {
-    let version = lines.read(version)?;
+    let version = lines.read(read_version)?;
     let opening = read_parts(alloc, version, lines)?;
     Ok((version, opening))
 }

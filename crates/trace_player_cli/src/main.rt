@@ -18,7 +18,7 @@ use crate::options::{Options, is_in_order, options_of};
 use crate::telling::{tell, tell_left_out};
 use clap::error::ErrorKind;
 use counted_io::{Counted, read_to_end_within};
-use program::{Fault, exit_code, without_work, words};
+use program::{Fault, exit_code, without_work, read_arguments};
 use std::fs;
 use std::io::Read;
 use std::process::ExitCode;
@@ -127,7 +127,7 @@ fn play_file(rt: &HostRuntime, options: &Options<'_>) -> Result<(), Fault> {
 // Reads the command line and runs its command. Returns the exit status: 0, or 2 if the command line
 // is wrong.
 fn run(rt: &HostRuntime) -> Result<u8, Fault> {
-    let words = words(rt)?;
+    let words = read_arguments(rt)?;
     let mut command = command_line(rt.alloc()).map_err(|_| Fault::Memory)?;
     let options = match command.try_get_matches_from_mut(words.as_slice()) {
         Ok(matches) => {

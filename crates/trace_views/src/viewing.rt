@@ -33,7 +33,7 @@ fn view_event(
         output: core.output(),
     };
     let line = line_after(alloc, core, event)?;
-    if view.shows(number, before, &line) {
+    if view.is_shown(number, before, &line) {
         add_step(alloc, out, view, number, event, &line, core.last_moment())
     } else {
         Ok(())

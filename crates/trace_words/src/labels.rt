@@ -13,7 +13,7 @@ use text_lines::Words;
 
 /// Reads the next word, which must be `label`. Errors: `Wrong` if it is missing or another word.
 #[tactic(auto, unfolding(crate::specs::Labels::words_after))]
-pub fn behind(label: &[u8], words: &mut Words) -> Result<(), RowFault>
+pub fn read_label(label: &[u8], words: &mut Words) -> Result<(), RowFault>
     ensures { Reads (λ done. done) result words.new (words_after label.now words.old) }
 {
     if next_word(words)? == label {
@@ -36,6 +36,6 @@ pub fn read_labelled<X: Drop, F: FnOnce(&[u8]) -> Result<X, RowFault>>(
     ensures answered { IfOk result (λ x. (word : Word)
         × FnOnceReturnsAt F.FnOnce value_in word (Ok x)) }
 {
-    behind(label, words)?;
+    read_label(label, words)?;
     value_in(last_word(words)?)
 }

@@ -6,7 +6,7 @@ use Rattle.trace_words.specs.Parts.{after_first}
 use Rattle.trace_words.specs.Rows.{all_at}
 use Rattle.trace_lines.specs.Parts.{sample_part}
 use Rattle.trace_lines.proofs.SampleSteps.{value_is, value_fails}
-use Rattle.trace_lines.proofs.samples.values.Goals as goal
+use Rattle.trace_lines.proofs.samples.read_values.Goals as goal
 
 pub returns-then-len-eq-MAX_VALUES : goal.returns-then-len-eq-MAX_VALUES
 returns-then-len-eq-MAX_VALUES c =

@@ -5,7 +5,7 @@ use Rattle.trace_words.proofs.Steps.{goes_on, items_too_many, items_refused, ite
 use Rattle.trace_words.specs.Parts.{after_first}
 use Rattle.trace_words.specs.Rows.{all_at}
 use Rattle.trace_lines.specs.Parts.{pair_part}
-use Rattle.trace_lines.proofs.samples.pairs.Goals as goal
+use Rattle.trace_lines.proofs.samples.read_pairs.Goals as goal
 
 pub returns-then-len-eq-MAX_VALUES : goal.returns-then-len-eq-MAX_VALUES
 returns-then-len-eq-MAX_VALUES c =
