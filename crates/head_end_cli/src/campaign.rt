@@ -6,7 +6,7 @@ ghost use Rattle.program.specs.Passwords.{HasNoLineEnd};
 ghost use Rattle.head_end_cli.specs.Options.{AreLimits, AreWorkers, IsLimit, IsNumber};
 ghost use Rattle.head_end_cli.specs.Printed.{PrintsReport};
 
-use crate::jobs_of;
+use crate::load_jobs;
 use crate::progress::{CampaignProgress, ProgressWatch};
 use acse_ber::MAX_PASSWORD;
 use clap::ArgMatches;
@@ -106,7 +106,7 @@ fn check_password(rt: &HostRuntime, text: &str, is_verbose: bool) -> Result<Octe
 
 // Returns the password of the environment. Errors: `Input` if it is not UTF-8, with a line on
 // standard error if `is_verbose`; `Memory`.
-fn environment_password(rt: &HostRuntime, is_verbose: bool) -> Result<String, Fault> {
+fn read_environment_password(rt: &HostRuntime, is_verbose: bool) -> Result<String, Fault> {
     match env::var(rt, PASSWORD_VARIABLE) {
         Ok(text) => Ok(text),
         Err(VarError::OutOfMemory) => Err(Fault::Memory),
@@ -137,7 +137,7 @@ fn find_password(rt: &HostRuntime, matches: &ArgMatches<'_>, is_verbose: bool) -
     }
     let text = match matches.get_str("password-file") {
         Some(path) => read_password_file(rt, path)?,
-        None => environment_password(rt, is_verbose)?,
+        None => read_environment_password(rt, is_verbose)?,
     };
     check_password(rt, text.as_str(), is_verbose)
 }
@@ -160,7 +160,7 @@ pub(crate) fn plan_campaign(
 {
     let is_verbose = matches.get_flag("verbose");
     let password = find_password(rt, matches, is_verbose)?;
-    let jobs = jobs_of(rt, rt.stdin(), is_verbose)?;
+    let jobs = load_jobs(rt, rt.stdin(), is_verbose)?;
     Ok(CampaignPlan {
         jobs,
         password,

@@ -19,7 +19,7 @@ use crate::warnings::warn;
 use clap::ArgMatches;
 use counted_io::{Counted, read_to_end_within};
 use head_end::{Jobs, JobsFault, TcpConnector, count_jobs, read_jobs};
-use program::{Fault, exit_code, has_option, print_text, without_work, read_arguments};
+use program::{Fault, exit_code, has_option, print_text, print_help_or_error, read_arguments};
 use std::env;
 use std::env::VarError;
 use std::io::Read;
@@ -53,7 +53,7 @@ fn report_list_fault(rt: &HostRuntime, text: &[u8], fault: JobsFault, is_verbose
 }
 
 // Reads the jobs on standard input, and writes the warnings about them.
-pub(crate) fn jobs_of<I: Read + Drop>(
+pub(crate) fn load_jobs<I: Read + Drop>(
     rt: &HostRuntime,
     input: I,
     is_verbose: bool,
@@ -120,7 +120,7 @@ fn begin(rt: &HostRuntime) -> Result<HeadEndCommand, Fault> {
     let command = command_line(alloc, has_password).map_err(|_| Fault::Memory)?;
     match command.try_get_matches_from(words.as_slice()) {
         Ok(matches) => begin_command(rt, &matches),
-        Err(error) => Ok(HeadEndCommand::Ended(without_work(rt, &error)?)),
+        Err(error) => Ok(HeadEndCommand::Ended(print_help_or_error(rt, &error)?)),
     }
 }
 

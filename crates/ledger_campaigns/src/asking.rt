@@ -52,13 +52,13 @@ pub fn report_outcome<B: Book, W: Wait>(
     ensures asked_to_store { IsAskedToStore place outcome port.new }
 {
     match port.call(rt, alloc, LedgerRequest::Record(place, outcome)) {
-        Ok(answer) => stored_in(answer),
+        Ok(answer) => stored_result(answer),
         Err(_) => Err(LedgerFault::Failed),
     }
 }
 
 // Returns whether an answer says that the outcome is stored.
-fn stored_in<B: Book>(answer: LedgerAnswer<B>) -> Result<(), LedgerFault>
+fn stored_result<B: Book>(answer: LedgerAnswer<B>) -> Result<(), LedgerFault>
     ensures { result ≡ stored_result answer }
 {
     match answer {

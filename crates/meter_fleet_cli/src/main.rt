@@ -9,7 +9,7 @@ mod serving;
 mod sockets;
 
 use crate::arguments::command_line;
-use program::{Fault, exit_code, without_work, read_arguments};
+use program::{Fault, exit_code, print_help_or_error, read_arguments};
 use std::net::Net;
 use std::process::ExitCode;
 use std::sync::Wait;
@@ -24,7 +24,7 @@ fn run<N: Net + Wait>(rt: &HostRuntime, net: &N) -> Result<u8, Fault> {
             Some(("serve", matches)) => serving::serve(rt, net, matches),
             _ => Err(Fault::Input),
         },
-        Err(error) => without_work(rt, &error),
+        Err(error) => print_help_or_error(rt, &error),
     }
 }
 

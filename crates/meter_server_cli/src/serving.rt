@@ -37,7 +37,7 @@ pub(crate) struct ClientParameters {
 }
 
 // Returns the source of clients, and two handles of the flag that ends the listening.
-fn sockets_of(
+fn make_sockets(
     rt: &HostRuntime,
     bounds: Bounds,
     listener: TcpListener,
@@ -117,7 +117,7 @@ fn prepare<R: Wait + Copy + Drop>(
     listener: TcpListener,
     address: SocketAddr,
 ) -> Result<Prepared<R>, AllocError> {
-    let (sockets, stopped, second) = sockets_of(rt, bounds, listener)?;
+    let (sockets, stopped, second) = make_sockets(rt, bounds, listener)?;
     let (console, sources) = Console::new(threads, rt.alloc())?;
     let end = ServerEnd {
         closing: Closing {

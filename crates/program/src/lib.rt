@@ -9,6 +9,7 @@ mod start;
 pub use fault::Fault;
 pub use password::{PasswordFault, line_of_file, read_password, read_password_file};
 pub use start::{
-    exit_code, first_fault, has_option, print_text, with_argument, with_subcommand, without_work,
+    exit_code, first_fault, has_option, print_text, with_argument, with_subcommand,
+        print_help_or_error,
     read_arguments,
 };

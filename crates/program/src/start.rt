@@ -119,7 +119,7 @@ pub fn with_subcommand<'a>(
 /// Prints the text of a command line without work, and returns the exit status: 0 for help and the
 /// version, 2 if the command line is wrong. Errors: `Memory` if out of memory, `Write` if the text
 /// could not be printed.
-pub fn without_work<R: Print + Eprint>(rt: &R, error: &Error) -> Result<u8, Fault>
+pub fn print_help_or_error<R: Print + Eprint>(rt: &R, error: &Error) -> Result<u8, Fault>
     ensures status { IfOk result (λ status. status ≡ status_without_work (kind_of error.now)) }
     ensures fault { IfErr result (λ fault. is_of_texts fault ≡ true) }
 {

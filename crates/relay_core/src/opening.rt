@@ -134,7 +134,7 @@ impl LimiterOpening {
 impl RelayCore {
     // Saves the state of the core.
     #[tactic(auto, using(crate::proofs::OpeningLemmas::table_in_range))]
-    fn written_down(&self, alloc: Global) -> Result<Opening, AllocError>
+    fn save_state(&self, alloc: Global) -> Result<Opening, AllocError>
         ensures opening { IfOk result (λ opening. opening ≡ opening_of self.now) }
         ensures import { IfOk result
             (λ _. IsFit self.now.import.last self.now.import.over self.now.import.under) }
@@ -169,7 +169,7 @@ impl RelayCore {
             → Agree (world_of_opening opening) w) }
         ensures range { IfOk result (λ opening. IsWorld (world_of_opening opening)) }
     {
-        let opening = self.written_down(alloc)?;
+        let opening = self.save_state(alloc)?;
         Ok(opening)
     }
 

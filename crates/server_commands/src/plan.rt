@@ -21,11 +21,11 @@ use relay_core::MAX_DEVICE_NAME;
 use relay_recorder::Recorder;
 use std::alloc::Global;
 use std::io::{BufReader, Read};
-use trace_player::resumed_recorder;
+use trace_player::resume_recorder;
 
 // Returns the recorder of a meter that resumes from the trace at the head of an input. The input
 // after the trace is not read. Errors: `Input` if there is no trace, `Read`, `Memory`.
-fn recorder_of_head<I: Read>(
+fn resume_from_head<I: Read>(
     alloc: Global,
     input: &mut BufReader<Monitored<I>>,
     depth: u16,
@@ -42,7 +42,7 @@ fn recorder_of_head<I: Read>(
         Ok(trace) => trace,
         Err(fault) => return Err(fault),
     };
-    let made = resumed_recorder(alloc, &trace, depth);
+    let made = resume_recorder(alloc, &trace, depth);
     drop(trace);
     match made {
         Ok(recorder) => Ok(recorder),
@@ -68,7 +68,7 @@ fn new_recorder(alloc: Global, device: &Octets, depth: u16) -> Result<Recorder, 
 
 // Returns the recorder that the meter starts with: that of a new meter, or of one that resumes
 // from the trace at the head of an input.
-fn first_recorder<I: Read>(
+fn prepare_recorder<I: Read>(
     alloc: Global,
     device: &Octets,
     bounds: Bounds,
@@ -91,7 +91,7 @@ fn first_recorder<I: Read>(
         return Err(Fault::Input);
     }
     if bounds.resumes {
-        recorder_of_head(alloc, input, depth)
+        resume_from_head(alloc, input, depth)
     } else {
         new_recorder(alloc, device, depth)
     }
@@ -144,7 +144,7 @@ pub fn make_plan<I: Read + Drop>(
     let Ok(mut input) = BufReader::new(alloc, Monitored::new(input)) else {
         return Err(Fault::Memory);
     };
-    match first_recorder(alloc, &device, bounds, &mut input) {
+    match prepare_recorder(alloc, &device, bounds, &mut input) {
         Ok(recorder) => Ok(ServePlan {
             bounds,
             password,

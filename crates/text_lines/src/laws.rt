@@ -76,7 +76,7 @@ pub fn written_lines_are_read()
 /// Proves that a text whose last line is ended can be split from the text that follows: the lines
 /// of the whole are those of both parts, in order.
 #[tactic(auto, using(crate::proofs::JoinedTexts::lines_joined, crate::proofs::JoinedTexts::unended_joined))]
-pub fn text_may_be_cut_behind_a_line()
+pub fn text_may_be_cut_after_a_line()
     ensures lines { (text rest : List ℕ) → unended_of text ≡ []
         → lines_of (text ++ rest) ≡ lines_of text ++ lines_of rest }
     ensures unended_rest { (text rest : List ℕ) → unended_of text ≡ []

@@ -44,7 +44,7 @@ fn count_in(word: &[u8]) -> Result<Option<u32>, RowFault>
 }
 
 // Reads the words of the line of the number of events, or of the line `events -`.
-fn stated_count(words: &mut Words) -> Result<Option<u32>, RowFault>
+fn read_stated(words: &mut Words) -> Result<Option<u32>, RowFault>
     ensures { Gives Memory (λ count. count) result (count_from words.old) }
 {
     read_labelled(b"events", words, count_in)
@@ -56,7 +56,7 @@ fn stated_count(words: &mut Words) -> Result<Option<u32>, RowFault>
 pub fn read_stated_count(lines: &mut TraceLines) -> Result<Option<u32>, TraceFault>
     ensures { ReadsLines (λ count. count) result lines.new (line_as count_from lines.old) }
 {
-    lines.read(stated_count)
+    lines.read(read_stated)
 }
 
 /// Reads the line of the number of events, as [`read_stated_count`], and returns their number. If

@@ -114,14 +114,14 @@ fn read_samples(alloc: Global, words: &mut Words) -> Result<Event, RowFault>
 }
 
 // Returns the import values of pairs.
-fn import_values(alloc: Global, pairs: &[(u32, u32)]) -> Result<Vec<u32>, AllocError>
+fn copy_imports(alloc: Global, pairs: &[(u32, u32)]) -> Result<Vec<u32>, AllocError>
     ensures { IfOk result (λ values. values.items ≡ map (λ pair. pair.0) pairs.now) }
 {
     pairs.iter().map(|pair| pair.0).collect(alloc)
 }
 
 // Returns the export values of pairs.
-fn export_values(alloc: Global, pairs: &[(u32, u32)]) -> Result<Vec<u32>, AllocError>
+fn copy_exports(alloc: Global, pairs: &[(u32, u32)]) -> Result<Vec<u32>, AllocError>
     ensures { IfOk result (λ values. values.items ≡ map (λ pair. pair.1) pairs.now) }
 {
     pairs.iter().map(|pair| pair.1).collect(alloc)
@@ -134,8 +134,8 @@ fn read_sample_pairs(alloc: Global, words: &mut Words) -> Result<Event, RowFault
         ((items_to_end 256 pair_part).read words.old)) }
 {
     let pairs = read_pairs(alloc, words)?;
-    let import = import_values(alloc, pairs.as_slice())?;
-    let export = export_values(alloc, pairs.as_slice())?;
+    let import = copy_imports(alloc, pairs.as_slice())?;
+    let export = copy_exports(alloc, pairs.as_slice())?;
     match Block::from_pairs(alloc, import.as_slice(), export.as_slice()) {
         Ok(block) => Ok(Event::Samples(block)),
         Err(_) => Err(RowFault::Memory),
@@ -150,7 +150,7 @@ fn read_moment(words: &mut Words) -> Result<Event, RowFault>
 }
 
 // Reads an event that version 1 does not have, by its first word.
-fn later_event(
+fn read_later_event(
     alloc: Global,
     version: Version,
     first: &[u8],
@@ -172,7 +172,7 @@ fn later_event(
 }
 
 // Reads an event from the words after the first one.
-fn event_from(
+fn read_event_after(
     alloc: Global,
     version: Version,
     first: &[u8],
@@ -196,7 +196,7 @@ fn event_from(
     } else if first == b"samples".as_slice() {
         read_samples(alloc, words)
     } else {
-        later_event(alloc, version, first, words)
+        read_later_event(alloc, version, first, words)
     }
 }
 
@@ -207,7 +207,7 @@ pub(crate) fn read_event_words(alloc: Global, version: Version, words: &mut Word
     ensures { Gives Memory (λ event. event) result (event_of version words.old) }
 {
     let first = next_word(words)?;
-    let event = event_from(alloc, version, first, words)?;
+    let event = read_event_after(alloc, version, first, words)?;
     match expect_end(words) {
         Ok(()) => Ok(event),
         Err(fault) => {

@@ -62,12 +62,12 @@ pub(crate) fn read_selections(
         ((counted_items MAX_ITEMS selection_part).read words.old) }
 {
     let count = number_in(next_word(words)?, MAX_ITEMS as u32)?;
-    selection_items(alloc, count as usize, words)
+    read_selection_items(alloc, count as usize, words)
 }
 
 // Reads `count` attributes.
 #[tactic(auto, using(wire_bytes::proofs::Items::item_loops))]
-fn selection_items(
+fn read_selection_items(
     alloc: Global,
     count: usize,
     words: &mut Words,

@@ -19,7 +19,7 @@ fn value_in(word: &[u8]) -> Result<u32, RowFault>
 }
 
 // Reads a pair of samples: the import value (the word given), then the export value.
-fn pair_from(word: &[u8], words: &mut Words) -> Result<(u32, u32), RowFault>
+fn read_pair(word: &[u8], words: &mut Words) -> Result<(u32, u32), RowFault>
     ensures { Reads (λ pair. pair) result words.new (pair_part.read (word.now ∷ words.old)) }
 {
     let import = value_in(word)?;
@@ -52,7 +52,7 @@ pub(crate) fn read_pairs(alloc: Global, words: &mut Words) -> Result<Vec<(u32, u
         if pairs.len() == MAX_VALUES {
             return Err(RowFault::Wrong);
         }
-        pairs.push(pair_from(word, words)?)?;
+        pairs.push(read_pair(word, words)?)?;
     }
     Ok(pairs)
 }

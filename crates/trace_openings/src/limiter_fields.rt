@@ -38,7 +38,7 @@ fn is_label(which: Which, name: &[u8], word: &[u8]) -> bool
 
 // Reads the first word of a limiter's line, which must be the label `name`. Errors: `Wrong`.
 #[tactic(auto, unfolding(trace_words::specs::Labels::words_after))]
-fn behind_label(which: Which, name: &[u8], words: &mut Words) -> Result<(), RowFault>
+fn read_label_of(which: Which, name: &[u8], words: &mut Words) -> Result<(), RowFault>
     ensures { Reads (λ done. done) result words.new (words_after (label which name.now) words.old) }
 {
     if is_label(which, name, next_word(words)?) {
@@ -54,7 +54,7 @@ pub(crate) fn read_labelled_number(which: Which, name: &[u8], words: &mut Words)
     ensures { Gives Memory (λ value. value) result
         (labelled_value (label which name.now) value_in words.old) }
 {
-    behind_label(which, name, words)?;
+    read_label_of(which, name, words)?;
     number_in(last_word(words)?, u32::MAX)
 }
 
@@ -76,7 +76,7 @@ pub(crate) fn read_profile(alloc: Global, which: Which, words: &mut Words) -> Re
     RowFault>
     ensures { Gives Memory (λ profile. profile) result (profile_from which words.old) }
 {
-    behind_label(which, b"profile", words)?;
+    read_label_of(which, b"profile", words)?;
     let id = next_long(words)?;
     let start = start_in(alloc, next_word(words)?)?;
     let duration = number_in(next_word(words)?, u32::MAX)?;
@@ -113,7 +113,7 @@ pub(crate) fn read_groups(
     ensures groups { Gives Memory (λ groups. groups) result (groups_from which words.old) }
     ensures within_max { IfOk result (λ groups. length groups ≤ 32) }
 {
-    behind_label(which, b"groups", words)?;
+    read_label_of(which, b"groups", words)?;
     let ids = read_ids(alloc, words)?;
     Ok(Listed::from_vec(ids))
 }
@@ -123,7 +123,7 @@ pub(crate) fn read_groups(
 pub(crate) fn read_actions(which: Which, words: &mut Words) -> Result<Actions, RowFault>
     ensures { Gives Memory (λ actions. actions) result (actions_from which words.old) }
 {
-    behind_label(which, b"actions", words)?;
+    read_label_of(which, b"actions", words)?;
     let over = next_long(words)?;
     let under = next_long(words)?;
     expect_end(words)?;
@@ -142,7 +142,7 @@ fn run_in(word: &[u8]) -> Result<u64, RowFault>
 fn read_count(which: Which, name: &[u8], words: &mut Words) -> Result<Count, RowFault>
     ensures { Gives Memory (λ count. count) result (count_from (label which name.now) words.old) }
 {
-    behind_label(which, name, words)?;
+    read_label_of(which, name, words)?;
     let run = run_in(next_word(words)?)?;
     let fired = flag_in(next_word(words)?)?;
     expect_end(words)?;

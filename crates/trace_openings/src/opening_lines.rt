@@ -2,7 +2,7 @@
 ghost use Rattle.std.specs.Prelude.{◌≤◌, IfOk};
 ghost use Rattle.relay_core.specs.Opening.{IsFitLimiterOpening, IsFitOpening};
 ghost use Rattle.trace_openings.specs.OpeningFields.{schedule_from};
-ghost use Rattle.trace_openings.specs.OpeningReading.{IsFitStart, opening_behind_import, opening_with, schedules_from, opening_in, opening_from};
+ghost use Rattle.trace_openings.specs.OpeningReading.{IsFitStart, opening_after_import, opening_with, schedules_from, opening_in, opening_from};
 ghost use Rattle.trace_words.specs.Places.{ReadsLines, line_as};
 
 use crate::limiter_lines::{read_export, read_last, read_limiter};
@@ -58,8 +58,8 @@ struct Start {
 }
 
 // Reads the lines after those of the import limiter.
-#[tactic(auto, unfolding(crate::specs::OpeningReading::opening_behind_import))]
-fn read_behind_import(
+#[tactic(auto, unfolding(crate::specs::OpeningReading::opening_after_import))]
+fn read_after_import(
     alloc: Global,
     version: Version,
     start: Start,
@@ -70,7 +70,7 @@ fn read_behind_import(
     requires start { IsFitStart start.device start.state start.mode }
     requires import { IsFitLimiterOpening import }
     ensures reads { ReadsLines (λ opening. opening) result lines.new
-        (opening_behind_import version start.device start.state start.mode moment import
+        (opening_after_import version start.device start.state start.mode moment import
         lines.old) }
     ensures fit { IfOk result IsFitOpening }
 {
@@ -101,8 +101,8 @@ fn read_behind_import(
 }
 
 // Reads the lines after that of the control mode.
-#[tactic(auto, unfolding(crate::specs::OpeningReading::opening_with, crate::specs::OpeningReading::opening_behind_import))]
-fn read_behind_mode(
+#[tactic(auto, unfolding(crate::specs::OpeningReading::opening_with, crate::specs::OpeningReading::opening_after_import))]
+fn read_after_mode(
     alloc: Global,
     version: Version,
     start: Start,
@@ -116,7 +116,7 @@ fn read_behind_mode(
     let (start, last) = and_keep(start, read_last(Which::Import, lines))?;
     let (start, moment) = and_keep(start, lines.read(read_moment))?;
     let (start, import) = and_keep(start, read_limiter(alloc, Which::Import, last, lines))?;
-    let opening = read_behind_import(alloc, version, start, moment, import, lines)?;
+    let opening = read_after_import(alloc, version, start, moment, import, lines)?;
     Ok(opening)
 }
 
@@ -139,7 +139,7 @@ fn read_parts(
         state,
         mode,
     };
-    read_behind_mode(alloc, version, start, lines)
+    read_after_mode(alloc, version, start, lines)
 }
 
 /// Reads the opening of a trace: its lines from that of the version to that of the last schedule.

@@ -94,11 +94,11 @@ by_opening opening (events, Ok done) = refl
 by_opening opening (events, Err fault) = refl
 
 -- the trace of an opening and of a number of events at a place
-behind_whole : (version : Version) (count : ℕ) (opening : Opening) (place : Place)
+skip_whole_line : (version : Version) (count : ℕ) (opening : Opening) (place : Place)
     → (events_at version count place >>= λ events.
     ended_at events.1 (front_with opening (events.0, done TraceFault tt)).0)
     ≡ trace_by (done TraceFault (front_with opening (events_front version count place)))
-behind_whole version count opening place =
+skip_whole_line version count opening place =
     with_opening opening (events_at version count place)
     ∙ ap (λ (read : Result (List Event) TraceFault). read >>= λ events.
     done TraceFault (front_with opening (events, done TraceFault tt)).0)
@@ -115,7 +115,7 @@ trace_whole place = by (opening_from place)
         ended_at events.1 (front_with opening (events.0, done TraceFault tt)).0)
         ≡ trace_by (read >>= λ count.
         done TraceFault (front_with opening (events_front version count.0 count.1)))
-    counted version opening (Ok count) = behind_whole version count.0 opening count.1
+    counted version opening (Ok count) = skip_whole_line version count.0 opening count.1
     counted version opening (Err fault) = refl
 
     by : (read : ReadLines (Version × Opening))
