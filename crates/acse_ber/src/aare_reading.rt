@@ -103,7 +103,7 @@ fn read_diagnostic(contents: &[u8]) -> Result<u8, AcseFault>
 {
     let mut reader = Cursor::new(contents);
     let (tag::SERVICE_USER | tag::SERVICE_PROVIDER) = reader.read_byte(AcseFault::Unreadable)?
-        else {
+    else {
         return Err(AcseFault::Unreadable);
     };
     let diagnostic = read_byte_after(&[3, tag::INTEGER, 1], &mut reader)?;

@@ -36,7 +36,7 @@ goes_accepting : (verb : Verb) (outcome : Option Outcome) (bytes : List ℕ)
 unfolding progress_after_bytes
 goes_accepting verb outcome bytes =
     ended_accepting (progress_after_all verb (accepting outcome) (payloads_of (frames_of bytes)))
-        (head_of
+    (head_of
     (rest_of bytes))
     ∙ all_accepting verb outcome (payloads_of (frames_of bytes))
 

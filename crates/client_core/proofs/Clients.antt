@@ -23,7 +23,7 @@ starts verb password c verb_is progress_is deframer_is ended_is left = record {
   now = progress_is ∙ sym (nothing_said verb);
   later = λ more. progress_goes verb more ∙ ap (λ (p : Progress). progress_after_bytes verb p more)
       (sym progress_is) ∙ ap (λ (bytes : List ℕ). progress_after_bytes verb c.progress
-          (bytes ++ more))
+      (bytes ++ more))
       (sym deframer_is);
   left = left;
   over_is = ended_is;

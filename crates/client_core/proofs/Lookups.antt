@@ -43,7 +43,7 @@ asking_answered verb (answer ∷ later) = sym (all_settled verb true (outcome_of
 
 settled_answered : (verb : Verb) (outcome : Outcome) (later : List (List ℕ))
     → with_answer verb (with_outcome outcome) later
-        ≡ progress_after_all verb (with_outcome outcome) later
+    ≡ progress_after_all verb (with_outcome outcome) later
 settled_answered verb outcome [] = refl
 settled_answered verb outcome (answer ∷ later) = sym (all_settled verb false outcome later)
 

@@ -32,7 +32,7 @@ with_outcome accepted outcome = record { accepted = accepted; outcome = Some out
 
 pub all_settled : (verb : Verb) (accepted : Bool) (outcome : Outcome) (payloads : List (List ℕ))
     → progress_after_all verb (with_outcome accepted outcome) payloads
-        ≡ with_outcome accepted outcome
+    ≡ with_outcome accepted outcome
 all_settled verb accepted outcome [] = refl
 all_settled verb accepted outcome (payload ∷ later) = all_settled verb accepted outcome later
 
@@ -45,7 +45,7 @@ ended_settled accepted outcome (Whole n) = refl
 
 settled_goes : (verb : Verb) (accepted : Bool) (outcome : Outcome) (bytes : List ℕ)
     → progress_after_bytes verb (with_outcome accepted outcome) bytes
-        ≡ with_outcome accepted outcome
+    ≡ with_outcome accepted outcome
 settled_goes verb accepted outcome bytes =
     goes_does verb (with_outcome accepted outcome) bytes
     ∙ ap (λ (p : Progress). progress_by_head p (head_of (rest_of bytes)))

@@ -51,7 +51,7 @@ is_granted verb (InitiateError code) = false
 abbrev pub progress_by_aare : Verb → Result Aare AcseFault → Progress
 progress_by_aare verb (Ok aare) =
     if aare.result == 0 then (if is_granted verb aare.info then asking_progress
-        else with_outcome (Rejected 0))
+    else with_outcome (Rejected 0))
     else with_outcome (Rejected aare.diagnostic)
 progress_by_aare verb (Err fault) = with_outcome Unknown
 

@@ -35,7 +35,7 @@ progress_after_all verb progress (payload ∷ later) = progress_after_all verb
 unfoldable pub progress_after_bytes : Verb → Progress → List ℕ → Progress
 progress_after_bytes verb progress bytes =
     progress_by_head (progress_after_all verb progress (payloads_of (frames_of bytes)))
-        (head_of (rest_of bytes))
+    (head_of (rest_of bytes))
 
 -- whatever bytes follow, the old bytes have the same effect on the old progress as the kept bytes
 -- on the new one

@@ -4,7 +4,7 @@ ghost use Rattle.client_core.specs.Steps.{progress_after_frame, Hears};
 
 use crate::job::Verb;
 use crate::progress::Progress;
-use crate::replying::{progress_after, or_unknown};
+use crate::replying::{or_unknown, progress_after};
 use std::alloc::{AllocError, Global};
 use wrapper_frame::{Deframer, Frame, WrapperFault};
 

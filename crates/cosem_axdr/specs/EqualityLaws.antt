@@ -58,7 +58,7 @@ is_same-true d e same =
 pub are_same-true : (ts us : Trees) → are_same ts us ≡ true → ts ≡ us
 are_same-true ts us same =
     sym (stored_all_back ts) ∙ ap (λ g. (decoded_cell g).1)
-        (same_code (stored_all ts) (stored_all us) same)
+    (same_code (stored_all ts) (stored_all us) same)
     ∙ stored_all_back us
 
 -- each Data compares as the same as itself, and so do items

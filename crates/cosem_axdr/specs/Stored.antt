@@ -111,8 +111,11 @@ by_tag tag fields items =
 abbrev pub decoded_cell : Gv → Tree × Trees
 decoded_cell gnil = (null, no_trees)
 decoded_cell (gnum n) = (null, no_trees)
-decoded_cell (gcons a b) = (by_tag (num a) b (decoded_cell b).1, tree (decoded_cell a).0
-    (decoded_cell b).1)
+decoded_cell (gcons a b) = (
+  by_tag (num a) b (decoded_cell b).1,
+  tree (decoded_cell a).0
+      (decoded_cell b).1,
+)
 
 -- decoding a stored tree returns the tree
 mutual

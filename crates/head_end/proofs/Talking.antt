@@ -430,7 +430,7 @@ talks_heard verb password bytes reads old new before after w feeds is =
     (heard_in t.log ++ bytes) t.given false new = feeds.stands verb password
     (heard_in t.log) t.given false t.stands in
     let few : t.given ≤ length (due_frames verb password
-        (progress_of verb (heard_in t.log ++ bytes))) =
+    (progress_of verb (heard_in t.log ++ bytes))) =
     still_within verb password t.given (progress_of verb (heard_in t.log)) (progress_of verb
     (heard_in t.log ++ bytes)) w.listens.unsettled
     (accepted_stays verb password (heard_in t.log) bytes t.given false old t.stands) t.within in

@@ -122,8 +122,11 @@ fn read_environment_password(rt: &HostRuntime, is_verbose: bool) -> Result<Strin
 // Returns the password of the command line, else that of the file that it names, else that of the
 // environment. Errors: those of a file without a password, with a line on standard error; `Input`
 // if there is none or it does not have 1 to 32 bytes, with a line if `is_verbose`; `Memory`.
-fn find_password(rt: &HostRuntime, matches: &ArgMatches<'_>, is_verbose: bool) -> Result<Octets,
-    Fault>
+fn find_password(
+    rt: &HostRuntime,
+    matches: &ArgMatches<'_>,
+    is_verbose: bool,
+) -> Result<Octets, Fault>
     ensures sized { IfOk result IsPassword }
     ensures from_option { IfOk result (λ password. (text : List ℕ)
         → first_value (found_of matches.now) (codes "password") ≡ Some text → password ≡ text) }

@@ -19,7 +19,7 @@ use crate::warnings::warn;
 use clap::ArgMatches;
 use counted_io::{Counted, read_to_end_within};
 use head_end::{Jobs, JobsFault, TcpConnector, count_jobs, read_jobs};
-use program::{Fault, exit_code, has_option, print_text, print_help_or_error, read_arguments};
+use program::{Fault, exit_code, has_option, print_help_or_error, print_text, read_arguments};
 use std::env;
 use std::env::VarError;
 use std::io::Read;

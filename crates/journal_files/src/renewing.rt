@@ -36,8 +36,11 @@ fn take_events(alloc: Global, core: &mut RelayCore, events: &[Event]) -> Result<
 }
 
 // Applies events to a core, and returns its saved state after them.
-fn apply_and_save(alloc: Global, core: &mut RelayCore, events: &[Event]) -> Result<Opening,
-    AllocError>
+fn apply_and_save(
+    alloc: Global,
+    core: &mut RelayCore,
+    events: &[Event],
+) -> Result<Opening, AllocError>
     ensures fit { IfOk result IsFitOpening }
     ensures range { IfOk result (λ opening. IsWorld (world_of_opening opening)) }
     ensures agrees { IfOk result (λ opening. (w : World) → StandsFor core.old w

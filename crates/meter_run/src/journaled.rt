@@ -13,7 +13,7 @@ ghost use Rattle.relay_core.specs.Opening.{opening_of};
 ghost use Rattle.shared_meter.specs.Calls.{Calls};
 ghost use Rattle.turn_lock.specs.Rule.{first_known};
 
-use crate::running::{lock, serve, close_and_export};
+use crate::running::{close_and_export, lock, serve};
 use cosem_axdr::Octets;
 use durable_lines::DurableFile;
 use meter_journal::{

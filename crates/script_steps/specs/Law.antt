@@ -75,10 +75,10 @@ IsNamed (WriteNormal which watts) =
     attribute_at (address_named_by (WriteNormal which watts)) ≡ reference which ThresholdNormal
 IsNamed (WriteEmergency which watts) =
     attribute_at (address_named_by (WriteEmergency which watts))
-        ≡ reference which ThresholdEmergency
+    ≡ reference which ThresholdEmergency
 IsNamed (WriteMinOver which seconds) =
     attribute_at (address_named_by (WriteMinOver which seconds))
-        ≡ reference which MinOverThresholdDuration
+    ≡ reference which MinOverThresholdDuration
 IsNamed (WriteMinUnder which seconds) =
     attribute_at (address_named_by (WriteMinUnder which seconds))
     ≡ reference which MinUnderThresholdDuration

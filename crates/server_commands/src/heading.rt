@@ -106,8 +106,10 @@ fn event_count(line: &[u8]) -> Result<u32, Fault>
 
 // Reads the text of the trace at the head of an input, up to the line of its last event.
 #[tactic(auto, using(crate::proofs::Heads::grows_on, crate::proofs::Heads::grows_none))]
-fn read_head_text<I: Read>(alloc: Global, input: &mut BufReader<Monitored<I>>) -> Result<Vec<u8>,
-    Fault>
+fn read_head_text<I: Read>(
+    alloc: Global,
+    input: &mut BufReader<Monitored<I>>,
+) -> Result<Vec<u8>, Fault>
     ensures grows { IfOk result
         (λ text. Grows [] (left_in I.remaining input.old) text.items
         (left_in I.remaining input.new)) }

@@ -63,7 +63,7 @@ impl StreamLimits {
     pub fn left_after(self, lasted: Duration) -> Option<Duration>
         ensures { nanos_of result
             ≡ lesser_limit (nanos_of self.call)
-                (limit_after (nanos_of self.session) (as_nanos lasted)) }
+            (limit_after (nanos_of self.session) (as_nanos lasted)) }
     {
         let Some(session) = self.session else {
             return self.call;

@@ -182,7 +182,7 @@ outgoing_by asked reply = option_and_then (transfer_after 1) (reply_transfer ask
 abbrev pub response_in_blocks : Link → InvokeId → List ℕ → Response
 response_in_blocks link id raw =
     if can_go_in_blocks link raw then block_response id
-        (next_piece (unsent_transfer link.limit raw))
+    (next_piece (unsent_transfer link.limit raw))
     else response.Get id (result.Code OtherReason)
 
 -- the text that this answer begins to send in blocks, if it does

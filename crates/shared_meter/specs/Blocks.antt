@@ -24,7 +24,7 @@ AreOfBlocks place (block ∷ blocks) events =
 abbrev pub AllBlocks : Option (List Samples) → List Event → Type 0
 AllBlocks told events =
     IfSome told (λ blocks. (without_reads events ≡ map event.Samples blocks)
-        × AreOfBlocks 0 blocks events)
+    × AreOfBlocks 0 blocks events)
 
 -- the events of the blocks that are left, the first of which has this index; a block that waits
 -- for the reply to its read comes first

@@ -2,7 +2,7 @@
 ghost use Rattle.trace_lines.specs.Events.{event_of};
 ghost use Rattle.trace_words.specs.Places.{ReadsLines, line_as};
 
-use crate::events::{read_event_words, read_event};
+use crate::events::{read_event, read_event_words};
 use relay_events::Event;
 use std::alloc::Global;
 use trace_words::{HeldLines, TraceFault, TraceLines, Version};

@@ -202,8 +202,11 @@ fn read_event_after(
 
 // Reads the event of a line of words.
 #[tactic(auto, unfolding(crate::specs::Events::event_of))]
-pub(crate) fn read_event_words(alloc: Global, version: Version, words: &mut Words) -> Result<Event,
-    RowFault>
+pub(crate) fn read_event_words(
+    alloc: Global,
+    version: Version,
+    words: &mut Words,
+) -> Result<Event, RowFault>
     ensures { Gives Memory (λ event. event) result (event_of version words.old) }
 {
     let first = next_word(words)?;

@@ -49,8 +49,11 @@ fn read_label_of(which: Which, name: &[u8], words: &mut Words) -> Result<(), Row
 }
 
 // Reads a line of one value, in watts or seconds.
-pub(crate) fn read_labelled_number(which: Which, name: &[u8], words: &mut Words) -> Result<u32,
-    RowFault>
+pub(crate) fn read_labelled_number(
+    which: Which,
+    name: &[u8],
+    words: &mut Words,
+) -> Result<u32, RowFault>
     ensures { Gives Memory (λ value. value) result
         (labelled_value (label which name.now) value_in words.old) }
 {
@@ -72,8 +75,11 @@ fn start_in(alloc: Global, word: &[u8]) -> Result<DateTimeField, RowFault>
 
 // Reads the line of the emergency profile: id, start and duration.
 #[tactic(auto, unfolding(crate::specs::OpeningFields::profile_from))]
-pub(crate) fn read_profile(alloc: Global, which: Which, words: &mut Words) -> Result<Profile,
-    RowFault>
+pub(crate) fn read_profile(
+    alloc: Global,
+    which: Which,
+    words: &mut Words,
+) -> Result<Profile, RowFault>
     ensures { Gives Memory (λ profile. profile) result (profile_from which words.old) }
 {
     read_label_of(which, b"profile", words)?;

@@ -7,7 +7,9 @@ ghost use Rattle.trace_words.specs.Labels.{labelled_value};
 ghost use Rattle.trace_words.specs.Places.{ReadsLines, line_as};
 ghost use Rattle.trace_words.specs.Reading.{value_in};
 
-use crate::limiter_fields::{read_actions, read_groups, read_over, read_profile, read_under, read_labelled_number};
+use crate::limiter_fields::{
+    read_actions, read_groups, read_labelled_number, read_over, read_profile, read_under,
+};
 use cosem_names::Which;
 use limiter_core::{Count, Settings};
 use relay_core::LimiterOpening;

@@ -16,7 +16,7 @@ use script_steps::{ScriptFault, ScriptTable};
 use std::alloc::Global;
 use text_lines::Words;
 use trace_words::{
-    RowFault, Version, read_label, bytes_in, data_in, last_word, next_long, next_word, number_in,
+    RowFault, Version, bytes_in, data_in, last_word, next_long, next_word, number_in, read_label,
     read_labelled,
 };
 

@@ -6,7 +6,9 @@ ghost use Rattle.trace_openings.specs.OpeningReading.{IsFitStart, opening_after_
 ghost use Rattle.trace_words.specs.Places.{ReadsLines, line_as};
 
 use crate::limiter_lines::{read_export, read_last, read_limiter};
-use crate::opening_fields::{read_device, read_mode, read_moment, read_schedule_words, read_state, read_table, read_version};
+use crate::opening_fields::{
+    read_device, read_mode, read_moment, read_schedule_words, read_state, read_table, read_version,
+};
 use action_schedule::ActionSchedule;
 use cosem_axdr::Octets;
 use cosem_names::Which;

@@ -46,7 +46,7 @@ trace_of_opening version count opening place = do
 abbrev pub trace_after : Version → Option ℕ → Opening → Place → Result Trace TraceFault
 trace_after version counted opening place =
     trace_of_opening version (counted_events counted place).0 opening
-        (counted_events counted place).1
+    (counted_events counted place).1
 
 -- a trace: the opening, the number of the events, the events, and nothing more
 unfoldable pub trace_from : Place → Result Trace TraceFault

@@ -37,7 +37,7 @@ fn play_after_opening(
     requires { IsFitOpening opening.now }
     ensures ok { IfOk result
         (λ output. PlaysTrace (trace_of_opening version count opening.now lines.old)
-            output.lines.items
+        output.lines.items
         output.count) }
     ensures err { IfErr result
         (λ fault. Fails trace_fault.Memory fault

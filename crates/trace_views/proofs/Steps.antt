@@ -47,7 +47,7 @@ steps_text-push : (view : TraceView) (front : List Step) (step : Step)
 steps_text-push view front step =
     ap (flat_map (text_of_step view)) (filter-append (is_step_shown view) front (step ∷ []))
     ∙ flat_map-append (text_of_step view) (filter (is_step_shown view) front)
-        (filter (is_step_shown view) (step ∷ []))
+    (filter (is_step_shown view) (step ∷ []))
     ∙ ap (λ (bytes : List ℕ). steps_text view front ++ bytes) (one_shown view step)
 
 -- the core applied these events, and the lines that the view shows of them were written

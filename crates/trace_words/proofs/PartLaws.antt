@@ -188,7 +188,7 @@ module _ {A : Type 0} {m : ℕ} (item : Part A) (exact : IsExact Anything m item
   items_short [] fit = words_in 0 (0 * m) [] no_words (omega arith)
   items_short (x ∷ xs) fit =
       words_in (m + length xs * m) (suc (length xs) * m)
-          (item.text x ++ all_words (words_before item) xs)
+      (item.text x ++ all_words (words_before item) xs)
       (append_short m (length xs * m) (item.text x) (all_words (words_before item) xs)
       (exact.short x fit.0)
       (items_short xs fit.1)) (omega (arith, suc-mul (length xs) m))
@@ -289,7 +289,7 @@ module _ {A : Type 0} {m : ℕ} (item : Part A) (exact : IsExact Anything m item
         words_in (1 + 10 + length items * m) bound (decimal (length items)
         ∷ all_words (words_before item) items)
         (word_on 10 (length items * m) (decimal (length items))
-            (all_words (words_before item) items)
+        (all_words (words_before item) items)
         (number_short (length items) (omega (arith, fit.0))) (items_short items fit.1))
         (within (length items) fit.0);
   }

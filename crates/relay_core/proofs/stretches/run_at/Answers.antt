@@ -21,7 +21,7 @@ returns-then-under-gt0-clause-kind c = λ n within.
     let P : ℕ → Type 0 = λ v. IsTrue (is_under c.args.scan.now.threshold v) in
     let rest = drop c.args.at c.args.values.now in
     let all = c.run_from-under.ensures.all_pass (is_under c.args.scan.now.threshold)
-        c.args.values.now
+    c.args.values.now
     c.requires.right.under in
     let fewer : n ≤ c.run_from-under.result =
     omega (arith, within, c.from-then-under-gt0.ensures) in

@@ -6,7 +6,7 @@ pub returns-then-matches_day : goal.returns-then-matches_day
 returns-then-matches_day c =
     day_tells c.args.self.now c.args.day c.args.from c.args.to c.matches_between.result
     c.requires.to_in_day (sym c.matches_day.ensures ∙ c.if-matches_day.true)
-        c.matches_between.ensures
+    c.matches_between.ensures
 
 pub returns-else-matches_day : goal.returns-else-matches_day
 returns-else-matches_day c =
