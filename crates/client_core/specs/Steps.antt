@@ -1,5 +1,5 @@
 -- The progress payload by payload.
---     progress_after        the effect of one more payload;  after_frame: of one more frame
+--     progress_after        the effect of one more payload; progress_after_frame: of one more frame
 --     progress_after_bytes  the effect of more bytes on the progress so far
 --     Moves                 frames are removed from the front of bytes and have their effect
 --     Hears                 what Moves says, with no whole frame left

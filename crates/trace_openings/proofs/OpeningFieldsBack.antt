@@ -108,9 +108,9 @@ schedule_read number row schedule e =
 
 -- ---- at a place
 
-pub value_back : (which : Which) (name : Word) (place : Place) (x : ℕ) (words_after : Place)
-    → line_as (labelled_value (label which name) value_in) place ≡ Ok (x, words_after)
-    → Took (number_row (label which name) x ∷ []) place words_after
-value_back which name place x words_after e = line_back ℕ
+pub value_back : (which : Which) (name : Word) (place : Place) (x : ℕ) (later : Place)
+    → line_as (labelled_value (label which name) value_in) place ≡ Ok (x, later)
+    → Took (number_row (label which name) x ∷ []) place later
+value_back which name place x later e = line_back ℕ
     (labelled_value (label which name) value_in)
-    (number_row (label which name)) (value_line_back (label which name)) place x words_after e
+    (number_row (label which name)) (value_line_back (label which name)) place x later e

@@ -46,7 +46,7 @@ ReadsEvent (Err fault) new given = (given ≡ Err fault) × IsLine fault
 unfoldable pub events_front : Version → ℕ → Place → List Event × End
 events_front version zero place = ([], ended_at place tt)
 events_front version (suc count) place =
-    events_with (line_as (event_of version) place) (λ behind. events_front version count behind)
+    events_with (line_as (event_of version) place) (λ later. events_front version count later)
 
 -- a trace of an opening and of events
 abbrev pub front_with : Opening → List Event × End → Trace × End

@@ -31,9 +31,9 @@ pub(crate) fn whole_lines(text: &[u8]) -> (usize, u64)
 {
     let mut rest = text;
     let mut count: u64 = 0;
-    'lines: while let Some(behind) = skip_whole_line(rest) {
+    'lines: while let Some(next_rest) = skip_whole_line(rest) {
         count += 1;
-        rest = behind;
+        rest = next_rest;
     }
     (text.len() - rest.len(), count)
 }
