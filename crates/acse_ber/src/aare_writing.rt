@@ -2,7 +2,8 @@
 ghost use Rattle.std.specs.Prelude.{◌≡◌, ◌++◌, IfOk, OnOk};
 ghost use Rattle.std.proofs.Common.{inl, inr};
 ghost use Rattle.acse_ber.specs.Parts.{info_part};
-ghost use Rattle.acse_ber.specs.Text.{user_text, result_text, diagnostic_text, info_text, aare_text};
+ghost use Rattle.acse_ber.specs.Text.{user_text, result_text, diagnostic_text, info_text};
+ghost use Rattle.acse_ber.specs.Text.{aare_text};
 
 use crate::aare::{Aare, Info};
 use crate::field_writing::{put_context, put_tagged, put_user};

@@ -1,5 +1,6 @@
 -- An open association remains open, whatever bytes follow.
-use Rattle.std.proofs.Common.{◌≡◌, ℕ, Bool, true, List, [], ◌∷◌, ◌++◌, Some, None, refl, ◌∙◌, ap, subst, sym}
+use Rattle.std.proofs.Common.{◌≡◌, ℕ, Bool, true, List, [], ◌∷◌, ◌++◌, Some, None, refl, ◌∙◌, ap}
+use Rattle.std.proofs.Common.{subst, sym}
 use Rattle.std.specs.Prelude.{Option}
 use Rattle.wrapper_frame.specs.Header.{head_of}
 use Rattle.wrapper_frame.specs.Messages.{frames_of, rest_of}

@@ -5,7 +5,8 @@ ghost use Rattle.cosem_names.specs.UnknownNumber.{Finds};
 ghost use Rattle.disconnect_control.specs.declared.state.ControlState.TheVariants.{Connected};
 ghost use Rattle.disconnect_control.specs.declared.state.ControlMode.TheVariants.{Mode0};
 ghost use Rattle.disconnect_control.specs.Transitions.{allowed_transition, is_target, is_state, result_of, state_number, mode_number, mode_of};
-ghost use Rattle.disconnect_control.specs.Control.{Control, control_after, is_mode_fit, with_mode, mode_result};
+ghost use Rattle.disconnect_control.specs.Control.{Control, control_after, is_mode_fit, with_mode};
+ghost use Rattle.disconnect_control.specs.Control.{mode_result};
 
 use crate::state::{ControlMode, ControlState, Trigger};
 use cosem_names::{ResultCode, UnknownNumber};

@@ -1,6 +1,7 @@
 //! `FileState`: a file in memory at one moment, with what was written since the last sync.
 ghost use Rattle.std.specs.Prelude.{◌≡◌, ◌≤◌, ◌++◌, length, IfOk, OnOk};
-ghost use Rattle.durable_lines.specs.FileState.{after_append, after_cut, text_left_by, text_left_uncut};
+ghost use Rattle.durable_lines.specs.FileState.{after_append, after_cut, text_left_by};
+ghost use Rattle.durable_lines.specs.FileState.{text_left_uncut};
 ghost use Rattle.durable_lines.specs.FileState.{seen_of, synced_with, torn_text, IsLeft};
 
 use crate::byte_fate::ByteFate;

@@ -8,7 +8,8 @@ use Rattle.client_core.specs.declared.client.Client.{Client}
 use Rattle.client_core.specs.declared.job.Verb.{Verb}
 use Rattle.client_core.specs.declared.job.Outcome.{Outcome}
 use Rattle.client_core.specs.declared.progress.Progress.{Progress}
-use Rattle.client_core.specs.Outcomes.{progress_of, outcome_after, outcome_of, due_frames, is_served}
+use Rattle.client_core.specs.Outcomes.{progress_of, outcome_after, outcome_of, due_frames}
+use Rattle.client_core.specs.Outcomes.{is_served}
 use Rattle.client_core.specs.Texts.{text_at}
 use Rattle.client_core.specs.Standing.{Stands, GivesNextMessage, Feeds, Tells}
 use Rattle.client_core.proofs.Accepting.{accepted_stays}

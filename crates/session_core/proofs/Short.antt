@@ -12,7 +12,8 @@ use Rattle.session_core.specs.Answers.{answer_text, IsSmall}
 use Rattle.session_core.specs.Standard.{greatest_pdu, greatest_raw}
 use Rattle.session_core.specs.declared.answer.Answer.TheVariants.{Association, Release, Service}
 use Rattle.xdlms_apdu.specs.Responses.{response_text}
-use Rattle.xdlms_apdu.specs.declared.response.Exception.TheVariants.{NotAllowed, Unknown, Unreadable}
+use Rattle.xdlms_apdu.specs.declared.response.Exception.TheVariants.{NotAllowed, Unknown}
+use Rattle.xdlms_apdu.specs.declared.response.Exception.TheVariants.{Unreadable}
 use Rattle.xdlms_apdu.specs.declared.response.Response.{Response}
 use Rattle.xdlms_apdu.specs.declared.response.Response.TheVariants as response
 

@@ -14,7 +14,8 @@ use Rattle.session_io.specs.Serving.{Plan, WritesTexts, remaining_plan, longest_
 use Rattle.session_io.specs.Sides.{Output, Outlets, Sides, WritesNothing}
 use Rattle.session_core.specs.Ends.{EndsWithInput}
 use Rattle.session_core.specs.Progress.{IsOver}
-use Rattle.session_core.specs.Remaining.{still_asks, still_sends, still_ends, is_asking, is_finished}
+use Rattle.session_core.specs.Remaining.{still_asks, still_sends, still_ends, is_asking}
+use Rattle.session_core.specs.Remaining.{is_finished}
 use Rattle.session_core.specs.declared.end.SessionEnd.{SessionEnd}
 use Rattle.session_core.specs.declared.end.SessionEnd.TheVariants as ending
 use Rattle.session_core.specs.declared.session.Session.{Session}

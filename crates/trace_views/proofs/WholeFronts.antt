@@ -15,7 +15,8 @@ use Rattle.trace_words.specs.Rows.{Row}
 use Rattle.trace_words.specs.declared.fault.TraceFault.{TraceFault}
 use Rattle.trace_words.specs.declared.fault.TraceFault.TheVariants.{TooLong}
 use Rattle.trace_words.specs.declared.version.Version.{Version}
-use Rattle.trace_views.specs.Fronts.{End, events_with, events_front, front_from, front_of, front_with}
+use Rattle.trace_views.specs.Fronts.{End, events_with, events_front, front_from, front_of}
+use Rattle.trace_views.specs.Fronts.{front_with}
 use Rattle.trace_views.specs.Fronts.{trace_by}
 
 -- the events that were read, if nothing is left after them

@@ -1,7 +1,8 @@
 use Rattle.std.proofs.Common.{◌≡◌, ℕ, List, Bor, None, false, true, option_map, refl}
 use Rattle.std.proofs.lemmas.Bool.{eq-eqb, ne_eqb}
 use Rattle.acse_ber.specs.Reading.{fields_of, field_of}
-use Rattle.acse_ber.proofs.Steps.{still, field_shorter, skips, finds, is_twice, is_refused, is_found}
+use Rattle.acse_ber.proofs.Steps.{still, field_shorter, skips, finds, is_twice, is_refused}
+use Rattle.acse_ber.proofs.Steps.{is_found}
 use Rattle.acse_ber.proofs.field.find_field.Goals as goal
 
 pub returns-in_default : goal.returns-in_default
