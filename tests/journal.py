@@ -320,7 +320,7 @@ def a_journal_is_renewed(name, folder):
         client.close()
         check(f"{name}: run {turn}, end", server.ended()[0] == 0)
     held = sorted(it.name for it in folder.iterdir() if it.name != "journal.lock")
-    check(f"{name}: what is kept", held == ["journal", "journal.1", "journal.2"], held)
+    check(f"{name}: the files", held == ["journal", "journal.1", "journal.2"], held)
     older = (folder / "journal.1").read_bytes()
     check(f"{name}: a journal before it", len(older) > limit and lines_played(folder / "journal.1"))
 

@@ -6,7 +6,7 @@ use Rattle.wire_bytes.specs.Outcome.{◌>>=◌}
 use Rattle.wire_bytes.proofs.Lawful.{found, read_again}
 use Rattle.wire_bytes.proofs.OutcomeLemmas.{done, ok_is, bind_ok, guard_ok}
 use Rattle.acse_ber.specs.Parts.{Field, info_part, result_part, diagnostic_part}
-use Rattle.acse_ber.specs.Reading.{whole, tag_contents, fields_of, field_of, or_unreadable, inner_of}
+use Rattle.acse_ber.specs.Reading.{whole_value, tag_contents, fields_of, field_of, or_unreadable, inner_of}
 use Rattle.acse_ber.specs.Reading.{known_info, or_absent, info_in, info_of, is_response, aare_with_diagnostic}
 use Rattle.acse_ber.specs.Reading.{aare_with_result, aare_in, aare_of}
 use Rattle.acse_ber.specs.Spelling.{HasInfo, IsInfo, SpellsAare}
@@ -26,7 +26,7 @@ given read = or_absent (read >>= λ info. Ok (known_info info))
 
 -- what was read is spelled; if nothing was, nothing is
 info_by : (text : List ℕ) (read : Result ((ℕ × ℕ) ⊎ ℕ) AcseFault)
-    → whole (info_part.read text) ≡ read → IsInfo (given read) text
+    → whole_value (info_part.read text) ≡ read → IsInfo (given read) text
 info_by text (Ok (inl response)) e = found Unreadable info_lawful text (inl response) e
 info_by text (Ok (inr error)) e = found Unreadable info_lawful text (inr error) e
 info_by text (Err fault) e = λ info s.
@@ -35,16 +35,16 @@ info_by text (Err fault) e = λ info s.
 
 info_found : (text : List ℕ) → IsInfo (info_in text) text
 unfolding info_in
-info_found text = info_by text (whole (info_part.read text)) refl
+info_found text = info_by text (whole_value (info_part.read text)) refl
 
 absent_by : (text : List ℕ) (read : Result ((ℕ × ℕ) ⊎ ℕ) AcseFault)
-    → whole (info_part.read text) ≡ read → IsInfo Absent text → given read ≡ Absent
+    → whole_value (info_part.read text) ≡ read → IsInfo Absent text → given read ≡ Absent
 absent_by text (Ok info) e none = absurd (none info (found Unreadable info_lawful text info e))
 absent_by text (Err fault) e none = refl
 
 info_again : (info : Info) (text : List ℕ) → IsInfo info text → info_in text ≡ info
 unfolding info_in
-info_again Absent text none = absent_by text (whole (info_part.read text)) refl none
+info_again Absent text none = absent_by text (whole_value (info_part.read text)) refl none
 info_again (Response bits limit) text s =
     ap given (read_again Unreadable info_lawful text (inl (bits, limit)) s)
 info_again (InitiateError error) text s =
@@ -86,9 +86,9 @@ unfolding aare_of aare_in aare_with_result aare_with_diagnostic
 aare_found bytes aare e =
     let t = bind_ok (tag_contents 0x61 bytes) _ aare e in
     let r = bind_ok (field_of 0xA2 t.0 >>= or_unreadable) _ aare t.2 in
-    let o = bind_ok (whole (result_part.read r.0)) _ aare r.2 in
+    let o = bind_ok (whole_value (result_part.read r.0)) _ aare r.2 in
     let s = bind_ok (field_of 0xA3 t.0 >>= or_unreadable) _ aare o.2 in
-    let d = bind_ok (whole (diagnostic_part.read s.0)) _ aare s.2 in
+    let d = bind_ok (whole_value (diagnostic_part.read s.0)) _ aare s.2 in
     let u = bind_ok (inner_of 0xBE 0x04 t.0) _ aare d.2 in
     let made : Aare = record { result = o.0; diagnostic = d.0; info = info_of u.0 } in
     let g = guard_ok (not (o.0 == 0) || is_response (info_of u.0)) Unreadable
@@ -125,11 +125,11 @@ aare_again bytes aare s =
     let d = s.diagnostic_field in
     let result_field : field_of 0xA2 body ≡ Ok (Some r.contents) =
     one_again 0xA2 body s.fields r.contents a.1 r.one in
-    let outcome : whole (result_part.read r.contents) ≡ Ok aare.result =
+    let outcome : whole_value (result_part.read r.contents) ≡ Ok aare.result =
     read_again Unreadable result_lawful r.contents aare.result r.holds in
     let diagnostic_field : field_of 0xA3 body ≡ Ok (Some d.contents) =
     one_again 0xA3 body s.fields d.contents a.1 d.one in
-    let diagnostic : whole (diagnostic_part.read d.contents) ≡ Ok aare.diagnostic =
+    let diagnostic : whole_value (diagnostic_part.read d.contents) ≡ Ok aare.diagnostic =
     read_again Unreadable diagnostic_lawful d.contents aare.diagnostic d.holds in
     let u = user_again body s.fields aare.info a.1 s.user in
     let test : (not (aare.result == 0) || is_response aare.info) ≡ true =

@@ -1,6 +1,6 @@
 -- The parts of the ACSE APDUs as formats (IEC 62056-5-3, AARQ and AARE; BER: ISO/IEC 8825-1), each
 -- with its ASN.1.
---     literal, after            expected bytes, and a part after them
+--     literal, part_after             expected bytes, and a part after them
 --     length_part .. field_part       a length, contents after their length, a tag, a field
 --     proposal_part .. info_part      user information
 --     result_part, diagnostic_part    the result and the diagnostic of an AARE
@@ -45,8 +45,8 @@ literal expected = record {
 }
 
 -- a part after the expected bytes
-abbrev pub after : {A : Type 0} → List ℕ → Part A → Part A
-after head part = iso (λ both. both.1) (λ a. (tt, a)) (literal head & part)
+abbrev pub part_after : {A : Type 0} → List ℕ → Part A → Part A
+part_after head part = iso (λ both. both.1) (λ a. (tt, a)) (literal head & part)
 
 -- a part whose value passes a test
 abbrev pub with_test : {A : Type 0} → (A → Bool) → Part A → Part A
@@ -136,7 +136,7 @@ bits_part = record {
 
 -- Conformance ::= [APPLICATION 31] IMPLICIT BIT STRING (SIZE(24))
 abbrev pub conformance_part : Part ℕ
-conformance_part = after (0x5F ∷ 0x1F ∷ 0x04 ∷ 0x00 ∷ []) bits_part
+conformance_part = part_after (0x5F ∷ 0x1F ∷ 0x04 ∷ 0x00 ∷ []) bits_part
 
 -- InitiateRequest ::= [1] SEQUENCE
 --     { dedicated-key OCTET STRING OPTIONAL, response-allowed BOOLEAN DEFAULT TRUE,
@@ -150,7 +150,7 @@ proposed_part = iso
 
 abbrev pub proposal_part : Part Proposal
 proposal_part = iso (λ p. p.1.1) (λ r. (tt, (tt, r)))
-    (after (0x01 ∷ 0x00 ∷ []) optional_byte & optional_byte & proposed_part)
+    (part_after (0x01 ∷ 0x00 ∷ []) optional_byte & optional_byte & proposed_part)
 
 -- InitiateResponse ::= [8] SEQUENCE
 --     { negotiated-quality-of-service Integer8 OPTIONAL, negotiated-dlms-version-number Unsigned8,
@@ -168,7 +168,7 @@ response_part = iso (λ p. (p.1.1.0, p.1.1.1.0)) (λ r. (tt, (tt, (r.0, (r.1, tt
 abbrev pub info_forms : Choice ℕ AcseFault ((ℕ × ℕ) ⊎ ℕ)
 info_forms =
     on 0x08 response_part inl (
-    on 0x0E (after (0x01 ∷ 0x06 ∷ []) byte_part) inr (
+    on 0x0E (part_after (0x01 ∷ 0x06 ∷ []) byte_part) inr (
     otherwise Unreadable))
 
 abbrev pub info_parts : (ℕ × ℕ) ⊎ ℕ → Parts info_forms
@@ -182,7 +182,7 @@ info_part = one_of Unreadable info_forms info_parts
 
 -- Association-result ::= INTEGER, of one byte
 abbrev pub result_part : Part ℕ
-result_part = after (0x02 ∷ 0x01 ∷ []) byte_part
+result_part = part_after (0x02 ∷ 0x01 ∷ []) byte_part
 
 -- Associate-source-diagnostic ::= CHOICE
 --     { acse-service-user [1] INTEGER, acse-service-provider [2] INTEGER }, of one byte, of which
@@ -197,4 +197,4 @@ source_parts false = inr (inl tt)
 abbrev pub diagnostic_part : Part ℕ
 diagnostic_part = iso (λ p. p.1) (λ d. (tt, d))
     (placeholder true (one_of Unreadable source_forms source_parts)
-    & after (0x03 ∷ 0x02 ∷ 0x01 ∷ []) byte_part)
+    & part_after (0x03 ∷ 0x02 ∷ 0x01 ∷ []) byte_part)

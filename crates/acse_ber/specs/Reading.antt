@@ -1,6 +1,6 @@
 -- Reading the APDUs of the Association Control Service Element (IEC 62056-5-3, AARQ, AARE and
 -- RLRQ), in BER (ISO/IEC 8825-1). The only fault is `Unreadable`.
---     Yields, whole                   how a step of code that reads all of its bytes is compared
+--     Yields, whole_value             how a step of code that reads all of its bytes is compared
 --                                     with a definition; a reading of all the bytes
 --     tag_contents                    the contents of one tag that fill the bytes
 --     fields_of, field_of             the fields of an APDU, in any order, and the field with a tag
@@ -30,12 +30,12 @@ Yields view (Ok x) given = given ≡ Ok (view x)
 Yields view (Err fault) given = given ≡ Err fault
 
 -- the value read, if no bytes follow it
-abbrev pub whole : {X : Type 0} → Result (X × List ℕ) AcseFault → Result X AcseFault
-whole read = whole_or Unreadable read
+abbrev pub whole_value : {X : Type 0} → Result (X × List ℕ) AcseFault → Result X AcseFault
+whole_value read = whole_or Unreadable read
 
 -- the contents of this tag, which must fill the bytes
 unfoldable pub tag_contents : ℕ → List ℕ → Result (List ℕ) AcseFault
-tag_contents tag bytes = whole ((tagged_part tag).read bytes)
+tag_contents tag bytes = whole_value ((tagged_part tag).read bytes)
 
 -- ---- fields
 
@@ -106,7 +106,7 @@ needed_inner tag inner body = inner_of tag inner body >>= or_unreadable
 
 -- the InitiateRequest that the bytes are
 unfoldable pub proposal_of : List ℕ → Result Proposal AcseFault
-proposal_of bytes = whole (proposal_part.read bytes)
+proposal_of bytes = whole_value (proposal_part.read bytes)
 
 -- user information that was read as a response or an error
 abbrev pub known_info : (ℕ × ℕ) ⊎ ℕ → Info
@@ -115,7 +115,7 @@ known_info (inr error) = InitiateError error
 
 -- the InitiateResponse or the ConfirmedServiceError that the bytes are
 abbrev pub known_info_of : List ℕ → Result Info AcseFault
-known_info_of bytes = whole (info_part.read bytes) >>= λ info. Ok (known_info info)
+known_info_of bytes = whole_value (info_part.read bytes) >>= λ info. Ok (known_info info)
 
 -- the user information that was read, or absent
 abbrev pub or_absent : Result Info AcseFault → Info
@@ -166,7 +166,7 @@ aare_with_diagnostic outcome diagnostic body = do
 unfoldable pub aare_with_result : ℕ → List ℕ → Result Aare AcseFault
 aare_with_result outcome body = do
   diagnostic_field ← field_of 0xA3 body >>= or_unreadable
-  diagnostic ← whole (diagnostic_part.read diagnostic_field)
+  diagnostic ← whole_value (diagnostic_part.read diagnostic_field)
   aare_with_diagnostic outcome diagnostic body
 
 -- the fields of an AARE; the result and the diagnostic must be present, and an InitiateResponse too
@@ -174,7 +174,7 @@ aare_with_result outcome body = do
 unfoldable pub aare_in : List ℕ → Result Aare AcseFault
 aare_in body = do
   result_field ← field_of 0xA2 body >>= or_unreadable
-  outcome ← whole (result_part.read result_field)
+  outcome ← whole_value (result_part.read result_field)
   aare_with_result outcome body
 
 -- an AARE

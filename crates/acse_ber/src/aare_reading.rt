@@ -2,9 +2,9 @@
 //! fields (IEC 62056-5-3).
 ghost use Rattle.std.specs.Prelude.{◌≡◌, Ok, IfOk, option_map};
 ghost use Rattle.wire_bytes.specs.Reading.{Reads, read_as};
-ghost use Rattle.acse_ber.specs.Parts.{byte_part, after, result_part, diagnostic_part, info_part};
+ghost use Rattle.acse_ber.specs.Parts.{byte_part, part_after, result_part, diagnostic_part, info_part};
 ghost use Rattle.acse_ber.specs.Parts.{response_part};
-ghost use Rattle.acse_ber.specs.Reading.{whole, known_info, known_info_of, info_of, is_response};
+ghost use Rattle.acse_ber.specs.Reading.{whole_value, known_info, known_info_of, info_of, is_response};
 ghost use Rattle.acse_ber.specs.Reading.{aare_of, aare_in, aare_with_result, aare_with_diagnostic};
 ghost use Rattle.acse_ber.specs.Spelling.{SpellsAare};
 ghost use Rattle.acse_ber.specs.declared.aare.Aare.{Aare};
@@ -34,7 +34,7 @@ pub fn read_aare(_alloc: Global, bytes: &[u8]) -> Result<Aare, AcseFault>
     ensures found { IfOk result (SpellsAare bytes.now) }
 
     // If the bytes spell an AARE, that AARE is read.
-    ensures only { (aare : Aare) → SpellsAare bytes.now aare → result ≡ Ok aare }
+    ensures unique { (aare : Aare) → SpellsAare bytes.now aare → result ≡ Ok aare }
 
     // The fault is never out of memory.
     ensures exact { result ≡ aare_of bytes.now }
@@ -90,7 +90,7 @@ const ACCEPTED: u8 = 0;
 
 // Reads the association result: an integer of one byte.
 fn read_result(contents: &[u8]) -> Result<u8, AcseFault>
-    ensures { result ≡ whole (result_part.read contents.now) }
+    ensures { result ≡ whole_value (result_part.read contents.now) }
 {
     let mut reader = Cursor::new(contents);
     let outcome = read_byte_after(&[tag::INTEGER, 1], &mut reader)?;
@@ -99,10 +99,11 @@ fn read_result(contents: &[u8]) -> Result<u8, AcseFault>
 
 // Reads the diagnostic, of the service user or the service provider: an integer of one byte.
 fn read_diagnostic(contents: &[u8]) -> Result<u8, AcseFault>
-    ensures { result ≡ whole (diagnostic_part.read contents.now) }
+    ensures { result ≡ whole_value (diagnostic_part.read contents.now) }
 {
     let mut reader = Cursor::new(contents);
-    let (tag::SERVICE_USER | tag::SERVICE_PROVIDER) = reader.byte(AcseFault::Unreadable)? else {
+    let (tag::SERVICE_USER | tag::SERVICE_PROVIDER) = reader.read_byte(AcseFault::Unreadable)?
+    else {
         return Err(AcseFault::Unreadable);
     };
     let diagnostic = read_byte_after(&[3, tag::INTEGER, 1], &mut reader)?;
@@ -112,10 +113,10 @@ fn read_diagnostic(contents: &[u8]) -> Result<u8, AcseFault>
 // Reads the expected bytes and returns the byte after them.
 fn read_byte_after(expected: &[u8], reader: &mut Cursor) -> Result<u8, AcseFault>
     ensures { Reads (λ byte. byte) result reader.new
-        ((after expected.now byte_part).read reader.old) }
+        ((part_after expected.now byte_part).read reader.old) }
 {
     read_literal(expected, reader)?;
-    reader.byte(AcseFault::Unreadable)
+    reader.read_byte(AcseFault::Unreadable)
 }
 
 // Reads user information, if it is present.
@@ -153,7 +154,7 @@ fn read_known_info(reader: &mut Cursor) -> Result<Info, AcseFault>
     ensures { Reads (λ info. info) result reader.new
         (read_as known_info (info_part.read reader.old)) }
 {
-    match reader.byte(AcseFault::Unreadable)? {
+    match reader.read_byte(AcseFault::Unreadable)? {
         RESPONSE_TAG => {
             let (bits, limit) = read_response(reader)?;
             Ok(Info::Response { bits, limit })
@@ -169,9 +170,9 @@ fn read_response(reader: &mut Cursor) -> Result<(u32, u16), AcseFault>
     ensures { Reads (λ response. response) result reader.new (response_part.read reader.old) }
 {
     skip_optional_byte(reader)?;
-    let _version = reader.byte(AcseFault::Unreadable)?;
+    let _version = reader.read_byte(AcseFault::Unreadable)?;
     let conformance = read_conformance(reader)?;
     let limit = read_size(reader)?;
-    let _name = reader.bytes(2, AcseFault::Unreadable)?;
+    let _name = reader.read_bytes(2, AcseFault::Unreadable)?;
     Ok((conformance.bits(), limit))
 }

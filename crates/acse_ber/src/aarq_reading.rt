@@ -24,7 +24,7 @@ pub fn read_aarq(alloc: Global, bytes: &[u8]) -> Result<Aarq, AcseFault>
     ensures found { IfOk result (SpellsAarq bytes.now) }
 
     // If the bytes spell an AARQ, that AARQ is read, unless out of memory.
-    ensures only { (aarq : Aarq) → SpellsAarq bytes.now aarq
+    ensures unique { (aarq : Aarq) → SpellsAarq bytes.now aarq
         → MatchResult result (λ read. read ≡ aarq) (λ fault. fault ≡ AcseFault.Memory) }
 
     // The fault is that of the definition, or out of memory.

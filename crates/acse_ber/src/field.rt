@@ -22,7 +22,7 @@ fn read_field<'a>(reader: &mut Cursor<'a>) -> Result<Field<'a>, AcseFault>
     ensures { Reads (λ field. record { tag = field.tag; contents = field.contents.now }) result
         reader.new (field_part.read reader.old) }
 {
-    match reader.byte(AcseFault::Unreadable)? {
+    match reader.read_byte(AcseFault::Unreadable)? {
         tag @ FIRST_FIELD..=LAST_FIELD => Ok(Field {
             tag,
             contents: read_contents(reader)?,
@@ -37,7 +37,7 @@ pub(crate) fn read_tagged(tag: u8, bytes: &[u8]) -> Result<&[u8], AcseFault>
     ensures { Yields (λ contents. contents.now) result (tag_contents tag bytes.now) }
 {
     let mut reader = Cursor::new(bytes);
-    if reader.byte(AcseFault::Unreadable)? != tag {
+    if reader.read_byte(AcseFault::Unreadable)? != tag {
         return Err(AcseFault::Unreadable);
     }
     let contents = read_contents(&mut reader)?;

@@ -74,7 +74,7 @@ pub(crate) fn read_proposal(bytes: &[u8]) -> Result<Proposal, AcseFault>
 fn read_proposal_fields(reader: &mut Cursor) -> Result<Proposal, AcseFault>
     ensures { Reads (λ proposal. proposal) result reader.new (proposed_part.read reader.old) }
 {
-    let version = reader.byte(AcseFault::Unreadable)?;
+    let version = reader.read_byte(AcseFault::Unreadable)?;
     let conformance = read_conformance(reader)?;
     let size = read_size(reader)?;
     Ok(Proposal {
@@ -89,10 +89,10 @@ fn read_proposal_fields(reader: &mut Cursor) -> Result<Proposal, AcseFault>
 pub(crate) fn skip_optional_byte(reader: &mut Cursor) -> Result<(), AcseFault>
     ensures { Reads (λ unit. unit) result reader.new (optional_byte.read reader.old) }
 {
-    match reader.byte(AcseFault::Unreadable)? {
+    match reader.read_byte(AcseFault::Unreadable)? {
         ABSENT => Ok(()),
         PRESENT => {
-            let _value = reader.byte(AcseFault::Unreadable)?;
+            let _value = reader.read_byte(AcseFault::Unreadable)?;
             Ok(())
         }
         _ => Err(AcseFault::Unreadable),
@@ -105,7 +105,7 @@ pub(crate) fn read_conformance(reader: &mut Cursor) -> Result<Conformance, AcseF
         (conformance_part.read reader.old) }
 {
     read_literal(&CONFORMANCE_HEAD, reader)?;
-    let bits = BigEndian::read_u24(reader.bytes(3, AcseFault::Unreadable)?);
+    let bits = BigEndian::read_u24(reader.read_bytes(3, AcseFault::Unreadable)?);
     Ok(Conformance::from_bits_retain(bits))
 }
 

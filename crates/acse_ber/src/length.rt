@@ -11,14 +11,14 @@ use wire_bytes::Cursor;
 pub(crate) fn read_size(reader: &mut Cursor) -> Result<u16, AcseFault>
     ensures { Reads (λ size. size) result reader.new (size_part.read reader.old) }
 {
-    Ok(BigEndian::read_u16(reader.bytes(2, AcseFault::Unreadable)?))
+    Ok(BigEndian::read_u16(reader.read_bytes(2, AcseFault::Unreadable)?))
 }
 
 // Reads bytes that must be the expected ones.
 pub(crate) fn read_literal(expected: &[u8], reader: &mut Cursor) -> Result<(), AcseFault>
     ensures { Reads (λ unit. unit) result reader.new ((literal expected.now).read reader.old) }
 {
-    if reader.bytes(expected.len(), AcseFault::Unreadable)? != expected {
+    if reader.read_bytes(expected.len(), AcseFault::Unreadable)? != expected {
         return Err(AcseFault::Unreadable);
     }
     Ok(())
@@ -29,9 +29,9 @@ pub(crate) fn read_literal(expected: &[u8], reader: &mut Cursor) -> Result<(), A
 fn read_length(reader: &mut Cursor) -> Result<usize, AcseFault>
     ensures { Reads (λ n. n) result reader.new (length_part.read reader.old) }
 {
-    match reader.byte(AcseFault::Unreadable)? {
+    match reader.read_byte(AcseFault::Unreadable)? {
         short @ 0..=0x7F => Ok(usize::from(short)),
-        0x81 => Ok(usize::from(reader.byte(AcseFault::Unreadable)?)),
+        0x81 => Ok(usize::from(reader.read_byte(AcseFault::Unreadable)?)),
         0x82 => Ok(usize::from(read_size(reader)?)),
         _ => Err(AcseFault::Unreadable),
     }
@@ -42,5 +42,5 @@ pub(crate) fn read_contents<'a>(reader: &mut Cursor<'a>) -> Result<&'a [u8], Acs
     ensures { Reads (λ contents. contents.now) result reader.new (contents_part.read reader.old) }
 {
     let count = read_length(reader)?;
-    reader.bytes(count, AcseFault::Unreadable)
+    reader.read_bytes(count, AcseFault::Unreadable)
 }

@@ -116,8 +116,8 @@ impl ActionSchedule {
 
     /// Swaps the entries (attribute 4) of two schedules. Does not allocate.
     pub fn swap_entries(&mut self, other: &mut ActionSchedule)
-        ensures own { self.new ≡ record self.old { entries = other.old.entries } }
-        ensures other { other.new ≡ record other.old { entries = self.old.entries } }
+        ensures self_after { self.new ≡ record self.old { entries = other.old.entries } }
+        ensures other_after { other.new ≡ record other.old { entries = self.old.entries } }
     {
         mem::swap(&mut self.entries, &mut other.entries);
     }

@@ -559,7 +559,7 @@ pub(crate) fn response_fault(alloc: Global, bytes: &[u8]) -> Option<ApduFault> {
     response_of(alloc, bytes).err()
 }
 
-fn with_a_byte_behind(alloc: Global, text: &[u8]) -> Option<Vec<u8>> {
+fn with_one_more_byte(alloc: Global, text: &[u8]) -> Option<Vec<u8>> {
     let mut longer = text.to_vec(alloc).ok()?;
     if longer.push(0).is_ok() {
         Some(longer)
@@ -572,14 +572,14 @@ fn with_a_byte_behind(alloc: Global, text: &[u8]) -> Option<Vec<u8>> {
 // Returns why a text followed by a byte is not a request, or not a response, or `None` if it is
 // one.
 fn late_request_fault(alloc: Global, text: &[u8]) -> Option<ApduFault> {
-    let longer = with_a_byte_behind(alloc, text)?;
+    let longer = with_one_more_byte(alloc, text)?;
     let fault = request_fault(alloc, longer.as_slice());
     drop(longer);
     fault
 }
 
 fn late_response_fault(alloc: Global, text: &[u8]) -> Option<ApduFault> {
-    let longer = with_a_byte_behind(alloc, text)?;
+    let longer = with_one_more_byte(alloc, text)?;
     let fault = response_fault(alloc, longer.as_slice());
     drop(longer);
     fault

@@ -103,7 +103,7 @@ fn a_vector_takes_what_is_written(rt: HostRuntime) -> Result<(), Fail> {
 
 // Returns whether a stream that was read has failed, the number of reads, and the number of calls
 // of the stream.
-fn told_of(reader: Counted<Scripted>) -> (bool, u64, u32) {
+fn counts_of(reader: Counted<Scripted>) -> (bool, u64, u32) {
     let (has_failed, reads) = (reader.has_failed(), reader.reads());
     (has_failed, reads, reader.into_inner().calls)
 }
@@ -114,7 +114,7 @@ fn a_read_that_fails_is_told(rt: HostRuntime) -> Result<(), Fail> {
     let mut buffer = [0; 4];
     let first = reader.read(&mut buffer)?;
     let second = reader.read(&mut buffer);
-    let told = told_of(reader);
+    let told = counts_of(reader);
     assert!(rt; first == 1 && second == Err(StreamFault) && told == (true, 1, 2));
     Ok(())
 }
@@ -124,7 +124,7 @@ fn a_read_that_is_interrupted_is_tried_again(rt: HostRuntime) {
     let mut reader = Counted::new(Scripted::new(1, ErrorKind::Interrupted));
     let mut buffer = [0; 4];
     let read = reader.read(&mut buffer);
-    let told = told_of(reader);
+    let told = counts_of(reader);
     assert!(rt; read == Ok(1) && told == (false, 1, 2));
 }
 

@@ -1,6 +1,6 @@
 //! Tests of program faults: each fault's word and exit status, the words of a command line, and
 //! failed prints.
-use program::{Fault, exit_code, first_fault, print_text, words};
+use program::{Fault, exit_code, first_fault, print_text, read_arguments};
 use std::alloc::{AllocError, Global};
 use std::process::ExitCode;
 use std::test::Fail;
@@ -48,7 +48,7 @@ fn a_program_ends_with_its_status(rt: HostRuntime) {
 
 #[test]
 fn a_command_line_has_words(rt: HostRuntime) {
-    assert!(rt; matches!(words(&rt), Ok(words) if !words.is_empty()));
+    assert!(rt; matches!(read_arguments(&rt), Ok(words) if !words.is_empty()));
 }
 
 #[test]

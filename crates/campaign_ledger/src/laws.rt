@@ -16,7 +16,7 @@ pub fn each_command_goes_out_at_most_once()
 /// Proves that the permits given in two successive spans of calls are those of the whole, and that
 /// commands that are sent with permits, each once, make a run safe.
 pub fn grants_add_up<B: Book>()
-    ensures both { (before between after : LedgerState B) (permits more : List ℕ)
+    ensures total { (before between after : LedgerState B) (permits more : List ℕ)
         → Grants B.is_honest B.is_down before between permits
         → Grants B.is_honest B.is_down between after more
         → Grants B.is_honest B.is_down before after (permits ++ more) }

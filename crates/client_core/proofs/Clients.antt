@@ -6,22 +6,24 @@ use Rattle.client_core.specs.declared.job.Verb.{Verb}
 use Rattle.client_core.specs.declared.job.Outcome.{Outcome}
 use Rattle.client_core.specs.declared.job.Outcome.TheVariants.{Unknown}
 use Rattle.client_core.specs.declared.progress.Progress.{Progress}
-use Rattle.client_core.specs.Replies.{fresh}
+use Rattle.client_core.specs.Replies.{new_progress}
 use Rattle.client_core.specs.Outcomes.{progress_of, outcome_after, outcome_of}
-use Rattle.client_core.specs.Steps.{after_bytes, Hears}
+use Rattle.client_core.specs.Steps.{progress_after_bytes, Hears}
 use Rattle.client_core.specs.Standing.{AreLeft, Stands, Feeds, Tells}
 use Rattle.client_core.proofs.Moving.{goes_settled}
 use Rattle.client_core.proofs.Lookups.{progress_goes, nothing_said}
 
 -- a new client
-pub starts : (verb : Verb) (password : List ℕ) (c : Client) → c.verb ≡ verb → c.progress ≡ fresh
+pub starts : (verb : Verb) (password : List ℕ) (c : Client) → c.verb ≡ verb → c.progress
+    ≡ new_progress
     → c.deframer ≡ [] → c.is_ended ≡ false
     → AreLeft verb password 0 c.aarq c.request c.release → Stands verb password [] 0 false c
 starts verb password c verb_is progress_is deframer_is ended_is left = record {
   verb_is = verb_is;
   now = progress_is ∙ sym (nothing_said verb);
-  later = λ more. progress_goes verb more ∙ ap (λ (p : Progress). after_bytes verb p more)
-      (sym progress_is) ∙ ap (λ (bytes : List ℕ). after_bytes verb c.progress (bytes ++ more))
+  later = λ more. progress_goes verb more ∙ ap (λ (p : Progress). progress_after_bytes verb p more)
+      (sym progress_is) ∙ ap (λ (bytes : List ℕ). progress_after_bytes verb c.progress
+      (bytes ++ more))
       (sym deframer_is);
   left = left;
   over_is = ended_is;
@@ -38,13 +40,13 @@ heard_stands verb password fed bytes given old new s h verb_is ended_is aarq_is 
     release_is = record {
       verb_is = verb_is ∙ s.verb_is;
       now =
-          sym h.here ∙ ap (after_bytes verb new.progress) (sym (append-nil new.deframer))
-          ∙ sym (h.moves.on []) ∙ ap (after_bytes verb old.progress)
+          sym h.here ∙ ap (progress_after_bytes verb new.progress) (sym (append-nil new.deframer))
+          ∙ sym (h.moves.on []) ∙ ap (progress_after_bytes verb old.progress)
           (append-nil (old.deframer ++ bytes))
           ∙ sym (s.later bytes);
       later = λ more.
           ap (progress_of verb) (append_assoc fed bytes more) ∙ s.later (bytes ++ more)
-          ∙ ap (after_bytes verb old.progress) (sym (append_assoc old.deframer bytes more))
+          ∙ ap (progress_after_bytes verb old.progress) (sym (append_assoc old.deframer bytes more))
           ∙ h.moves.on more;
       left = rw (aarq_is, request_is, release_is) s.left;
       over_is = ended_is ∙ s.over_is;

@@ -10,64 +10,66 @@ use Rattle.client_core.specs.declared.job.Verb.{Verb}
 use Rattle.client_core.specs.declared.job.Outcome.{Outcome}
 use Rattle.client_core.specs.declared.job.Outcome.TheVariants.{Rejected, Unknown}
 use Rattle.client_core.specs.declared.progress.Progress.{Progress}
-use Rattle.client_core.specs.Replies.{fresh, asking, with_outcome, grants, opened_by, after_aare, outcome_of_response}
-use Rattle.client_core.specs.Outcomes.{payloads_of, with_answer, said, ended_by, progress_of}
-use Rattle.client_core.specs.Steps.{after_all, after_bytes}
+use Rattle.client_core.specs.Replies.{new_progress, asking_progress, with_outcome, is_granted, progress_by_aare, progress_after_aare, outcome_of_response}
+use Rattle.client_core.specs.Outcomes.{payloads_of, with_answer, progress_by_payloads, progress_by_head, progress_of}
+use Rattle.client_core.specs.Steps.{progress_after_all, progress_after_bytes}
 use Rattle.client_core.proofs.Moving.{all_settled}
 
 -- the association is open, or the outcome is settled
 abbrev IsOpening : Progress → Type 0
-IsOpening p = (p ≡ asking) ⊎ ((outcome : Outcome) × (p ≡ with_outcome outcome))
+IsOpening p = (p ≡ asking_progress) ⊎ ((outcome : Outcome) × (p ≡ with_outcome outcome))
 
 opening_tests : (accepts granted : Bool) (diagnostic : ℕ)
-    → IsOpening (if accepts then (if granted then asking else with_outcome (Rejected 0))
+    → IsOpening (if accepts then (if granted then asking_progress else with_outcome (Rejected 0))
     else with_outcome (Rejected diagnostic))
 opening_tests true true diagnostic = inl refl
 opening_tests true false diagnostic = inr (Rejected 0, refl)
 opening_tests false granted diagnostic = inr (Rejected diagnostic, refl)
 
-opening_by : (verb : Verb) (aare : Result Aare AcseFault) → IsOpening (opened_by verb aare)
-opening_by verb (Ok aare) = opening_tests (aare.result == 0) (grants verb aare.info) aare.diagnostic
+opening_by : (verb : Verb) (aare : Result Aare AcseFault) → IsOpening (progress_by_aare verb aare)
+opening_by verb (Ok aare) = opening_tests (aare.result == 0) (is_granted verb aare.info)
+    aare.diagnostic
 opening_by verb (Err fault) = inr (Unknown, refl)
 
-opening : (verb : Verb) (payload : List ℕ) → IsOpening (after_aare verb payload)
-unfolding after_aare
+opening : (verb : Verb) (payload : List ℕ) → IsOpening (progress_after_aare verb payload)
+unfolding progress_after_aare
 opening verb payload = opening_by verb (aare_of payload)
 
-asking_answered : (verb : Verb) (later : List (List ℕ)) → with_answer verb asking later
-    ≡ after_all verb asking later
+asking_answered : (verb : Verb) (later : List (List ℕ)) → with_answer verb asking_progress later
+    ≡ progress_after_all verb asking_progress later
 asking_answered verb [] = refl
 asking_answered verb (answer ∷ later) = sym (all_settled verb true (outcome_of_response verb answer)
     later)
 
 settled_answered : (verb : Verb) (outcome : Outcome) (later : List (List ℕ))
-    → with_answer verb (with_outcome outcome) later ≡ after_all verb (with_outcome outcome) later
+    → with_answer verb (with_outcome outcome) later
+    ≡ progress_after_all verb (with_outcome outcome) later
 settled_answered verb outcome [] = refl
 settled_answered verb outcome (answer ∷ later) = sym (all_settled verb false outcome later)
 
 opening_answered : (verb : Verb) (p : Progress) (later : List (List ℕ)) → IsOpening p
-    → with_answer verb p later ≡ after_all verb p later
+    → with_answer verb p later ≡ progress_after_all verb p later
 opening_answered verb p later (inl is) = ap (λ (q : Progress). with_answer verb q later) is
-    ∙ asking_answered verb later ∙ sym (ap (λ (q : Progress). after_all verb q later) is)
+    ∙ asking_answered verb later ∙ sym (ap (λ (q : Progress). progress_after_all verb q later) is)
 opening_answered verb p later (inr (outcome, is)) =
     ap (λ (q : Progress). with_answer verb q later) is ∙ settled_answered verb outcome later
-    ∙ sym (ap (λ (q : Progress). after_all verb q later) is)
+    ∙ sym (ap (λ (q : Progress). progress_after_all verb q later) is)
 
 -- the two interpretations are equal
-pub said_all : (verb : Verb) (payloads : List (List ℕ)) → said verb payloads
-    ≡ after_all verb fresh payloads
+pub said_all : (verb : Verb) (payloads : List (List ℕ)) → progress_by_payloads verb payloads
+    ≡ progress_after_all verb new_progress payloads
 said_all verb [] = refl
-said_all verb (aare ∷ later) = opening_answered verb (after_aare verb aare) later
+said_all verb (aare ∷ later) = opening_answered verb (progress_after_aare verb aare) later
     (opening verb aare)
 
 -- the progress of all bytes is their effect on a client that was fed nothing
 pub progress_goes : (verb : Verb) (bytes : List ℕ) → progress_of verb bytes
-    ≡ after_bytes verb fresh bytes
-unfolding progress_of after_bytes
-progress_goes verb bytes = ap (λ (p : Progress). ended_by p (head_of (rest_of bytes)))
+    ≡ progress_after_bytes verb new_progress bytes
+unfolding progress_of progress_after_bytes
+progress_goes verb bytes = ap (λ (p : Progress). progress_by_head p (head_of (rest_of bytes)))
     (said_all verb (payloads_of (frames_of bytes)))
 
 -- the progress of no bytes
-pub nothing_said : (verb : Verb) → progress_of verb [] ≡ fresh
+pub nothing_said : (verb : Verb) → progress_of verb [] ≡ new_progress
 unfolding progress_of frames_of rest_of head_of cut_in
 nothing_said verb = refl

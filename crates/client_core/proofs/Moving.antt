@@ -12,16 +12,16 @@ use Rattle.client_core.specs.declared.job.Verb.{Verb}
 use Rattle.client_core.specs.declared.job.Outcome.{Outcome}
 use Rattle.client_core.specs.declared.job.Outcome.TheVariants.{Unknown}
 use Rattle.client_core.specs.declared.progress.Progress.{Progress}
-use Rattle.client_core.specs.Outcomes.{payloads_of, or_unknown, ended_by}
-use Rattle.client_core.specs.Steps.{after, after_all, after_frame, after_bytes, Moves, Hears}
+use Rattle.client_core.specs.Outcomes.{payloads_of, or_unknown, progress_by_head}
+use Rattle.client_core.specs.Steps.{progress_after, progress_after_all, progress_after_frame, progress_after_bytes, Moves, Hears}
 
 -- the effect of frames and of the front of the bytes after them
 abbrev does : Verb → Progress → List Frame → Head → Progress
-does verb p frames front = ended_by (after_all verb p (payloads_of frames)) front
+does verb p frames front = progress_by_head (progress_after_all verb p (payloads_of frames)) front
 
-goes_does : (verb : Verb) (p : Progress) (bytes : List ℕ) → after_bytes verb p bytes
+goes_does : (verb : Verb) (p : Progress) (bytes : List ℕ) → progress_after_bytes verb p bytes
     ≡ does verb p (frames_of bytes) (head_of (rest_of bytes))
-unfolding after_bytes
+unfolding progress_after_bytes
 goes_does verb p bytes = refl
 
 -- ---- a settled outcome remains
@@ -31,22 +31,24 @@ abbrev pub with_outcome : Bool → Outcome → Progress
 with_outcome accepted outcome = record { accepted = accepted; outcome = Some outcome }
 
 pub all_settled : (verb : Verb) (accepted : Bool) (outcome : Outcome) (payloads : List (List ℕ))
-    → after_all verb (with_outcome accepted outcome) payloads ≡ with_outcome accepted outcome
+    → progress_after_all verb (with_outcome accepted outcome) payloads
+    ≡ with_outcome accepted outcome
 all_settled verb accepted outcome [] = refl
 all_settled verb accepted outcome (payload ∷ later) = all_settled verb accepted outcome later
 
 ended_settled : (accepted : Bool) (outcome : Outcome) (front : Head)
-    → ended_by (with_outcome accepted outcome) front ≡ with_outcome accepted outcome
+    → progress_by_head (with_outcome accepted outcome) front ≡ with_outcome accepted outcome
 ended_settled accepted outcome Part = refl
 ended_settled accepted outcome BadVersion = refl
 ended_settled accepted outcome TooLong = refl
 ended_settled accepted outcome (Whole n) = refl
 
 settled_goes : (verb : Verb) (accepted : Bool) (outcome : Outcome) (bytes : List ℕ)
-    → after_bytes verb (with_outcome accepted outcome) bytes ≡ with_outcome accepted outcome
+    → progress_after_bytes verb (with_outcome accepted outcome) bytes
+    ≡ with_outcome accepted outcome
 settled_goes verb accepted outcome bytes =
     goes_does verb (with_outcome accepted outcome) bytes
-    ∙ ap (λ (p : Progress). ended_by p (head_of (rest_of bytes)))
+    ∙ ap (λ (p : Progress). progress_by_head p (head_of (rest_of bytes)))
     (all_settled verb accepted outcome (payloads_of (frames_of bytes)))
     ∙ ended_settled accepted outcome (head_of (rest_of bytes))
 
@@ -56,24 +58,24 @@ outcome_as p o = record p { outcome = o }
 
 -- a settled outcome remains, whatever bytes follow
 pub goes_settled : (verb : Verb) (p : Progress) (outcome : Outcome) (bytes : List ℕ) → p.outcome
-    ≡ Some outcome → after_bytes verb p bytes ≡ p
+    ≡ Some outcome → progress_after_bytes verb p bytes ≡ p
 goes_settled verb p outcome bytes is =
     let same : with_outcome p.accepted outcome ≡ p =
     ap (λ (o : Option Outcome). outcome_as p o) (sym is) in
-    subst (λ (q : Progress). after_bytes verb q bytes ≡ q) same
+    subst (λ (q : Progress). progress_after_bytes verb q bytes ≡ q) same
     (settled_goes verb p.accepted outcome bytes)
 
 -- ---- one more frame
 
 frame_cases : (ours : Bool) (verb : Verb) (p : Progress) (payload : List ℕ) (later : List (List ℕ))
-    → after_all verb p (if ours then payload ∷ later else later)
-    ≡ after_all verb (if ours then after verb p payload else p) later
+    → progress_after_all verb p (if ours then payload ∷ later else later)
+    ≡ progress_after_all verb (if ours then progress_after verb p payload else p) later
 frame_cases true verb p payload later = refl
 frame_cases false verb p payload later = refl
 
 -- a frame that is removed has its effect, followed by that of the others
 pub moves_frame : (verb : Verb) (p : Progress) (old : List ℕ) (frame : Frame) (new : List ℕ)
-    → KeepsFrames old (Some frame) new → Moves verb p old (after_frame verb p frame) new
+    → KeepsFrames old (Some frame) new → Moves verb p old (progress_after_frame verb p frame) new
 moves_frame verb p old frame new goes_on = record {
   on = λ more.
       goes_does verb p (old ++ more)
@@ -81,10 +83,10 @@ moves_frame verb p old frame new goes_on = record {
       (goes_on.frames more)
       ∙ ap (λ (rest : List ℕ). does verb p (frame ∷ frames_of (new ++ more)) (head_of rest))
       (goes_on.rest more)
-      ∙ ap (λ (q : Progress). ended_by q (head_of (rest_of (new ++ more))))
+      ∙ ap (λ (q : Progress). progress_by_head q (head_of (rest_of (new ++ more))))
       (frame_cases (frame.src == 1 && frame.dst == 1) verb p frame.payload
       (payloads_of (frames_of (new ++ more))))
-      ∙ sym (goes_does verb (after_frame verb p frame) (new ++ more));
+      ∙ sym (goes_does verb (progress_after_frame verb p frame) (new ++ more));
 }
 
 -- no frame is removed yet
@@ -101,7 +103,7 @@ moves_twice verb first old p bytes q new a b = record { on = λ more. a.on more 
 
 -- part of a frame has no effect
 pub part_says : (verb : Verb) (p : Progress) (bytes : List ℕ) → IsPart bytes
-    → after_bytes verb p bytes ≡ p
+    → progress_after_bytes verb p bytes ≡ p
 part_says verb p bytes part =
     goes_does verb p bytes
     ∙ ap (λ (frames : List Frame). does verb p frames (head_of (rest_of bytes))) part.frames
@@ -115,7 +117,7 @@ hears_part verb first old p bytes moves part =
 
 -- a wrong header ends the reading
 stops_goes : (verb : Verb) (p : Progress) (front : Head) (bytes more : List ℕ) → Stops front bytes
-    → after_bytes verb p (bytes ++ more) ≡ ended_by p front
+    → progress_after_bytes verb p (bytes ++ more) ≡ progress_by_head p front
 stops_goes verb p front bytes more stops =
     goes_does verb p (bytes ++ more)
     ∙ ap (λ (frames : List Frame). does verb p frames (head_of (rest_of (bytes ++ more))))
@@ -124,14 +126,15 @@ stops_goes verb p front bytes more stops =
     ∙ ap (λ (at : Head). does verb p [] at) (stops.heads more)
 
 -- an unknown outcome remains
-unknown_goes : (verb : Verb) (p : Progress) (bytes : List ℕ) → after_bytes verb (or_unknown p) bytes
+unknown_goes : (verb : Verb) (p : Progress) (bytes : List ℕ)
+    → progress_after_bytes verb (or_unknown p) bytes
     ≡ or_unknown p
 unknown_goes verb p bytes = goes_settled verb (or_unknown p)
     (unwrap_or p.outcome Unknown) bytes refl
 
 -- bytes that begin with a wrong header, whatever is kept of them
 hears_front : (verb : Verb) (p : Progress) (front : Head) (bytes kept : List ℕ) → Stops front bytes
-    → ended_by p front ≡ or_unknown p → Hears verb p bytes (or_unknown p) kept
+    → progress_by_head p front ≡ or_unknown p → Hears verb p bytes (or_unknown p) kept
 hears_front verb p front bytes kept stops ends = record {
   moves = record {
     on = λ more. stops_goes verb p front bytes more stops ∙ ends

@@ -4,7 +4,7 @@
 --                       whole frames
 --     outcome_after     the outcome, if the bytes settle it
 --     outcome_of        the outcome if the connection is over after these bytes
---     due               the messages to send, in order
+--     due_frames        the messages to send, in order
 use Rattle.std.specs.Prelude.{ℕ, Bool, true, false, ◌&&◌, ◌==◌, if◌then◌else◌, Option, Some, None, is_none, unwrap_or, List, [], ◌∷◌}
 use Rattle.wrapper_frame.specs.Header.{head_of}
 use Rattle.wrapper_frame.specs.Messages.{frames_of, rest_of}
@@ -15,7 +15,7 @@ use Rattle.client_core.specs.declared.job.Verb.{Verb}
 use Rattle.client_core.specs.declared.job.Outcome.{Outcome}
 use Rattle.client_core.specs.declared.job.Outcome.TheVariants.{Done, Refused, Rejected, Unknown}
 use Rattle.client_core.specs.declared.progress.Progress.{Progress}
-use Rattle.client_core.specs.Replies.{fresh, after_aare, outcome_of_response}
+use Rattle.client_core.specs.Replies.{new_progress, progress_after_aare, outcome_of_response}
 use Rattle.client_core.specs.Texts.{aarq_frame, request_frame, release_frame}
 
 -- the payloads of the frames from port 1 to port 1 (IEC 62056-4-7, wPort), in order; the others are
@@ -37,23 +37,24 @@ with_answer verb progress (answer ∷ later) = if is_asking progress
     then record progress { outcome = Some (outcome_of_response verb answer) } else progress
 
 -- the progress by all payloads: the first is the AARE, the second the response to the request
-abbrev pub said : Verb → List (List ℕ) → Progress
-said verb [] = fresh
-said verb (aare ∷ later) = with_answer verb (after_aare verb aare) later
+abbrev pub progress_by_payloads : Verb → List (List ℕ) → Progress
+progress_by_payloads verb [] = new_progress
+progress_by_payloads verb (aare ∷ later) = with_answer verb (progress_after_aare verb aare) later
 
 -- an outcome that is not settled becomes unknown
 abbrev pub or_unknown : Progress → Progress
 or_unknown progress = record progress { outcome = Some (unwrap_or progress.outcome Unknown) }
 
 -- a wrong header ends the reading
-abbrev pub ended_by : Progress → Head → Progress
-ended_by progress Part = progress
-ended_by progress (Whole n) = progress
-ended_by progress BadVersion = or_unknown progress
-ended_by progress TooLong = or_unknown progress
+abbrev pub progress_by_head : Progress → Head → Progress
+progress_by_head progress Part = progress
+progress_by_head progress (Whole n) = progress
+progress_by_head progress BadVersion = or_unknown progress
+progress_by_head progress TooLong = or_unknown progress
 
 unfoldable pub progress_of : Verb → List ℕ → Progress
-progress_of verb bytes = ended_by (said verb (payloads_of (frames_of bytes)))
+progress_of verb bytes = progress_by_head
+    (progress_by_payloads verb (payloads_of (frames_of bytes)))
     (head_of (rest_of bytes))
 
 abbrev pub outcome_after : Verb → List ℕ → Option Outcome
@@ -72,8 +73,8 @@ is_served None = false
 
 -- the AARQ, the request if the association is open, and the release if the meter has responded to
 -- the request (IEC 62056-5-3, AARQ, ACTION and GET, RLRQ)
-abbrev pub due : Verb → List ℕ → Progress → List (List ℕ)
-due verb password progress =
+abbrev pub due_frames : Verb → List ℕ → Progress → List (List ℕ)
+due_frames verb password progress =
     aarq_frame password ∷ (if progress.accepted
     then request_frame verb ∷ (if is_served progress.outcome then release_frame ∷ [] else [])
     else [])

@@ -1,7 +1,7 @@
 -- The meaning of a meter's responses for a job.
---     Progress          a Rust struct: whether the request may be sent, and the outcome if it is
---                       settled
---     after_aare           the meaning of the first response, to the AARQ
+--     Progress             a Rust struct: whether the request may be sent, and the outcome if it is
+--                          settled
+--     progress_after_aare  the meaning of the first response, to the AARQ
 --     outcome_of_response  the meaning of the second response, to the request
 use Rattle.std.specs.Prelude.{ℕ, Bool, false, true, not, ◌&&◌, ◌==◌, nat_le, if◌then◌else◌, bit_and, Some, None, List, [], ◌∷◌, take, Result, Ok, Err}
 use Rattle.acse_ber.specs.Reading.{aare_of}
@@ -25,11 +25,11 @@ use Rattle.xdlms_apdu.specs.declared.response.Response.TheVariants as response
 
 -- no response yet; the association is open and the request may be sent; the outcome is settled
 -- before the request is sent
-abbrev pub fresh : Progress
-fresh = record { accepted = false; outcome = None }
+abbrev pub new_progress : Progress
+new_progress = record { accepted = false; outcome = None }
 
-abbrev pub asking : Progress
-asking = record { accepted = true; outcome = None }
+abbrev pub asking_progress : Progress
+asking_progress = record { accepted = true; outcome = None }
 
 abbrev pub with_outcome : Outcome → Progress
 with_outcome outcome = record { accepted = false; outcome = Some outcome }
@@ -42,20 +42,21 @@ service_bit Reconnect = 0x000001
 service_bit ReadState = 0x000010
 
 -- the negotiated services include that of the request
-abbrev pub grants : Verb → Info → Bool
-grants verb (Response bits limit) = not (bit_and bits (service_bit verb) == 0)
-grants verb Absent = false
-grants verb (InitiateError code) = false
+abbrev pub is_granted : Verb → Info → Bool
+is_granted verb (Response bits limit) = not (bit_and bits (service_bit verb) == 0)
+is_granted verb Absent = false
+is_granted verb (InitiateError code) = false
 
 -- an AARE opens the association or settles the outcome; any other bytes settle it as unknown
-abbrev pub opened_by : Verb → Result Aare AcseFault → Progress
-opened_by verb (Ok aare) =
-    if aare.result == 0 then (if grants verb aare.info then asking else with_outcome (Rejected 0))
+abbrev pub progress_by_aare : Verb → Result Aare AcseFault → Progress
+progress_by_aare verb (Ok aare) =
+    if aare.result == 0 then (if is_granted verb aare.info then asking_progress
+    else with_outcome (Rejected 0))
     else with_outcome (Rejected aare.diagnostic)
-opened_by verb (Err fault) = with_outcome Unknown
+progress_by_aare verb (Err fault) = with_outcome Unknown
 
-unfoldable pub after_aare : Verb → List ℕ → Progress
-after_aare verb payload = opened_by verb (aare_of payload)
+unfoldable pub progress_after_aare : Verb → List ℕ → Progress
+progress_after_aare verb payload = progress_by_aare verb (aare_of payload)
 
 -- ---- the response to the request (IEC 62056-5-3, ACTION and GET; IEC 62056-6-2, class 70,
 -- control_state)

@@ -10,8 +10,8 @@ use Rattle.client_core.specs.declared.client.Client.{Client}
 use Rattle.client_core.specs.declared.job.Verb.{Verb}
 use Rattle.client_core.specs.declared.job.Outcome.{Outcome}
 use Rattle.client_core.specs.Texts.{aarq_frame, request_frame, release_frame, text_at}
-use Rattle.client_core.specs.Outcomes.{progress_of, outcome_after, outcome_of, due}
-use Rattle.client_core.specs.Steps.{after_bytes}
+use Rattle.client_core.specs.Outcomes.{progress_of, outcome_after, outcome_of, due_frames}
+use Rattle.client_core.specs.Steps.{progress_after_bytes}
 
 -- the messages that are left after this number of them was returned
 abbrev pub AreLeft : Verb → List ℕ → ℕ → Option (List ℕ) → Option (List ℕ) → Option (List ℕ)
@@ -33,7 +33,7 @@ pub record Stands (verb : Verb) (password fed : List ℕ) (given : ℕ) (over : 
   pub verb_is : c.verb ≡ verb
   pub now : c.progress ≡ progress_of verb fed
   pub later : (more : List ℕ)
-      → progress_of verb (fed ++ more) ≡ after_bytes verb c.progress (c.deframer ++ more)
+      → progress_of verb (fed ++ more) ≡ progress_after_bytes verb c.progress (c.deframer ++ more)
   pub left : AreLeft verb password given c.aarq c.request c.release
   pub over_is : c.is_ended ≡ over
 
@@ -41,7 +41,7 @@ pub record Stands (verb : Verb) (password fed : List ℕ) (given : ℕ) (over : 
 pub record GivesNextMessage (old : Client) (result : Option (List ℕ)) (new : Client) : Type 0 where
   pub text : (verb : Verb) (password fed : List ℕ) (given : ℕ) (over : Bool)
       → Stands verb password fed given over old
-      → result ≡ text_at (due verb password (progress_of verb fed)) given
+      → result ≡ text_at (due_frames verb password (progress_of verb fed)) given
   pub stands : (verb : Verb) (password fed : List ℕ) (given : ℕ) (over : Bool)
       → Stands verb password fed given over old
       → Stands verb password fed (if is_some result then suc given else given) over new

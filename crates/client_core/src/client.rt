@@ -8,7 +8,7 @@ ghost use Rattle.client_core.specs.Standing.{Stands, GivesNextMessage, Feeds, En
 use crate::job::{Job, Outcome, Verb};
 use crate::listening::hear_more;
 use crate::progress::Progress;
-use crate::replying::fresh;
+use crate::replying::new_progress;
 use crate::sending::{aarq_frame, release_frame, request_frame};
 use cosem_axdr::Octets;
 use std::alloc::{AllocError, Global};
@@ -51,7 +51,7 @@ impl Client {
     {
         Ok(Client {
             verb: job.verb,
-            progress: fresh(),
+            progress: new_progress(),
             deframer: Deframer::new(alloc),
             is_ended: false,
             aarq: Some(aarq_frame(alloc, password)?),

@@ -1,10 +1,10 @@
 //! Processing of the bytes from the meter, frame by frame.
 ghost use Rattle.std.specs.Prelude.{◌≡◌, ◌++◌, IfOk};
-ghost use Rattle.client_core.specs.Steps.{after_frame, Hears};
+ghost use Rattle.client_core.specs.Steps.{progress_after_frame, Hears};
 
 use crate::job::Verb;
 use crate::progress::Progress;
-use crate::replying::{after, or_unknown};
+use crate::replying::{or_unknown, progress_after};
 use std::alloc::{AllocError, Global};
 use wrapper_frame::{Deframer, Frame, WrapperFault};
 
@@ -43,7 +43,7 @@ fn receive(
     'frames: loop {
         match deframer.take(alloc) {
             Ok(Some(frame)) => {
-                progress = after_frame(alloc, verb, progress, &frame);
+                progress = progress_after_frame(alloc, verb, progress, &frame);
             }
             Ok(None) => return Ok(progress),
             Err(WrapperFault::Memory) => return Err(AllocError),
@@ -54,11 +54,11 @@ fn receive(
 }
 
 // Returns the progress after one more frame. Frames of other ports are skipped.
-fn after_frame(alloc: Global, verb: Verb, progress: Progress, frame: &Frame) -> Progress
-    ensures { result ≡ after_frame verb progress frame.now }
+fn progress_after_frame(alloc: Global, verb: Verb, progress: Progress, frame: &Frame) -> Progress
+    ensures { result ≡ progress_after_frame verb progress frame.now }
 {
     if frame.src == PORT && frame.dst == PORT {
-        after(alloc, verb, progress, frame.payload.as_slice())
+        progress_after(alloc, verb, progress, frame.payload.as_slice())
     } else {
         progress
     }

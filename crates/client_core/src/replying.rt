@@ -1,8 +1,8 @@
 //! The interpretation of the meter's responses.
 ghost use Rattle.std.specs.Prelude.{◌≡◌};
-ghost use Rattle.client_core.specs.Replies.{fresh, with_outcome, grants, after_aare, action_reply, state_reply, outcome_of_response};
+ghost use Rattle.client_core.specs.Replies.{new_progress, with_outcome, is_granted, progress_after_aare, action_reply, state_reply, outcome_of_response};
 ghost use Rattle.client_core.specs.Outcomes.{or_unknown};
-ghost use Rattle.client_core.specs.Steps.{after};
+ghost use Rattle.client_core.specs.Steps.{progress_after};
 
 use crate::job::{Outcome, Verb};
 use crate::progress::Progress;
@@ -24,8 +24,8 @@ const ENUM: u8 = 0x16;
 const LAST_STATE: u8 = 2;
 
 /// Returns the progress before any response.
-pub fn fresh() -> Progress
-    ensures { result ≡ fresh }
+pub fn new_progress() -> Progress
+    ensures { result ≡ new_progress }
 {
     Progress {
         accepted: false,
@@ -44,14 +44,14 @@ fn with_outcome(outcome: Outcome) -> Progress
 }
 
 /// Returns the progress after one more payload from the meter.
-pub fn after(alloc: Global, verb: Verb, progress: Progress, payload: &[u8]) -> Progress
-    ensures { result ≡ after verb progress payload.now }
+pub fn progress_after(alloc: Global, verb: Verb, progress: Progress, payload: &[u8]) -> Progress
+    ensures { result ≡ progress_after verb progress payload.now }
 {
     if progress.outcome.is_some() {
         return progress;
     }
     if !progress.accepted {
-        return after_aare(alloc, verb, payload);
+        return progress_after_aare(alloc, verb, payload);
     }
     Progress {
         accepted: true,
@@ -71,9 +71,9 @@ pub fn or_unknown(progress: Progress) -> Progress
 }
 
 // Returns the progress after the response to the AARQ.
-#[tactic(auto, unfolding(crate::specs::Replies::after_aare))]
-fn after_aare(alloc: Global, verb: Verb, payload: &[u8]) -> Progress
-    ensures { result ≡ after_aare verb payload.now }
+#[tactic(auto, unfolding(crate::specs::Replies::progress_after_aare))]
+fn progress_after_aare(alloc: Global, verb: Verb, payload: &[u8]) -> Progress
+    ensures { result ≡ progress_after_aare verb payload.now }
 {
     let Ok(aare) = read_aare(alloc, payload) else {
         return with_outcome(Outcome::Unknown);
@@ -81,7 +81,7 @@ fn after_aare(alloc: Global, verb: Verb, payload: &[u8]) -> Progress
     if aare.result != 0 {
         return with_outcome(Outcome::Rejected(aare.diagnostic));
     }
-    if !grants(verb, aare.info) {
+    if !is_granted(verb, aare.info) {
         return with_outcome(Outcome::Rejected(0));
     }
     Progress {
@@ -91,8 +91,8 @@ fn after_aare(alloc: Global, verb: Verb, payload: &[u8]) -> Progress
 }
 
 // Returns whether the negotiated services include that of the request.
-fn grants(verb: Verb, info: Info) -> bool
-    ensures { result ≡ grants verb info }
+fn is_granted(verb: Verb, info: Info) -> bool
+    ensures { result ≡ is_granted verb info }
 {
     let service = match verb {
         Verb::Disconnect | Verb::Reconnect => Conformance::ACTION,

@@ -18,7 +18,7 @@ use std::io;
 use std::io::{BufReader, ErrorKind, Read};
 use std::sync::Wait;
 use std::test::Fail;
-use trace_player::resumed_recorder;
+use trace_player::resume_recorder;
 
 // A remote disconnection, samples and a moment; and one more line after them.
 const TRACE: &[u8] = b"RELAYTRACE 1
@@ -296,10 +296,10 @@ fn told_of_4(alloc: Global, recorder: &mut Recorder) -> Result<Seen, AllocError>
 }
 
 /// Applies the moment 4 to a meter that resumes from a trace.
-fn resumed_from(alloc: Global, trace: &Trace) -> Result<Seen, AllocError>
+fn resume_from(alloc: Global, trace: &Trace) -> Result<Seen, AllocError>
     requires { IsFitOpening trace.now.opening }
 {
-    let mut recorder = resumed_recorder(alloc, trace, 1)?;
+    let mut recorder = resume_recorder(alloc, trace, 1)?;
     let seen = told_of_4(alloc, &mut recorder);
     drop(recorder);
     seen
@@ -316,7 +316,7 @@ fn input_of(alloc: Global, bytes: &[u8]) -> io::Result<Input<'_>> {
 /// Applies the moment 4 to a meter that resumes from the trace at the head of an input.
 fn resumed(alloc: Global, input: &mut Input) -> Result<Seen, Fault> {
     let trace = read_head(alloc, input)?;
-    let seen = resumed_from(alloc, &trace);
+    let seen = resume_from(alloc, &trace);
     drop(trace);
     match seen {
         Ok(seen) => Ok(seen),

@@ -6,7 +6,7 @@ use Rattle.std.proofs.lemmas.Bool.Decides.{same_from_decides}
 use Rattle.std.proofs.lemmas.Bool.{eqb-true, eq-eqb, and_parts, and_from}
 use base.Stored.{Gv, gnil, gnum, gcons}
 use Rattle.cosem_axdr.specs.Equality.{is_same_code, is_same, are_same}
-use Rattle.cosem_axdr.specs.Stored.{stored, stored_all, stored_back, stored_all_back, back}
+use Rattle.cosem_axdr.specs.Stored.{stored, stored_all, stored_back, stored_all_back, decoded_cell}
 use Rattle.cosem_axdr.specs.Tree.{Trees}
 use Rattle.cosem_axdr.specs.View.{tree_of}
 use Rattle.cosem_axdr.specs.declared.value.Data.{Data}
@@ -51,13 +51,14 @@ equivalence same one itself = record {
 -- Datas that compare as the same are equal
 pub is_same-true : (d e : Data) → is_same d e ≡ true → d ≡ e
 is_same-true d e same =
-    one_tree d e (sym (stored_back (tree_of d)) ∙ ap (λ g. (back g).0)
+    one_tree d e (sym (stored_back (tree_of d)) ∙ ap (λ g. (decoded_cell g).0)
     (same_code (stored (tree_of d)) (stored (tree_of e)) same) ∙ stored_back (tree_of e))
 
 -- items that compare as the same are equal
 pub are_same-true : (ts us : Trees) → are_same ts us ≡ true → ts ≡ us
 are_same-true ts us same =
-    sym (stored_all_back ts) ∙ ap (λ g. (back g).1) (same_code (stored_all ts) (stored_all us) same)
+    sym (stored_all_back ts) ∙ ap (λ g. (decoded_cell g).1)
+    (same_code (stored_all ts) (stored_all us) same)
     ∙ stored_all_back us
 
 -- each Data compares as the same as itself, and so do items

@@ -22,38 +22,38 @@ abbrev boolean_code : Bool → Gv
 boolean_code true = gnum 1
 boolean_code false = gnum 0
 
-abbrev boolean_back : Gv → Bool
-boolean_back g = num g == 1
+abbrev boolean_of_code : Gv → Bool
+boolean_of_code g = num g == 1
 
-boolean_back-code : (b : Bool) → boolean_back (boolean_code b) ≡ b
-boolean_back-code true = refl
-boolean_back-code false = refl
+boolean_of_code-code : (b : Bool) → boolean_of_code (boolean_code b) ≡ b
+boolean_of_code-code true = refl
+boolean_of_code-code false = refl
 
 -- a signed number as its sign and its magnitude, and the inverse
 abbrev integer_code : ℤ → Gv
 integer_code (pos n) = gcons (gnum 0) (gnum n)
 integer_code (negsuc n) = gcons (gnum 1) (gnum n)
 
-abbrev integer_back : Gv → ℤ
-integer_back g = if num (head g) == 0 then pos (num (tail g)) else negsuc (num (tail g))
+abbrev integer_of_code : Gv → ℤ
+integer_of_code g = if num (head g) == 0 then pos (num (tail g)) else negsuc (num (tail g))
 
-integer_back-code : (z : ℤ) → integer_back (integer_code z) ≡ z
-integer_back-code (pos n) = refl
-integer_back-code (negsuc n) = refl
+integer_of_code-code : (z : ℤ) → integer_of_code (integer_code z) ≡ z
+integer_of_code-code (pos n) = refl
+integer_of_code-code (negsuc n) = refl
 
 -- bytes as a chain of pairs, and the inverse
 abbrev octets_code : List ℕ → Gv
 octets_code [] = gnil
 octets_code (b ∷ bytes) = gcons (gnum b) (octets_code bytes)
 
-abbrev octets_back : Gv → List ℕ
-octets_back gnil = []
-octets_back (gnum n) = []
-octets_back (gcons a b) = num a ∷ octets_back b
+abbrev octets_of_code : Gv → List ℕ
+octets_of_code gnil = []
+octets_of_code (gnum n) = []
+octets_of_code (gcons a b) = num a ∷ octets_of_code b
 
-octets_back-code : (bytes : List ℕ) → octets_back (octets_code bytes) ≡ bytes
-octets_back-code [] = refl
-octets_back-code (b ∷ bytes) = ap (λ (rest : List ℕ). b ∷ rest) (octets_back-code bytes)
+octets_of_code-code : (bytes : List ℕ) → octets_of_code (octets_code bytes) ≡ bytes
+octets_of_code-code [] = refl
+octets_of_code-code (b ∷ bytes) = ap (λ (rest : List ℕ). b ∷ rest) (octets_of_code-code bytes)
 
 -- a tree as its tag and its contents, and consecutive items
 abbrev mutual
@@ -88,56 +88,60 @@ abbrev by_tag : ℕ → Gv → Trees → Tree
 by_tag tag fields items =
     if tag == 0x01 then array items else
     if tag == 0x02 then structure items else
-    if tag == 0x03 then boolean (boolean_back fields) else
-    if tag == 0x04 then bit_string (num (head fields)) (octets_back (tail fields)) else
-    if tag == 0x05 then double_long (integer_back fields) else
+    if tag == 0x03 then boolean (boolean_of_code fields) else
+    if tag == 0x04 then bit_string (num (head fields)) (octets_of_code (tail fields)) else
+    if tag == 0x05 then double_long (integer_of_code fields) else
     if tag == 0x06 then double_long_unsigned (num fields) else
-    if tag == 0x09 then octet_string (octets_back fields) else
-    if tag == 0x0A then visible_string (octets_back fields) else
-    if tag == 0x0C then utf8_string (octets_back fields) else
-    if tag == 0x0F then integer (integer_back fields) else
-    if tag == 0x10 then long (integer_back fields) else
+    if tag == 0x09 then octet_string (octets_of_code fields) else
+    if tag == 0x0A then visible_string (octets_of_code fields) else
+    if tag == 0x0C then utf8_string (octets_of_code fields) else
+    if tag == 0x0F then integer (integer_of_code fields) else
+    if tag == 0x10 then long (integer_of_code fields) else
     if tag == 0x11 then unsigned (num fields) else
     if tag == 0x12 then long_unsigned (num fields) else
-    if tag == 0x14 then long64 (integer_back fields) else
+    if tag == 0x14 then long64 (integer_of_code fields) else
     if tag == 0x15 then long64_unsigned (num fields) else
     if tag == 0x16 then enumerated (num fields) else
-    if tag == 0x19 then date_time (octets_back fields) else
-    if tag == 0x1A then date (octets_back fields) else
-    if tag == 0x1B then time (octets_back fields) else
+    if tag == 0x19 then date_time (octets_of_code fields) else
+    if tag == 0x1A then date (octets_of_code fields) else
+    if tag == 0x1B then time (octets_of_code fields) else
     null
 
 -- a cell decoded as a tree and as items at once
-abbrev pub back : Gv → Tree × Trees
-back gnil = (null, no_trees)
-back (gnum n) = (null, no_trees)
-back (gcons a b) = (by_tag (num a) b (back b).1, tree (back a).0 (back b).1)
+abbrev pub decoded_cell : Gv → Tree × Trees
+decoded_cell gnil = (null, no_trees)
+decoded_cell (gnum n) = (null, no_trees)
+decoded_cell (gcons a b) = (
+  by_tag (num a) b (decoded_cell b).1,
+  tree (decoded_cell a).0
+      (decoded_cell b).1,
+)
 
 -- decoding a stored tree returns the tree
 mutual
-  pub stored_back : (t : Tree) → (back (stored t)).0 ≡ t
+  pub stored_back : (t : Tree) → (decoded_cell (stored t)).0 ≡ t
   stored_back null = refl
   stored_back (array ts) = ap array (stored_all_back ts)
   stored_back (structure ts) = ap structure (stored_all_back ts)
-  stored_back (boolean b) = ap boolean (boolean_back-code b)
-  stored_back (bit_string bits bytes) = ap (bit_string bits) (octets_back-code bytes)
-  stored_back (double_long z) = ap double_long (integer_back-code z)
+  stored_back (boolean b) = ap boolean (boolean_of_code-code b)
+  stored_back (bit_string bits bytes) = ap (bit_string bits) (octets_of_code-code bytes)
+  stored_back (double_long z) = ap double_long (integer_of_code-code z)
   stored_back (double_long_unsigned n) = refl
-  stored_back (octet_string bytes) = ap octet_string (octets_back-code bytes)
-  stored_back (visible_string bytes) = ap visible_string (octets_back-code bytes)
-  stored_back (utf8_string bytes) = ap utf8_string (octets_back-code bytes)
-  stored_back (integer z) = ap integer (integer_back-code z)
-  stored_back (long z) = ap long (integer_back-code z)
+  stored_back (octet_string bytes) = ap octet_string (octets_of_code-code bytes)
+  stored_back (visible_string bytes) = ap visible_string (octets_of_code-code bytes)
+  stored_back (utf8_string bytes) = ap utf8_string (octets_of_code-code bytes)
+  stored_back (integer z) = ap integer (integer_of_code-code z)
+  stored_back (long z) = ap long (integer_of_code-code z)
   stored_back (unsigned n) = refl
   stored_back (long_unsigned n) = refl
-  stored_back (long64 z) = ap long64 (integer_back-code z)
+  stored_back (long64 z) = ap long64 (integer_of_code-code z)
   stored_back (long64_unsigned n) = refl
   stored_back (enumerated n) = refl
-  stored_back (date_time bytes) = ap date_time (octets_back-code bytes)
-  stored_back (date bytes) = ap date (octets_back-code bytes)
-  stored_back (time bytes) = ap time (octets_back-code bytes)
+  stored_back (date_time bytes) = ap date_time (octets_of_code-code bytes)
+  stored_back (date bytes) = ap date (octets_of_code-code bytes)
+  stored_back (time bytes) = ap time (octets_of_code-code bytes)
 
-  pub stored_all_back : (ts : Trees) → (back (stored_all ts)).1 ≡ ts
+  pub stored_all_back : (ts : Trees) → (decoded_cell (stored_all ts)).1 ≡ ts
   stored_all_back no_trees = refl
   stored_all_back (tree t ts) = ap₂ tree (stored_back t) (stored_all_back ts)
 
@@ -145,5 +149,5 @@ mutual
 abbrev pub coded_trees : Coded Trees
 coded_trees = record {
   code = stored_all;
-  inj = λ x y e. sym (stored_all_back x) ∙ ap (λ g. (back g).1) e ∙ stored_all_back y;
+  inj = λ x y e. sym (stored_all_back x) ∙ ap (λ g. (decoded_cell g).1) e ∙ stored_all_back y;
 }

@@ -14,8 +14,8 @@ impl Data {
     {
         Ok(match self {
             Data::Null => Data::Null,
-            Data::Array(items) => Data::Array(items_clone(alloc, &items.items)?),
-            Data::Structure(items) => Data::Structure(items_clone(alloc, &items.items)?),
+            Data::Array(items) => Data::Array(clone_items(alloc, &items.items)?),
+            Data::Structure(items) => Data::Structure(clone_items(alloc, &items.items)?),
             Data::Boolean(value) => Data::Boolean(*value),
             Data::BitString { bits, bytes } => Data::BitString {
                 bits: *bits,
@@ -42,7 +42,7 @@ impl Data {
 
 // Returns a newly allocated copy of items.
 #[cycle(copying)]
-fn items_clone(alloc: Global, items: &[Data]) -> Result<Items, AllocError>
+fn clone_items(alloc: Global, items: &[Data]) -> Result<Items, AllocError>
     ensures { IfOk result (λ copies. copies ≡ trees_of (all_trees items.now)) }
 {
     let mut copies = Vec::new(alloc);

@@ -46,7 +46,7 @@ impl<'a> DataReader<'a> {
     }
 
     // Reads the next `count` bytes. All of them must be there; otherwise none is read.
-    pub(crate) fn bytes(&mut self, count: usize) -> Result<&'a [u8], DataFault>
+    pub(crate) fn read_bytes(&mut self, count: usize) -> Result<&'a [u8], DataFault>
         ensures read { Reads (λ bytes. bytes.now) result self.new (bytes_at count self.old) }
         ensures len { IfOk result (λ bytes. length bytes.now ≡ count) }
     {
@@ -63,18 +63,18 @@ impl<'a> DataReader<'a> {
     }
 
     // Reads the next byte.
-    pub(crate) fn byte(&mut self) -> Result<u8, DataFault>
+    pub(crate) fn read_byte(&mut self) -> Result<u8, DataFault>
         ensures { Reads (λ byte. byte) result self.new (byte_at self.old) }
     {
-        Ok(self.bytes(1)?[0])
+        Ok(self.read_bytes(1)?[0])
     }
 
     // Reads the next `N` bytes.
-    pub(crate) fn array<const N: usize>(&mut self) -> Result<[u8; N], DataFault>
+    pub(crate) fn read_array<const N: usize>(&mut self) -> Result<[u8; N], DataFault>
         ensures { Reads (λ bytes. bytes) result self.new (bytes_at N self.old) }
     {
         let mut array = [0; N];
-        array.copy_from_slice(self.bytes(N)?);
+        array.copy_from_slice(self.read_bytes(N)?);
         Ok(array)
     }
 
@@ -83,7 +83,7 @@ impl<'a> DataReader<'a> {
     pub(crate) fn read_u16(&mut self) -> Result<u16, DataFault>
         ensures { Reads (λ number. number) result self.new (unsigned_at w16 self.old) }
     {
-        Ok(BigEndian::read_u16(self.bytes(2)?))
+        Ok(BigEndian::read_u16(self.read_bytes(2)?))
     }
 
     // Reads a number of four bytes, the highest first.
@@ -91,7 +91,7 @@ impl<'a> DataReader<'a> {
     pub(crate) fn read_u32(&mut self) -> Result<u32, DataFault>
         ensures { Reads (λ number. number) result self.new (unsigned_at w32 self.old) }
     {
-        Ok(BigEndian::read_u32(self.bytes(4)?))
+        Ok(BigEndian::read_u32(self.read_bytes(4)?))
     }
 
     // Reads a number of eight bytes, the highest first.
@@ -99,28 +99,28 @@ impl<'a> DataReader<'a> {
     pub(crate) fn read_u64(&mut self) -> Result<u64, DataFault>
         ensures { Reads (λ number. number) result self.new (unsigned_at w64 self.old) }
     {
-        Ok(BigEndian::read_u64(self.bytes(8)?))
+        Ok(BigEndian::read_u64(self.read_bytes(8)?))
     }
 
     // Reads a length or count: one byte below 80 hex, or 81 to 84 hex followed by one to four
     // bytes.
     #[tactic(auto, unfolding(crate::specs::Reading::length_at))]
-    pub(crate) fn length(&mut self) -> Result<usize, DataFault>
+    pub(crate) fn read_length(&mut self) -> Result<usize, DataFault>
         ensures { Reads (λ n. n) result self.new (length_at self.old) }
     {
-        match self.byte()? {
+        match self.read_byte()? {
             short @ 0..=0x7F => Ok(usize::from(short)),
-            form @ 0x81..=0x84 => Ok(number_of(self.bytes(usize::from(form - 0x80))?)),
+            form @ 0x81..=0x84 => Ok(number_of(self.read_bytes(usize::from(form - 0x80))?)),
             _ => Err(DataFault::TooLong),
         }
     }
 
     // Reads a string: its length, followed by its bytes.
     #[tactic(auto, unfolding(crate::specs::Reading::string_at))]
-    pub(crate) fn string(&mut self) -> Result<&'a [u8], DataFault>
+    pub(crate) fn read_string(&mut self) -> Result<&'a [u8], DataFault>
         ensures { Reads (λ bytes. bytes.now) result self.new (string_at self.old) }
     {
-        let count = self.length()?;
-        self.bytes(count)
+        let count = self.read_length()?;
+        self.read_bytes(count)
     }
 }

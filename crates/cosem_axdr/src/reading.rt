@@ -27,7 +27,7 @@ pub fn read(alloc: Global, bytes: &[u8]) -> Result<(Data, usize), DataFault>
     ensures found { IfOk result (λ read. (read.1 ≤ length bytes.now)
         × IsSpelling (take read.1 bytes.now) (tree_of read.0)) }
     // If the bytes begin with a spelling of a value, that value is read, unless out of memory.
-    ensures only { (d : Data) (n : ℕ) → n ≤ length bytes.now
+    ensures unique { (d : Data) (n : ℕ) → n ≤ length bytes.now
         → IsSpelling (take n bytes.now) (tree_of d)
         → MatchResult result (λ read. (read.0 ≡ d)
         × (read.1 ≡ n)) (λ fault. fault ≡ DataFault.Memory) }
@@ -53,7 +53,7 @@ fn read_first(alloc: Global, bytes: &[u8]) -> Result<(Data, usize), DataFault>
 fn read_value(alloc: Global, levels: usize, reader: &mut DataReader) -> Result<Data, DataFault>
     ensures { Reads (λ value. value) result reader.new (value_at (nested_at levels) reader.old) }
 {
-    match reader.byte()? {
+    match reader.read_byte()? {
         tag::ARRAY => Ok(Data::Array(read_counted(alloc, levels, reader)?)),
         tag::STRUCTURE => Ok(Data::Structure(read_counted(alloc, levels, reader)?)),
         tag => read_leaf(alloc, tag, reader),
@@ -70,7 +70,7 @@ fn read_counted(alloc: Global, levels: usize, reader: &mut DataReader) -> Result
     if levels == 0 {
         return Err(DataFault::TooDeep);
     }
-    let count = reader.length()?;
+    let count = reader.read_length()?;
     if count > MAX_ITEMS {
         return Err(DataFault::TooLong);
     }
@@ -117,19 +117,19 @@ fn read_fixed(tag: u8, reader: &mut DataReader) -> Result<Data, DataFault>
 {
     Ok(match tag {
         tag::NULL_DATA => Data::Null,
-        tag::BOOLEAN => Data::Boolean(reader.byte()? != 0),
+        tag::BOOLEAN => Data::Boolean(reader.read_byte()? != 0),
         tag::DOUBLE_LONG => Data::DoubleLong(reader.read_u32()?.cast_signed()),
         tag::DOUBLE_LONG_UNSIGNED => Data::DoubleLongUnsigned(reader.read_u32()?),
-        tag::INTEGER => Data::Integer(reader.byte()?.cast_signed()),
+        tag::INTEGER => Data::Integer(reader.read_byte()?.cast_signed()),
         tag::LONG => Data::Long(reader.read_u16()?.cast_signed()),
-        tag::UNSIGNED => Data::Unsigned(reader.byte()?),
+        tag::UNSIGNED => Data::Unsigned(reader.read_byte()?),
         tag::LONG_UNSIGNED => Data::LongUnsigned(reader.read_u16()?),
         tag::LONG64 => Data::Long64(reader.read_u64()?.cast_signed()),
         tag::LONG64_UNSIGNED => Data::Long64Unsigned(reader.read_u64()?),
-        tag::ENUM => Data::Enum(reader.byte()?),
-        tag::DATE_TIME => Data::DateTime(reader.array()?),
-        tag::DATE => Data::Date(reader.array()?),
-        tag::TIME => Data::Time(reader.array()?),
+        tag::ENUM => Data::Enum(reader.read_byte()?),
+        tag::DATE_TIME => Data::DateTime(reader.read_array()?),
+        tag::DATE => Data::Date(reader.read_array()?),
+        tag::TIME => Data::Time(reader.read_array()?),
         _ => return Err(DataFault::UnknownTag),
     })
 }
@@ -138,7 +138,7 @@ fn read_fixed(tag: u8, reader: &mut DataReader) -> Result<Data, DataFault>
 fn read_string(alloc: Global, reader: &mut DataReader) -> Result<Octets, DataFault>
     ensures { Reads (λ octets. octets) result reader.new (string_at reader.old) }
 {
-    Ok(Octets::from_slice(alloc, reader.string()?)?)
+    Ok(Octets::from_slice(alloc, reader.read_string()?)?)
 }
 
 // Reads a bit-string and sets its unused bits to 0.
@@ -146,8 +146,8 @@ fn read_string(alloc: Global, reader: &mut DataReader) -> Result<Octets, DataFau
 fn read_bits(alloc: Global, reader: &mut DataReader) -> Result<Data, DataFault>
     ensures { Reads (λ value. value) result reader.new (bits_at reader.old) }
 {
-    let bits = reader.length()?;
-    let mut bytes = Vec::from_slice(alloc, reader.bytes(bytes_for(bits))?)?;
+    let bits = reader.read_length()?;
+    let mut bytes = Vec::from_slice(alloc, reader.read_bytes(bytes_for(bits))?)?;
     clear_unused(bits, bytes.as_mut_slice());
     Ok(Data::BitString {
         bits,

@@ -132,7 +132,7 @@ pub fn read_date(bytes: &[u8]) -> Result<DatePattern, PatternFault>
     ensures exact { result ≡ date_of bytes.now }
     // The bytes of a date that is read spell it, and a date that they spell is read.
     ensures found { IfOk result (λ p. IsDateFields p × (bytes.now ≡ date_bytes p)) }
-    ensures only { (p : DateFields) → IsDateFields p → bytes.now ≡ date_bytes p → result ≡ Ok p }
+    ensures unique { (p : DateFields) → IsDateFields p → bytes.now ≡ date_bytes p → result ≡ Ok p }
     ensures length { IsErrOf result PatternFault.Length ↔ (length bytes.now ≢ 5) }
     // The month is the first field checked, so this fault takes precedence over those of later
     // fields.

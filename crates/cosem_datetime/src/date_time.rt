@@ -81,7 +81,7 @@ pub fn read_date_time(bytes: &[u8]) -> Result<DateTimeField, PatternFault>
     ensures exact { result ≡ date_time_of bytes.now }
     // The bytes of a date-time that is read spell it, and a date-time that they spell is read.
     ensures found { IfOk result (λ p. IsDateTimeFields p × (bytes.now ≡ date_time_bytes p)) }
-    ensures only { (p : DateTimeFields) → IsDateTimeFields p → bytes.now ≡ date_time_bytes p
+    ensures unique { (p : DateTimeFields) → IsDateTimeFields p → bytes.now ≡ date_time_bytes p
         → result ≡ Ok p }
     ensures length { IsErrOf result PatternFault.Length ↔ (length bytes.now ≢ 12) }
     // The month is the first field checked, so this fault takes precedence over those of later

@@ -66,8 +66,8 @@ impl EntryPattern {
     // Day 0 is 1 January 2000.
     fn matches_on(&self, day: u32, from: u32, to: u32) -> bool
         requires day { day ≤ 49710 }
-        requires from { from < 86400 }
-        requires to { to < 86400 }
+        requires from_in_day { from < 86400 }
+        requires to_in_day { to < 86400 }
         ensures { TellsPassing (matches self.now) (86400 * day + from) (86400 * day + to) result }
     {
         self.date.matches_day(FIRST_DAY + day) && self.time.matches_between(from, to)

@@ -78,7 +78,7 @@ pub fn read_time(bytes: &[u8]) -> Result<TimePattern, PatternFault>
     ensures exact { result ≡ time_of bytes.now }
     // Reads a time exactly if the bytes spell it.
     ensures found { IfOk result (λ p. IsTimeFields p × (bytes.now ≡ time_bytes p)) }
-    ensures only { (p : TimeFields) → IsTimeFields p → bytes.now ≡ time_bytes p → result ≡ Ok p }
+    ensures unique { (p : TimeFields) → IsTimeFields p → bytes.now ≡ time_bytes p → result ≡ Ok p }
     ensures length { IsErrOf result PatternFault.Length ↔ (length bytes.now ≢ 4) }
     ensures no_season { ¬ IsErrOf result PatternFault.SeasonMonth }
 {
@@ -208,8 +208,8 @@ impl TimePattern {
 
     // Returns whether the time matches some second of the day from `from` to `to`, both included.
     pub(crate) fn matches_between(&self, from: u32, to: u32) -> bool
-        requires from { from < 86400 }
-        requires to { to < 86400 }
+        requires from_in_day { from < 86400 }
+        requires to_in_day { to < 86400 }
         ensures { TellsPassing (time_matches self.now) from to result }
     {
         match self.first_in_day(from) {

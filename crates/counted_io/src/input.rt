@@ -22,7 +22,7 @@ pub fn read_to_end_within<R: Reader>(
     requires limited { limit < 2 ^ 32 }
     ensures read { IfOk result
         (λ bytes. Consumes (R.remaining reader.old) (R.remaining reader.new) bytes.items) }
-    ensures whole { IfOk result (λ bytes. IsAtEnd (R.remaining reader.new)) }
+    ensures at_end { IfOk result (λ bytes. IsAtEnd (R.remaining reader.new)) }
     ensures within { IfOk result (λ bytes. length bytes.items ≤ limit) }
     ensures err { IfErr result
         (λ fault. StopsReading limit (R.remaining reader.old) (R.failures reader.old) fault

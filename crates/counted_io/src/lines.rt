@@ -10,7 +10,7 @@ use std::io::{BufRead, BufReader, Read};
 fn line_len(bytes: &[u8]) -> usize
     ensures bound { result ≤ length bytes.now }
     ensures non_zero { 0 < length bytes.now → 0 < result }
-    ensures before { All (λ byte. byte ≢ 10) (take (result - 1) bytes.now) }
+    ensures no_earlier_end { All (λ byte. byte ≢ 10) (take (result - 1) bytes.now) }
 {
     'bytes: for i in 0..bytes.len() {
         if bytes[i] == b'\n' {
@@ -42,7 +42,7 @@ fn add_piece<B: BufRead>(input: &mut B, line: &mut Vec<u8>) -> Result<bool, Inpu
 // failed read.
 fn piece_fault(fault: InputFault, has_failed: bool) -> InputFault
     ensures cause { result ≡ InputFault.Read → has_failed ≡ true }
-    ensures short { result ≢ InputFault.TooLong }
+    ensures never_too_long { result ≢ InputFault.TooLong }
 {
     match fault {
         InputFault::Read if has_failed => InputFault::Read,

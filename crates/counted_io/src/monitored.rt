@@ -21,7 +21,7 @@ impl<T> Monitored<T> {
     /// Wraps a stream; no read has failed yet.
     pub fn new(stream: T) -> Monitored<T>
         ensures stream { stream_of result ≡ stream }
-        ensures whole { has_failed result ≡ false }
+        ensures unfailed { has_failed result ≡ false }
     {
         Monitored {
             stream,

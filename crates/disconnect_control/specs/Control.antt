@@ -7,7 +7,7 @@ use Rattle.disconnect_control.specs.declared.state.ControlState.{ControlState}
 use Rattle.disconnect_control.specs.declared.state.ControlState.TheVariants.{Connected}
 use Rattle.disconnect_control.specs.declared.state.ControlMode.{ControlMode}
 use Rattle.disconnect_control.specs.declared.state.Trigger.{Trigger}
-use Rattle.disconnect_control.specs.Transitions.{is_state, mode_number, after}
+use Rattle.disconnect_control.specs.Transitions.{is_state, mode_number, control_state_after}
 
 -- the switch as its clients see it: attributes 3 and 4 (IEC 62056-6-2, class 70, control_state and
 -- control_mode)
@@ -18,7 +18,7 @@ pub record Control : Type 0 where
 -- the switch after a trigger: its mode does not change
 abbrev pub control_after : Trigger → Control → Control
 control_after trigger control =
-    record { state = after control.mode trigger control.state; mode = control.mode }
+    record { state = control_state_after control.mode trigger control.state; mode = control.mode }
 
 -- whether a mode may be written: in mode 0 the switch is always connected (IEC 62056-6-2, class 70,
 -- control_mode), so mode 0 is accepted only in Connected

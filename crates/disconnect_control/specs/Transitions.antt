@@ -115,8 +115,8 @@ allowed_transition mode trigger state =
     (rows_of mode)
 
 -- the state after a trigger
-unfoldable pub after : ControlMode → Trigger → ControlState → ControlState
-after mode trigger state = unwrap_or (option_map (λ row. row.to)
+unfoldable pub control_state_after : ControlMode → Trigger → ControlState → ControlState
+control_state_after mode trigger state = unwrap_or (option_map (λ row. row.to)
     (allowed_transition mode trigger state)) state
 
 -- modes whose remote reconnection waits for the button

@@ -127,7 +127,7 @@ impl DisconnectControl {
     /// Connected.
     pub fn of(state: ControlState, mode: ControlMode) -> Option<DisconnectControl>
         ensures none { IsNone result ↔ ((mode ≡ Mode0) × (state ≢ Connected)) }
-        ensures some { IfSome result (λ control. control ≡ record { state = state; mode = mode }) }
+        ensures control { IfSome result (λ control. control ≡ record { state = state; mode = mode }) }
     {
         if mode == ControlMode::Mode0 && state != ControlState::Connected {
             return None;
@@ -162,7 +162,7 @@ impl DisconnectControl {
     ///
     /// Returns `Success` if there is a transition or the state is already what the trigger asks
     /// for, else `TemporaryFailure`. Without a transition nothing changes.
-    #[tactic(auto, unfolding(crate::specs::Transitions::allowed_transition, crate::specs::Transitions::after, crate::specs::Transitions::result_of))]
+    #[tactic(auto, unfolding(crate::specs::Transitions::allowed_transition, crate::specs::Transitions::control_state_after, crate::specs::Transitions::result_of))]
     pub fn apply(&mut self, trigger: Trigger) -> ResultCode
         ensures control { self.new ≡ control_after trigger self.old }
         ensures code { result ≡ result_of self.old.mode trigger self.old.state }

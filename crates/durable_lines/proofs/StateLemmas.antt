@@ -8,7 +8,7 @@ use Rattle.std.proofs.Math.Seq.{take-append-add}
 use Rattle.std.specs.Prelude.{nat_le}
 use Rattle.durable_lines.specs.CrashModel.{Follows, IsTorn, Narrows, Only, TornAppend, TornCut}
 use Rattle.durable_lines.specs.FileState.{State, seen_of, synced_with, after_append, after_cut}
-use Rattle.durable_lines.specs.FileState.{torn_by, IsLeft}
+use Rattle.durable_lines.specs.FileState.{torn_text, IsLeft}
 use Rattle.durable_lines.specs.declared.byte_fate.ByteFate.{ByteFate}
 use Rattle.durable_lines.specs.declared.byte_fate.ByteFate.TheVariants.{Kept, Zeroed, Missing}
 
@@ -161,7 +161,7 @@ only_synced bytes c (inr torn) =
 pub sync_narrows : (s : State) → Narrows (IsLeft s) (IsLeft (synced_with (seen_of s)))
 sync_narrows s c left = subst (IsLeft s) (sym (only_synced (seen_of s) c left)) (seen_left s)
 
-torn_by_torn : (fates : List ByteFate) (bytes : List ℕ) → IsTorn bytes (torn_by fates bytes)
+torn_by_torn : (fates : List ByteFate) (bytes : List ℕ) → IsTorn bytes (torn_text fates bytes)
 torn_by_torn [] bytes = tt
 torn_by_torn (fate ∷ fates) [] = tt
 torn_by_torn (Kept ∷ fates) (byte ∷ bytes) = (inl refl, torn_by_torn fates bytes)
@@ -170,5 +170,5 @@ torn_by_torn (Missing ∷ fates) (byte ∷ bytes) = tt
 
 -- a crash may make any choice of the bytes that were appended
 pub torn_possible : (s : State) (fates : List ByteFate) (c : List ℕ)
-    → c ≡ take s.kept s.synced ++ torn_by fates s.added → IsLeft s c
-torn_possible s fates c is = inr (torn_by fates s.added, torn_by_torn fates s.added, is)
+    → c ≡ take s.kept s.synced ++ torn_text fates s.added → IsLeft s c
+torn_possible s fates c is = inr (torn_text fates s.added, torn_by_torn fates s.added, is)

@@ -1,13 +1,13 @@
 -- A file in memory at one moment, and what a crash may leave of it.
---     State         the bytes of the last sync, and the cuts and appends after it
---     seen_of       the bytes that a read returns
---     IsLeft        what a crash at that moment may leave
---     synced_with   the state after a sync
---     after_append  the state after an append
---     after_cut     the state after a cut
---     torn_by       the bytes that a crash leaves of appended ones, chosen byte by byte
---     left_by       the bytes that a crash leaves if all cuts are on the disk
---     left_uncut    the bytes that a crash leaves if the cuts are not on the disk
+--     State            the bytes of the last sync, and the cuts and appends after it
+--     seen_of          the bytes that a read returns
+--     IsLeft           what a crash at that moment may leave
+--     synced_with      the state after a sync
+--     after_append     the state after an append
+--     after_cut        the state after a cut
+--     torn_text        the bytes that a crash leaves of appended ones, chosen byte by byte
+--     text_left_by     the bytes that a crash leaves if all cuts are on the disk
+--     text_left_uncut  the bytes that a crash leaves if the cuts are not on the disk
 use Rattle.std.specs.Prelude.{◌⊎◌, ◌-◌, ℕ, List, [], ◌∷◌, ◌++◌, length, max, take, nat_le}
 use Rattle.std.specs.Prelude.{if◌then◌else◌}
 use Rattle.durable_lines.specs.CrashModel.{TornAppend, TornCut}
@@ -46,17 +46,17 @@ after_cut len s = if nat_le len s.kept
 
 -- the bytes that a crash leaves of appended ones, each of which is kept, zeroed, or missing with
 -- all bytes after it; a byte without a fate is missing
-abbrev pub torn_by : List ByteFate → List ℕ → List ℕ
-torn_by [] bytes = []
-torn_by (fate ∷ fates) [] = []
-torn_by (Kept ∷ fates) (byte ∷ bytes) = byte ∷ torn_by fates bytes
-torn_by (Zeroed ∷ fates) (byte ∷ bytes) = 0 ∷ torn_by fates bytes
-torn_by (Missing ∷ fates) (byte ∷ bytes) = []
+abbrev pub torn_text : List ByteFate → List ℕ → List ℕ
+torn_text [] bytes = []
+torn_text (fate ∷ fates) [] = []
+torn_text (Kept ∷ fates) (byte ∷ bytes) = byte ∷ torn_text fates bytes
+torn_text (Zeroed ∷ fates) (byte ∷ bytes) = 0 ∷ torn_text fates bytes
+torn_text (Missing ∷ fates) (byte ∷ bytes) = []
 
 -- the bytes that a crash leaves if all cuts are on the disk
-abbrev pub left_by : List ByteFate → State → List ℕ
-left_by fates s = take s.kept s.synced ++ torn_by fates s.added
+abbrev pub text_left_by : List ByteFate → State → List ℕ
+text_left_by fates s = take s.kept s.synced ++ torn_text fates s.added
 
 -- the bytes that a crash leaves if the cuts are not on the disk, or only down to a length
-abbrev pub left_uncut : ℕ → State → List ℕ
-left_uncut len s = take (max s.kept len) s.synced
+abbrev pub text_left_uncut : ℕ → State → List ℕ
+text_left_uncut len s = take (max s.kept len) s.synced

@@ -1,7 +1,7 @@
 //! `FileState`: a file in memory at one moment, with what was written since the last sync.
 ghost use Rattle.std.specs.Prelude.{◌≡◌, ◌≤◌, ◌++◌, length, IfOk, OnOk};
-ghost use Rattle.durable_lines.specs.FileState.{after_append, after_cut, left_by, left_uncut};
-ghost use Rattle.durable_lines.specs.FileState.{seen_of, synced_with, torn_by, IsLeft};
+ghost use Rattle.durable_lines.specs.FileState.{after_append, after_cut, text_left_by, text_left_uncut};
+ghost use Rattle.durable_lines.specs.FileState.{seen_of, synced_with, torn_text, IsLeft};
 
 use crate::byte_fate::ByteFate;
 use std::alloc::{AllocError, Global};
@@ -87,7 +87,7 @@ impl FileState {
 
     // Returns what a crash leaves if the cuts are on the disk.
     pub(crate) fn torn(&self, alloc: Global, fates: &[ByteFate]) -> Result<Vec<u8>, AllocError>
-        ensures bytes { IfOk result (λ left. left.items ≡ left_by fates.now self.now) }
+        ensures bytes { IfOk result (λ left. left.items ≡ text_left_by fates.now self.now) }
         ensures possible { IfOk result (λ left. IsLeft self.now left.items) }
     {
         let mut left = self.synced[..self.kept].to_vec(alloc)?;
@@ -97,7 +97,7 @@ impl FileState {
 
     // Returns what a crash leaves if the cuts are not on the disk, or only in part.
     pub(crate) fn uncut(&self, alloc: Global, len: usize) -> Result<Vec<u8>, AllocError>
-        ensures bytes { IfOk result (λ left. left.items ≡ left_uncut len self.now) }
+        ensures bytes { IfOk result (λ left. left.items ≡ text_left_uncut len self.now) }
         ensures possible { IfOk result (λ left. IsLeft self.now left.items) }
     {
         let len = len.max(self.kept).min(self.synced.len());
@@ -114,7 +114,7 @@ impl FileState {
 
 // Appends the bytes that a crash leaves of some bytes, each of which has a fate.
 fn append_torn(left: &mut Vec<u8>, fates: &[ByteFate], bytes: &[u8]) -> Result<(), AllocError>
-    ensures { OnOk result (left.new.items ≡ left.old.items ++ torn_by fates.now bytes.now) }
+    ensures { OnOk result (left.new.items ≡ left.old.items ++ torn_text fates.now bytes.now) }
 {
     let mut fates = fates;
     let mut bytes = bytes;

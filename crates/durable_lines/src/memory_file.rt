@@ -2,7 +2,7 @@
 ghost use Rattle.std.specs.Prelude.{◌≡◌, ◌≤◌, ◌-◌, ◌^◌, ◌++◌, ◌∷◌, [], ⊤, IfOk, OnOk, OnErr};
 ghost use Rattle.std.specs.Prelude.{IsSomeAnd, Some, length, slice_get};
 ghost use Rattle.std.proofs.Common.{inl};
-ghost use Rattle.durable_lines.specs.FileState.{left_by, left_uncut, synced_with, IsLeft};
+ghost use Rattle.durable_lines.specs.FileState.{text_left_by, text_left_uncut, synced_with, IsLeft};
 ghost use Rattle.durable_lines.specs.Moments.{only_present};
 ghost use Rattle.durable_lines.specs.MemoryFile.{bytes_of, moment_of, states_of, syncs_left};
 ghost use Rattle.durable_lines.specs.MemoryFile.{HasFailed, LeftSince};
@@ -80,7 +80,7 @@ impl MemoryFile {
     pub fn after_crash(&self, moment: usize, fates: &[ByteFate]) -> Result<Vec<u8>, AllocError>
         requires { moment ≤ moment_of self.now }
         ensures bytes { IfOk result (λ left. IsSomeAnd (slice_get (states_of self.now) moment)
-            (λ s. left.items ≡ left_by fates.now s)) }
+            (λ s. left.items ≡ text_left_by fates.now s)) }
         ensures possible { IfOk result (λ left.
             IsSomeAnd (slice_get (states_of self.now) moment) (λ s. IsLeft s left.items)) }
     {
@@ -93,7 +93,7 @@ impl MemoryFile {
     pub fn after_undone_cut(&self, moment: usize, len: usize) -> Result<Vec<u8>, AllocError>
         requires { moment ≤ moment_of self.now }
         ensures bytes { IfOk result (λ left. IsSomeAnd (slice_get (states_of self.now) moment)
-            (λ s. left.items ≡ left_uncut len s)) }
+            (λ s. left.items ≡ text_left_uncut len s)) }
         ensures possible { IfOk result (λ left.
             IsSomeAnd (slice_get (states_of self.now) moment) (λ s. IsLeft s left.items)) }
     {

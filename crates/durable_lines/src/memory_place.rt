@@ -2,7 +2,7 @@
 ghost use Rattle.std.specs.Prelude.{◌≡◌, ◌≤◌, ◌++◌, ◌∷◌, [], IfOk, OnErr, OnOk, IsSomeAnd, List};
 ghost use Rattle.std.specs.Prelude.{None, Some, slice_get, ℕ};
 ghost use Rattle.std.proofs.Common.{inl};
-ghost use Rattle.durable_lines.specs.FileState.{left_by, synced_with, IsLeft};
+ghost use Rattle.durable_lines.specs.FileState.{text_left_by, synced_with, IsLeft};
 ghost use Rattle.durable_lines.specs.MemoryPlace.{file_after, moment_of, name_of, states_of};
 ghost use Rattle.durable_lines.specs.MemoryPlace.{LeftSince, MayHave};
 ghost use Rattle.durable_lines.specs.Moments.{only_present};
@@ -95,7 +95,7 @@ impl MemoryPlace {
     ) -> Result<Vec<u8>, AllocError>
         requires { moment ≤ moment_of self.now }
         ensures bytes { IfOk result (λ left. IsSomeAnd (slice_get (states_of self.now) moment)
-            (λ s. left.items ≡ left_by fates.now (file_after is_renamed s))) }
+            (λ s. left.items ≡ text_left_by fates.now (file_after is_renamed s))) }
         ensures possible { IfOk result (λ left.
             IsSomeAnd (slice_get (states_of self.now) moment) (λ s. MayHave s left.items)) }
     {
@@ -150,7 +150,7 @@ impl Place for MemoryPlace {
 
     ghost only_now = { λ p c left. only_present MayHave p.past.items p.state c left };
 
-    fn draft(&mut self) -> Result<MemoryFile, FileFault> {
+    fn create_draft(&mut self) -> Result<MemoryFile, FileFault> {
         Ok(MemoryFile::new(self.alloc, Vec::new(self.alloc)))
     }
 

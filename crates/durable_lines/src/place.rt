@@ -30,7 +30,7 @@ pub trait Place: Drop {
     ghost has_failed: { Self → Type 0 };
 
     /// Creates an empty draft. It replaces an earlier one.
-    fn draft(&mut self) -> Result<Self::Draft, FileFault>
+    fn create_draft(&mut self) -> Result<Self::Draft, FileFault>
         ensures empty { IfOk result (λ draft. Self.Draft.seen draft ≡ []) }
         ensures crash { Narrows (may_leave self.old) (may_leave self.new) }
         ensures time { Elapses (moment self.old) (moment self.new) (left_since self.old)

@@ -25,7 +25,7 @@ pub fn replace<P: Place>(place: &mut P, bytes: &[u8]) -> Result<P::Draft, FileFa
         (λ c. P.may_leave place.old c ⊎ (c ≡ bytes.now)) }
     ensures remains_failed { P.has_failed place.old → P.has_failed place.new }
 {
-    let mut draft = place.draft()?;
+    let mut draft = place.create_draft()?;
     draft.append(bytes)?;
     draft.sync()?;
     place.rename(&draft)?;

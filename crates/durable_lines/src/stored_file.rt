@@ -28,7 +28,7 @@ impl StoredFile {
     /// is refused. Then syncs the file, so that it is read from the disk. Errors: `Held` if another
     /// process has locked the file, `Failed` if it can't be locked or synced.
     pub fn try_lock(file: File, limit: usize) -> Result<StoredFile, LockFault>
-        ensures whole { IfOk result (λ stored. ¬ HasFailed stored) }
+        ensures unfailed { IfOk result (λ stored. ¬ HasFailed stored) }
         ensures limit { IfOk result (λ stored. limit_of stored ≡ limit) }
     {
         match file.try_lock() {

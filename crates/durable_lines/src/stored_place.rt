@@ -105,7 +105,7 @@ impl<R: Files<File = File> + Drop> Place for StoredPlace<R> {
 
     ghost only_now = { λ place c left. left };
 
-    fn draft(&mut self) -> Result<StoredFile, FileFault> {
+    fn create_draft(&mut self) -> Result<StoredFile, FileFault> {
         if self.has_failed {
             return Err(FileFault::Failed);
         }

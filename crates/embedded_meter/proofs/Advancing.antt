@@ -5,7 +5,7 @@ use Rattle.relay_events.specs.declared.event.Event.{Event}
 use Rattle.relay_events.specs.declared.reply.Reply.{Reply}
 use Rattle.relay_recorder.specs.Histories.{Exchange, StandsForHistory, Continues, events_of, replies_of}
 use Rattle.relay_recorder.specs.Recording.{Recording}
-use Rattle.session_core.specs.Remaining.{load}
+use Rattle.session_core.specs.Remaining.{load_of}
 use Rattle.session_core.specs.declared.session.Session.{Session}
 use Rattle.embedded_meter.specs.Dialogues.{Dialogue, asks_ahead, sends_ahead}
 use Rattle.embedded_meter.specs.Progress.{Advances}
@@ -100,7 +100,7 @@ applied old s u u' event reply r r' is asked answered continues capacity =
     (record { session = s; under_way = v }))) (sym asked)
     (subst (λ (v : UnderWay). Advances (record { session = s; under_way = Asked event }) r []
     (record { session = s; under_way = v }) r'
-    × (weight (record { session = s; under_way = v }) < load s + load s + 1)) (sym answered)
+    × (weight (record { session = s; under_way = v }) < load_of s + load_of s + 1)) (sym answered)
     (advances_asked s event reply r r' continues capacity, omega arith)))
 
 -- a frame is pending

@@ -7,7 +7,7 @@ use Rattle.std.specs.Prelude.{◌≡◌, ◌+◌, ◌<◌, ◌++◌, ℕ, List, 
 use Rattle.relay_events.specs.declared.event.Event.{Event}
 use Rattle.relay_events.specs.declared.reply.Reply.{Reply}
 use Rattle.relay_recorder.specs.Recording.{Recording}
-use Rattle.session_core.specs.Remaining.{load}
+use Rattle.session_core.specs.Remaining.{load_of}
 use Rattle.embedded_meter.specs.Dialogues.{Dialogue, asks_ahead, sends_ahead, ends_ahead}
 use Rattle.embedded_meter.specs.Progress.{Advances, IsIdle, IsOver, KeepsFrame}
 use Rattle.embedded_meter.specs.declared.connection.Rest.{Rest}
@@ -47,7 +47,7 @@ steps_in (Answered reply) = 0
 steps_in (Due frame) = 0
 
 abbrev pub weight : Dialogue → ℕ
-weight d = load d.session + load d.session + steps_in d.under_way
+weight d = load_of d.session + load_of d.session + steps_in d.under_way
 
 -- the state in which no step is left
 abbrev pub Leaves : Rest → Dialogue → Type 0

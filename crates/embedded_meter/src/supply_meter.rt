@@ -87,7 +87,7 @@ impl SupplyMeter {
     ) -> Result<SupplyMeter, AllocError>
         requires device { IsDeviceName device.now }
         requires password { IsPassword password.now }
-        requires kept { (1 ≤ kept_events) × (kept_events ≤ 1024) }
+        requires kept_events { (1 ≤ kept_events) × (kept_events ≤ 1024) }
         ensures { IfOk result (IsNew device.now password.now kept_events) }
     {
         let password = password.try_clone(alloc)?;
@@ -235,7 +235,7 @@ impl SupplyMeter {
 
     /// Applies at most 256 samples of the imported power, in watts. Errors, in this order:
     /// `TooManySamples`, `Memory`.
-    pub fn samples(&mut self, alloc: Global, watts: &[u32]) -> Result<Fired, MeterFault>
+    pub fn sample(&mut self, alloc: Global, watts: &[u32]) -> Result<Fired, MeterFault>
         ensures { SamplesBy self.old (values_alone watts.now) result self.new }
     {
         match Block::from_slice(alloc, watts) {
@@ -267,7 +267,7 @@ impl SupplyMeter {
     /// Applies a moment of the clock, in seconds since 2000-01-01 00:00:00 of the meter's time. It
     /// does not allocate.
     #[tactic(auto, unfolding(relay_core::specs::Machine::is_sure))]
-    pub fn moment(&mut self, alloc: Global, now: u32) -> Tick
+    pub fn tick(&mut self, alloc: Global, now: u32) -> Tick
         ensures { TakesMoment self.old now result self.new }
     {
         match self.take(alloc, Event::Moment(now)) {

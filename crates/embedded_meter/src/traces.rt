@@ -10,7 +10,7 @@ ghost use Rattle.trace_player.specs.Traces.{trace_of};
 use crate::supply_meter::SupplyMeter;
 use cosem_axdr::Octets;
 use std::alloc::{AllocError, Global};
-use trace_player::{TraceFault, read_trace, recorder_trace, resumed_recorder};
+use trace_player::{TraceFault, read_trace, recorder_trace, resume_recorder};
 
 impl SupplyMeter {
     /// Returns the text of the trace of the kept events. Played, it prints the lines of these
@@ -37,7 +37,7 @@ impl SupplyMeter {
     {
         let password = password.try_clone(alloc)?;
         let trace = read_trace(alloc, text)?;
-        let recorder = resumed_recorder(alloc, &trace, kept_events);
+        let recorder = resume_recorder(alloc, &trace, kept_events);
         drop(trace);
         match recorder {
             Ok(recorder) => Ok(SupplyMeter::from_recorder(recorder, password)),

@@ -83,7 +83,7 @@ button
 /// Applies samples and moments, and checks the results.
 fn take(rt: &impl Abort, alloc: Global, meter: &mut SupplyMeter) -> Result<(), Fail> {
     assert!(rt; standing(meter) == (1, 1, true) && meter.last_moment() == None);
-    let fired = meter.samples(alloc, &[10, 20])?;
+    let fired = meter.sample(alloc, &[10, 20])?;
     let under = Fired {
         over: 0,
         under: 1,
@@ -91,10 +91,10 @@ fn take(rt: &impl Abort, alloc: Global, meter: &mut SupplyMeter) -> Result<(), F
         export_under: 0,
     };
     assert!(rt; fired == under);
-    let ran = meter.moment(alloc, 5);
-    let stale = meter.moment(alloc, 4);
+    let ran = meter.tick(alloc, 5);
+    let stale = meter.tick(alloc, 4);
     assert!(rt; ran == Tick::Ran(0) && stale == Tick::Stale(5) && meter.last_moment() == Some(5));
-    let too_many = meter.samples(alloc, &[0; 257]);
+    let too_many = meter.sample(alloc, &[0; 257]);
     assert!(rt; too_many == Err(MeterFault::TooManySamples));
     Ok(())
 }

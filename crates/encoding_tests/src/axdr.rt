@@ -239,7 +239,7 @@ fn other_forms_are_read(rt: HostRuntime) {
 }
 
 #[test]
-fn bytes_behind_a_value_are_left(rt: HostRuntime) -> Result<(), Fail> {
+fn bytes_after_a_value_are_left(rt: HostRuntime) -> Result<(), Fail> {
     let (value, len) = read_from(rt.alloc(), &[0x16, 0x03, 0x16])?;
     let is_three = value == Data::Enum(3);
     drop(value);

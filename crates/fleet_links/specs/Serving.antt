@@ -1,6 +1,6 @@
 -- A session of a meter over several calls.
 --     Progresses     bytes arrived, the meter applied events, frames were taken
---     Serves         the same of one session of a meter; its other sessions are unchanged
+--     Serves         Progresses, of one session of a meter; its other sessions are unchanged
 use Rattle.std.specs.Prelude.{◌≡◌, ◌++◌, ℕ, List, Some}
 use Rattle.relay_core.specs.World.{World}
 use Rattle.relay_events.specs.declared.reply.Reply.{Reply}

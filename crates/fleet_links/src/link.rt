@@ -29,7 +29,7 @@ pub enum LinkEnd {
 /// The result of a turn.
 #[derive(Clone, Copy, Debug, PartialEq, Eq)]
 pub enum Turn {
-    /// The stream blocked. The next turn is due when it is readable or writable.
+    /// The stream blocked. It can go on once it is readable or writable.
     Waits,
     /// There may be more to do at once.
     Again,

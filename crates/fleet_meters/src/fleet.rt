@@ -83,7 +83,7 @@ fn seat(
 fn release(places: &mut Vec<MeterPlace>, at: usize, session: u8)
     requires { session_in places.now.items at session ≢ None }
     ensures frees { Frees (meter_in places.old.items at) session (meter_in places.new.items at) }
-    ensures stay { PlacesStay places.old.items at places.new.items }
+    ensures others_unchanged { PlacesStay places.old.items at places.new.items }
 {
     match places.get_mut(at) {
         Some(place) => place.close(session),

@@ -50,7 +50,7 @@ fn new_fleet(rt: &impl Abort, alloc: Global) -> Result<Fleet<Script>, AllocError
 }
 
 /// Runs a connection 200 times, as if its stream were ready each time. Returns the last result.
-fn turns(alloc: Global, fleet: &mut Fleet<Script>, key: usize) -> Option<Turn> {
+fn give_turns(alloc: Global, fleet: &mut Fleet<Script>, key: usize) -> Option<Turn> {
     let mut input = [0; 64];
     let mut frame = [0; 2_048];
     for _ in 0..200 {
@@ -74,7 +74,7 @@ fn talk(
 ) -> Result<(Option<Turn>, bool), Fail> {
     match fleet.admit(alloc, meter, stream) {
         Ok(key) => {
-            let turn = turns(alloc, fleet, key);
+            let turn = give_turns(alloc, fleet, key);
             match fleet.close(key) {
                 Some(stream) => {
                     let is_so = stream.has_written(alloc, answers);
@@ -198,7 +198,7 @@ fn nine_connections(rt: &impl Abort, alloc: Global, fleet: &mut Fleet<Script>) -
     let stream = Script::new(alloc, &[AARQ], 64, 1_000, false)?;
     let (turn, is_so) = talk(rt, alloc, fleet, 1, stream, &[AARE])?;
     assert!(rt; was_open && turn == Some(Turn::Waits) && is_so);
-    assert!(rt; turns(alloc, fleet, 5).is_none());
+    assert!(rt; give_turns(alloc, fleet, 5).is_none());
     Ok(())
 }
 

@@ -8,7 +8,7 @@ use Rattle.client_core.specs.declared.client.Client.{Client}
 use Rattle.client_core.specs.declared.job.Verb.{Verb}
 use Rattle.client_core.specs.declared.job.Outcome.{Outcome}
 use Rattle.client_core.specs.declared.progress.Progress.{Progress}
-use Rattle.client_core.specs.Outcomes.{progress_of, outcome_after, outcome_of, due, is_served}
+use Rattle.client_core.specs.Outcomes.{progress_of, outcome_after, outcome_of, due_frames, is_served}
 use Rattle.client_core.specs.Texts.{text_at}
 use Rattle.client_core.specs.Standing.{Stands, GivesNextMessage, Feeds, Tells}
 use Rattle.client_core.proofs.Accepting.{accepted_stays}
@@ -113,7 +113,7 @@ due_is verb password bytes = refl
 
 -- one more message after those that a client returned
 next_due : (verb : Verb) (password text fed : List ℕ) (given : ℕ)
-    → Some text ≡ text_at (due verb password (progress_of verb fed)) given
+    → Some text ≡ text_at (due_frames verb password (progress_of verb fed)) given
     → IsFront (given_text verb password given ++ text) (due_text verb password fed)
 next_due verb password text fed given is =
     let all = given_front verb password (progress_of verb fed).accepted (is_served
@@ -130,7 +130,7 @@ next_due verb password text fed given is =
 
 due_in : (verb : Verb) (password text : List ℕ) (log : List Happening) (given : ℕ)
     → sent_in log ≡ given_text verb password given
-    → Some text ≡ text_at (due verb password (progress_of verb (heard_in log))) given
+    → Some text ≡ text_at (due_frames verb password (progress_of verb (heard_in log))) given
     → IsDueNext verb password log text
 due_in verb password text log given sent_is is =
     subst (λ (t : List ℕ). IsFront (t ++ text) (due_text verb password (heard_in log)))
@@ -139,8 +139,8 @@ due_in verb password text log given sent_is is =
 -- all messages that may be sent were returned
 all_sent : (verb : Verb) (password : List ℕ) (log : List Happening) (given : ℕ)
     → sent_in log ≡ given_text verb password given
-    → given ≤ length (due verb password (progress_of verb (heard_in log)))
-    → None ≡ text_at (due verb password (progress_of verb (heard_in log))) given
+    → given ≤ length (due_frames verb password (progress_of verb (heard_in log)))
+    → None ≡ text_at (due_frames verb password (progress_of verb (heard_in log))) given
     → sent_in log ≡ due_text verb password (heard_in log)
 all_sent verb password log given sent_is within none =
     sent_is
@@ -151,7 +151,7 @@ all_sent verb password log given sent_is within none =
 -- after a read no fewer messages may be sent
 still_within : (verb : Verb) (password : List ℕ) (given : ℕ) (old now : Progress)
     → old.outcome ≡ None → (old.accepted ≡ true → now.accepted ≡ true)
-    → given ≤ length (due verb password old) → given ≤ length (due verb password now)
+    → given ≤ length (due_frames verb password old) → given ≤ length (due_frames verb password now)
 still_within verb password given old now unsettled stays within =
     let few : given ≤ length (due_by verb password old.accepted false) = rw unsettled at within in
     omega (arith, due_grows verb password old.accepted now.accepted (is_served now.outcome) stays)
@@ -211,7 +211,7 @@ talks_sent verb password text reads old new before after gives writes t =
     let now : Stands verb password (heard_in t.log)
     (suc t.given) false new = gives.stands verb password
     (heard_in t.log) t.given false t.stands in
-    let few : suc t.given ≤ length (due verb password (progress_of verb (heard_in t.log))) =
+    let few : suc t.given ≤ length (due_frames verb password (progress_of verb (heard_in t.log))) =
     given_within verb password text (progress_of verb (heard_in t.log)).accepted (is_served
     (progress_of verb (heard_in t.log)).outcome) t.given is in
     record {
@@ -225,7 +225,7 @@ talks_sent verb password text reads old new before after gives writes t =
             sent_more t.log text ∙ ap (λ (s : List ℕ). s ++ text) t.sent_is
             ∙ given_by verb password text (progress_of verb (heard_in t.log)).accepted (is_served
             (progress_of verb (heard_in t.log)).outcome) t.given is;
-        within = subst (λ (fed : List ℕ). suc t.given ≤ length (due verb password
+        within = subst (λ (fed : List ℕ). suc t.given ≤ length (due_frames verb password
             (progress_of verb fed))) (sym same) few;
         reads_are = reads_sent t.log text ∙ t.reads_are;
         more = λ whole next goes.
@@ -429,7 +429,8 @@ talks_heard verb password bytes reads old new before after w feeds is =
     let now : Stands verb password
     (heard_in t.log ++ bytes) t.given false new = feeds.stands verb password
     (heard_in t.log) t.given false t.stands in
-    let few : t.given ≤ length (due verb password (progress_of verb (heard_in t.log ++ bytes))) =
+    let few : t.given ≤ length (due_frames verb password
+    (progress_of verb (heard_in t.log ++ bytes))) =
     still_within verb password t.given (progress_of verb (heard_in t.log)) (progress_of verb
     (heard_in t.log ++ bytes)) w.listens.unsettled
     (accepted_stays verb password (heard_in t.log) bytes t.given false old t.stands) t.within in
@@ -439,7 +440,7 @@ talks_heard verb password bytes reads old new before after w feeds is =
       given = t.given;
       stands = subst (λ (fed : List ℕ). Stands verb password fed t.given false new) (sym same) now;
       sent_is = sent_heard t.log bytes ∙ t.sent_is;
-      within = subst (λ (fed : List ℕ). t.given ≤ length (due verb password
+      within = subst (λ (fed : List ℕ). t.given ≤ length (due_frames verb password
           (progress_of verb fed))) (sym same) few;
       reads_are = reads_heard t.log bytes ∙ ap suc t.reads_are;
       more = λ whole next goes.

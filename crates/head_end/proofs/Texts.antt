@@ -6,7 +6,7 @@ use Rattle.client_core.specs.declared.job.Verb.{Verb}
 use Rattle.client_core.specs.declared.job.Outcome.{Outcome}
 use Rattle.client_core.specs.declared.progress.Progress.{Progress}
 use Rattle.client_core.specs.Texts.{aarq_frame, request_frame, release_frame, text_at}
-use Rattle.client_core.specs.Outcomes.{due, is_served}
+use Rattle.client_core.specs.Outcomes.{due_frames, is_served}
 use Rattle.head_end.specs.Logs.{IsFront}
 use Rattle.head_end.specs.Wires.{given_text}
 

@@ -7,7 +7,7 @@ use Rattle.std.specs.Prelude.{◌≡◌, ◌≤◌, ℕ, suc, Bool, false, true,
 use Rattle.client_core.specs.declared.client.Client.{Client}
 use Rattle.client_core.specs.declared.job.Outcome.{Outcome}
 use Rattle.client_core.specs.declared.job.Verb.{Verb}
-use Rattle.client_core.specs.Outcomes.{progress_of, due, outcome_of}
+use Rattle.client_core.specs.Outcomes.{progress_of, due_frames, outcome_of}
 use Rattle.client_core.specs.Standing.{Stands}
 use Rattle.head_end.specs.Connections.{Forecast}
 use Rattle.head_end.specs.Logs.{Happening, heard_in, sent_in, reads_in}
@@ -79,7 +79,7 @@ pub record Talks (verb : Verb) (password : List ℕ) (reads : ℕ) (client : Cli
   pub given : ℕ
   pub stands : Stands verb password (heard_in log) given false client
   pub sent_is : sent_in log ≡ given_text verb password given
-  pub within : given ≤ length (due verb password (progress_of verb (heard_in log)))
+  pub within : given ≤ length (due_frames verb password (progress_of verb (heard_in log)))
   pub reads_are : reads_in log ≡ reads
   pub more : (whole : Bool) (next : List Happening) → Permits whole verb password log next
       → Permits whole verb password [] (log ++ next)

@@ -7,14 +7,14 @@ use Rattle.head_end.specs.declared.row.Row.TheVariants.{Came, Memory}
 use Rattle.head_end.specs.declared.row.ReportLine.{ReportLine}
 
 -- a word followed by a number in decimal
-abbrev pub told_number : List ℕ → ℕ → List ℕ
-told_number word number = word ++ decimal number
+abbrev pub named_number : List ℕ → ℕ → List ℕ
+named_number word number = word ++ decimal number
 
 -- the result of a job, in words
 abbrev pub row_text : Row → List ℕ
-row_text (Came (Done number)) = told_number (codes " done ") number
-row_text (Came (Refused number)) = told_number (codes " refused ") number
-row_text (Came (Rejected number)) = told_number (codes " rejected ") number
+row_text (Came (Done number)) = named_number (codes " done ") number
+row_text (Came (Refused number)) = named_number (codes " refused ") number
+row_text (Came (Rejected number)) = named_number (codes " rejected ") number
 row_text (Came Unknown) = codes " unknown"
 row_text Memory = codes " memory"
 

@@ -10,13 +10,13 @@ use Rattle.std.specs.List.{concat}
 use Rattle.client_core.specs.declared.job.Outcome.{Outcome}
 use Rattle.client_core.specs.declared.job.Verb.{Verb}
 use Rattle.client_core.specs.Texts.{aarq_frame, request_frame, release_frame}
-use Rattle.client_core.specs.Outcomes.{progress_of, outcome_after, outcome_of, due}
+use Rattle.client_core.specs.Outcomes.{progress_of, outcome_after, outcome_of, due_frames}
 use Rattle.head_end.specs.Logs.{Happening, heard, heard_nothing, sent, cut_off, heard_in, sent_in, reads_in, IsFront}
 
 -- the messages that may be sent after the bytes received, concatenated: the AARQ, then the request,
 -- then the release
 unfoldable pub due_text : Verb → List ℕ → List ℕ → List ℕ
-due_text verb password bytes = concat (due verb password (progress_of verb bytes))
+due_text verb password bytes = concat (due_frames verb password (progress_of verb bytes))
 
 -- exactly the messages that may be sent were sent, and the outcome is not settled
 pub record Listens (verb : Verb) (password : List ℕ) (log : List Happening) : Type 0 where

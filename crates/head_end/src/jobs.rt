@@ -38,13 +38,13 @@ fn read_lines(alloc: Global, text: &[u8]) -> Result<Listed<Job>, JobsFault>
     let mut jobs = Listed::new(alloc);
     let mut rest = text;
     let mut number: u64 = 1;
-    'lines: while let Some((line, behind)) = split_line(rest) {
+    'lines: while let Some((line, next_rest)) = split_line(rest) {
         match add_job(alloc, number, line, &mut jobs) {
             Ok(()) => {}
             Err(fault) => return Err(fault),
         }
         number += 1;
-        rest = behind;
+        rest = next_rest;
     }
     match add_job(alloc, number, rest, &mut jobs) {
         Ok(()) => Ok(jobs),

@@ -8,7 +8,7 @@ ghost use Rattle.head_end.specs.Laws.{ReportsJoin, LinesJoin, IsTheReport, JobsJ
 pub fn reports_stand_end_to_end()
     ensures text { ReportsJoin }
     ensures lines { LinesJoin }
-    ensures only { IsTheReport }
+    ensures unique { IsTheReport }
 {}
 
 /// Proves that a list of jobs may be split after any line: the jobs of the parts, in order, are

@@ -6,7 +6,7 @@ ghost use Rattle.program.specs.Passwords.{HasNoLineEnd};
 ghost use Rattle.head_end_cli.specs.Options.{AreLimits, AreWorkers, IsLimit, IsNumber};
 ghost use Rattle.head_end_cli.specs.Printed.{PrintsReport};
 
-use crate::jobs_of;
+use crate::load_jobs;
 use crate::progress::{CampaignProgress, ProgressWatch};
 use acse_ber::MAX_PASSWORD;
 use clap::ArgMatches;
@@ -106,7 +106,7 @@ fn check_password(rt: &HostRuntime, text: &str, is_verbose: bool) -> Result<Octe
 
 // Returns the password of the environment. Errors: `Input` if it is not UTF-8, with a line on
 // standard error if `is_verbose`; `Memory`.
-fn environment_password(rt: &HostRuntime, is_verbose: bool) -> Result<String, Fault> {
+fn read_environment_password(rt: &HostRuntime, is_verbose: bool) -> Result<String, Fault> {
     match env::var(rt, PASSWORD_VARIABLE) {
         Ok(text) => Ok(text),
         Err(VarError::OutOfMemory) => Err(Fault::Memory),
@@ -122,9 +122,13 @@ fn environment_password(rt: &HostRuntime, is_verbose: bool) -> Result<String, Fa
 // Returns the password of the command line, else that of the file that it names, else that of the
 // environment. Errors: those of a file without a password, with a line on standard error; `Input`
 // if there is none or it does not have 1 to 32 bytes, with a line if `is_verbose`; `Memory`.
-fn password(rt: &HostRuntime, matches: &ArgMatches<'_>, is_verbose: bool) -> Result<Octets, Fault>
+fn find_password(
+    rt: &HostRuntime,
+    matches: &ArgMatches<'_>,
+    is_verbose: bool,
+) -> Result<Octets, Fault>
     ensures sized { IfOk result IsPassword }
-    ensures given { IfOk result (λ password. (text : List ℕ)
+    ensures from_option { IfOk result (λ password. (text : List ℕ)
         → first_value (found_of matches.now) (codes "password") ≡ Some text → password ≡ text) }
     ensures of_file { IfOk result (λ password. (path : List ℕ)
         → first_value (found_of matches.now) (codes "password") ≡ None
@@ -136,7 +140,7 @@ fn password(rt: &HostRuntime, matches: &ArgMatches<'_>, is_verbose: bool) -> Res
     }
     let text = match matches.get_str("password-file") {
         Some(path) => read_password_file(rt, path)?,
-        None => environment_password(rt, is_verbose)?,
+        None => read_environment_password(rt, is_verbose)?,
     };
     check_password(rt, text.as_str(), is_verbose)
 }
@@ -158,8 +162,8 @@ pub(crate) fn plan_campaign(
         → HasNoLineEnd plan.password) }
 {
     let is_verbose = matches.get_flag("verbose");
-    let password = password(rt, matches, is_verbose)?;
-    let jobs = jobs_of(rt, rt.stdin(), is_verbose)?;
+    let password = find_password(rt, matches, is_verbose)?;
+    let jobs = load_jobs(rt, rt.stdin(), is_verbose)?;
     Ok(CampaignPlan {
         jobs,
         password,

@@ -19,7 +19,7 @@ use crate::warnings::warn;
 use clap::ArgMatches;
 use counted_io::{Counted, read_to_end_within};
 use head_end::{Jobs, JobsFault, TcpConnector, count_jobs, read_jobs};
-use program::{Fault, exit_code, has_option, print_text, without_work, words};
+use program::{Fault, exit_code, has_option, print_help_or_error, print_text, read_arguments};
 use std::env;
 use std::env::VarError;
 use std::io::Read;
@@ -53,7 +53,7 @@ fn report_list_fault(rt: &HostRuntime, text: &[u8], fault: JobsFault, is_verbose
 }
 
 // Reads the jobs on standard input, and writes the warnings about them.
-pub(crate) fn jobs_of<I: Read + Drop>(
+pub(crate) fn load_jobs<I: Read + Drop>(
     rt: &HostRuntime,
     input: I,
     is_verbose: bool,
@@ -113,14 +113,14 @@ fn begin_command(rt: &HostRuntime, matches: &ArgMatches<'_>) -> Result<HeadEndCo
 // status is 2 if the command line is not valid.
 fn begin(rt: &HostRuntime) -> Result<HeadEndCommand, Fault> {
     let alloc = rt.alloc();
-    let words = words(rt)?;
+    let words = read_arguments(rt)?;
     // (clap's `required_unless_present` would print the options of the usage in another order)
     let has_password = has_option(words.as_slice(), "--password-file")
         || !matches!(env::var(rt, PASSWORD_VARIABLE), Err(VarError::NotPresent));
     let command = command_line(alloc, has_password).map_err(|_| Fault::Memory)?;
     match command.try_get_matches_from(words.as_slice()) {
         Ok(matches) => begin_command(rt, &matches),
-        Err(error) => Ok(HeadEndCommand::Ended(without_work(rt, &error)?)),
+        Err(error) => Ok(HeadEndCommand::Ended(print_help_or_error(rt, &error)?)),
     }
 }
 

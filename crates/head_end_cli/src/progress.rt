@@ -26,7 +26,7 @@ impl CampaignProgress {
 
     // Estimates the remaining seconds from the mean time of the `done` jobs. Returns `None` if the
     // clock cannot be read or no job is done.
-    fn seconds_to_go(&self, rt: &HostRuntime, done: usize) -> Option<u64> {
+    fn remaining_seconds(&self, rt: &HostRuntime, done: usize) -> Option<u64> {
         let began = self.began?;
         let Ok(passed) = began.elapsed(rt) else {
             return None;
@@ -71,7 +71,7 @@ impl<'a> ProgressWatch<'a> {
     // Writes a line of progress to standard error.
     fn tell(&self, done: usize, unknown: usize) {
         let all = self.progress.all;
-        let _ = match self.progress.seconds_to_go(self.rt, done) {
+        let _ = match self.progress.remaining_seconds(self.rt, done) {
             Some(seconds) => {
                 eprintln!(self.rt;
                     "jobs done {done} of {all}, unknown {unknown}, about {seconds} s to go"

@@ -55,12 +55,12 @@ whole_run n events w =
     sym (world_after-append (before_last n events) (last_of n events) w)
     ∙ ap (λ (es : List Event). world_after es w) (take-append-drop (length events - n) events)
 
-pub later_trace : (depth : ℕ) (earlier later : Trace) (before : List Event)
+pub shorten_trace : (depth : ℕ) (earlier later : Trace) (before : List Event)
     → IsFitOpening later.opening → IsWorld (world_of_opening later.opening)
     → Agree (world_of_opening later.opening) (world_after before (world_of_opening earlier.opening))
     → before ≡ before_last depth earlier.events → later.events ≡ last_of depth earlier.events
     → IsLaterTrace depth earlier later
-later_trace depth earlier later before fit range agree are kept =
+shorten_trace depth earlier later before fit range agree are kept =
     let first = world_of_opening earlier.opening in
     let opening : Agree (world_of_opening later.opening)
     (world_after (before_last depth earlier.events) first) =

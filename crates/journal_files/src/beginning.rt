@@ -34,7 +34,7 @@ pub fn begin_journal<P: Place>(
     place: &mut P,
     recorder: &Recorder,
 ) -> Result<P::Draft, StartFault>
-    ensures begun { IfOk result (λ file. P.Draft.acts_as_file
+    ensures journal { IfOk result (λ file. P.Draft.acts_as_file
         → IsBegun recorder.now (P.Draft.seen file) (P.may_leave place.new)) }
     ensures settled { IfOk result (λ file. P.Draft.acts_as_file
         → IsSettled P.Draft.seen P.Draft.may_leave P.Draft.stored file) }

@@ -36,7 +36,11 @@ fn take_events(alloc: Global, core: &mut RelayCore, events: &[Event]) -> Result<
 }
 
 // Applies events to a core, and returns its saved state after them.
-fn state_after(alloc: Global, core: &mut RelayCore, events: &[Event]) -> Result<Opening, AllocError>
+fn apply_and_save(
+    alloc: Global,
+    core: &mut RelayCore,
+    events: &[Event],
+) -> Result<Opening, AllocError>
     ensures fit { IfOk result IsFitOpening }
     ensures range { IfOk result (λ opening. IsWorld (world_of_opening opening)) }
     ensures agrees { IfOk result (λ opening. (w : World) → StandsFor core.old w
@@ -55,7 +59,7 @@ fn opening_after(alloc: Global, opening: &Opening, events: &[Event]) -> Result<O
         (world_after events.now (world_of_opening opening.now))) }
 {
     let mut core = RelayCore::from_fit_opening(alloc, opening)?;
-    let later = state_after(alloc, &mut core, events);
+    let later = apply_and_save(alloc, &mut core, events);
     drop(core);
     later
 }
@@ -73,8 +77,8 @@ fn copy_events(alloc: Global, events: &[Event]) -> Result<Events, AllocError>
 
 // Returns the trace that begins before the last `depth` events of a trace, or the same trace if it
 // has no more.
-#[tactic(auto, using(crate::proofs::RenewalLemmas::later_trace))]
-fn later_trace(alloc: Global, trace: &Trace, depth: usize) -> Result<Trace, AllocError>
+#[tactic(auto, using(crate::proofs::RenewalLemmas::shorten_trace))]
+fn shorten_trace(alloc: Global, trace: &Trace, depth: usize) -> Result<Trace, AllocError>
     requires { IsFitOpening trace.now.opening }
     ensures { IfOk result (IsLaterTrace depth trace.now) }
 {
@@ -143,14 +147,14 @@ fn write_later(alloc: Global, trace: &Trace, depth: usize) -> Result<Octets, Sta
         → IsRenewalOf depth old text) }
     ensures is_text { IfOk result IsText }
 {
-    let later = later_trace(alloc, trace, depth)?;
+    let later = shorten_trace(alloc, trace, depth)?;
     let text = write_same(alloc, trace, &later);
     drop(later);
     text
 }
 
 // Returns the text of a journal after its renewal.
-fn renewed_text(alloc: Global, text: &[u8], depth: usize) -> Result<Octets, StartFault>
+fn renew_text(alloc: Global, text: &[u8], depth: usize) -> Result<Octets, StartFault>
     ensures renewed { IfOk result (IsRenewalOf depth text.now) }
     ensures is_text { IfOk result IsText }
 {
@@ -161,7 +165,7 @@ fn renewed_text(alloc: Global, text: &[u8], depth: usize) -> Result<Octets, Star
 }
 
 // Returns the text of the journal of a file after its renewal.
-fn renewed_text_of<F: DurableFile>(
+fn renew_text_of<F: DurableFile>(
     alloc: Global,
     file: &mut F,
     depth: usize,
@@ -172,7 +176,7 @@ fn renewed_text_of<F: DurableFile>(
     ensures same { OnOk result (F.seen file.new ≡ F.seen file.old) }
 {
     let bytes = file.read(alloc)?;
-    let text = renewed_text(alloc, bytes.as_slice(), depth);
+    let text = renew_text(alloc, bytes.as_slice(), depth);
     drop(bytes);
     text
 }
@@ -205,7 +209,7 @@ pub fn renew_journal<P: Place, F: DurableFile>(
         (λ c. P.may_leave place.old c ⊎ IsRenewalOf depth (F.seen file.old) c) }
     ensures same { OnOk result (F.seen file.new ≡ F.seen file.old) }
 {
-    let text = renewed_text_of(alloc, file, depth)?;
+    let text = renew_text_of(alloc, file, depth)?;
     Ok(replace(place, text.as_slice())?)
 }
 

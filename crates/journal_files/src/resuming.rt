@@ -12,7 +12,7 @@ use cosem_axdr::Octets;
 use durable_lines::{DurableFile, recover};
 use relay_recorder::{Recorder, Trace};
 use std::alloc::Global;
-use trace_player::{is_journal, read_trace, resumed_recorder};
+use trace_player::{is_journal, read_trace, resume_recorder};
 
 /// A journal that was resumed.
 #[derive(Drop)]
@@ -24,8 +24,8 @@ pub struct Resumed {
 }
 
 // Reads the trace of a journal's text, for the meter of this name.
-fn judged_trace(alloc: Global, text: &[u8], device: &Octets) -> Result<Trace, StartFault>
-    ensures told { IfOk result (λ trace. trace_of text.now ≡ Ok trace) }
+fn judge_trace(alloc: Global, text: &[u8], device: &Octets) -> Result<Trace, StartFault>
+    ensures trace { IfOk result (λ trace. trace_of text.now ≡ Ok trace) }
     ensures journal { OnOk result (IsJournal text.now) }
     ensures fit { IfOk result (λ trace. IsFitOpening trace.opening) }
     ensures device { IfOk result (λ trace. trace.opening.device ≡ device.now) }
@@ -69,14 +69,14 @@ pub fn resume_journal<F: DurableFile>(
         → IsSettled F.seen F.may_leave F.stored file.new) }
 {
     let bytes = file.read(alloc)?;
-    let judged = judged_trace(alloc, bytes.as_slice(), device);
+    let judged = judge_trace(alloc, bytes.as_slice(), device);
     drop(bytes);
     let trace = judged?;
     match recover(alloc, file) {
         Ok(found) => {
             let cut = found.cut;
             drop(found);
-            let made = resumed_recorder(alloc, &trace, depth);
+            let made = resume_recorder(alloc, &trace, depth);
             drop(trace);
             Ok(Resumed {
                 recorder: made?,

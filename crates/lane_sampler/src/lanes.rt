@@ -128,7 +128,7 @@ fn word_plainly(values: &[u32], threshold: u32) -> Word
 fn with_tail(mut word: Word, values: &[u32], from: usize, threshold: u32) -> Word
     requires within_max { length values.now ≤ 64 }
     requires within { from ≤ length values.now }
-    requires before { word ≡ word_for (take from values.now) threshold }
+    requires earlier_bits { word ≡ word_for (take from values.now) threshold }
     ensures { result ≡ word_for values.now threshold }
 {
     for at in from..values.len() {

@@ -16,7 +16,7 @@ pub fn run_from(words: &[u64; 4], len: u16, at: u16) -> u16
     ensures passing { (test : ℕ → Bool) (values : List ℕ) →
         IsMask test values words.now → length values ≡ len →
         result ≡ prefix_len test (drop at values) }
-    ensures all { (test : ℕ → Bool) (values : List ℕ) →
+    ensures all_pass { (test : ℕ → Bool) (values : List ℕ) →
         IsMask test values words.now → All (λ v. IsTrue (test v)) (take result (drop at values)) }
 {
     end_of_run(words, len, at).min(len).saturating_sub(at)
@@ -43,7 +43,7 @@ fn end_of_run(words: &[u64; 4], len: u16, at: u16) -> u16
 fn ones_in_word(words: &[u64; 4], at: u16) -> u16
     requires { at < 256 }
     ensures within { result ≤ 64 - at % 64 }
-    ensures ones { AreOnes words.now at result }
+    ensures set_bits { AreOnes words.now at result }
     ensures stops { result < 64 - at % 64 → mask_bit words.now (at + result) ≡ 0 }
 {
     let word = words[usize::from(at / 64)] >> (at % 64);

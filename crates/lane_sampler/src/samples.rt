@@ -84,7 +84,7 @@ impl Block {
     /// Creates a block of import values alone. Errors, judged in this order: `TooLong` if there are
     /// more than 256 values, `Memory` if out of memory.
     pub fn from_slice(alloc: Global, values: &[u32]) -> Result<Block, BlockMade>
-        ensures made { IfOk result (λ block. block ≡ values_alone values.now) }
+        ensures block { IfOk result (λ block. block ≡ values_alone values.now) }
         ensures too_long { IsErrOf result BlockMade.TooLong ↔ (max_values < length values.now) }
         ensures never_uneven { ¬ (IsErrOf result BlockMade.Uneven) }
     {
@@ -104,7 +104,7 @@ impl Block {
     /// `Uneven` if the slices differ in length, `TooLong` if there are more than 256 pairs,
     /// `Memory` if out of memory.
     pub fn from_pairs(alloc: Global, import: &[u32], export: &[u32]) -> Result<Block, BlockMade>
-        ensures made { IfOk result (λ block. block ≡ pairs_of import.now export.now) }
+        ensures block { IfOk result (λ block. block ≡ pairs_of import.now export.now) }
         ensures uneven { IsErrOf result BlockMade.Uneven ↔ (length import.now ≢ length export.now) }
         ensures too_long { IsErrOf result BlockMade.TooLong
             ↔ ((length import.now ≡ length export.now) × (max_values < length import.now)) }

@@ -49,16 +49,16 @@ pub fn report_outcome<B: Book, W: Wait>(
     ensures same { IsSame port.old port.new }
     ensures seen { StartsWith port.new.known.seen port.old.known.seen }
     ensures stored { OnOk result (EndsStored place outcome port.new.known.seen) }
-    ensures asked { IsAskedToStore place outcome port.new }
+    ensures asked_to_store { IsAskedToStore place outcome port.new }
 {
     match port.call(rt, alloc, LedgerRequest::Record(place, outcome)) {
-        Ok(answer) => stored_in(answer),
+        Ok(answer) => stored_result(answer),
         Err(_) => Err(LedgerFault::Failed),
     }
 }
 
 // Returns whether an answer says that the outcome is stored.
-fn stored_in<B: Book>(answer: LedgerAnswer<B>) -> Result<(), LedgerFault>
+fn stored_result<B: Book>(answer: LedgerAnswer<B>) -> Result<(), LedgerFault>
     ensures { result ≡ stored_result answer }
 {
     match answer {

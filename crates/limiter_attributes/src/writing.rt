@@ -99,7 +99,7 @@ pub fn read_attribute(
     // Writing the value to the limiter sets what it already has.
     ensures read_back { IfOk result (λ value. setting_of attribute value
         ≡ Ok (setting_at attribute limiter.now.settings)) }
-    ensures groups_again { attribute ≡ EmergencyProfileGroupIdList
+    ensures groups_read_back { attribute ≡ EmergencyProfileGroupIdList
         → IfOk result (λ value. groups_of value ≡ Ok limiter.now.settings.groups) }
     ensures sure { IsTrue (is_plain attribute) → IsOk result }
 {

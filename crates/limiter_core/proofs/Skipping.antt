@@ -8,7 +8,7 @@ use Rattle.limiter_core.specs.declared.kinds.Kind.TheVariants.{Over, Under, Equa
 use Rattle.limiter_core.specs.declared.settings.Settings.{Settings}
 use Rattle.limiter_core.specs.Rows.{Row, Side, OverThreshold, UnderThreshold, is_past, need, fire_of, fire_past}
 use Rattle.limiter_core.specs.Settings.{Limits, is_active, active_threshold, need_of, row_of, kind_of}
-use Rattle.limiter_core.specs.Counting.{cap, count_of, no_run, count_after, fires_at, before, count_after_run}
+use Rattle.limiter_core.specs.Counting.{cap, count_of, no_run, count_after, fires_at, quiet_before, count_after_run}
 use Rattle.limiter_core.specs.State.{State, limits_of, CountsRows, IsLimiter, IsFitCount, state_after_run, rows_after, IsQuiet, AreOfKind, fire_on, quiet_count}
 use Rattle.limiter_core.proofs.Firing.{same_count, counted, fire_counted}
 
@@ -241,7 +241,7 @@ room_if : (b : Bool) (n need : ℕ) (count : Count) → count.fired ≡ b
 room_if true n need count e few = inl e
 room_if false n need count e few = inr (e, few)
 
-room_before : (n need : ℕ) (count other : Count) → count ≡ other → n ≤ before need count
+room_before : (n need : ℕ) (count other : Count) → count ≡ other → n ≤ quiet_before need count
     → Room n need other
 room_before n need count other same few =
     let P : Count → Type 0 = λ c. Room n need c in
@@ -272,7 +272,8 @@ fired_if : (b : Bool) (need : ℕ) (count : Count) → count.fired ≡ b → nee
 fired_if true need count e small all = e
 fired_if false need count e small all = absurd (omega (arith, all))
 
-room_always : (n need : ℕ) (count other : Count) → count ≡ other → need ≤ cap → before need count
+room_always : (n need : ℕ) (count other : Count) → count ≡ other → need ≤ cap
+    → quiet_before need count
     ≡ 2 ^ 64 - 1 → Room n need other
 room_always n need count other same small all =
     let P : Count → Type 0 = λ c. Room n need c in
@@ -314,7 +315,8 @@ and_both : (a b : Bool) → a ≡ true → b ≡ false → (a && not b) ≡ true
 and_both a b e f = ap (λ v. v && not b) e ∙ ap not f
 
 -- the first sample after those that do not fire
-fires_then : (n need : ℕ) (count other : Count) → count ≡ other → need ≤ cap → n ≡ before need count
+fires_then : (n need : ℕ) (count other : Count) → count ≡ other → need ≤ cap → n
+    ≡ quiet_before need count
     → n < 2 ^ 64 - 1 → fires_at true need (count_after_run n other) ≡ true
 fires_then n need count other same small is few =
     let P : Count → Type 0 = λ c. fires_at true need (count_after_run n c) ≡ true in
@@ -423,7 +425,7 @@ fits_if false n need count e some small few fit = record {
 }
 
 -- a fit count stays fit after samples that do not fire
-pub skip_fits : (n need : ℕ) (count : Count) → 0 < n → need ≤ cap → n ≤ before need count
+pub skip_fits : (n need : ℕ) (count : Count) → 0 < n → need ≤ cap → n ≤ quiet_before need count
     → IsFitCount count → IsFitCount (count_after_run n count)
 skip_fits n need count some small few fit = fits_if count.fired n need count refl some small few fit
 

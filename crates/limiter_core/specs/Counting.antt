@@ -31,8 +31,8 @@ fires_at past need count = past && (nat_le need (min (count.run + 1) cap) && not
 
 -- the number of further samples past the threshold that do not fire, or the greatest u64 if the run
 -- has fired
-abbrev pub before : ℕ → Count → ℕ
-before need count = if count.fired then 2 ^ 64 - 1 else need - 1 - count.run
+abbrev pub quiet_before : ℕ → Count → ℕ
+quiet_before need count = if count.fired then 2 ^ 64 - 1 else need - 1 - count.run
 
 -- the count after n samples that are past the threshold and do not fire
 abbrev pub count_after_run : ℕ → Count → Count

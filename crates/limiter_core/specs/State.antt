@@ -6,7 +6,7 @@ use Rattle.limiter_core.specs.declared.kinds.Kind.{Kind}
 use Rattle.limiter_core.specs.declared.kinds.Kind.TheVariants.{Over, Under, Equal}
 use Rattle.limiter_core.specs.declared.count.Count.{Count}
 use Rattle.limiter_core.specs.declared.settings.Settings.{Settings}
-use Rattle.limiter_core.specs.Counting.{cap, count_of, no_run, before, count_after_run}
+use Rattle.limiter_core.specs.Counting.{cap, count_of, no_run, quiet_before, count_after_run}
 use Rattle.limiter_core.specs.Rows.{Row, OverThreshold, UnderThreshold, fire_of, fire_past}
 use Rattle.limiter_core.specs.Settings.{Limits, limits_at, row_of, need_of, kind_of}
 
@@ -83,8 +83,10 @@ AreOfKind kind threshold (value ∷ values) = (kind_of threshold value ≡ kind)
 -- the number of further samples of a kind that do not fire, or the greatest u64 if none would ever
 -- fire
 abbrev pub quiet_count : Kind → State → ℕ
-quiet_count Over state = before (need_of state.settings.min_over_threshold_duration) state.over
-quiet_count Under state = before (need_of state.settings.min_under_threshold_duration) state.under
+quiet_count Over state = quiet_before (need_of state.settings.min_over_threshold_duration)
+    state.over
+quiet_count Under state = quiet_before (need_of state.settings.min_under_threshold_duration)
+    state.under
 quiet_count Equal state = 2 ^ 64 - 1
 
 -- what samples of that kind fire

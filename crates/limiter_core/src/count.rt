@@ -1,6 +1,6 @@
 //! The length of a run of samples past the threshold, and whether the run has fired.
 ghost use Rattle.std.specs.Prelude.{◌≡◌, ◌↔◌, IsTrue};
-ghost use Rattle.limiter_core.specs.Counting.{no_run, count_after, fires_at, before, count_after_run};
+ghost use Rattle.limiter_core.specs.Counting.{no_run, count_after, fires_at, quiet_before, count_after_run};
 ghost use Rattle.limiter_core.specs.State.{IsFit, IsFitCount, is_fit_count, are_fit};
 
 /// The longest run that is counted: 42,949,672,950 samples, the need of a duration of 4,294,967,295
@@ -19,7 +19,7 @@ pub struct Count {
 
 impl Count {
     /// Returns the count of an empty run.
-    pub const fn none() -> Count
+    pub const fn zero() -> Count
         ensures { result ≡ no_run }
     {
         Count {
@@ -35,7 +35,7 @@ impl Count {
         ensures fires { result ≡ fires_at past need self.old }
     {
         if !past {
-            *self = Count::none();
+            *self = Count::zero();
             return false;
         }
         self.run = self.run.saturating_add(1).min(RUN_LIMIT);
@@ -48,7 +48,7 @@ impl Count {
     // Returns the number of further samples past the threshold that do not fire, or `u64::MAX` if
     // the run has fired.
     pub(crate) fn quiet_before(&self, need: u64) -> u64
-        ensures { result ≡ before need self.now }
+        ensures { result ≡ quiet_before need self.now }
     {
         if self.fired {
             return u64::MAX;

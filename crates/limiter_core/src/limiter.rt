@@ -84,8 +84,8 @@ impl Limiter {
             settings,
             moment,
             last: 0,
-            over: Count::none(),
-            under: Count::none(),
+            over: Count::zero(),
+            under: Count::zero(),
         }
     }
 
@@ -124,7 +124,7 @@ impl Limiter {
         ensures moment { self.new.moment ≡ self.old.moment }
         ensures last { self.new.last ≡ self.old.last }
     {
-        let ended = Count::none();
+        let ended = Count::zero();
         self.over = ended;
         self.under = ended;
     }
@@ -181,15 +181,15 @@ impl Limiter {
         match kind {
             Kind::Over => {
                 self.over.skip(n);
-                self.under = Count::none();
+                self.under = Count::zero();
             }
             Kind::Under => {
                 self.under.skip(n);
-                self.over = Count::none();
+                self.over = Count::zero();
             }
             Kind::Equal => {
-                self.over = Count::none();
-                self.under = Count::none();
+                self.over = Count::zero();
+                self.under = Count::zero();
             }
         }
     }
@@ -375,12 +375,12 @@ impl Limiter {
     /// Swaps the `emergency_profile_group_id_list` (attribute 9) of two limiters. Does not
     /// allocate.
     pub fn swap_groups(&mut self, other: &mut Limiter)
-        ensures own { self.new
+        ensures self_after { self.new
             ≡ record self.old {
               settings = record self.old.settings
                   { groups = other.old.settings.groups };
             } }
-        ensures other { other.new
+        ensures other_after { other.new
             ≡ record other.old {
               settings = record other.old.settings
                   { groups = self.old.settings.groups };

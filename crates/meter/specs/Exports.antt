@@ -8,7 +8,7 @@ use Rattle.cosem_names.specs.declared.result_code.ResultCode.{ResultCode}
 use Rattle.disconnect_control.specs.declared.state.ControlState.TheVariants.{Connected}
 use Rattle.disconnect_control.specs.Transitions.{is_state, state_number, mode_number}
 use Rattle.lane_sampler.specs.Samples.{Samples}
-use Rattle.meter.specs.Outcomes.{code_of, of_fault, outcome_of_call, outcome_of_session, length_of, of_tick, ran_of}
+use Rattle.meter.specs.Outcomes.{code_of, of_fault, outcome_of_call, outcome_of_session, length_of, of_tick, run_count_of}
 use Rattle.meter.specs.declared.events.Firings.{Firings}
 use Rattle.meter.specs.declared.outcome.CallResult.{CallResult}
 use Rattle.meter.specs.declared.outcome.CallResult.TheVariants as outcome
@@ -135,16 +135,16 @@ pub record PressedTo (number : ℕ) (m : MeterState) (code : ℕ) (m' : MeterSta
   pub numbered : number ≡ result_code.code_of result
 
 -- the firings after an error
-abbrev pub none_fired : Fired
-none_fired = record { over = 0; under = 0; export_over = 0; export_under = 0 }
+abbrev pub no_fired : Fired
+no_fired = record { over = 0; under = 0; export_over = 0; export_under = 0 }
 
 abbrev pub tells_samples : Result Fired MeterFault → CallResult
 tells_samples (Ok fired) = outcome.Done
 tells_samples (Err f) = of_fault f
 
-abbrev pub fired_of : Result Fired MeterFault → Fired
-fired_of (Ok fired) = fired
-fired_of (Err f) = none_fired
+abbrev pub firings_of_result : Result Fired MeterFault → Fired
+firings_of_result (Ok fired) = fired
+firings_of_result (Err f) = no_fired
 
 -- the firings that C receives
 abbrev pub firings_of : Fired → Firings
@@ -160,14 +160,14 @@ pub record SampledTo (samples : Samples) (firings : Firings) (m : MeterState) (c
   pub result : Result Fired MeterFault
   pub done : SamplesBy m samples result m'
   pub told : code ≡ code_of (tells_samples result)
-  pub fires : firings ≡ firings_of (fired_of result)
+  pub fires : firings ≡ firings_of (firings_of_result result)
 
 -- a moment
 pub record TickedTo (moment ran : ℕ) (m : MeterState) (code : ℕ) (m' : MeterState) : Type 0 where
   pub tick : Tick
   pub takes : TakesMoment m moment tick m'
   pub told : code ≡ code_of (of_tick tick)
-  pub counted : ran ≡ ran_of tick
+  pub counted : ran ≡ run_count_of tick
 
 -- ---- the state of the meter
 

@@ -70,6 +70,6 @@ abbrev pub of_tick : Tick → CallResult
 of_tick (tick.Ran count) = outcome.Done
 of_tick (tick.Stale last) = outcome.Stale
 
-abbrev pub ran_of : Tick → ℕ
-ran_of (tick.Ran count) = count
-ran_of (tick.Stale last) = 0
+abbrev pub run_count_of : Tick → ℕ
+run_count_of (tick.Ran count) = count
+run_count_of (tick.Stale last) = 0

@@ -1,8 +1,8 @@
 //! The events of the meter itself: presses, samples and moments.
 ghost use Rattle.std.specs.Prelude.{◌≡◌};
 ghost use Rattle.lane_sampler.specs.Samples.{values_alone, pairs_of};
-ghost use Rattle.meter.specs.Exports.{OnOpen, PressedTo, SampledTo, TickedTo, none_fired, tells_samples, fired_of, firings_of};
-ghost use Rattle.meter.specs.Outcomes.{code_of, of_tick, ran_of};
+ghost use Rattle.meter.specs.Exports.{OnOpen, PressedTo, SampledTo, TickedTo, no_fired, tells_samples, firings_of_result, firings_of};
+ghost use Rattle.meter.specs.Outcomes.{code_of, of_tick, run_count_of};
 
 use crate::handle::MeterHandle;
 use crate::outcome::CallResult;
@@ -42,7 +42,7 @@ pub extern "C" fn meter_samples(
     watts: &[u32],
     fired: &mut Firings,
 ) -> u32
-    ensures { OnOpen (fired.new ≡ firings_of none_fired)
+    ensures { OnOpen (fired.new ≡ firings_of no_fired)
         (SampledTo (values_alone watts.now) fired.new) meter.old.slot.held result
         meter.new.slot.held }
 {
@@ -50,7 +50,7 @@ pub extern "C" fn meter_samples(
     let Some(mut held) = meter.take(alloc) else {
         return CallResult::NotOpen.code();
     };
-    let sampled = held.samples(alloc, watts);
+    let sampled = held.sample(alloc, watts);
     meter.put(held);
     *fired = firings_of(sampled);
     sampled_outcome(sampled).code()
@@ -65,7 +65,7 @@ pub extern "C" fn meter_sample_pairs(
     exported: &[u32],
     fired: &mut Firings,
 ) -> u32
-    ensures { OnOpen (fired.new ≡ firings_of none_fired)
+    ensures { OnOpen (fired.new ≡ firings_of no_fired)
         (SampledTo (pairs_of imported.now exported.now) fired.new) meter.old.slot.held result
         meter.new.slot.held }
 {
@@ -95,14 +95,14 @@ pub extern "C" fn meter_moment(
     let Some(mut held) = meter.take(alloc) else {
         return CallResult::NotOpen.code();
     };
-    let tick = held.moment(alloc, moment);
+    let tick = held.tick(alloc, moment);
     meter.put(held);
     *ran = ran_schedules(tick);
     tick_outcome(tick).code()
 }
 
 fn no_firings() -> Firings
-    ensures { result ≡ firings_of none_fired }
+    ensures { result ≡ firings_of no_fired }
 {
     Firings {
         over: 0,
@@ -114,7 +114,7 @@ fn no_firings() -> Firings
 
 // Returns the firings of a block of samples as C sees them, all 0 after an error.
 fn firings_of(sampled: Result<Fired, MeterFault>) -> Firings
-    ensures { result ≡ firings_of (fired_of sampled) }
+    ensures { result ≡ firings_of (firings_of_result sampled) }
 {
     match sampled {
         Ok(fired) => Firings {
@@ -147,7 +147,7 @@ fn tick_outcome(tick: Tick) -> CallResult
 }
 
 fn ran_schedules(tick: Tick) -> u8
-    ensures { result ≡ ran_of tick }
+    ensures { result ≡ run_count_of tick }
 {
     match tick {
         Tick::Ran(count) => count,

@@ -26,7 +26,7 @@ impl MeterHandle {
     pub fn closed(alloc: Global) -> MeterHandle
         ensures { result.slot.held ≡ None }
     {
-        let at = nowhere();
+        let at = null_pointer();
         MeterHandle {
             slot: HandleSlot::from_null(at, alloc),
             is_open: false,
@@ -37,7 +37,7 @@ impl MeterHandle {
     pub(crate) fn take(&mut self, alloc: Global) -> Option<Box<SupplyMeter, Global>>
         ensures taken { IfSome result (λ b. self.old.slot.held ≡ Some b.value) }
         ensures none { result ≡ None → self.old.slot.held ≡ None }
-        ensures shut { self.new.slot.held ≡ None }
+        ensures closed { self.new.slot.held ≡ None }
     {
         if !self.is_open {
             return None;
@@ -58,6 +58,6 @@ impl MeterHandle {
 }
 
 // Returns the null pointer of a closed handle.
-fn nowhere() -> *mut u8 {
+fn null_pointer() -> *mut u8 {
     null_mut()
 }

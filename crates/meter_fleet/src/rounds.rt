@@ -57,11 +57,11 @@ impl Rounds {
         if self.has_clients {
             self.has_clients = admit_clients(alloc, network, fleet);
         }
-        self.turns(alloc, fleet)
+        self.give_turns(alloc, fleet)
     }
 
     // Runs the connections that are ready, and closes those that are over.
-    fn turns<S: Stream + Drop>(
+    fn give_turns<S: Stream + Drop>(
         &mut self,
         alloc: Global,
         fleet: &mut Fleet<S>,

@@ -9,7 +9,7 @@ mod serving;
 mod sockets;
 
 use crate::arguments::command_line;
-use program::{Fault, exit_code, without_work, words};
+use program::{Fault, exit_code, print_help_or_error, read_arguments};
 use std::net::Net;
 use std::process::ExitCode;
 use std::sync::Wait;
@@ -17,14 +17,14 @@ use std::sync::Wait;
 // Reads the command line and serves clients, until that fails. Returns the exit status of a command
 // line without work: 2 if it is not valid.
 fn run<N: Net + Wait>(rt: &HostRuntime, net: &N) -> Result<u8, Fault> {
-    let words = words(rt)?;
+    let words = read_arguments(rt)?;
     let command = command_line(rt.alloc()).map_err(|_| Fault::Memory)?;
     match command.try_get_matches_from(words.as_slice()) {
         Ok(matches) => match matches.subcommand() {
             Some(("serve", matches)) => serving::serve(rt, net, matches),
             _ => Err(Fault::Input),
         },
-        Err(error) => without_work(rt, &error),
+        Err(error) => print_help_or_error(rt, &error),
     }
 }
 

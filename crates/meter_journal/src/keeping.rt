@@ -33,7 +33,7 @@ pub(crate) fn keep_lines<F: DurableFile, W: Wait>(
     ensures watches { Watches IsLegal port.old.known port.new.known }
     ensures settled { OnOk result (F.acts_as_file
         → IsSettled F.seen F.may_leave F.stored file.new) }
-    ensures all { OnOk result (F.acts_as_file
+    ensures all_saved { OnOk result (F.acts_as_file
         → IsAllSaved (lines_in (F.seen file.old)) port.new.known.seen (F.seen file.new)) }
     ensures any_moment { F.acts_as_file → LeavesOnly F.moment F.left_since file.old file.new
         (IsSavedFrom 0 (lines_in (F.seen file.old)) port.new.known.seen) }

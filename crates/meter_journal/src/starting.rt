@@ -36,7 +36,7 @@ pub fn start_journal<
         (λ running. SplitsOff port.old running.promise.port.value port.new) }
     ensures none { IfNone result (PortContinues port.old port.new
         × AreJoined port.old.known.splits port.new) }
-    ensures most { IfNone result (port.new.known.splits ≤ port.old.known.splits + 1) }
+    ensures within_one { IfNone result (port.new.known.splits ≤ port.old.known.splits + 1) }
 {
     let running = start_worker(rt, alloc, worker, port);
     if running.is_none() {

@@ -15,7 +15,7 @@ pub fn close_meter(shared: Shared<Kept>, port: Port<Kept>) -> Result<Kept, (Faul
     requires { port.lock ≡ shared }
     ensures ok { IfOk result (λ kept. Yields (λ (k : _). k.origin) Stands IsLegal port.known kept) }
     ensures err { IfErr result (λ busy. busy.0 ≡ Fault.Turns) }
-    ensures out { IfErr result (λ busy. IsStillOut port.known busy.1.known
+    ensures still_out { IfErr result (λ busy. IsStillOut port.known busy.1.known
         × Watches IsLegal port.known busy.1.known) }
 {
     match shared.close(port) {

@@ -13,7 +13,7 @@ ghost use Rattle.relay_core.specs.Opening.{opening_of};
 ghost use Rattle.shared_meter.specs.Calls.{Calls};
 ghost use Rattle.turn_lock.specs.Rule.{first_known};
 
-use crate::running::{lock, serve, trace_text};
+use crate::running::{close_and_export, lock, serve};
 use cosem_axdr::Octets;
 use durable_lines::DurableFile;
 use meter_journal::{
@@ -175,7 +175,7 @@ fn finish<F: DurableFile + Send, A: FailureAction, R: Threads>(
 {
     let end = stop_journal(rt, running, &progress, &mut port);
     drop(progress);
-    (trace_text(alloc, shared, port), journal_fault(end))
+    (close_and_export(alloc, shared, port), journal_fault(end))
 }
 
 /// Runs a meter with a journal: puts its recorder, which has no event yet, into a lock for 2^62

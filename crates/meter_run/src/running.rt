@@ -95,7 +95,7 @@ pub(crate) fn serve<
 }
 
 // Returns the text of the trace of a meter.
-fn kept_trace(alloc: Global, kept: &Kept) -> Result<Octets, AllocError>
+fn export_kept(alloc: Global, kept: &Kept) -> Result<Octets, AllocError>
     ensures { IfOk result (TellsRun kept.now.recorder) }
 {
     recorder_trace(alloc, kept.recorder())
@@ -103,7 +103,7 @@ fn kept_trace(alloc: Global, kept: &Kept) -> Result<Octets, AllocError>
 
 // Closes a lock, and returns the text of the trace of its meter. Errors: `Turns` if a call was
 // still in its turn; `Memory`.
-pub(crate) fn trace_text(
+pub(crate) fn close_and_export(
     alloc: Global,
     shared: Shared<Kept>,
     port: Port<Kept>,
@@ -114,7 +114,7 @@ pub(crate) fn trace_text(
 {
     match close_meter(shared, port) {
         Ok(kept) => {
-            let text = kept_trace(alloc, &kept);
+            let text = export_kept(alloc, &kept);
             drop(kept);
             match text {
                 Ok(text) => Ok(text),
@@ -179,7 +179,7 @@ pub fn run_meter<
                 journal: None,
             };
             let (port, served) = serve(rt, alloc, listener, sources, port, &terms);
-            let trace = trace_text(alloc, shared, port);
+            let trace = close_and_export(alloc, shared, port);
             MeterRun { served, trace }
         }
         Err(_) => {

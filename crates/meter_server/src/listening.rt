@@ -157,7 +157,7 @@ fn prepare_client<I: Drop, O: Drop, D: Durability>(
     requires { IsPassword password.now }
     ensures terms { IfReady (λ client. client_terms client.journal client.password
         ≡ client_terms journal.now password.now) result }
-    ensures some { IfSome streams (λ _. result ≢ Arrival.SetupFailed) }
+    ensures ready { IfSome streams (λ _. result ≢ Arrival.SetupFailed) }
     ensures none { IfNone streams (result ≡ Arrival.SetupFailed) }
 {
     let Some((input, output)) = streams else {

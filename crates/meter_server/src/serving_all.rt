@@ -269,7 +269,8 @@ pub fn serve_all_journaled<
     requires { IsPassword terms.now.password.now }
     ensures port_continues { IfOk result (λ r. PortContinues port r.0 × IsLegal IsLegalRun r.0.known
         × AreJoined port.known.splits r.0) }
-    ensures goes_err { IfErr result (λ r. PortContinues port r.0 × IsLegal IsLegalRun r.0.known
+    ensures port_continues_err { IfErr result
+        (λ r. PortContinues port r.0 × IsLegal IsLegalRun r.0.known
         × AreJoined port.known.splits r.0) }
     ensures sessions { IfOk result (λ r. AreSessions terms.now.password.now
         (port.known.splits + 3) r.0) }
@@ -366,7 +367,8 @@ pub fn serve_all<
     requires { IsPassword password.now }
     ensures port_continues { IfOk result (λ r. PortContinues port r.0 × IsLegal IsLegalRun r.0.known
         × AreJoined port.known.splits r.0) }
-    ensures goes_err { IfErr result (λ r. PortContinues port r.0 × IsLegal IsLegalRun r.0.known
+    ensures port_continues_err { IfErr result
+        (λ r. PortContinues port r.0 × IsLegal IsLegalRun r.0.known
         × AreJoined port.known.splits r.0) }
     ensures sessions { IfOk result (λ r. AreSessions password.now (port.known.splits + 3) r.0) }
     ensures sessions_err { IfErr result (λ r. AreSessions password.now

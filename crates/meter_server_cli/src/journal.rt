@@ -283,7 +283,7 @@ fn open_with_lock(
 // Returns the recorder that resumes where a journal ends, or the given one if the journal was begun
 // with it.
 fn last_recorder(resumed: Option<Recorder>, recorder: Recorder) -> Recorder
-    requires given { length recorder.events ≡ 0 }
+    requires no_events { length recorder.events ≡ 0 }
     requires unused { IfSome resumed (λ resumed. length resumed.events ≡ 0) }
     ensures { length result.events ≡ 0 }
 {

@@ -37,7 +37,7 @@ pub(crate) struct ClientParameters {
 }
 
 // Returns the source of clients, and two handles of the flag that ends the listening.
-fn sockets_of(
+fn make_sockets(
     rt: &HostRuntime,
     bounds: Bounds,
     listener: TcpListener,
@@ -117,7 +117,7 @@ fn prepare<R: Wait + Copy + Drop>(
     listener: TcpListener,
     address: SocketAddr,
 ) -> Result<Prepared<R>, AllocError> {
-    let (sockets, stopped, second) = sockets_of(rt, bounds, listener)?;
+    let (sockets, stopped, second) = make_sockets(rt, bounds, listener)?;
     let (console, sources) = Console::new(threads, rt.alloc())?;
     let end = ServerEnd {
         closing: Closing {
@@ -202,7 +202,7 @@ pub(crate) struct Server {
 
 // Listens on the address of the command line. If `is_verbose`, prints the address, or why
 // listening failed, on standard error.
-fn listening(
+fn listen_on(
     rt: &HostRuntime,
     address: &str,
     is_verbose: bool,
@@ -274,7 +274,7 @@ fn with_journal(
 pub(crate) fn begin(rt: &HostRuntime, options: &ServeOptions) -> Result<Server, Fault> {
     let plan = plan_server(rt, options)?;
     let (plan, journal) = with_journal(rt, options, plan)?;
-    match listening(rt, options.address.as_str(), options.bounds.is_verbose) {
+    match listen_on(rt, options.address.as_str(), options.bounds.is_verbose) {
         Ok((listener, address)) => Ok(Server {
             plan,
             journal,

@@ -167,7 +167,7 @@ fn check_steps(
 }
 
 /// Returns a copy of the table of a text.
-fn copied(alloc: Global, text: &str) -> Option<ScriptTable> {
+fn copy_table(alloc: Global, text: &str) -> Option<ScriptTable> {
     let table = table(alloc, text)?;
     let copy = table.try_clone(alloc).ok();
     drop(table);
@@ -182,7 +182,7 @@ static COUNTS_OF_THE_TABLE: [(u16, Option<u8>); 3] = [
 
 #[test]
 fn a_table_is_read_and_written_back(rt: HostRuntime) -> Result<(), Fail> {
-    let table = copied(rt.alloc(), TABLE).ok_or("a table")?;
+    let table = copy_table(rt.alloc(), TABLE).ok_or("a table")?;
     check_counts(&rt, &table, &COUNTS_OF_THE_TABLE);
     assert!(rt; is_written(rt.alloc(), &table, TABLE));
     drop(table);
@@ -198,7 +198,7 @@ const STEPS_OF_THE_TABLE: [(u16, u8, Option<Step>); 3] = [
 
 #[test]
 fn a_table_has_its_steps(rt: HostRuntime) -> Result<(), Fail> {
-    let table = copied(rt.alloc(), TABLE).ok_or("a table")?;
+    let table = copy_table(rt.alloc(), TABLE).ok_or("a table")?;
     check_steps(&rt, rt.alloc(), &table, &STEPS_OF_THE_TABLE);
     drop(table);
     Ok(())

@@ -30,7 +30,7 @@ pub struct Accepted {
 
 impl Accepted {
     // Returns the results before any connection.
-    pub(crate) fn none() -> Accepted
+    pub(crate) fn new() -> Accepted
         ensures { result ≡ record {
           served = 0;
           turned_away = 0;

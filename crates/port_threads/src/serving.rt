@@ -82,7 +82,7 @@ where
     ensures counted { IsCounted (L.accepted listener.old) (result.served + result.turned_away)
         (L.accepted listener.new) }
 {
-    let mut accepted = Accepted::none();
+    let mut accepted = Accepted::new();
     'connections: for _ in rt.forever() {
         if accepted.has_reached(limit) {
             return accepted;

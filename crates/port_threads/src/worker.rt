@@ -118,7 +118,7 @@ where
         (λ running. SplitsOff port.old running.promise.port.value port.new) }
     ensures none { IfNone result (PortContinues port.old port.new
         × AreJoined port.old.known.splits port.new) }
-    ensures most { IfNone result (port.new.known.splits ≤ port.old.known.splits + 1) }
+    ensures within_one { IfNone result (port.new.known.splits ≤ port.old.known.splits + 1) }
 {
     let Ok(own) = port.split() else {
         return None;

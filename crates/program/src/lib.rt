@@ -9,6 +9,6 @@ mod start;
 pub use fault::Fault;
 pub use password::{PasswordFault, line_of_file, read_password, read_password_file};
 pub use start::{
-    exit_code, first_fault, has_option, print_text, with_argument, with_subcommand, without_work,
-    words,
+    exit_code, first_fault, has_option, print_help_or_error, print_text, read_arguments,
+    with_argument, with_subcommand,
 };

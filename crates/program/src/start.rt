@@ -29,7 +29,7 @@ fn words_fault(kind: io::ErrorKind) -> Fault
 
 /// Reads the words of the command line. Errors: `Input` if a word is not valid text, `Memory` if
 /// out of memory.
-pub fn words<R: Env + AllocGlobal>(rt: &R) -> Result<Vec<String>, Fault>
+pub fn read_arguments<R: Env + AllocGlobal>(rt: &R) -> Result<Vec<String>, Fault>
     ensures { IfErr result (λ fault. is_of_words fault ≡ true) }
 {
     let words = match env::args(rt) {
@@ -62,7 +62,7 @@ pub fn with_argument<'a>(
     made: Result<Command<'a>, AllocError>,
     argument: Arg<'a>,
 ) -> Result<Command<'a>, AllocError>
-    ensures made { IfOk result (λ _. IsOk made.entry) }
+    ensures made_ok { IfOk result (λ _. IsOk made.entry) }
     ensures added { IfOk result
         (λ command. IfOk made.entry (λ before. AddsArg before argument.entry command)) }
 {
@@ -81,7 +81,7 @@ fn add_subcommand<'a>(
     program: Command<'a>,
     made: Result<Command<'a>, AllocError>,
 ) -> Result<Command<'a>, AllocError>
-    ensures made { IfOk result (λ _. IsOk made.entry) }
+    ensures made_ok { IfOk result (λ _. IsOk made.entry) }
     ensures added { IfOk result
         (λ command. IfOk made.entry
         (λ subcommand. AddsSubcommand program.entry subcommand command)) }
@@ -102,7 +102,7 @@ pub fn with_subcommand<'a>(
     made: Result<Command<'a>, AllocError>,
 ) -> Result<Command<'a>, AllocError>
     ensures program { IfOk result (λ _. IsOk program.entry) }
-    ensures made { IfOk result (λ _. IsOk made.entry) }
+    ensures made_ok { IfOk result (λ _. IsOk made.entry) }
     ensures added { IfOk result
         (λ command. IfOk program.entry
         (λ before. IfOk made.entry (λ subcommand. AddsSubcommand before subcommand command))) }
@@ -119,7 +119,7 @@ pub fn with_subcommand<'a>(
 /// Prints the text of a command line without work, and returns the exit status: 0 for help and the
 /// version, 2 if the command line is wrong. Errors: `Memory` if out of memory, `Write` if the text
 /// could not be printed.
-pub fn without_work<R: Print + Eprint>(rt: &R, error: &Error) -> Result<u8, Fault>
+pub fn print_help_or_error<R: Print + Eprint>(rt: &R, error: &Error) -> Result<u8, Fault>
     ensures status { IfOk result (λ status. status ≡ status_without_work (kind_of error.now)) }
     ensures fault { IfErr result (λ fault. is_of_texts fault ≡ true) }
 {

@@ -26,5 +26,5 @@ pub use opening::{LimiterOpening, MAX_DEVICE_NAME, Opening, OpeningFault};
 pub use parts::Parts;
 pub use relay::RelayCore;
 pub use relay_events::{Event, Events, Line, Lines, Reply};
-pub use running::{RunStop, line_after, run};
+pub use running::{RunStop, run, step_to_line};
 pub use schedules::Schedules;

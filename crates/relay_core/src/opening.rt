@@ -120,7 +120,7 @@ impl LimiterOpening {
     fn limiter(&self, alloc: Global, moment: Option<u32>) -> Result<Limiter, AllocError>
         requires { IsFitLimiterOpening self.now }
         ensures same { IfOk result (λ limiter. limiter_opening_of limiter ≡ self.now) }
-        ensures stands { IfOk result
+        ensures limiter_state { IfOk result
             (λ limiter. LimiterStateStands limiter moment (opened_limiter self.now)) }
     {
         let limiter = Limiter::from_parts(self.settings.try_clone(alloc)?, moment);
@@ -134,7 +134,7 @@ impl LimiterOpening {
 impl RelayCore {
     // Saves the state of the core.
     #[tactic(auto, using(crate::proofs::OpeningLemmas::table_in_range))]
-    fn written_down(&self, alloc: Global) -> Result<Opening, AllocError>
+    fn save_state(&self, alloc: Global) -> Result<Opening, AllocError>
         ensures opening { IfOk result (λ opening. opening ≡ opening_of self.now) }
         ensures import { IfOk result
             (λ _. IsFit self.now.import.last self.now.import.over self.now.import.under) }
@@ -169,7 +169,7 @@ impl RelayCore {
             → Agree (world_of_opening opening) w) }
         ensures range { IfOk result (λ opening. IsWorld (world_of_opening opening)) }
     {
-        let opening = self.written_down(alloc)?;
+        let opening = self.save_state(alloc)?;
         Ok(opening)
     }
 
@@ -186,7 +186,7 @@ impl RelayCore {
     pub fn from_opening(alloc: Global, opening: &Opening) -> Result<RelayCore, OpeningFault>
         ensures unfit { IsErrOf result OpeningFault.Unfit ↔ (¬ IsFitOpening opening.now) }
         ensures fit { IfOk result (λ _. IsFitOpening opening.now) }
-        ensures stands { IfOk result (λ core. StandsFor core (world_of_opening opening.now)) }
+        ensures world { IfOk result (λ core. StandsFor core (world_of_opening opening.now)) }
         ensures same { IfOk result (λ core. opening_of core ≡ opening.now) }
     {
         let Some(control) = opening.fit_control() else {

@@ -115,7 +115,7 @@ pub struct RunStop {
 
 /// Applies an event and returns its line: the reply, and the switch's state and output after it. If
 /// out of memory, the core is unchanged, as if the event had not arrived.
-pub fn line_after(alloc: Global, core: &mut RelayCore, event: &Event) -> Result<Line, AllocError>
+pub fn step_to_line(alloc: Global, core: &mut RelayCore, event: &Event) -> Result<Line, AllocError>
     ensures world { OnOk result ((w : World) → StandsFor core.old w
         → StandsFor core.new (at_event event.now w).world) }
     ensures line { IfOk result (λ line. (w : World) → StandsFor core.old w
@@ -147,7 +147,7 @@ pub fn run(alloc: Global, core: &mut RelayCore, events: &Events) -> Result<Lines
         });
     };
     'events: for event in events.as_slice() {
-        match line_after(alloc, core, event) {
+        match step_to_line(alloc, core, event) {
             Ok(line) => lines.push(line).unwrap(),
             Err(_) => return Err(RunStop {
                 done: Lines::from_vec(lines),

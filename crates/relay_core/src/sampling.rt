@@ -27,7 +27,7 @@ pub(crate) struct FiringCounts {
 
 impl FiringCounts {
     // Returns the counts before the first sample of a block: all 0.
-    fn none() -> FiringCounts
+    fn zero() -> FiringCounts
         ensures firings { result ≡ no_firings }
         ensures none { AreAtMost 0 result }
     {
@@ -44,7 +44,7 @@ impl FiringCounts {
     pub(crate) fn count(&mut self, which: Which, fire: Fire)
         requires { AreAtMost 512 self.old }
         ensures firings { self.new ≡ with_firing which fire self.old }
-        ensures most { (n : ℕ) → AreAtMost n self.old → AreAtMost (n + 1) self.new }
+        ensures within_one { (n : ℕ) → AreAtMost n self.old → AreAtMost (n + 1) self.new }
     {
         match (which, fire) {
             (_, Fire::Quiet) => {}
@@ -105,7 +105,7 @@ impl RelayCore {
         requires right { IfSome scan (IsRightScan values.now) }
         ensures { Takes self.old self.new no_firings result (imports values.now) }
     {
-        let mut firings = FiringCounts::none();
+        let mut firings = FiringCounts::zero();
         let mut scan = scan_at(scan, values, self.import.threshold());
         let mut at = 0;
         'samples: while at < values.len() {
@@ -130,7 +130,7 @@ impl RelayCore {
         requires other_right { IfSome other_scan (IsRightScan others.now) }
         ensures { Takes self.old self.new no_firings result (pairs values.now others.now) }
     {
-        let mut firings = FiringCounts::none();
+        let mut firings = FiringCounts::zero();
         let mut scan = scan_at(scan, values, self.import.threshold());
         let mut other_scan = scan_at(other_scan, others, self.export.threshold());
         let mut at = 0;

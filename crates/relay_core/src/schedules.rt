@@ -79,8 +79,8 @@ fn copy_pair(
     one: &ActionSchedule,
     other: &ActionSchedule,
 ) -> Result<(ActionSchedule, ActionSchedule), AllocError>
-    ensures one { IfOk result (λ copies. copies.0 ≡ one.now) }
-    ensures other { IfOk result (λ copies. copies.1 ≡ other.now) }
+    ensures first { IfOk result (λ copies. copies.0 ≡ one.now) }
+    ensures second { IfOk result (λ copies. copies.1 ≡ other.now) }
 {
     let copy = one.try_clone(alloc)?;
     and_keep(copy, other.try_clone(alloc))

@@ -52,7 +52,7 @@ impl Recorder {
     pub fn new(alloc: Global, device: &Octets, capacity: u16) -> Result<Recorder, AllocError>
         requires device { IsDeviceName device.now }
         requires capacity { (1 ≤ capacity) × (capacity ≤ 1024) }
-        ensures stands { IfOk result
+        ensures history { IfOk result
             (λ recorder. StandsForHistory recorder [] (new_world device.now)) }
         ensures empty { IfOk result (λ recorder. recorder.events ≡ []) }
         ensures capacity { IfOk result (λ recorder. recorder.capacity ≡ capacity) }
@@ -70,7 +70,7 @@ impl Recorder {
         ensures opening { IfOk result (λ recorder. recorder.opening ≡ core) }
         ensures empty { IfOk result (λ recorder. recorder.events ≡ []) }
         ensures capacity { IfOk result (λ recorder. recorder.capacity ≡ capacity) }
-        ensures stands { IfOk result (λ recorder. (w : World) → StandsFor core w
+        ensures history { IfOk result (λ recorder. (w : World) → StandsFor core w
             → StandsForHistory recorder [] w) }
     {
         core.stands_for_its_opening();

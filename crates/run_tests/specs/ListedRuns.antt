@@ -9,7 +9,7 @@ use Rattle.lane_sampler.specs.Samples.{Samples}
 use Rattle.meter_run.specs.Runs.{events_in}
 use Rattle.meter_server.specs.Sessions.{AreAsked}
 use Rattle.trace_player.specs.RunTraces.{TellsRun}
-use Rattle.shared_meter.specs.Handed.{unread}
+use Rattle.shared_meter.specs.Handed.{without_reads}
 use Rattle.relay_core.specs.Opening.{opening_of}
 use Rattle.relay_events.specs.declared.event.Event.TheVariants as event
 use Rattle.relay_recorder.specs.Recording.{Recording}
@@ -25,7 +25,7 @@ pub record Lists : Type 0 where
 -- moments; the third's are the presses. Each further port's calls, one port for each client
 -- served, are those of a session with this password.
 pub record AreListedCalls (lists : Lists) (clients : ℕ) (calls : Calls) : Type 0 where
-  pub blocks : unread (events_in (0 ∷ []) calls) ≡ map event.Samples lists.blocks
+  pub blocks : without_reads (events_in (0 ∷ []) calls) ≡ map event.Samples lists.blocks
   pub moments : events_in (1 ∷ []) calls ≡ map event.Moment lists.moments
   pub presses : events_in (2 ∷ []) calls ≡ replicate lists.presses event.Button
   pub sessions : (client : ℕ) → client < clients

@@ -188,7 +188,7 @@ fn found_in(recorder: &Recorder) -> Found {
 }
 
 /// Returns the findings for the meter in a lock, or `None` if the lock is busy.
-fn found_behind(shared: Shared<Kept>, port: Port<Kept>) -> Option<Found>
+fn found_after(shared: Shared<Kept>, port: Port<Kept>) -> Option<Found>
     requires { port.lock ≡ shared }
 {
     match shared.close(port) {
@@ -237,7 +237,7 @@ fn sample<W: Wait>(
                 given: 0,
             };
             let (port, _) = run_source(rt, alloc, BlockEvents::new(source), port);
-            found_behind(shared, port)
+            found_after(shared, port)
         }
         Err(_) => {
             drop(shared);

@@ -27,8 +27,8 @@ instance_of Disconnect = DisconnectControl
 instance_of Reconnect = DisconnectControl
 
 -- the address that a step names
-abbrev pub named_by : Step → Address
-named_by step = address_of (action_of step)
+abbrev pub address_named_by : Step → Address
+address_named_by step = address_of (action_of step)
 
 -- an address as a SET names the attribute, and as an ACTION names the method
 abbrev pub attribute_at : Address → AttrRef
@@ -44,14 +44,14 @@ method_at address = record {
 
 -- whether a step writes an attribute; otherwise it executes a method
 abbrev pub is_write : Step → Bool
-is_write step = (named_by step).service == write_attribute
+is_write step = (address_named_by step).service == write_attribute
 
 -- the attribute that a step names, and the method
 abbrev pub attribute_named : Step → AttrRef
-attribute_named step = attribute_at (named_by step)
+attribute_named step = attribute_at (address_named_by step)
 
 abbrev pub method_named : Step → MethodRef
-method_named step = method_at (named_by step)
+method_named step = method_at (address_named_by step)
 
 -- whether the management client may write the attribute, or execute the method
 abbrev pub is_allowed : Address → Bool
@@ -62,29 +62,31 @@ is_allowed address =
 -- the object table has the step's object, with its logical name and class, and management may do
 -- there what the step does
 pub record IsInTable (step : Step) : Type 0 where
-  pub named : option_map (λ row. row.instance) (object_of (named_by step).name)
+  pub named : option_map (λ row. row.instance) (object_of (address_named_by step).name)
       ≡ Some (instance_of step)
-  pub classed : option_map (λ row. row.class) (object_of (named_by step).name)
-      ≡ Some (named_by step).class
-  pub allowed : is_allowed (named_by step) ≡ true
+  pub classed : option_map (λ row. row.class) (object_of (address_named_by step).name)
+      ≡ Some (address_named_by step).class
+  pub allowed : is_allowed (address_named_by step) ≡ true
 
 -- a step that writes a limiter names the attribute that it writes
 abbrev pub IsNamed : Step → Type 0
 IsNamed (WriteMode mode) = Unit {0}
 IsNamed (WriteNormal which watts) =
-    attribute_at (named_by (WriteNormal which watts)) ≡ reference which ThresholdNormal
+    attribute_at (address_named_by (WriteNormal which watts)) ≡ reference which ThresholdNormal
 IsNamed (WriteEmergency which watts) =
-    attribute_at (named_by (WriteEmergency which watts)) ≡ reference which ThresholdEmergency
+    attribute_at (address_named_by (WriteEmergency which watts))
+    ≡ reference which ThresholdEmergency
 IsNamed (WriteMinOver which seconds) =
-    attribute_at (named_by (WriteMinOver which seconds)) ≡ reference which MinOverThresholdDuration
+    attribute_at (address_named_by (WriteMinOver which seconds))
+    ≡ reference which MinOverThresholdDuration
 IsNamed (WriteMinUnder which seconds) =
-    attribute_at (named_by (WriteMinUnder which seconds))
+    attribute_at (address_named_by (WriteMinUnder which seconds))
     ≡ reference which MinUnderThresholdDuration
 IsNamed (WriteProfile which profile) =
-    attribute_at (named_by (WriteProfile which profile)) ≡ reference which EmergencyProfile
+    attribute_at (address_named_by (WriteProfile which profile)) ≡ reference which EmergencyProfile
 IsNamed Disconnect = Unit {0}
 IsNamed Reconnect = Unit {0}
 
 -- a step is listed: its address is that of its action, and of no other
 abbrev pub IsListed : Step → Type 0
-IsListed step = action_at (named_by step) ≡ Some (action_of step)
+IsListed step = action_at (address_named_by step) ≡ Some (action_of step)

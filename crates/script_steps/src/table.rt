@@ -139,7 +139,7 @@ impl ScriptTable {
     #[tactic(auto, unfolding(crate::specs::Table::steps_at))]
     pub fn step(&self, selector: u16, i: u8) -> Step
         requires { i < length (running_steps selector self.now) }
-        ensures here { slice_get (running_steps selector self.now) i ≡ Some result }
+        ensures step_at { slice_get (running_steps selector self.now) i ≡ Some result }
         ensures rest { drop i (running_steps selector self.now) ≡ result
             ∷ drop (i + 1) (running_steps selector self.now) }
     {

@@ -11,7 +11,7 @@ use Rattle.std.proofs.lemmas.List.{append-nil, take_all, length-drop}
 use Rattle.std.proofs.lemmas.Str.Parse.{IsNumeralModel, numerals_by_value}
 use Rattle.wire_bytes.specs.Outcome.{◌>>=◌, ◌>>◌, guard, Fails}
 use Rattle.wire_bytes.proofs.OutcomeLemmas.{bind_ok, ok_is, guard_ok, chosen, failed}
-use Rattle.trace_words.specs.Labels.{behind, labelled_value}
+use Rattle.trace_words.specs.Labels.{words_after, labelled_value}
 use Rattle.trace_openings.specs.OpeningFields.{version_in, version_from}
 use Rattle.trace_words.specs.Reading.{number_in, last_as}
 use Rattle.trace_words.specs.Rows.{Word, Row, or_wrong}
@@ -49,9 +49,9 @@ same_word (x ∷ xs) (y ∷ ys) e =
 
 -- ---- what the line of the version determines
 
-behind_found : (label : Word) (row : Row) (x : Unit {0} × Row) → behind label row ≡ Ok x → row
+behind_found : (label : Word) (row : Row) (x : Unit {0} × Row) → words_after label row ≡ Ok x → row
     ≡ label ∷ x.1
-unfolding behind
+unfolding words_after
 behind_found label [] x e = absurd cc
 behind_found label (word ∷ words) x e =
     let both = guard_ok (pointwise nat_eq word label) _ _ x e in
@@ -69,7 +69,7 @@ last_found (word ∷ other ∷ words) version e = absurd cc
 two_words : (label : Word) (row : Row) (version : Version) → labelled_value label version_in row
     ≡ Ok version → (word : Word) × (row ≡ label ∷ word ∷ []) × (version_in word ≡ Ok version)
 two_words label row version e =
-    let first = bind_ok (behind label row) _ version e in
+    let first = bind_ok (words_after label row) _ version e in
     let last = last_found first.0.1 version first.2 in (
       last.0,
       behind_found label row first.0 first.1

@@ -106,7 +106,10 @@ fn event_count(line: &[u8]) -> Result<u32, Fault>
 
 // Reads the text of the trace at the head of an input, up to the line of its last event.
 #[tactic(auto, using(crate::proofs::Heads::grows_on, crate::proofs::Heads::grows_none))]
-fn head_text<I: Read>(alloc: Global, input: &mut BufReader<Monitored<I>>) -> Result<Vec<u8>, Fault>
+fn read_head_text<I: Read>(
+    alloc: Global,
+    input: &mut BufReader<Monitored<I>>,
+) -> Result<Vec<u8>, Fault>
     ensures grows { IfOk result
         (λ text. Grows [] (left_in I.remaining input.old) text.items
         (left_in I.remaining input.new)) }
@@ -155,7 +158,7 @@ pub fn read_head<I: Read>(
         → IfSome (left_in I.remaining input.old) (λ bytes. ¬ (HasHead bytes)) }
     ensures err { IfErr result (IsHeadFault (has_failed_in input.new)) }
 {
-    let text = head_text(alloc, input)?;
+    let text = read_head_text(alloc, input)?;
     match read_trace(alloc, text.as_slice()) {
         Ok(trace) => Ok(trace),
         Err(fault) => Err(head_fault(fault)),

@@ -16,7 +16,7 @@ pub(crate) fn read_all<R: Reader>(alloc: Global, reader: &mut R) -> Result<Vec<u
     requires { R.can_read reader.now }
     ensures read { IfOk result
         (λ bytes. Consumes (R.remaining reader.old) (R.remaining reader.new) bytes.items) }
-    ensures whole { IfOk result (λ bytes. IsAtEnd (R.remaining reader.new)) }
+    ensures at_end { IfOk result (λ bytes. IsAtEnd (R.remaining reader.new)) }
     ensures within { IfOk result (λ bytes. length bytes.items ≤ 1048576) }
     ensures err { IfErr result (λ fault.
         StopsReading (R.remaining reader.old) (R.failures reader.old) fault (R.remaining reader.new)

@@ -89,7 +89,7 @@ fn text_of(alloc: Global, matches: &ArgMatches<'_>, name: &str) -> Result<String
 }
 
 // Returns the text of an option, if it is given.
-fn given_text(alloc: Global, matches: &ArgMatches<'_>, name: &str) -> Result<Option<String>, Fault>
+fn find_text(alloc: Global, matches: &ArgMatches<'_>, name: &str) -> Result<Option<String>, Fault>
     ensures text { IfOk result (λ text. option_map string_bytes text
         ≡ first_value (found_of matches.now) name.now) }
     ensures err { IfErr result (λ fault. is_of_asking fault ≡ true) }
@@ -124,11 +124,11 @@ pub(crate) fn hex_options(alloc: Global, matches: &ArgMatches<'_>) -> Result<Hex
 // environment. Errors: those of a file without a password, with a line on standard error; `Memory`,
 // and `Input` if there is no password.
 #[tactic(auto, using(crate::proofs::Faults::files_told))]
-fn password_of<R: Env + AllocGlobal + Eprint + Files<File = File>>(
+fn find_password<R: Env + AllocGlobal + Eprint + Files<File = File>>(
     rt: &R,
     matches: &ArgMatches<'_>,
 ) -> Result<String, Fault>
-    ensures given { IfOk result (λ password. (text : List ℕ)
+    ensures from_option { IfOk result (λ password. (text : List ℕ)
         → first_value (found_of matches.now) (codes "password") ≡ Some text
         → string_bytes password ≡ text) }
     ensures of_file { IfOk result (λ password. (path : List ℕ)
@@ -231,10 +231,10 @@ pub(crate) fn serve_options<R: Env + AllocGlobal + Eprint + Files<File = File>>(
     ensures err { IfErr result (λ fault. is_of_asking fault ≡ true) }
 {
     let bounds = bounds_of(matches);
-    let password = password_of(rt, matches)?;
+    let password = find_password(rt, matches)?;
     let device = text_of(rt.alloc(), matches, "device")?;
     let address = text_of(rt.alloc(), matches, "listen")?;
-    let journal = given_text(rt.alloc(), matches, "journal")?;
+    let journal = find_text(rt.alloc(), matches, "journal")?;
     Ok(ServeOptions {
         password,
         device,

@@ -21,11 +21,11 @@ use relay_core::MAX_DEVICE_NAME;
 use relay_recorder::Recorder;
 use std::alloc::Global;
 use std::io::{BufReader, Read};
-use trace_player::resumed_recorder;
+use trace_player::resume_recorder;
 
 // Returns the recorder of a meter that resumes from the trace at the head of an input. The input
 // after the trace is not read. Errors: `Input` if there is no trace, `Read`, `Memory`.
-fn recorder_of_head<I: Read>(
+fn resume_from_head<I: Read>(
     alloc: Global,
     input: &mut BufReader<Monitored<I>>,
     depth: u16,
@@ -42,7 +42,7 @@ fn recorder_of_head<I: Read>(
         Ok(trace) => trace,
         Err(fault) => return Err(fault),
     };
-    let made = resumed_recorder(alloc, &trace, depth);
+    let made = resume_recorder(alloc, &trace, depth);
     drop(trace);
     match made {
         Ok(recorder) => Ok(recorder),
@@ -56,7 +56,8 @@ fn new_recorder(alloc: Global, device: &Octets, depth: u16) -> Result<Recorder, 
     requires depth { (1 ≤ depth) × (depth ≤ 1024) }
     ensures unused { IfOk result (λ recorder. recorder.events ≡ []) }
     ensures capacity { IfOk result (λ recorder. recorder.capacity ≡ depth) }
-    ensures begun { IfOk result (λ recorder. StandsForHistory recorder [] (new_world device.now)) }
+    ensures new_world { IfOk result
+        (λ recorder. StandsForHistory recorder [] (new_world device.now)) }
     ensures err { IfErr result (λ fault. fault ≡ Memory) }
 {
     match Recorder::new(alloc, device, depth) {
@@ -67,7 +68,7 @@ fn new_recorder(alloc: Global, device: &Octets, depth: u16) -> Result<Recorder, 
 
 // Returns the recorder that the meter starts with: that of a new meter, or of one that resumes
 // from the trace at the head of an input.
-fn first_recorder<I: Read>(
+fn prepare_recorder<I: Read>(
     alloc: Global,
     device: &Octets,
     bounds: Bounds,
@@ -76,7 +77,7 @@ fn first_recorder<I: Read>(
     requires { IsDeviceName device.now }
     ensures unused { IfOk result (λ recorder. recorder.events ≡ []) }
     ensures capacity { IfOk result (λ recorder. recorder.capacity ≡ bounds.depth) }
-    ensures begun { bounds.resumes ≡ false
+    ensures new_world { bounds.resumes ≡ false
         → IfOk result (λ recorder. StandsForHistory recorder [] (new_world device.now)) }
     ensures unread { bounds.resumes ≡ false
         → left_in I.remaining input.new ≡ left_in I.remaining input.old }
@@ -90,7 +91,7 @@ fn first_recorder<I: Read>(
         return Err(Fault::Input);
     }
     if bounds.resumes {
-        recorder_of_head(alloc, input, depth)
+        resume_from_head(alloc, input, depth)
     } else {
         new_recorder(alloc, device, depth)
     }
@@ -125,7 +126,7 @@ pub fn make_plan<I: Read + Drop>(
     ensures bounds { IfOk result (λ plan. plan.bounds ≡ options.now.bounds) }
     ensures password { IfOk result (λ plan. plan.password ≡ string_bytes options.now.password) }
     ensures capacity { IfOk result (λ plan. plan.recorder.capacity ≡ options.now.bounds.depth) }
-    ensures begun { options.now.bounds.resumes ≡ false
+    ensures new_world { options.now.bounds.resumes ≡ false
         → IfOk result (λ plan.
         StandsForHistory plan.recorder [] (new_world (string_bytes options.now.device))) }
     ensures unread { options.now.bounds.resumes ≡ false
@@ -143,7 +144,7 @@ pub fn make_plan<I: Read + Drop>(
     let Ok(mut input) = BufReader::new(alloc, Monitored::new(input)) else {
         return Err(Fault::Memory);
     };
-    match first_recorder(alloc, &device, bounds, &mut input) {
+    match prepare_recorder(alloc, &device, bounds, &mut input) {
         Ok(recorder) => Ok(ServePlan {
             bounds,
             password,

@@ -5,7 +5,7 @@ ghost use Rattle.server_commands.specs.Asking.{is_of_asking};
 use crate::arguments::command_line;
 use crate::options::{HexOptions, PASSWORD_VARIABLE, ServeOptions, hex_options, serve_options};
 use clap::ArgMatches;
-use program::{Fault, has_option, without_work, words};
+use program::{Fault, has_option, print_help_or_error, read_arguments};
 use std::alloc::{AllocGlobal, Global};
 use std::env;
 use std::env::VarError;
@@ -44,7 +44,7 @@ fn parse_command<R: Env + AllocGlobal + Eprint + Files<File = File>>(
 // Returns the work of a command line. `has_password`: the password of `serve` is in the environment
 // or in a file that the command line names.
 #[tactic(auto, using(crate::proofs::Faults::texts_told))]
-fn asked_in<R: Env + AllocGlobal + Print + Eprint + Files<File = File>>(
+fn parse_work<R: Env + AllocGlobal + Print + Eprint + Files<File = File>>(
     rt: &R,
     words: &[String],
     has_password: bool,
@@ -56,7 +56,7 @@ fn asked_in<R: Env + AllocGlobal + Print + Eprint + Files<File = File>>(
     };
     match command.try_get_matches_from(words) {
         Ok(matches) => parse_command(rt, &matches),
-        Err(error) => Ok(Work::Exit(without_work(rt, &error)?)),
+        Err(error) => Ok(Work::Exit(print_help_or_error(rt, &error)?)),
     }
 }
 
@@ -74,9 +74,9 @@ pub fn parse_command_line<R: Env + AllocGlobal + Print + Eprint + Files<File = F
 ) -> Result<Work, Fault>
     ensures { IfErr result (λ fault. is_of_asking fault ≡ true) }
 {
-    let words = words(rt)?;
+    let words = read_arguments(rt)?;
     // (clap's `required_unless_present` would print the options of the usage in another order)
     let has_password = has_option(words.as_slice(), "--password-file")
         || !matches!(env::var(rt, PASSWORD_VARIABLE), Err(VarError::NotPresent));
-    asked_in(rt, words.as_slice(), has_password)
+    parse_work(rt, words.as_slice(), has_password)
 }

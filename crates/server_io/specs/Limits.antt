@@ -1,9 +1,9 @@
 -- Time limits in nanoseconds; None means no limit.
---     IsLimit    a limit in seconds; 0 means no limit
---     IsOver     the time of a limit is over
---     nanos_of   the nanoseconds of a limit
---     lesser     the lesser of two limits
---     rest_of    the rest of a limit
+--     IsLimit       a limit in seconds; 0 means no limit
+--     IsOver        the time of a limit is over
+--     nanos_of      the nanoseconds of a limit
+--     lesser_limit  the lesser of two limits
+--     limit_after   the rest of a limit
 use Rattle.std.specs.Prelude.{◌≡◌, ◌≤◌, ℕ, ◌*◌, ◌-◌, min, Option, Some, None}
 use Rattle.std.specs.Duration.{as_nanos}
 use Rattle.std.specs.declared.time.Duration.{Duration}
@@ -24,12 +24,12 @@ nanos_of None = None
 nanos_of (Some limit) = Some (as_nanos limit)
 
 -- the lesser of two limits
-abbrev pub lesser : Option ℕ → Option ℕ → Option ℕ
-lesser None second = second
-lesser (Some first) None = Some first
-lesser (Some first) (Some second) = Some (min first second)
+abbrev pub lesser_limit : Option ℕ → Option ℕ → Option ℕ
+lesser_limit None second = second
+lesser_limit (Some first) None = Some first
+lesser_limit (Some first) (Some second) = Some (min first second)
 
 -- the rest of a limit after this number of nanoseconds
-abbrev pub rest_of : Option ℕ → ℕ → Option ℕ
-rest_of None lasted = None
-rest_of (Some limit) lasted = Some (limit - lasted)
+abbrev pub limit_after : Option ℕ → ℕ → Option ℕ
+limit_after None lasted = None
+limit_after (Some limit) lasted = Some (limit - lasted)

@@ -159,7 +159,7 @@ pub struct SourcesEnd<R> {
 
 impl<R: Wait + Copy> SourcesEnd<R> {
     // Returns what ends the sources of these channels.
-    pub(crate) fn of(channels: &WorkerChannels<R>) -> Result<SourcesEnd<R>, AllocError> {
+    pub(crate) fn from_channels(channels: &WorkerChannels<R>) -> Result<SourcesEnd<R>, AllocError> {
         let blocks = channels.blocks.share()?;
         let moments = channels.moments.share()?;
         let presses = channels.presses.share()?;

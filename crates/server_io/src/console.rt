@@ -24,7 +24,7 @@ impl<R: Wait + Copy + Drop> Console<R> {
 
     /// Returns what ends the sources from another thread. Errors: `AllocError`.
     pub fn sources_end(&self) -> Result<SourcesEnd<R>, AllocError> {
-        SourcesEnd::of(&self.channels)
+        SourcesEnd::from_channels(&self.channels)
     }
 
     // Passes the events of an input's lines to the workers, as [`run_console`] does. The sources

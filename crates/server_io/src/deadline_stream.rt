@@ -20,7 +20,7 @@ pub struct DeadlineStream<R: Clock + Eprint + Copy> {
 
 impl<R: Clock + Eprint + Copy> DeadlineStream<R> {
     // Returns the input and the output of a stream whose session begins now.
-    pub(crate) fn both_ways(
+    pub(crate) fn split_stream(
         rt: R,
         stream: TcpStream,
         limits: StreamLimits,

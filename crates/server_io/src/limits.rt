@@ -1,7 +1,7 @@
 //! The time limits of a client.
 ghost use Rattle.std.specs.Prelude.{◌≡◌, ◌↔◌, IsTrue};
 ghost use Rattle.std.specs.Duration.{as_nanos};
-ghost use Rattle.server_io.specs.Limits.{IsLimit, IsOver, nanos_of, lesser, rest_of};
+ghost use Rattle.server_io.specs.Limits.{IsLimit, IsOver, nanos_of, lesser_limit, limit_after};
 
 use std::time::Duration;
 
@@ -27,7 +27,8 @@ fn limit_of(seconds: u32) -> Option<Duration>
 
 // Returns the shorter of two durations.
 fn shorter(first: Duration, second: Duration) -> Duration
-    ensures { nanos_of (Some result) ≡ lesser (nanos_of (Some first)) (nanos_of (Some second)) }
+    ensures { nanos_of (Some result)
+        ≡ lesser_limit (nanos_of (Some first)) (nanos_of (Some second)) }
 {
     match first.checked_sub(second) {
         Some(_) => second,
@@ -61,7 +62,8 @@ impl StreamLimits {
     /// `None` means no limit.
     pub fn left_after(self, lasted: Duration) -> Option<Duration>
         ensures { nanos_of result
-            ≡ lesser (nanos_of self.call) (rest_of (nanos_of self.session) (as_nanos lasted)) }
+            ≡ lesser_limit (nanos_of self.call)
+            (limit_after (nanos_of self.session) (as_nanos lasted)) }
     {
         let Some(session) = self.session else {
             return self.call;

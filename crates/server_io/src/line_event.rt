@@ -33,7 +33,7 @@ pub(crate) fn is_own_line(line: &[u8]) -> bool
 /// pairs or a moment, written as in a trace of version 2. Any other line has no event; if it does
 /// not begin as one of these, nothing is allocated. Errors: out of memory.
 pub fn console_event(alloc: Global, line: &[u8]) -> Result<Option<Event>, AllocError>
-    ensures some { IfOk result (λ brought. IfSome brought (λ event. Brings line.now event)) }
+    ensures event { IfOk result (λ brought. IfSome brought (λ event. Brings line.now event)) }
     ensures none { IfOk result
         (λ brought. IfNone brought ((event : Event) → ¬ (Brings line.now event))) }
     ensures err { OnErr result (IsOwnLine line.now) }

@@ -51,7 +51,7 @@ pub(crate) enum NextLine {
 
 // Reads the next byte; `None` at the end of the input. A read that a signal interrupts is retried.
 fn next_byte<B: BufRead>(input: &mut B) -> io::Result<Option<u8>>
-    ensures some { IfOk result
+    ensures byte { IfOk result
         (λ next. IfSome next
         (λ byte. Consumes (B.remaining input.old) (B.remaining input.new) (byte ∷ []))) }
     ensures none { IfOk result (λ next. IfNone next (IsAtEnd (B.remaining input.old))) }
@@ -75,8 +75,8 @@ fn next_byte<B: BufRead>(input: &mut B) -> io::Result<Option<u8>>
 // skipped to its end. What follows the last byte 0A of the input is not a line.
 #[tactic(auto, using(crate::proofs::LineLemmas::starts))]
 pub(crate) fn next_line<B: BufRead>(input: &mut B, line: &mut Vec<u8>) -> NextLine
-    requires room { 8192 ≤ vec_capacity line.old }
-    ensures room { 8192 ≤ vec_capacity line.new }
+    requires capacity { 8192 ≤ vec_capacity line.old }
+    ensures capacity { 8192 ≤ vec_capacity line.new }
     ensures whole { result ≡ NextLine.Whole → (bytes : List ℕ) → B.remaining input.old ≡ Some bytes
         → TakesLine bytes line.new.items (B.remaining input.new) }
     ensures too_long { result ≡ NextLine.TooLong → (bytes : List ℕ)

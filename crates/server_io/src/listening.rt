@@ -75,7 +75,7 @@ impl<R: Clock + Eprint + Copy> Sockets<R> {
             address,
         };
         let log = ClientLog::new(self.rt, self.alloc, client, self.is_verbose);
-        match DeadlineStream::both_ways(self.rt, stream, self.limits) {
+        match DeadlineStream::split_stream(self.rt, stream, self.limits) {
             Ok((input, output)) => Some((input, output.with_log(log))),
             Err(error) => {
                 log.turn_away(&error);

@@ -17,7 +17,7 @@ const NO_LIMITS: StreamLimits = StreamLimits {
 };
 
 // Returns sockets on a free port of the loopback interface, and their address.
-fn listening(
+fn listen_to(
     rt: HostRuntime,
     limits: StreamLimits,
     is_stopped: bool,
@@ -32,7 +32,7 @@ fn listening(
 // Returns how long the first read from a silent client takes, which must fail, and whether a
 // second read fails.
 fn failed_reads(rt: HostRuntime, limits: StreamLimits) -> Result<(Duration, bool), Fail> {
-    let (mut sockets, address) = listening(rt, limits, false)?;
+    let (mut sockets, address) = listen_to(rt, limits, false)?;
     let client = TcpStream::connect(&rt, address)?;
     let accepted = sockets.accept().map_err(|_| "no client")?;
     let (mut input, output) = accepted.ok_or("no stream")?;
@@ -75,7 +75,7 @@ fn a_session_has_an_end(rt: HostRuntime) -> Result<(), Fail> {
 
 #[test]
 fn no_client_is_accepted_after_the_end_of_the_input(rt: HostRuntime) -> Result<(), Fail> {
-    let (mut sockets, address) = listening(rt, NO_LIMITS, true)?;
+    let (mut sockets, address) = listen_to(rt, NO_LIMITS, true)?;
     let client = TcpStream::connect(&rt, address)?;
     assert!(rt; sockets.accept().is_err());
     assert!(rt; !sockets.has_failed());

@@ -251,9 +251,9 @@ fn press_each<W: Wait>(
     two: &mut Port<Kept>,
     three: &mut Port<Kept>,
 ) -> [Told; 3]
-    ensures one { one.new.lock ≡ one.old.lock }
-    ensures two { two.new.lock ≡ two.old.lock }
-    ensures three { three.new.lock ≡ three.old.lock }
+    ensures first_lock { one.new.lock ≡ one.old.lock }
+    ensures second_lock { two.new.lock ≡ two.old.lock }
+    ensures third_lock { three.new.lock ≡ three.old.lock }
 {
     [
         ask(rt, alloc, one, Event::Button),

@@ -12,7 +12,7 @@ use Rattle.session_core.proofs.Tasks.{hears_any, takes_any, gives_any}
 use Rattle.session_core.specs.Calls.{IsSingleGet, call_by, call_of, is_negotiated, request_form}
 use Rattle.session_core.specs.Outgoing.{outgoing_by}
 use Rattle.session_core.specs.Progress.{AnswersBy, AsksFor, WorksBy}
-use Rattle.session_core.specs.Remaining.{is_asking, is_asking_value, load, task_load}
+use Rattle.session_core.specs.Remaining.{is_asking, is_asking_value, load_of, task_load}
 use Rattle.session_core.specs.Rules.{HearsGet, heard_frame, incoming_after, link_after, outgoing_after, reply_text, turn_of}
 use Rattle.session_core.specs.Standard.{management_device}
 use Rattle.session_core.specs.declared.asked.Asked.{Asked}
@@ -147,7 +147,7 @@ pub answers_any : (s t : Session) (asked : Asked) (reply : Reply) (text : List â
       task = Listen;
     }
     â†’ AnswersBy s reply text t
-unfolding is_asking load
+unfolding is_asking load_of
 answers_any s t asked reply text outgoing awaiting e o after =
     let kept : State = record {
       link = s.state.link;

@@ -7,16 +7,16 @@ use Rattle.std.proofs.lemmas.Bool.{le-leb, leb-true}
 use Rattle.relay_events.specs.declared.event.Event.{Event}
 use Rattle.relay_events.specs.declared.reply.Reply.{Reply}
 use Rattle.session_core.specs.Answers.{answer_text, due_text}
-use Rattle.session_core.specs.Association.{opened_by}
+use Rattle.session_core.specs.Association.{link_by_opening}
 use Rattle.session_core.specs.Backwards.{after_last_match, unreleased_link, link_of, requests_of, LaterRequest, Transfer, new_transfer, extended_transfer, last_transfer, block_count, is_inner_block, is_in_order, joined_bytes, is_too_long, incoming_by_transfer, incoming_among, incoming_of, Past, Exchange, frames_past, exchanges_of, LongGet, extended_long_get, last_long_get, is_named_in_order, outgoing_by_get, outgoing_among, outgoing_of, Asks, Answers, to_server}
 use Rattle.session_core.specs.Incoming.{no_blocks, after_by_fault, block_after, transfer_of, later_after}
 use Rattle.xdlms_blocks.specs.Joining.{joining_after_block}
 use Rattle.xdlms_blocks.specs.Limits.{max_joined}
 use Rattle.xdlms_blocks.specs.declared.fault.BlockFault.TheVariants.{WrongNumber, TooLong}
 use Rattle.session_core.specs.Outcome.{Outcome, asks, says, turn_event}
-use Rattle.session_core.specs.Outgoing.{transfer_after, begun_by, sending_by_fault, transfer_after_next}
+use Rattle.session_core.specs.Outgoing.{transfer_after, reply_transfer, sending_by_fault, transfer_after_next}
 use Rattle.session_core.specs.Roles.{Role, starts, follows, gets, gets_next, stops, role_of_request, role_of}
-use Rattle.session_core.specs.Rules.{opens, is_heard, is_release, is_closing, call_in, role_in, turn_of, link_in, link_after, incoming_by_role, incoming_in, incoming_after, outgoing_by_role, outgoing_in, outgoing_after, outcome_of_turn, outcome_at, state_after, reply_text}
+use Rattle.session_core.specs.Rules.{is_aarq, is_heard, is_release, is_closing, call_in, role_in, turn_of, link_in, link_after, incoming_by_role, incoming_in, incoming_after, outgoing_by_role, outgoing_in, outgoing_after, outcome_of_turn, outcome_at, state_after, reply_text}
 use Rattle.session_core.specs.Running.{Known, event_at, known_after, known_in, new_state, asks_on, answers_on}
 use Rattle.session_core.specs.Walks.{asks_along, answers_from, answers_along}
 use Rattle.session_core.specs.declared.call.Call.{Call}
@@ -62,20 +62,20 @@ unreleased_more f later (Some link) =
     ]
 
 link_step : (password : List ℕ) (f : Frame) (last : Option Frame) (later : List Frame) (o : Bool)
-    → unreleased_link (option_and_then (opened_by password) (cond o (Some f) last))
+    → unreleased_link (option_and_then (link_by_opening password) (cond o (Some f) last))
     (cond o [] (f ∷ later))
-    ≡ (if o then opened_by password f else link_in f
-    (unreleased_link (option_and_then (opened_by password) last) later))
-link_step password f last later true = unreleased_none (opened_by password f)
+    ≡ (if o then link_by_opening password f else link_in f
+    (unreleased_link (option_and_then (link_by_opening password) last) later))
+link_step password f last later true = unreleased_none (link_by_opening password f)
 link_step password f last later false = unreleased_more f later
-    (option_and_then (opened_by password) last)
+    (option_and_then (link_by_opening password) last)
 
 -- the association after one more frame
 pub link_more : (password : List ℕ) (f : Frame) (earlier : List Frame)
     → link_of password (f ∷ earlier) ≡ link_after password f (link_of password earlier)
 unfolding link_of link_after
-link_more password f earlier = link_step password f (find opens earlier)
-    (after_last_match opens earlier) (opens f)
+link_more password f earlier = link_step password f (find is_aarq earlier)
+    (after_last_match is_aarq earlier) (is_aarq f)
 
 -- ---- a long SET or ACTION
 
@@ -262,9 +262,9 @@ opened_none (Some link) = refl
 
 incoming_step : (password : List ℕ) (f : Frame) (fs : List Frame) (link : Option Link) (o : Bool)
     → option_and_then (incoming_since (cond o [] (f ∷ fs)))
-    (if o then opened_by password f else link_in f link)
+    (if o then link_by_opening password f else link_in f link)
     ≡ (if o then None else incoming_in link f (option_and_then (incoming_since fs) link))
-incoming_step password f fs link true = opened_none (opened_by password f)
+incoming_step password f fs link true = opened_none (link_by_opening password f)
 incoming_step password f fs link false = heard_more f fs link
 
 -- the transfer after one more frame, if the association is known
@@ -274,8 +274,9 @@ incoming_at_link : (password : List ℕ) (f : Frame) (earlier : List Frame) (lin
     ≡ incoming_after link f (option_and_then (λ (l : Link). incoming_among (requests_of l earlier))
     link)
 unfolding link_after incoming_after
-incoming_at_link password f earlier link = incoming_step password f (after_last_match opens earlier)
-    link (opens f)
+incoming_at_link password f earlier link = incoming_step password f
+    (after_last_match is_aarq earlier)
+    link (is_aarq f)
 
 -- the long SET or ACTION after one more frame
 pub incoming_more : (password : List ℕ) (f : Frame) (earlier : List Frame)
@@ -356,7 +357,7 @@ get_more link (starts p block) reply calls = refl
 get_more link (follows s block) reply calls = refl
 get_more link (gets form) None calls = refl
 get_more link (gets form) (Some reply) calls =
-    new_get (begun_by (record { link = link; form = form }) reply)
+    new_get (reply_transfer (record { link = link; form = form }) reply)
 get_more link (gets_next number) reply calls = next_more number (last_long_get link calls)
 get_more link stops reply calls = refl
 
@@ -402,10 +403,10 @@ none_sent (Some link) = refl
 
 outgoing_step : (password : List ℕ) (p : Past) (past : List Past) (link : Option Link) (o : Bool)
     → option_and_then (outgoing_since (cond o [] (p ∷ past)))
-    (if o then opened_by password p.frame else link_in p.frame link)
+    (if o then link_by_opening password p.frame else link_in p.frame link)
     ≡ (if o then None else outgoing_in link p.frame p.reply
     (option_and_then (outgoing_since past) link))
-outgoing_step password p past link true = none_sent (opened_by password p.frame)
+outgoing_step password p past link true = none_sent (link_by_opening password p.frame)
 outgoing_step password p past link false = past_more p past link
 
 outgoing_at_link : (password : List ℕ) (p : Past) (past : List Past) (link : Option Link)
@@ -415,7 +416,7 @@ outgoing_at_link : (password : List ℕ) (p : Past) (past : List Past) (link : O
     (exchanges_of l past)) link)
 unfolding link_after outgoing_after
 outgoing_at_link password p past link = outgoing_step password p
-    (after_last_match (λ (q : Past). opens q.frame) past) link (opens p.frame)
+    (after_last_match (λ (q : Past). is_aarq q.frame) past) link (is_aarq p.frame)
 
 -- the long GET after one more frame and the reply to its event
 pub outgoing_more : (password : List ℕ) (p : Past) (past : List Past)

@@ -10,19 +10,19 @@ use Rattle.session_core.proofs.Meet.{same_from, same_events, same_texts}
 use Rattle.session_core.specs.Answers.{answer_text, due_text}
 use Rattle.session_core.specs.Backwards.{to_server, end_by, end_of}
 use Rattle.session_core.specs.Ends.{EndsWithInput}
-use Rattle.session_core.specs.Incoming.{fault_of, outcome_by_fault, block_outcome_of, whole_by_data, whole_data, whole_outcome, event_by, form_by, later_outcome, transfer_of, no_blocks}
+use Rattle.session_core.specs.Incoming.{fault_of, outcome_by_fault, block_outcome_of, outcome_by_data, whole_data, whole_outcome, event_by, form_by, later_outcome, transfer_of, no_blocks}
 use Rattle.session_core.specs.Outcome.{Outcome, asks, says, Turn, settled, continues, event_of, turn_event}
-use Rattle.session_core.specs.Outgoing.{answer_with_header, value_answer, values_answer, outgoing_by, begun_by}
+use Rattle.session_core.specs.Outgoing.{answer_with_header, value_answer, values_answer, outgoing_by, reply_transfer}
 use Rattle.session_core.specs.Standard.{management_device}
 use Rattle.cosem_axdr.specs.declared.value.Data.{Data}
 use Rattle.cosem_names.specs.declared.service.GetResult.{GetResult}
 use Rattle.cosem_names.specs.declared.service.GetResult.TheVariants as result
 use Rattle.xdlms_apdu.specs.Responses.{response_text}
 use Rattle.xdlms_apdu.specs.declared.response.Response.TheVariants as response
-use Rattle.session_core.specs.Progress.{asked_by, Owes, Feeds, Finishes, Steps, Takes, IsQuiet, IsAwaiting, IsOver, WorksBy, task_by, next_by}
-use Rattle.session_core.specs.Remaining.{asks_of, texts_of, texts_from, texts_after, ends_of, after_outcome, end_in, awaits, still_asks, still_sends, still_ends, is_asking, reported_end, is_finished, load, task_load}
+use Rattle.session_core.specs.Progress.{events_of_next, Owes, Feeds, Finishes, Steps, Takes, IsQuiet, IsAwaiting, IsOver, WorksBy, task_by, next_by}
+use Rattle.session_core.specs.Remaining.{asks_of, texts_of, texts_from, texts_after, ends_of, after_outcome, end_in, is_awaiting, still_asks, still_sends, still_ends, is_asking, reported_end, is_finished, load_of, task_load}
 use Rattle.session_core.specs.Roles.{role_of_request, role_of}
-use Rattle.session_core.specs.Rules.{heard_frame, exception_answer, opens, call_in, role_in, call_turn, request_turn, turn_in, turn_of, outgoing_by_role, outgoing_in, outgoing_after, outcome_of_turn, outcome_at, state_after, step_outcome, is_settled, opening_answer, reply_text}
+use Rattle.session_core.specs.Rules.{heard_frame, exception_answer, is_aarq, call_in, role_in, call_turn, request_turn, turn_in, turn_of, outgoing_by_role, outgoing_in, outgoing_after, outcome_of_turn, outcome_at, state_after, step_outcome, is_settled, opening_answer, reply_text}
 use Rattle.session_core.specs.Calls.{is_call}
 use Rattle.session_core.specs.Running.{known_in, asks_on, answers_on, new_state}
 use Rattle.session_core.specs.declared.asked.Asked.{Asked}
@@ -76,7 +76,7 @@ read_by : (link : Link) (p : Purpose) (id : InvokeId) (number : ℕ) (reply : Op
       link = link;
       form = form_by p id number;
     })) reply None
-unfolding begun_by
+unfolding reply_transfer
 read_by link (purpose.Set target) id number None event = refl
 read_by link (purpose.Set target) id number (Some reply) event = refl
 read_by link (purpose.Action method) id number None event = refl
@@ -87,7 +87,7 @@ read_whole : (joined : Joined) (reply : Option Reply) → None
 unfolding whole_outcome
 read_whole joined reply =
     elim (whole_data joined.bytes)
-    as (λ d. None ≡ sending_with (whole_by_data joined d) reply None) [
+    as (λ d. None ≡ sending_with (outcome_by_data joined d) reply None) [
       | Some value ↦ read_by joined.link joined.purpose joined.id joined.number reply
           (event_by joined.link.level joined.purpose value)
       | None ↦ refl
@@ -121,7 +121,7 @@ request_by : (link : Link) (incoming : Option Incoming) (outgoing : Option Sendi
     → outgoing_by_role link (role_of_request r) reply outgoing
     ≡ sending_with (outcome_of_turn outgoing (request_turn link incoming r)) reply
     (outgoing_by_role link (role_of_request r) None outgoing)
-unfolding begun_by
+unfolding reply_transfer
 request_by link incoming outgoing None (request.Get id target) = refl
 request_by link incoming outgoing (Some reply) (request.Get id target) = refl
 request_by link incoming outgoing reply (request.GetNext id number) = refl
@@ -196,7 +196,7 @@ sending_after : (password : List ℕ) (s : State) (f : Frame) (reply : Option Re
     → outgoing_after s.link f reply s.outgoing
     ≡ sending_with (outcome_at password s f) reply (outgoing_after s.link f None s.outgoing)
 unfolding turn_of outgoing_after
-sending_after password s f reply = opened_or password s f reply (opens f)
+sending_after password s f reply = opened_or password s f reply (is_aarq f)
 
 -- the state after an outcome, in terms of the long GET
 after_by : (outcome : Outcome) (reply : Option Reply) (state : State)
@@ -260,7 +260,7 @@ frame_asks password s f fs =
 -- the events that a step asks
 abbrev asked_in : Option Next → List Event
 asked_in None = []
-asked_in (Some next) = asked_by next
+asked_in (Some next) = events_of_next next
 
 step_asks : (password : List ℕ) (s : State) (st : TurnStep) (fs : List Frame)
     → option_to_list (event_of (step_outcome st)) ++ asks_on password (known_in s) fs
@@ -319,7 +319,7 @@ works_to : (E : Type 0) (password pending : List ℕ) (finished : Bool) (s t : S
     → task_load (task_by st) < task_load task
     → WorksBy {E = E} (session password pending finished s task) (Ok (next_by st))
     (session password pending finished t (task_by st))
-unfolding load is_asking still_sends
+unfolding load_of is_asking still_sends
 works_to E password pending finished s t task (step.Ask event asked) c less = (
   steps_to password pending finished s t task (step.Ask event asked) c,
   (record { asking = refl; sends = λ more. refl }, omega arith),
@@ -369,7 +369,7 @@ pub says_text : (E : Type 0) (password pending : List ℕ) (finished : Bool) (s 
     (text : List ℕ) → text ≡ due_text due.to (answer_text due.answer)
     → WorksBy {E = E} (session password pending finished s (Say due)) (Ok (Some (next.Send text)))
     (session password pending finished s Listen)
-unfolding still_asks still_sends still_ends is_finished is_asking load
+unfolding still_asks still_sends still_ends is_finished is_asking load_of
 says_text E password pending finished s due text e =
     (says_steps password pending finished s due text e, (refl, omega arith))
 
@@ -389,7 +389,7 @@ pub gives_text : (E : Type 0) (password pending : List ℕ) (finished : Bool) (s
     (text : List ℕ)
     → WorksBy {E = E} (session password pending finished s (Send text)) (Ok (Some (next.Send text)))
     (session password pending finished s Listen)
-unfolding still_asks still_sends still_ends is_finished is_asking load
+unfolding still_asks still_sends still_ends is_finished is_asking load_of
 gives_text E password pending finished s text =
     (gives_steps password pending finished s text, (refl, omega arith))
 
@@ -482,7 +482,7 @@ heard_by : (E : Type 0) (password old new : List ℕ) (finished : Bool) (s t : S
     → length new + task_load (task_by st) < length old + task_load Listen
     → WorksBy {E = E} (session password old finished s Listen) (Ok (next_by st))
     (session password new finished t (task_by st))
-unfolding load is_asking still_sends
+unfolding load_of is_asking still_sends
 heard_by E password old new finished s t (step.Ask event asked) steps less =
     (steps, (record { asking = refl; sends = λ more. refl }, less))
 heard_by E password old new finished s t (step.Say due) steps less = (steps, (refl, less))
@@ -509,7 +509,7 @@ pub passes_frame : (E : Type 0) (password old new : List ℕ) (finished : Bool) 
     → (f.dst == management_device) ≡ false
     → WorksBy {E = E} (session password old finished s Listen) (Ok None)
     (session password new finished s Listen)
-unfolding still_asks still_sends still_ends is_finished load is_asking
+unfolding still_asks still_sends still_ends is_finished load_of is_asking
 passes_frame E password old new finished s f n whole after goes_on elsewhere = (
   (record {
     asks = λ more. ap (λ (fs : List Frame). asks_on password (known_in s) (to_server fs))
@@ -751,7 +751,7 @@ pub takes_reply : (password pending : List ℕ) (finished : Bool) (s : State) (a
       incoming = s.incoming;
       outgoing = outgoing;
     }) (Send text))
-unfolding still_asks still_sends still_ends is_asking is_finished load
+unfolding still_asks still_sends still_ends is_asking is_finished load_of
 takes_reply password pending finished s asked reply text outgoing t o = record {
   asks = λ more. refl;
   sends = λ more replies. (let a = t in let b = o in cc);
@@ -1028,7 +1028,7 @@ unfolding is_asking still_sends
 waits_again s = awaiting_by s.password s.deframer s.is_finished s.state s.task
   where
     awaiting_by : (password pending : List ℕ) (finished : Bool) (state : State) (task : SessionTask)
-        → awaits task ≡ true → IsAwaiting (session password pending finished state task)
+        → is_awaiting task ≡ true → IsAwaiting (session password pending finished state task)
     awaiting_by password pending finished state Listen e = absurd cc
     awaiting_by password pending finished state (Read joined) e = absurd cc
     awaiting_by password pending finished state (Await asked) e =
@@ -1046,6 +1046,6 @@ pub asks_or_ends : (s : Session) (end : SessionEnd) → is_asking s ≡ true →
     → ⊥
 unfolding is_asking
 asks_or_ends s end asking e =
-    let over : awaits (Over end) ≡ true = subst (λ (t : SessionTask). awaits t ≡ true)
+    let over : is_awaiting (Over end) ≡ true = subst (λ (t : SessionTask). is_awaiting t ≡ true)
     (ends_again s end e) asking in
     absurd cc

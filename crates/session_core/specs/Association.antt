@@ -58,5 +58,5 @@ link_from password source (Ok aarq) = link_by source (verdict_of aarq source pas
 link_from password source (Err fault) = None
 
 -- the association that a frame with an AARQ opens, if any
-unfoldable pub opened_by : List ℕ → Frame → Option Link
-opened_by password f = link_from password f.src (aarq_of f.payload)
+unfoldable pub link_by_opening : List ℕ → Frame → Option Link
+link_by_opening password f = link_from password f.src (aarq_of f.payload)

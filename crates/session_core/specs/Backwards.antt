@@ -12,12 +12,12 @@ use Rattle.std.specs.Prelude.{ℕ, ◌+◌, ◌==◌, ◌&&◌, nat_lt, not, Boo
 use Rattle.std.specs.List.{list_any}
 use Rattle.relay_events.specs.declared.event.Event.{Event}
 use Rattle.relay_events.specs.declared.reply.Reply.{Reply}
-use Rattle.session_core.specs.Association.{opened_by}
+use Rattle.session_core.specs.Association.{link_by_opening}
 use Rattle.session_core.specs.Incoming.{is_of}
 use Rattle.session_core.specs.Outcome.{turn_event}
-use Rattle.session_core.specs.Outgoing.{transfer_after, begun_by}
+use Rattle.session_core.specs.Outgoing.{transfer_after, reply_transfer}
 use Rattle.session_core.specs.Roles.{Role, starts, follows, gets, gets_next, stops}
-use Rattle.session_core.specs.Rules.{opens, is_heard, is_closing, role_in, turn_of, outcome_of_turn}
+use Rattle.session_core.specs.Rules.{is_aarq, is_heard, is_closing, role_in, turn_of, outcome_of_turn}
 use Rattle.session_core.specs.Standard.{management_device}
 use Rattle.session_core.specs.Walks.{asks_along, answers_along}
 use Rattle.session_core.specs.declared.asked.ReplyForm.{ReplyForm}
@@ -49,7 +49,8 @@ after_last_match test (x ∷ earlier) = cond (test x) [] (x ∷ after_last_match
 
 -- the association that the last AARQ opened, if it was accepted
 abbrev pub opened_link : List ℕ → List Frame → Option Link
-opened_link password earlier = option_and_then (opened_by password) (last_match opens earlier)
+opened_link password earlier = option_and_then (link_by_opening password)
+    (last_match is_aarq earlier)
 
 -- an association, or none if one of the later frames released it
 abbrev pub unreleased_link : Option Link → List Frame → Option Link
@@ -59,12 +60,12 @@ unreleased_link (Some link) later = if list_any (is_closing link) later then Non
 -- the association before a frame: the one that was opened last, if no later frame released it
 unfoldable pub link_of : List ℕ → List Frame → Option Link
 link_of password earlier =
-    unreleased_link (opened_link password earlier) (after_last_match opens earlier)
+    unreleased_link (opened_link password earlier) (after_last_match is_aarq earlier)
 
 -- the roles of the client's requests since its association was opened
 abbrev pub requests_of : Link → List Frame → List Role
 requests_of link earlier =
-    map (role_in link) (filter (is_heard link) (after_last_match opens earlier))
+    map (role_in link) (filter (is_heard link) (after_last_match is_aarq earlier))
 
 -- ---- a long SET or ACTION
 
@@ -203,7 +204,7 @@ frames_past past = map (λ p. p.frame) past
 abbrev pub exchanges_of : Link → List Past → List Exchange
 exchanges_of link past =
     map (λ p. record { role = role_in link p.frame; reply = p.reply })
-    (filter (λ p. is_heard link p.frame) (after_last_match (λ p. opens p.frame) past))
+    (filter (λ p. is_heard link p.frame) (after_last_match (λ p. is_aarq p.frame) past))
 
 -- A long GET, seen backwards: the text that it sends in blocks, and the block numbers that its
 -- GET-nexts name, the last of them first.
@@ -215,7 +216,7 @@ pub record LongGet : Type 0 where
 abbrev pub new_long_get : Link → ReplyForm → Option Reply → Option LongGet
 new_long_get link form reply =
     option_map (λ text. record { text = text; named_blocks = [] })
-    (option_and_then (begun_by (record { link = link; form = form })) reply)
+    (option_and_then (reply_transfer (record { link = link; form = form })) reply)
 
 -- a long GET with one more GET-next
 abbrev pub extended_long_get : ℕ → LongGet → LongGet

@@ -62,12 +62,12 @@ service_of (purpose.Action method) = service.Action
 -- ---- the joined bytes
 
 -- the Data that was read, if it takes up all bytes
-abbrev pub whole_by : ℕ → Result (Data × ℕ) DataFault → Option Data
-whole_by size (Ok read) = if read.1 == size then Some read.0 else None
-whole_by size (Err fault) = None
+abbrev pub complete_value : ℕ → Result (Data × ℕ) DataFault → Option Data
+complete_value size (Ok read) = if read.1 == size then Some read.0 else None
+complete_value size (Err fault) = None
 
 unfoldable pub whole_data : List ℕ → Option Data
-whole_data bytes = whole_by (length bytes) (first_data bytes)
+whole_data bytes = complete_value (length bytes) (first_data bytes)
 
 -- the event of a transfer whose blocks contain this value
 abbrev pub event_by : Level → Purpose → Data → Event
@@ -80,15 +80,15 @@ form_by (purpose.Set target) id number = form.SetLastBlock id number
 form_by (purpose.Action method) id number = form.Action id
 
 -- the outcome of the joined bytes: an event if they are exactly one Data, else a refusal
-abbrev pub whole_by_data : Joined → Option Data → Outcome
-whole_by_data j (Some value) =
+abbrev pub outcome_by_data : Joined → Option Data → Outcome
+outcome_by_data j (Some value) =
     asks (event_by j.link.level j.purpose value)
     (record { link = j.link; form = form_by j.purpose j.id j.number })
-whole_by_data j None =
+outcome_by_data j None =
     says j.link.source (Service (refusal_response (service_of j.purpose) j.id j.number OtherReason))
 
 unfoldable pub whole_outcome : Joined → Outcome
-whole_outcome j = whole_by_data j (whole_data j.bytes)
+whole_outcome j = outcome_by_data j (whole_data j.bytes)
 
 -- ---- one block
 
@@ -106,8 +106,8 @@ abbrev pub no_blocks : Joining
 no_blocks = record { number = 0; bytes = []; is_open = true }
 
 -- the whole transfer, once its last block is added
-abbrev pub joined_by : Link → InvokeId → Purpose → DataBlock → Joining → Joined
-joined_by link id purpose block j =
+abbrev pub joined_after_block : Link → InvokeId → Purpose → DataBlock → Joining → Joined
+joined_after_block link id purpose block j =
     record {
       link = link;
       purpose = purpose;
@@ -122,7 +122,7 @@ outcome_by_fault link id purpose block j (Some fault) =
     says link.source (Service
     (refusal_response (service_of purpose) id block.number (block_code (service_of purpose) fault)))
 outcome_by_fault link id purpose block j None =
-    if block.last then whole_outcome (joined_by link id purpose block j)
+    if block.last then whole_outcome (joined_after_block link id purpose block j)
     else says link.source (Service (block_response (service_of purpose) id block.number))
 
 -- the outcome of a block

@@ -1,8 +1,8 @@
 -- Answers that are sent in blocks (IEC 62056-5-3, GET with datablocks).
---     transfer_after                      a transfer after some of its blocks were sent
+--     transfer_after                           a transfer after some of its blocks were sent
 --     transfer_after_next, continued_response  the transfer after a GET-next, and the answer
---     LongAnswer .. reply_response        the answer to the reply of an event
---     begun_by, outgoing_by               the transfer that this answer begins
+--     LongAnswer .. reply_response             the answer to the reply of an event
+--     reply_transfer, outgoing_by              the transfer that this answer begins
 use Rattle.std.specs.Prelude.{ℕ, ◌+◌, ◌-◌, ◌*◌, ◌==◌, ◌&&◌, nat_le, bit_and, not, true, false, if◌then◌else◌, Bool, Option, Some, None, option_and_then, List, length, drop}
 use Rattle.acse_ber.specs.Conformance.{get_in_blocks}
 use Rattle.cosem_axdr.specs.declared.value.Data.{Data}
@@ -75,8 +75,8 @@ transfer_after_next number (Some s) = sending_by_fault s (next_fault number s)
 -- ---- the reply to an event
 
 -- the transfer of a text before its first block, to a client with this limit
-abbrev pub unsent_by : ℕ → List ℕ → Sending
-unsent_by limit raw = new_sending raw (limit - block_header)
+abbrev pub unsent_transfer : ℕ → List ℕ → Sending
+unsent_transfer limit raw = new_sending raw (limit - block_header)
 
 -- A normal answer that may be too long, and those of its bytes that would be sent in blocks.
 pub record LongAnswer : Type 0 where
@@ -149,14 +149,14 @@ abbrev pub long_response : Link → LongAnswer → Response
 long_response link answer =
     if has_room link answer.normal then answer.normal
     else if can_go_in_blocks link answer.raw
-    then block_response answer.id (next_piece (unsent_by link.limit answer.raw))
+    then block_response answer.id (next_piece (unsent_transfer link.limit answer.raw))
     else response.Get answer.id (result.Code OtherReason)
 
 -- the text that the answer begins to send in blocks, if it does
 abbrev pub long_text : Link → LongAnswer → Option Sending
 long_text link answer =
     if has_room link answer.normal then None
-    else if can_go_in_blocks link answer.raw then Some (unsent_by link.limit answer.raw)
+    else if can_go_in_blocks link answer.raw then Some (unsent_transfer link.limit answer.raw)
     else None
 
 abbrev pub response_by : Asked → Reply → Option LongAnswer → Response
@@ -168,12 +168,12 @@ unfoldable pub reply_response : Asked → Reply → Response
 reply_response asked reply = response_by asked reply (long_answer asked.form reply)
 
 -- the text that is sent in blocks, if the reply is too long for one answer
-unfoldable pub begun_by : Asked → Reply → Option Sending
-begun_by asked reply = option_and_then (long_text asked.link) (long_answer asked.form reply)
+unfoldable pub reply_transfer : Asked → Reply → Option Sending
+reply_transfer asked reply = option_and_then (long_text asked.link) (long_answer asked.form reply)
 
 -- the long GET in progress after the answer, which has the first block
 abbrev pub outgoing_by : Asked → Reply → Option Sending
-outgoing_by asked reply = option_and_then (transfer_after 1) (begun_by asked reply)
+outgoing_by asked reply = option_and_then (transfer_after 1) (reply_transfer asked reply)
 
 -- ---- what the code's values mean
 
@@ -181,12 +181,13 @@ outgoing_by asked reply = option_and_then (transfer_after 1) (begun_by asked rep
 -- other-reason
 abbrev pub response_in_blocks : Link → InvokeId → List ℕ → Response
 response_in_blocks link id raw =
-    if can_go_in_blocks link raw then block_response id (next_piece (unsent_by link.limit raw))
+    if can_go_in_blocks link raw then block_response id
+    (next_piece (unsent_transfer link.limit raw))
     else response.Get id (result.Code OtherReason)
 
 -- the text that this answer begins to send in blocks, if it does
 abbrev pub text_in_blocks : Link → List ℕ → Option Sending
-text_in_blocks link raw = if can_go_in_blocks link raw then Some (unsent_by link.limit raw)
+text_in_blocks link raw = if can_go_in_blocks link raw then Some (unsent_transfer link.limit raw)
     else None
 
 -- an answer whose first `header` bytes are not sent in blocks

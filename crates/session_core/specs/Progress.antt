@@ -16,7 +16,7 @@ use Rattle.relay_events.specs.declared.event.Event.TheVariants.{Get}
 use Rattle.relay_events.specs.declared.reply.Reply.{Reply}
 use Rattle.session_core.specs.Backwards.{Asks, Answers, end_of}
 use Rattle.session_core.specs.Ends.{EndsWithInput}
-use Rattle.session_core.specs.Remaining.{still_asks, still_sends, still_ends, is_asking, is_asking_value, reported_end, is_finished, load}
+use Rattle.session_core.specs.Remaining.{still_asks, still_sends, still_ends, is_asking, is_asking_value, reported_end, is_finished, load_of}
 use Rattle.session_core.specs.Remaining.{is_asking_command}
 use Rattle.session_core.specs.declared.end.SessionEnd.{SessionEnd}
 use Rattle.session_core.specs.declared.next.Next.{Next}
@@ -73,7 +73,7 @@ pub record Takes (old : Session) (reply : Reply) (new : Session) : Type 0 where
   pub ends : (more : List ℕ) → still_ends new more ≡ still_ends old more
   pub silent : is_asking new ≡ false
   pub finished : is_finished new ≡ is_finished old
-  pub less : load new < load old
+  pub less : load_of new < load_of old
 
 -- A reply was taken in, and then the bytes of its answer were sent.
 pub record AnswersBy (old : Session) (reply : Reply) (text : List ℕ) (new : Session) : Type 0 where
@@ -81,7 +81,7 @@ pub record AnswersBy (old : Session) (reply : Reply) (text : List ℕ) (new : Se
   pub takes : Takes old reply between
   pub sends : Steps between [] (text ∷ []) new
   pub silent : is_asking new ≡ false
-  pub less : load new < load old
+  pub less : load_of new < load_of old
 
 -- The session awaits the reply to an event, and sends nothing before it.
 pub record IsAwaiting (s : Session) : Type 0 where
@@ -94,28 +94,28 @@ pub record AsksFor (old : Session) (level : Level) (attr : AttrRef) (new : Sessi
   pub steps : Steps old (Get level attr false ∷ []) [] new
   pub awaits : IsAwaiting new
   pub value : is_asking_value new ≡ true
-  pub less : load new < load old
+  pub less : load_of new < load_of old
 
 -- The session has asked the event of a SET or an ACTION, and awaits the reply.
 pub record AsksCommand (old : Session) (event : Event) (new : Session) : Type 0 where
   pub steps : Steps old (event ∷ []) [] new
   pub awaits : IsAwaiting new
   pub command : is_asking_command new ≡ true
-  pub less : load new < load old
+  pub less : load_of new < load_of old
 
 -- the events of a `Next`, and below, its texts
-abbrev pub asked_by : Next → List Event
-asked_by (Ask event) = event ∷ []
-asked_by _ = []
+abbrev pub events_of_next : Next → List Event
+events_of_next (Ask event) = event ∷ []
+events_of_next _ = []
 
-abbrev pub sent_by : Next → List (List ℕ)
-sent_by (Send text) = text ∷ []
-sent_by _ = []
+abbrev pub texts_of_next : Next → List (List ℕ)
+texts_of_next (Send text) = text ∷ []
+texts_of_next _ = []
 
 -- a call of `next` removes from the front what it returns; a call that runs out of memory removes
 -- nothing
 abbrev pub StepsBy : {E : Type 0} → Session → Result Next E → Session → Type 0
-StepsBy old (Ok next) new = Steps old (asked_by next) (sent_by next) new
+StepsBy old (Ok next) new = Steps old (events_of_next next) (texts_of_next next) new
 StepsBy old (Err error) new = Steps old [] [] new
 
 -- Without more input there is nothing to ask or to send, and no invalid header has arrived.
@@ -136,15 +136,16 @@ pub record IsOver (end : SessionEnd) (s : Session) : Type 0 where
 -- What holds after each `Next`. Asking and sending reduce the session's load, so that finitely many
 -- calls return an event or a frame between two inputs.
 abbrev pub Leaves : Session → Next → Session → Type 0
-Leaves old (Ask event) new = IsAwaiting new × (load new < load old)
-Leaves old (Send text) new = (is_asking new ≡ false) × (load new < load old)
+Leaves old (Ask event) new = IsAwaiting new × (load_of new < load_of old)
+Leaves old (Send text) new = (is_asking new ≡ false) × (load_of new < load_of old)
 Leaves old Wait new = ((is_asking old ≡ true) × IsAwaiting new) ⊎ IsQuiet new
 Leaves old (End end) new = IsOver end new
 
 -- the effect of a task
 abbrev pub WorksBy : {E : Type 0} → Session → Result (Option Next) E → Session → Type 0
-WorksBy old (Ok None) new = Steps old [] [] new × ((is_asking new ≡ false) × (load new < load old))
-WorksBy old (Ok (Some next)) new = Steps old (asked_by next) (sent_by next) new
+WorksBy old (Ok None) new = Steps old [] [] new
+    × ((is_asking new ≡ false) × (load_of new < load_of old))
+WorksBy old (Ok (Some next)) new = Steps old (events_of_next next) (texts_of_next next) new
     × Leaves old next new
 WorksBy old (Err error) new = Steps old [] [] new
 

@@ -2,7 +2,7 @@
 -- replies.
 --     still_asks, still_sends, still_ends     the events, the bytes of the answers, and the end
 --     is_asking .. is_idle                    what it waits for
---     load                                    the amount of work in its state
+--     load_of                                 the amount of work in its state
 use Rattle.std.specs.Prelude.{ℕ, ◌+◌, ◌&&◌, not, Bool, true, false, if◌then◌else◌, Option, Some, None, option_to_list, List, [], ◌∷◌, ◌++◌, length}
 use Rattle.relay_events.specs.declared.event.Event.{Event}
 use Rattle.relay_events.specs.declared.reply.Reply.{Reply}
@@ -104,13 +104,13 @@ still_ends s more = ends_of s.task (end_of (bytes_ahead s more))
 
 -- ---- what it waits for
 
-abbrev pub awaits : SessionTask → Bool
-awaits (Await asked) = true
-awaits _ = false
+abbrev pub is_awaiting : SessionTask → Bool
+is_awaiting (Await asked) = true
+is_awaiting _ = false
 
 -- whether the reply to an event is awaited
 unfoldable pub is_asking : Session → Bool
-is_asking s = awaits s.task
+is_asking s = is_awaiting s.task
 
 abbrev pub awaits_value : SessionTask → Bool
 awaits_value (Await asked) = asks_value asked.form
@@ -140,9 +140,9 @@ reported_end s = end_in s.task
 unfoldable pub is_finished : Session → Bool
 is_finished s = s.is_finished
 
-abbrev pub listens : SessionTask → Bool
-listens Listen = true
-listens _ = false
+abbrev pub is_listening : SessionTask → Bool
+is_listening Listen = true
+is_listening _ = false
 
 -- whether the front of the input is an incomplete frame that is valid so far
 abbrev pub is_part : Head → Bool
@@ -151,7 +151,7 @@ is_part _ = false
 
 -- whether there is nothing to do before more input arrives
 unfoldable pub is_idle : Session → Bool
-is_idle s = listens s.task && not s.is_finished && is_part (head_of s.deframer)
+is_idle s = is_listening s.task && not s.is_finished && is_part (head_of s.deframer)
 
 -- ---- how much work is left
 
@@ -165,5 +165,5 @@ task_load (Say due) = 2
 task_load (Send text) = 1
 task_load (Over end) = 0
 
-unfoldable pub load : Session → ℕ
-load s = length s.deframer + task_load s.task
+unfoldable pub load_of : Session → ℕ
+load_of s = length s.deframer + task_load s.task

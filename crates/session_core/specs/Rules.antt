@@ -17,7 +17,7 @@ use Rattle.cosem_names.specs.declared.name.AttrRef.{AttrRef}
 use Rattle.relay_events.specs.declared.event.Event.TheVariants as event
 use Rattle.relay_events.specs.declared.reply.Reply.{Reply}
 use Rattle.session_core.specs.Answers.{answer_text, due_text}
-use Rattle.session_core.specs.Association.{aare_by, opened_by}
+use Rattle.session_core.specs.Association.{aare_by, link_by_opening}
 use Rattle.session_core.specs.Calls.{is_opening, is_call, call_of, command_event, command_form}
 use Rattle.session_core.specs.Incoming.{no_blocks, block_outcome_of, block_after, transfer_of, later_outcome, later_after, whole_outcome}
 use Rattle.session_core.specs.Outcome.{Outcome, Turn, asks, says, settled, continues}
@@ -54,8 +54,8 @@ abbrev pub heard_frame : ℕ → List ℕ → Frame
 heard_frame src payload = record { src = src; dst = management_device; payload = payload }
 
 -- whether a frame opens an association, or tries to
-abbrev pub opens : Frame → Bool
-opens f = is_opening f.payload
+abbrev pub is_aarq : Frame → Bool
+is_aarq f = is_opening f.payload
 
 -- whether a frame is a request from the client of this association
 abbrev pub is_heard : Link → Frame → Bool
@@ -141,7 +141,7 @@ turn_in (Some link) incoming f =
 -- the outcome of a frame
 unfoldable pub turn_of : List ℕ → Option Link → Option Incoming → Frame → Turn
 turn_of password link incoming f =
-    if opens f then settled (says f.src (opening_answer password f.src (aarq_of f.payload)))
+    if is_aarq f then settled (says f.src (opening_answer password f.src (aarq_of f.payload)))
     else if is_call f.payload then turn_in link incoming f
     else settled (says f.src (exception_answer Unknown))
 
@@ -152,7 +152,7 @@ link_in f None = None
 link_in f (Some link) = if is_closing link f then None else Some link
 
 unfoldable pub link_after : List ℕ → Frame → Option Link → Option Link
-link_after password f link = if opens f then opened_by password f else link_in f link
+link_after password f link = if is_aarq f then link_by_opening password f else link_in f link
 
 -- ---- the long SET or ACTION after a frame: any request except its next block ends it
 
@@ -167,7 +167,7 @@ incoming_in (Some link) f incoming = if is_heard link f
     then incoming_by_role (role_in link f) incoming else incoming
 
 unfoldable pub incoming_after : Option Link → Frame → Option Incoming → Option Incoming
-incoming_after link f incoming = if opens f then None else incoming_in link f incoming
+incoming_after link f incoming = if is_aarq f then None else incoming_in link f incoming
 
 -- ---- the long GET after a frame and the reply to its event: any request except a GET-next ends it
 
@@ -187,7 +187,7 @@ outgoing_in (Some link) f reply outgoing = if is_heard link f
     then outgoing_by_role link (role_in link f) reply outgoing else outgoing
 
 unfoldable pub outgoing_after : Option Link → Frame → Option Reply → Option Sending → Option Sending
-outgoing_after link f reply outgoing = if opens f then None else outgoing_in link f reply outgoing
+outgoing_after link f reply outgoing = if is_aarq f then None else outgoing_in link f reply outgoing
 
 -- ---- all that a session keeps
 

@@ -22,7 +22,7 @@ impl Due {
     // Returns the answer to an AARQ.
     #[tactic(auto, using(crate::proofs::Short::short_association))]
     pub(crate) fn association(to: u16, aare: Aare) -> Due
-        ensures to { result.to ≡ to }
+        ensures receiver { result.to ≡ to }
         ensures answer { result.answer ≡ answer.Association aare }
     {
         Due {
@@ -34,7 +34,7 @@ impl Due {
     // Returns the answer to a release.
     #[tactic(auto, using(crate::proofs::Short::short_release))]
     pub(crate) fn release(to: u16) -> Due
-        ensures to { result.to ≡ to }
+        ensures receiver { result.to ≡ to }
         ensures answer { result.answer ≡ answer.Release }
     {
         Due {
@@ -47,7 +47,7 @@ impl Due {
     #[tactic(auto, using(crate::proofs::Short::short_response))]
     pub(crate) fn response(to: u16, response: Response) -> Due
         requires { IsSmall response }
-        ensures to { result.to ≡ to }
+        ensures receiver { result.to ≡ to }
         ensures answer { result.answer ≡ answer.Service response }
     {
         Due {
@@ -58,7 +58,7 @@ impl Due {
 
     // Returns an exception.
     pub(crate) fn exception(to: u16, exception: Exception) -> Due
-        ensures to { result.to ≡ to }
+        ensures receiver { result.to ≡ to }
         ensures answer { result.answer ≡ answer.Service (Response.Exception exception) }
     {
         Due::response(to, Response::Exception(exception))

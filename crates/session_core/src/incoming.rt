@@ -45,7 +45,7 @@ impl LongService {
 
     // Returns the answer to a block that is not added.
     pub(crate) fn fault(self, to: u16, id: InvokeId, number: u32, fault: BlockFault) -> Due
-        ensures to { result.to ≡ to }
+        ensures receiver { result.to ≡ to }
         ensures answer { result.answer ≡ Service
             (refusal_response self id number (block_code self fault)) }
     {
@@ -141,7 +141,7 @@ impl Incoming {
     ) -> Result<Added, AllocError>
         ensures outcome { IfOk result (λ added. outcome_of_added added
             ≡ block_outcome_of link id self.old.purpose block.now self.old.blocks) }
-        ensures after { IfOk result (λ added. after_adding added self.new
+        ensures new_state { IfOk result (λ added. after_adding added self.new
             ≡ block_after self.old.purpose block.now self.old.blocks) }
         ensures err { OnErr result (self.new ≡ self.old) }
     {
@@ -177,7 +177,7 @@ pub(crate) fn add_to(
 ) -> Result<Added, AllocError>
     ensures outcome { IfOk result (λ added. outcome_of_added added
         ≡ later_outcome link service id block.now (transfer_of service transfer.old)) }
-    ensures after { OnOk result (transfer.new
+    ensures new_state { OnOk result (transfer.new
         ≡ later_after block.now (transfer_of service transfer.old)) }
     ensures err { OnErr result (transfer.new ≡ transfer.old) }
 {

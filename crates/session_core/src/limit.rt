@@ -58,7 +58,7 @@ impl Limit {
     // Returns the largest number of raw bytes of a block that fits in a PDU of this size.
     pub(crate) fn raw(self) -> u16
         ensures raw { result ≡ self - block_header }
-        ensures room { (min_block_size ≤ result) × (result ≤ greatest_raw) }
+        ensures in_range { (min_block_size ≤ result) × (result ≤ greatest_raw) }
     {
         self.bytes - BLOCK_HEADER
     }

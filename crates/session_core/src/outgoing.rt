@@ -1,6 +1,6 @@
 //! A long GET response that is sent in blocks, one for each GET-next (IEC 62056-5-3).
 ghost use Rattle.std.specs.Prelude.{◌≡◌, ◌≢◌, ◌*◌, ◌-◌, ◌<◌, ◌≤◌, ◌↔◌, length, true, false, IsErrOf, IfOk, IfErr, OnOk, OnErr, Err};
-ghost use Rattle.session_core.specs.Outgoing.{unsent_by, get_code, block_response, continued_response, transfer_after_next};
+ghost use Rattle.session_core.specs.Outgoing.{unsent_transfer, get_code, block_response, continued_response, transfer_after_next};
 ghost use Rattle.session_core.specs.Standard.{block_header, greatest_raw};
 ghost use Rattle.session_core.specs.declared.answer.Answer.TheVariants.{Service};
 ghost use Rattle.xdlms_blocks.specs.Limits.{max_blocks};
@@ -39,7 +39,7 @@ impl Outgoing {
     pub(crate) fn new(raw: Octets, limit: Limit) -> Outgoing
         requires non_empty { 0 < length raw }
         requires numbered { length raw ≤ max_blocks * (limit - block_header) }
-        ensures { result ≡ unsent_by limit raw }
+        ensures { result ≡ unsent_transfer limit raw }
     {
         Outgoing {
             blocks: GetBlocks::new(raw, limit.raw()),
@@ -53,7 +53,7 @@ impl Outgoing {
             ↔ ((self.old.is_open ≡ true) × (after ≢ self.old.number)) }
         ensures never { result ≢ Err BlockFault.TooLong }
         ensures piece { IfOk result (λ piece. piece ≡ next_piece self.old) }
-        ensures room { IfOk result (λ piece. length piece.raw ≤ greatest_raw) }
+        ensures within_max { IfOk result (λ piece. length piece.raw ≤ greatest_raw) }
         ensures ok { OnOk result (self.new ≡ after_next self.old) }
         ensures err { IfErr result (λ fault. self.new ≡ sending_by fault self.old) }
     {
@@ -82,10 +82,10 @@ pub(crate) fn continue_transfer(
     id: InvokeId,
     number: u32,
 ) -> Result<Due, AllocError>
-    ensures to { IfOk result (λ due. due.to ≡ to) }
+    ensures receiver { IfOk result (λ due. due.to ≡ to) }
     ensures answer { IfOk result (λ due. due.answer
         ≡ Service (continued_response id number transfer.old)) }
-    ensures after { OnOk result (transfer.new ≡ transfer_after_next number transfer.old) }
+    ensures new_state { OnOk result (transfer.new ≡ transfer_after_next number transfer.old) }
     ensures err { OnErr result (transfer.new ≡ transfer.old) }
 {
     let Some(outgoing) = transfer else {
@@ -109,7 +109,7 @@ pub(crate) fn continue_transfer(
 // Returns the answer that carries a block.
 pub(crate) fn block_answer(to: u16, id: InvokeId, piece: Piece) -> Due
     requires { length piece.raw ≤ greatest_raw }
-    ensures to { result.to ≡ to }
+    ensures receiver { result.to ≡ to }
     ensures answer { result.answer ≡ Service (block_response id piece) }
 {
     let Piece { last, number, raw } = piece;
@@ -124,7 +124,7 @@ pub(crate) fn block_answer(to: u16, id: InvokeId, piece: Piece) -> Due
 
 // Returns the answer to a GET-next that is refused: it repeats the requested block number.
 fn refusal_answer(to: u16, id: InvokeId, number: u32, fault: BlockFault) -> Due
-    ensures to { result.to ≡ to }
+    ensures receiver { result.to ≡ to }
     ensures answer { result.answer
         ≡ Service (Response.GetBlockRefused id true number (get_code fault)) }
 {

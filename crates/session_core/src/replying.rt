@@ -2,7 +2,7 @@
 //! of a long value.
 ghost use Rattle.std.specs.Prelude.{◌≡◌, ◌≤◌, ◌<◌, ◌*◌, ◌-◌, None, length, option_and_then, true, IfOk, IfErr, OnOk, OnErr};
 ghost use Rattle.session_core.specs.Answers.{answer_text, due_text, way_text, IsSmall};
-ghost use Rattle.session_core.specs.Outgoing.{transfer_after, unsent_by, can_go_in_blocks, long_response, long_text, response_in_blocks, text_in_blocks, block_response, code_response, reply_code, reply_response, answer_with_header, reply_in, outgoing_by};
+ghost use Rattle.session_core.specs.Outgoing.{transfer_after, unsent_transfer, can_go_in_blocks, long_response, long_text, response_in_blocks, text_in_blocks, block_response, code_response, reply_code, reply_response, answer_with_header, reply_in, outgoing_by};
 ghost use Rattle.session_core.specs.Rules.{asks_value, asks_code, reply_text};
 ghost use Rattle.session_core.specs.Standard.{block_header};
 ghost use Rattle.session_core.specs.declared.answer.Answer.TheVariants.{Service};
@@ -42,7 +42,7 @@ pub(crate) struct Answered {
 }
 
 // Returns the answer to a reply, as it is sent this way. If out of memory, returns the reply too.
-#[tactic(auto, unfolding(crate::specs::Outgoing::reply_response, crate::specs::Outgoing::begun_by), using(crate::proofs::Tasks::value_cut, crate::proofs::Tasks::values_cut))]
+#[tactic(auto, unfolding(crate::specs::Outgoing::reply_response, crate::specs::Outgoing::reply_transfer), using(crate::proofs::Tasks::value_cut, crate::proofs::Tasks::values_cut))]
 pub(crate) fn answer_reply(
     alloc: Global,
     asked: Asked,
@@ -84,7 +84,7 @@ pub(crate) fn answer_reply(
 
 // Returns the frame with the answer to the reply to a GET of one attribute. A long GET that it
 // begins replaces the last one. If out of memory, nothing has changed.
-#[tactic(auto, unfolding(crate::specs::Outgoing::reply_response, crate::specs::Outgoing::begun_by), using(crate::proofs::Tasks::value_cut))]
+#[tactic(auto, unfolding(crate::specs::Outgoing::reply_response, crate::specs::Outgoing::reply_transfer), using(crate::proofs::Tasks::value_cut))]
 #[inline(always)]
 pub(crate) fn answer_get(
     alloc: Global,
@@ -113,7 +113,7 @@ pub(crate) fn answer_get(
 }
 
 // Returns the frame with the answer to the reply to a SET or an ACTION, which begins no long GET.
-#[tactic(auto, unfolding(crate::specs::Outgoing::reply_response, crate::specs::Outgoing::begun_by, crate::specs::Answers::answer_text, xdlms_apdu::specs::Responses::response_text))]
+#[tactic(auto, unfolding(crate::specs::Outgoing::reply_response, crate::specs::Outgoing::reply_transfer, crate::specs::Answers::answer_text, xdlms_apdu::specs::Responses::response_text))]
 #[inline(always)]
 pub(crate) fn answer_command(
     alloc: Global,
@@ -376,9 +376,9 @@ fn begin(
     requires numbered { length raw ≤ max_blocks * (link.limit - block_header) }
     ensures text { IfOk result (λ answered. answered.text
         ≡ way_text way link.source
-        (answer_text (Service (block_response id (next_piece (unsent_by link.limit raw)))))) }
+        (answer_text (Service (block_response id (next_piece (unsent_transfer link.limit raw)))))) }
     ensures outgoing { IfOk result (λ answered. answered.outgoing
-        ≡ transfer_after 1 (unsent_by link.limit raw)) }
+        ≡ transfer_after 1 (unsent_transfer link.limit raw)) }
 {
     let mut outgoing = Outgoing::new(raw, link.limit);
     match give_first(alloc, link, way, id, &mut outgoing) {
@@ -407,7 +407,7 @@ fn give_first(
         ≡ way_text way link.source
         (answer_text (Service (block_response id (next_piece outgoing.old))))) }
     ensures last { IfOk result (λ first. first.1 ≡ (next_piece outgoing.old).last) }
-    ensures after { OnOk result (outgoing.new ≡ after_next outgoing.old) }
+    ensures new_state { OnOk result (outgoing.new ≡ after_next outgoing.old) }
 {
     match outgoing.next(alloc, 0) {
         Ok(piece) => {

@@ -44,7 +44,7 @@ impl Debug for Session {
 }
 
 impl Session {
-    ghost use Rattle.session_core.specs.Remaining.{is_asking, is_asking_value, reported_end, is_finished, is_idle, load};
+    ghost use Rattle.session_core.specs.Remaining.{is_asking, is_asking_value, reported_end, is_finished, is_idle, load_of};
     ghost use Rattle.session_core.specs.Remaining.{is_asking_command};
     ghost use Rattle.session_core.specs.Progress.{Owes, IsQuiet, Feeds, Finishes, StepsBy};
     ghost use Rattle.session_core.specs.Progress.{Leaves, Takes};
@@ -126,7 +126,7 @@ impl Session {
             → (result ≡ Ok (Next.End end)) × (self.new ≡ self.old) }
         // If out of memory, no reply is awaited, and the load is no greater than before.
         ensures not_asking { OnErr result (is_asking self.new ≡ false) }
-        ensures kept { OnErr result (load self.new ≤ load self.old) }
+        ensures kept { OnErr result (load_of self.new ≤ load_of self.old) }
     {
         if self.asking() {
             return Ok(Next::Wait);
@@ -334,7 +334,7 @@ impl Session {
     fn receive(&mut self, alloc: Global, size: usize) -> Result<Option<Next>, AllocError>
         requires listening { self.now.task ≡ Listen }
         requires whole { head_of self.now.deframer ≡ Whole size }
-        requires there { header_size + size ≤ length self.now.deframer }
+        requires complete { header_size + size ≤ length self.now.deframer }
         ensures works { WorksBy self.old result self.new }
         ensures not_asking { OnErr result (is_asking self.new ≡ false) }
         ensures err { OnErr result (self.new ≡ self.old) }
@@ -352,7 +352,7 @@ impl Session {
 
     // Ends the session.
     fn end(&mut self, end: SessionEnd) -> Option<Next>
-        ensures after { self.new ≡ record self.old { task = Over end } }
+        ensures new_state { self.new ≡ record self.old { task = Over end } }
         ensures next { result ≡ Some (Next.End end) }
     {
         self.turn_to(SessionTask::Over(end));
@@ -361,7 +361,7 @@ impl Session {
 
     // Sets the task of a step, and returns what the session needs from its caller, if anything.
     fn take(&mut self, step: TurnStep) -> Option<Next>
-        ensures after { self.new ≡ record self.old { task = task_by step } }
+        ensures new_state { self.new ≡ record self.old { task = task_by step } }
         ensures next { result ≡ next_by step }
     {
         match step {

@@ -2,7 +2,7 @@
 //! effect of each frame on it.
 ghost use Rattle.std.specs.Prelude.{◌≡◌, ◌≤◌, Some, None, length, true, false, IfSome, IfNone, IfOk, OnOk, OnErr};
 ghost use Rattle.acse_ber.specs.Reading.{aarq_of};
-ghost use Rattle.session_core.specs.Association.{opened_by};
+ghost use Rattle.session_core.specs.Association.{link_by_opening};
 ghost use Rattle.session_core.specs.Rules.{heard_frame, opening_answer};
 ghost use Rattle.session_core.specs.Calls.{call_of};
 ghost use Rattle.session_core.specs.Incoming.{block_outcome_of, block_after, no_blocks, transfer_of, later_outcome, later_after};
@@ -64,7 +64,7 @@ impl State {
     ) -> Result<TurnStep, AllocError>
         ensures outcome { IfOk result (λ step. step_outcome step
             ≡ outcome_at password.now self.old (heard_frame src payload.now)) }
-        ensures after { OnOk result (self.new
+        ensures new_state { OnOk result (self.new
             ≡ state_after password.now self.old (heard_frame src payload.now) None) }
         ensures err { OnErr result (self.new ≡ self.old) }
     {
@@ -137,9 +137,9 @@ impl State {
     ) -> Result<TurnStep, AllocError>
         ensures outcome { IfOk result (λ step. step_outcome step
             ≡ says src (opening_answer password.now src (aarq_of payload.now))) }
-        ensures after { OnOk result (self.new
+        ensures new_state { OnOk result (self.new
             ≡ record {
-              link = opened_by password.now (heard_frame src payload.now);
+              link = link_by_opening password.now (heard_frame src payload.now);
               incoming = None;
               outgoing = None;
             }) }
@@ -164,7 +164,7 @@ impl State {
         ensures outcome { IfOk result (λ step. step_outcome step
             ≡ outcome_of_turn self.old.outgoing
             (call_turn link self.old.incoming (call_of link.conformance.0 payload.now))) }
-        ensures after { OnOk result (self.new
+        ensures new_state { OnOk result (self.new
             ≡ state_by_call link (call_of link.conformance.0 payload.now) self.old) }
         ensures err { OnErr result (self.new ≡ self.old) }
     {
@@ -186,7 +186,7 @@ impl State {
     fn serve(&mut self, alloc: Global, link: Link, request: Request) -> Result<TurnStep, AllocError>
         ensures outcome { IfOk result (λ step. step_outcome step
             ≡ outcome_of_turn self.old.outgoing (request_turn link self.old.incoming request)) }
-        ensures after { OnOk result (self.new
+        ensures new_state { OnOk result (self.new
             ≡ state_by_call link (Call.Service request) self.old) }
         ensures err { OnErr result (self.new ≡ self.old) }
     {
@@ -232,7 +232,7 @@ impl State {
     // Returns the step that passes an event to the meter. This ends the transfers.
     fn ask(&mut self, event: Event, link: Link, form: ReplyForm) -> TurnStep
         ensures step { step_outcome result ≡ asks event (record { link = link; form = form }) }
-        ensures after { self.new
+        ensures new_state { self.new
             ≡ record { link = self.old.link; incoming = None; outgoing = None } }
     {
         self.incoming = None;
@@ -250,7 +250,7 @@ impl State {
     ) -> Result<TurnStep, AllocError>
         ensures outcome { IfOk result (λ step. step_outcome step
             ≡ says link.source (Service (continued_response id number self.old.outgoing))) }
-        ensures after { OnOk result (self.new
+        ensures new_state { OnOk result (self.new
             ≡ record {
               link = self.old.link;
               incoming = None;
@@ -274,7 +274,7 @@ impl State {
     ) -> Result<TurnStep, AllocError>
         ensures outcome { IfOk result (λ step. step_outcome step
             ≡ block_outcome_of link id purpose block no_blocks) }
-        ensures after { OnOk result (self.new
+        ensures new_state { OnOk result (self.new
             ≡ record {
               link = self.old.link;
               incoming = block_after purpose block no_blocks;
@@ -316,7 +316,7 @@ impl State {
     ) -> Result<TurnStep, AllocError>
         ensures outcome { IfOk result (λ step. step_outcome step
             ≡ later_outcome link service id block (transfer_of service self.old.incoming)) }
-        ensures after { OnOk result (self.new
+        ensures new_state { OnOk result (self.new
             ≡ record {
               link = self.old.link;
               incoming = later_after block (transfer_of service self.old.incoming);
@@ -356,7 +356,7 @@ fn set_event(level: Level, target: AttributeSelection, value: Data) -> Event
 }
 
 // Returns the association that a frame with an AARQ opens, and the answer.
-#[tactic(auto, unfolding(crate::specs::Association::opened_by))]
+#[tactic(auto, unfolding(crate::specs::Association::link_by_opening))]
 fn read_opening(
     alloc: Global,
     password: &Password,
@@ -364,8 +364,8 @@ fn read_opening(
     payload: &[u8],
 ) -> Result<(Option<Link>, Due), AllocError>
     ensures link { IfOk result (λ opening. opening.0
-        ≡ opened_by password.now (heard_frame src payload.now)) }
-    ensures to { IfOk result (λ opening. opening.1.to ≡ src) }
+        ≡ link_by_opening password.now (heard_frame src payload.now)) }
+    ensures receiver { IfOk result (λ opening. opening.1.to ≡ src) }
     ensures answer { IfOk result (λ opening. opening.1.answer
         ≡ opening_answer password.now src (aarq_of payload.now)) }
 {

@@ -19,7 +19,7 @@ use Rattle.relay_events.specs.declared.reply.Reply.{Reply}
 use Rattle.session_core.specs.Progress.{Owes, Feeds, Finishes, Steps, Takes, AnswersBy, IsQuiet}
 use Rattle.session_core.specs.Progress.{IsAwaiting, IsOver}
 use Rattle.session_core.specs.Remaining.{still_asks, still_sends, still_ends, is_asking}
-use Rattle.session_core.specs.Remaining.{reported_end, is_finished, end_in, awaits}
+use Rattle.session_core.specs.Remaining.{reported_end, is_finished, end_in, is_awaiting}
 use Rattle.session_core.specs.declared.end.SessionEnd.{SessionEnd}
 use Rattle.session_core.specs.declared.session.Session.{Session}
 use Rattle.session_core.specs.declared.task.SessionTask.{SessionTask}
@@ -302,10 +302,10 @@ module _ {M : Type 0} {steps : M → Event → Result Reply CallFault → M → 
       → HasDone steps written_as plan before seen old now → Steps old (event ∷ []) [] new
       → IsAwaiting new → steps now.meter event (Err f) meter
       → IsRefused steps written_as f (work_for plan (seen ++ more)) before (pair now.output meter)
-  refused_unsent seen more old new now meter event f r st awaits step =
+  refused_unsent seen more old new now meter event f r st is_awaiting step =
       let all_sent : plan.sends (seen ++ more) r.replies ≡ r.sent =
       sent_so_far seen old now r more ∙ ap (λ (ts : List (List ℕ)). r.sent ++ ts) (st.sends more []
-      ∙ awaits.sends more) ∙ append-nil r.sent in
+      ∙ is_awaiting.sends more) ∙ append-nil r.sent in
       record {
         asked = r.asked ++ event ∷ [];
         later = still_asks new more;
@@ -322,7 +322,7 @@ module _ {M : Type 0} {steps : M → Event → Result Reply CallFault → M → 
       → IsAwaiting new
       → steps now.meter event (Err f) meter → given ≡ fault_of f
       → Stops steps written_as (work_for plan (seen ++ more)) before given (pair now.output meter)
-  refused seen more old new now meter event call.Memory given r st awaits step same =
+  refused seen more old new now meter event call.Memory given r st is_awaiting step same =
       subst (λ (g : ServeFault). Stops steps written_as (work_for plan (seen ++ more)) before g
       (pair now.output meter)) (sym same)
       (record {
@@ -337,14 +337,14 @@ module _ {M : Type 0} {steps : M → Event → Result Reply CallFault → M → 
             ∙ ap (λ (ts : List (List ℕ)). r.sent ++ ts) (st.sends more []);
         wrote = r.wrote;
       })
-  refused seen more old new now meter event call.Exhausted given r st awaits step same =
+  refused seen more old new now meter event call.Exhausted given r st is_awaiting step same =
       subst (λ (g : ServeFault). Stops steps written_as (work_for plan (seen ++ more)) before g
       (pair now.output meter)) (sym same)
-      (refused_unsent seen more old new now meter event call.Exhausted r st awaits step)
-  refused seen more old new now meter event call.Journal given r st awaits step same =
+      (refused_unsent seen more old new now meter event call.Exhausted r st is_awaiting step)
+  refused seen more old new now meter event call.Journal given r st is_awaiting step same =
       subst (λ (g : ServeFault). Stops steps written_as (work_for plan (seen ++ more)) before g
       (pair now.output meter)) (sym same)
-      (refused_unsent seen more old new now meter event call.Journal r st awaits step)
+      (refused_unsent seen more old new now meter event call.Journal r st is_awaiting step)
 
   -- out of memory, for a fault that a call's error was converted to
   pub starved_by : {X : Type 0} (seen more : List ℕ) (old new : Session) (now : Outlets M)
@@ -365,9 +365,9 @@ module _ {M : Type 0} {steps : M → Event → Result Reply CallFault → M → 
       → steps now.meter event (Err f) meter → IsErrAnd result (λ g. g ≡ fault_of f)
       → IfErr result (λ g. Stops steps written_as (work_for plan (seen ++ more)) before g
       (pair now.output meter))
-  refused_by seen more old new now meter event f (Ok x) r st awaits step is = tt
-  refused_by seen more old new now meter event f (Err g) r st awaits step is =
-      refused seen more old new now meter event f g r st awaits step is
+  refused_by seen more old new now meter event f (Ok x) r st is_awaiting step is = tt
+  refused_by seen more old new now meter event f (Err g) r st is_awaiting step is =
+      refused seen more old new now meter event f g r st is_awaiting step is
 
   -- out of memory while a reply was answered
   pub unanswered : (seen more : List ℕ) (old new : Session) (now : Outlets M) (meter : M)
@@ -537,7 +537,8 @@ steps_none s = record {
 
 -- ---- everything that the input asks for was done
 
-by_task : (task : SessionTask) (end : SessionEnd) → end_in task ≡ Some end → awaits task ≡ false
+by_task : (task : SessionTask) (end : SessionEnd) → end_in task ≡ Some end → is_awaiting task
+    ≡ false
 by_task task.Listen end over = refl
 by_task (task.Read joined) end over = refl
 by_task (task.Await asked) end over = absurd (true≢false (ap is_some (sym over)))

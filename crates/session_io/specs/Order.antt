@@ -26,17 +26,17 @@ pub data Happening : Type 0 where
   refuses : Event → Happening
 
 -- the entry for a read into a buffer, and below, for a write and for a call
-abbrev pub read_by : Result ℕ StreamFault → List ℕ → Happening
-read_by (Ok count) buffer = reads (take count buffer)
-read_by (Err fault) buffer = fails_to_read
+abbrev pub read_entry : Result ℕ StreamFault → List ℕ → Happening
+read_entry (Ok count) buffer = reads (take count buffer)
+read_entry (Err fault) buffer = fails_to_read
 
-abbrev pub written_by : {U : Type 0} → Result U StreamFault → List ℕ → Happening
-written_by (Ok done) bytes = writes bytes
-written_by (Err fault) bytes = fails_to_write
+abbrev pub write_entry : {U : Type 0} → Result U StreamFault → List ℕ → Happening
+write_entry (Ok done) bytes = writes bytes
+write_entry (Err fault) bytes = fails_to_write
 
-abbrev pub called_by : Event → Result Reply CallFault → Happening
-called_by event (Ok reply) = calls event reply
-called_by event (Err fault) = refuses event
+abbrev pub call_entry : Event → Result Reply CallFault → Happening
+call_entry event (Ok reply) = calls event reply
+call_entry event (Err fault) = refuses event
 
 -- the list with these entries added, if the list before is known
 abbrev pub after_all : List Happening → Option (List Happening) → Option (List Happening)

@@ -17,7 +17,7 @@ fn read_text<R: Reader>(alloc: Global, reader: &mut R) -> Result<Vec<u8>, TextFa
     requires { R.can_read reader.now }
     ensures read { IfOk result
         (λ text. Consumes (R.remaining reader.old) (R.remaining reader.new) text.items) }
-    ensures whole { IfOk result (λ text. IsAtEnd (R.remaining reader.new)) }
+    ensures at_end { IfOk result (λ text. IsAtEnd (R.remaining reader.new)) }
     ensures within { IfOk result (λ text. length text.items ≤ max_characters) }
     ensures err { IfErr result
         (λ fault. StopsReading (input_of R.remaining R.reads R.failures reader.old) fault

@@ -165,7 +165,7 @@ pub(crate) fn end_input<F: Form, V: SessionWatch, W: Writer, M: Meter>(
 // Returns the end of a session that ended at an invalid header. A session ends in the two other
 // ways only after its input has ended.
 fn wrong_header(end: Option<SessionEnd>) -> Option<SessionEnd>
-    ensures some { IfSome result (λ wrong. (end ≡ Some wrong) × IsWrongHeader wrong) }
+    ensures header { IfSome result (λ wrong. (end ≡ Some wrong) × IsWrongHeader wrong) }
     ensures none { IfNone result (MayContinue end) }
 {
     match end {

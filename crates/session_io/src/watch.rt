@@ -3,7 +3,7 @@
 ghost use Rattle.std.specs.Prelude.{◌≡◌, ◌<◌, ◌+◌, List, Option, None, IfOk, OnOk, OnErr};
 ghost use Rattle.std.specs.Io.{ReadsAtMost};
 ghost use Rattle.std.specs.Io.KnownBytes.{ReadConsumes, Appends};
-ghost use Rattle.session_io.specs.Order.{Happening, Passes, read_by, written_by, called_by};
+ghost use Rattle.session_io.specs.Order.{Happening, Passes, read_entry, write_entry, call_entry};
 ghost use Rattle.relay_events.specs.Kinds.{Fits};
 
 use crate::meter::Meter;
@@ -31,7 +31,7 @@ pub trait SessionWatch {
         ensures uncounted { OnErr result (R.reads reader.new ≡ R.reads reader.old) }
         ensures failures_unchanged { OnOk result (R.failures reader.new ≡ R.failures reader.old) }
         ensures cause { OnErr result (R.failures reader.old < R.failures reader.new) }
-        ensures passes { Passes (passed self.old) (read_by result buffer.new) (passed self.new) };
+        ensures passes { Passes (passed self.old) (read_entry result buffer.new) (passed self.new) };
 
     /// Writes all the bytes to the writer, and returns the writer's result.
     fn write_all<W: Writer>(&mut self, writer: &mut W, bytes: &[u8]) -> Result<(), StreamFault>
@@ -41,7 +41,7 @@ pub trait SessionWatch {
         ensures ready { OnOk result (W.can_write writer.new) }
         ensures failures_unchanged { OnOk result (W.failures writer.new ≡ W.failures writer.old) }
         ensures cause { OnErr result (W.failures writer.old < W.failures writer.new) }
-        ensures passes { Passes (passed self.old) (written_by result bytes.now) (passed self.new) };
+        ensures passes { Passes (passed self.old) (write_entry result bytes.now) (passed self.new) };
 
     /// Calls the meter, and returns its result.
     fn call<M: Meter>(
@@ -52,7 +52,7 @@ pub trait SessionWatch {
     ) -> Result<Reply, CallFault>
         ensures step { M.steps meter.old event result meter.new }
         ensures fits { IfOk result (Fits event) }
-        ensures passes { Passes (passed self.old) (called_by event result) (passed self.new) };
+        ensures passes { Passes (passed self.old) (call_entry event result) (passed self.new) };
 }
 
 // Records nothing.

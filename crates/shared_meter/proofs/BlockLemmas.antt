@@ -7,7 +7,7 @@ use Rattle.relay_core.specs.Machine.{is_sure}
 use Rattle.relay_events.specs.declared.event.Event.{Event}
 use Rattle.relay_events.specs.declared.event.Event.TheVariants as event
 use Rattle.shared_meter.specs.Blocks.{IsAhead, AreOfBlocks, AllBlocks, CanFollow}
-use Rattle.shared_meter.specs.Handed.{is_read, unread}
+use Rattle.shared_meter.specs.Handed.{is_read, without_reads}
 use Rattle.shared_meter.specs.Sources.{Gives, Offers}
 use Rattle.shared_meter.specs.Thresholds.{threshold_read}
 
@@ -138,18 +138,18 @@ no_block None next since gives = tt
 no_block (Some []) next since gives = refl
 no_block (Some (x ∷ xs)) next since gives = let some : None ≡ Some x = gives.0 in cc
 
-ahead_is_read : (place : ℕ) (ahead : List Event) → IsAhead place ahead → unread ahead ≡ []
-ahead_is_read place ahead (inl none) = ap unread none
-ahead_is_read place ahead (inr one) = ap unread one.1
+ahead_is_read : (place : ℕ) (ahead : List Event) → IsAhead place ahead → without_reads ahead ≡ []
+ahead_is_read place ahead (inl none) = ap without_reads none
+ahead_is_read place ahead (inr one) = ap without_reads one.1
 
 -- without the reads, the events of blocks are the blocks
 are_blocks : (place : ℕ) (blocks : List Samples) (events : List Event)
-    → AreOfBlocks place blocks events → unread events ≡ map event.Samples blocks
-are_blocks place [] events are = ap unread are
+    → AreOfBlocks place blocks events → without_reads events ≡ map event.Samples blocks
+are_blocks place [] events are = ap without_reads are
 are_blocks place (block ∷ blocks) events are =
-    ap unread are.3
+    ap without_reads are.3
     ∙ filter-append (λ (e : Event). not (is_read e)) are.0 (event.Samples block ∷ are.1)
-    ∙ ap (λ (xs : List Event). xs ++ event.Samples block ∷ unread are.1)
+    ∙ ap (λ (xs : List Event). xs ++ event.Samples block ∷ without_reads are.1)
     (ahead_is_read place are.0 are.2)
     ∙ ap (λ (xs : List Event). event.Samples block ∷ xs) (are_blocks (place + 1) blocks are.1 are.4)
 

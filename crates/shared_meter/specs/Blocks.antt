@@ -4,7 +4,7 @@ use Rattle.std.specs.Prelude.{◌≡◌, ◌⊎◌, ℕ, ◌+◌, ◌%◌, List,
 use Rattle.lane_sampler.specs.Samples.{Samples}
 use Rattle.relay_events.specs.declared.event.Event.{Event}
 use Rattle.relay_events.specs.declared.event.Event.TheVariants as event
-use Rattle.shared_meter.specs.Handed.{unread}
+use Rattle.shared_meter.specs.Handed.{without_reads}
 use Rattle.shared_meter.specs.Thresholds.{threshold_read}
 
 -- the events before the block with this index (from 0): at most one read of the thresholds, and
@@ -23,7 +23,8 @@ AreOfBlocks place (block ∷ blocks) events =
 -- read at most before the first block and after every 64 further ones
 abbrev pub AllBlocks : Option (List Samples) → List Event → Type 0
 AllBlocks told events =
-    IfSome told (λ blocks. (unread events ≡ map event.Samples blocks) × AreOfBlocks 0 blocks events)
+    IfSome told (λ blocks. (without_reads events ≡ map event.Samples blocks)
+    × AreOfBlocks 0 blocks events)
 
 -- the events of the blocks that are left, the first of which has this index; a block that waits
 -- for the reply to its read comes first

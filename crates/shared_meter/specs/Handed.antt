@@ -25,8 +25,8 @@ is_read (event.GetList level items) = true
 is_read _ = false
 
 -- the events without the reads
-abbrev pub unread : List Event → List Event
-unread events = filter (λ (e : Event). not (is_read e)) events
+abbrev pub without_reads : List Event → List Event
+without_reads events = filter (λ (e : Event). not (is_read e)) events
 
 -- the event of a source was passed on, or it was left out because it allocates
 abbrev pub Passes : Event → (before after : List Event) → Type 0

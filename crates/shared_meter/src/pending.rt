@@ -119,7 +119,7 @@ impl PendingLines {
 
     // Answers a question about the lines.
     pub(crate) fn answer(&mut self, question: Question) -> Finding
-        ensures stays { (lines : List (List ℕ)) → Pends self.old lines → Pends self.new lines }
+        ensures preserved { (lines : List (List ℕ)) → Pends self.old lines → Pends self.new lines }
         ensures answers { (lines : List (List ℕ)) → Pends self.old lines
             → Answers lines question result }
     {
@@ -134,7 +134,7 @@ impl PendingLines {
 
     // Takes the lines after the first `taken`, if that is the number of lines taken before.
     fn take(&mut self, taken: u64, room: Vec<u8>) -> Finding
-        ensures stays { (lines : List (List ℕ)) → IsPending self.old lines
+        ensures preserved { (lines : List (List ℕ)) → IsPending self.old lines
             → IsPending self.new lines }
         ensures lost { self.new.is_lost ≡ self.old.is_lost }
         ensures answers { (lines : List (List ℕ)) → IsPending self.old lines

@@ -69,7 +69,7 @@ pub fn run_source<S: EventSource, W: Wait>(
     mut port: Port<Kept>,
 ) -> (Port<Kept>, Result<(), CallFault>)
     ensures same { IsSame port result.0 }
-    ensures all { OnOk result.1 (PassesAll (S.can_follow source) port result.0) }
+    ensures passes_all { OnOk result.1 (PassesAll (S.can_follow source) port result.0) }
     ensures err { IfErr result.1 (StopsFor result.0) }
 {
     'passing: for _ in rt.forever() {

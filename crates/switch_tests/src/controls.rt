@@ -82,11 +82,11 @@ fn check_local(
     rt: &impl Abort,
     mode: ControlMode,
     given: ResultCode,
-    behind: (ControlState, u8, bool),
+    next_control: (ControlState, u8, bool),
 ) {
     let steps = [
         (Trigger::LocalDisconnect, ResultCode::Success, READY),
-        (Trigger::LocalReconnect, given, behind),
+        (Trigger::LocalReconnect, given, next_control),
     ];
     check_steps(rt, mode, &steps);
 }

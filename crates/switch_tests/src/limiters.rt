@@ -305,7 +305,7 @@ fn begins(
         && settings.min_over_threshold_duration == min_over_threshold_duration
         && limiter.moment() == Some(moment)
         && limiter.value() == 0
-        && limiter.over_run() == Count::none()
+        && limiter.over_run() == Count::zero()
 }
 
 #[test]

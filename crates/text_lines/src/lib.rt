@@ -17,7 +17,7 @@ mod writing;
 
 pub use hexadecimal::{read_hex, write_hex};
 pub use laws::{
-    text_may_be_cut_behind_a_line, written_bytes_are_read, written_lines_are_read,
+    text_may_be_cut_after_a_line, written_bytes_are_read, written_lines_are_read,
     written_number_is_read, written_words_are_read,
 };
 pub use lines::{TextLines, split_line};

@@ -175,7 +175,7 @@ fn call_when_told<T: Turned, W: Wait>(
 ) -> Result<(T::Reply, T::Reply), CallFault>
     requires { one.old.lock ≡ two.old.lock }
     ensures lock { (one.new.lock ≡ one.old.lock) × (two.new.lock ≡ two.old.lock) }
-    ensures behind { IfOk result
+    ensures follows { IfOk result
         (λ r. FollowsCall T.legal (entry one.old.known.number first r.0)
         (entry two.old.known.number second r.1) two.new.known) }
 {
@@ -381,7 +381,7 @@ fn open_late<R: Clock>(rt: &R, gate: &Gate) {
 }
 
 // Makes a call while another one holds the turn for 20 ms, and returns how long it waited.
-fn call_behind<R: Threads + Wait + Sync + Clock>(
+fn call_after<R: Threads + Wait + Sync + Clock>(
     rt: &R,
     alloc: Global,
     holder: Port<Gated>,
@@ -417,7 +417,7 @@ fn waits_no_longer_than_a_turn_is_held(rt: HostRuntime) -> Result<(), Fail> {
     let gate = Arc::new(alloc, Gate::new())?;
     let (shared, mut holder) = start_gated(alloc, Arc::try_clone(&gate)?)?;
     let waiter = holder.split()?;
-    let waited = call_behind(&rt, alloc, holder, waiter, &gate);
+    let waited = call_after(&rt, alloc, holder, waiter, &gate);
     drop(shared);
     drop(gate);
     assert!(rt; waited.is_some_and(|waited| waited < Duration::from_secs(1)));

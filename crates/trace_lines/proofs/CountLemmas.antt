@@ -20,7 +20,7 @@ use Rattle.trace_words.specs.WholeLines.{before_zero}
 use Rattle.trace_words.specs.declared.fault.RowFault.{RowFault}
 use Rattle.trace_lines.proofs.EventLaws.{events_again}
 use Rattle.trace_lines.specs.Events.{events_from, max_events}
-use Rattle.trace_lines.specs.OpenCount.{count_at, count_from, count_in, events_behind, open_row}
+use Rattle.trace_lines.specs.OpenCount.{count_at, count_from, count_in, counted_events, open_row}
 
 -- `-` is no number
 no_number : (n : ℕ) → number_in max_events (codes "-") ≡ Ok n → ⊥
@@ -133,7 +133,7 @@ open_count_again number rows unended =
 stated_first : (number : ℕ) (row : Row) (rows : List Row) (unended : List ℕ) (count : ℕ)
     (behind : Place) (read : Result (Option ℕ) RowFault) → (row ≡ open_row → ⊥)
     → count_from row ≡ read
-    → (line_result read number rows unended >>= λ counted. Ok (events_behind counted.0 counted.1))
+    → (line_result read number rows unended >>= λ counted. Ok (counted_events counted.0 counted.1))
     ≡ Ok (count, behind)
     → line_result (events_from row) number rows unended ≡ Ok (count, behind)
 stated_first number row rows unended count behind (Ok (Some n)) other is e =
@@ -145,7 +145,7 @@ stated_first number row rows unended count behind (Err fault) other is e = absur
 stated_rows : (number : ℕ) (rows : List Row) (unended : List ℕ) (count : ℕ) (behind : Place)
     → ((after : List Row) → rows ≡ open_row ∷ after → ⊥)
     → (first_as count_from number rows unended >>= λ counted.
-    Ok (events_behind counted.0 counted.1)) ≡ Ok (count, behind)
+    Ok (counted_events counted.0 counted.1)) ≡ Ok (count, behind)
     → first_as events_from number rows unended ≡ Ok (count, behind)
 stated_rows number [] unended count behind other e = absurd cc
 stated_rows number (row ∷ rows) unended count behind other e =

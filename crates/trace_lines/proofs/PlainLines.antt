@@ -10,7 +10,7 @@ use Rattle.relay_events.specs.declared.event.Event.TheVariants.{Samples, Moment}
 use Rattle.text_lines.specs.Lines.{IsPlain}
 use Rattle.text_lines.specs.Words.{line_of}
 use Rattle.text_lines.proofs.PlainLemmas.{decimal_is_plain, hex_is_plain, line_is_plain, plain_word}
-use Rattle.trace_words.specs.Parts.{Each, before}
+use Rattle.trace_words.specs.Parts.{Each, words_before}
 use Rattle.trace_words.specs.Rows.{Row}
 use Rattle.trace_words.specs.Writing.{all_words, flag_number}
 use Rattle.trace_words.specs.declared.version.Version.TheVariants.{Two}
@@ -30,7 +30,7 @@ abbrev ArePlain : Row → Type 0
 ArePlain words = AllByRecursion IsPlain words
 
 items_plain : (items : List AttributeSelection) → Each selection_part.Fits items
-    → ArePlain (all_words (before selection_part) items)
+    → ArePlain (all_words (words_before selection_part) items)
 unfolding all_words
 items_plain [] named = tt
 items_plain (item ∷ items) named = (
@@ -44,12 +44,12 @@ items_plain (item ∷ items) named = (
   ),
 )
 
-values_plain : (values : List ℕ) → ArePlain (all_words (before sample_part) values)
+values_plain : (values : List ℕ) → ArePlain (all_words (words_before sample_part) values)
 unfolding all_words
 values_plain [] = tt
 values_plain (value ∷ values) = (decimal_is_plain value, values_plain values)
 
-pairs_plain : (pairs : List (ℕ × ℕ)) → ArePlain (all_words (before pair_part) pairs)
+pairs_plain : (pairs : List (ℕ × ℕ)) → ArePlain (all_words (words_before pair_part) pairs)
 unfolding all_words
 pairs_plain [] = tt
 pairs_plain (pair ∷ pairs) =

@@ -2,7 +2,7 @@
 -- end of the text or its first byte 0. What follows the last whole line is then left out.
 --     count_from       the number of events that a line states, or none
 --     open_row         the line `events -`
---     events_behind    the number of events, and the place of their lines
+--     counted_events   the number of events, and the place of their lines
 --     count_at         the number of events at a place
 use Rattle.std.specs.Prelude.{ℕ, nat_eq, codes, length, [], ◌∷◌, Option, Some, None, Result, Ok}
 use Rattle.std.specs.Prelude.{if◌then◌else◌}
@@ -31,12 +31,12 @@ abbrev pub open_row : Row
 open_row = codes "events" ∷ codes "-" ∷ []
 
 -- the number of events, and the place of their lines: if none is stated, all whole lines
-abbrev pub events_behind : Option ℕ → Place → ℕ × Place
-events_behind (Some count) place = (count, place)
-events_behind None place = (length (before_zero place.rows), whole_lines place)
+abbrev pub counted_events : Option ℕ → Place → ℕ × Place
+counted_events (Some count) place = (count, place)
+counted_events None place = (length (before_zero place.rows), whole_lines place)
 
 -- the line of the number of events, at a place
 unfoldable pub count_at : Place → ReadLines ℕ
 count_at place = do
   counted ← line_as count_from place
-  Ok (events_behind counted.0 counted.1)
+  Ok (counted_events counted.0 counted.1)

@@ -13,7 +13,7 @@ use Rattle.cosem_names.specs.declared.name.ClassId.{ClassId}
 use Rattle.cosem_names.specs.declared.name.MethodRef.{MethodRef}
 use Rattle.cosem_names.specs.declared.name.Obis.{Obis}
 use Rattle.cosem_names.specs.declared.service.AttributeSelection.{AttributeSelection}
-use Rattle.trace_words.specs.Parts.{Part, before, word, number_part, flag_part}
+use Rattle.trace_words.specs.Parts.{Part, words_before, word, number_part, flag_part}
 use Rattle.trace_words.specs.Rows.{Row}
 use Rattle.trace_words.specs.Writing.{IsHeld, all_words}
 use Rattle.trace_lines.specs.Reading.{level_in, level_number, name_in, parameter_in, parameter_word}
@@ -59,4 +59,4 @@ pair_part = sample_part & sample_part
 
 -- the words of pairs, given the import values and the export values
 abbrev pub pairs_words : List ℕ → List ℕ → Row
-pairs_words imports exports = all_words (before pair_part) (zip imports exports)
+pairs_words imports exports = all_words (words_before pair_part) (zip imports exports)

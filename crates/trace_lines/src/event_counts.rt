@@ -17,7 +17,7 @@ use trace_words::{RowFault, TraceFault, TraceLines, number_in, read_labelled, wr
 pub const MAX_EVENTS: u32 = 65_536;
 
 // Reads the words of the line of the number of events.
-fn event_count(words: &mut Words) -> Result<u32, RowFault>
+fn read_count(words: &mut Words) -> Result<u32, RowFault>
     ensures count { Gives Memory (λ count. count) result (events_from words.old) }
     ensures within_max { IfOk result (λ count. count ≤ 65536) }
 {
@@ -30,7 +30,7 @@ pub fn read_event_count(lines: &mut TraceLines) -> Result<u32, TraceFault>
     ensures reads { ReadsLines (λ count. count) result lines.new (line_as events_from lines.old) }
     ensures within_max { IfOk result (λ count. count ≤ 65536) }
 {
-    lines.read(event_count)
+    lines.read(read_count)
 }
 
 // Reads a number of events, or `-` for none.
@@ -44,7 +44,7 @@ fn count_in(word: &[u8]) -> Result<Option<u32>, RowFault>
 }
 
 // Reads the words of the line of the number of events, or of the line `events -`.
-fn stated_count(words: &mut Words) -> Result<Option<u32>, RowFault>
+fn read_stated(words: &mut Words) -> Result<Option<u32>, RowFault>
     ensures { Gives Memory (λ count. count) result (count_from words.old) }
 {
     read_labelled(b"events", words, count_in)
@@ -56,7 +56,7 @@ fn stated_count(words: &mut Words) -> Result<Option<u32>, RowFault>
 pub fn read_stated_count(lines: &mut TraceLines) -> Result<Option<u32>, TraceFault>
     ensures { ReadsLines (λ count. count) result lines.new (line_as count_from lines.old) }
 {
-    lines.read(stated_count)
+    lines.read(read_stated)
 }
 
 /// Reads the line of the number of events, as [`read_stated_count`], and returns their number. If

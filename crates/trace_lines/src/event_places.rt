@@ -2,7 +2,7 @@
 ghost use Rattle.trace_lines.specs.Events.{event_of};
 ghost use Rattle.trace_words.specs.Places.{ReadsLines, line_as};
 
-use crate::events::{event, read_event};
+use crate::events::{read_event, read_event_words};
 use relay_events::Event;
 use std::alloc::Global;
 use trace_words::{HeldLines, TraceFault, TraceLines, Version};
@@ -16,7 +16,7 @@ pub fn next_event(
 ) -> Result<Event, TraceFault>
     ensures { ReadsLines (λ event. event) result lines.new (line_as (event_of version) lines.old) }
 {
-    lines.read(|words| event(alloc, version, words))
+    lines.read(|words| read_event_words(alloc, version, words))
 }
 
 /// Reads the next line of a held text as an event. Errors: `Line` with the number of the line if it

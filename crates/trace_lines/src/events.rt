@@ -14,9 +14,9 @@ ghost use Rattle.trace_words.specs.Parts.{number_part, data_part, counted_items,
 ghost use Rattle.trace_words.specs.Rows.{Reads};
 ghost use Rattle.trace_words.specs.declared.fault.RowFault.TheVariants.{Memory};
 
-use crate::items::{next_method, next_selection, selections};
-use crate::samples::{pairs, values};
-use crate::words::level;
+use crate::items::{next_method, next_selection, read_selections};
+use crate::samples::{read_pairs, read_values};
+use crate::words::level_in;
 use cosem_axdr::Data;
 use cosem_names::Level;
 use lane_sampler::{Block, BlockMade};
@@ -30,10 +30,10 @@ use wire_bytes::Listed;
 fn next_level(words: &mut Words) -> Result<Level, RowFault>
     ensures { Reads (λ level. level) result words.new (level_part.read words.old) }
 {
-    level(next_word(words)?)
+    level_in(next_word(words)?)
 }
 
-fn get(alloc: Global, words: &mut Words) -> Result<Event, RowFault>
+fn read_get(alloc: Global, words: &mut Words) -> Result<Event, RowFault>
     ensures { Reads (λ event. event) result words.new
         (read_as (λ p. event.Get p.0 p.1.attr p.1.selected)
         ((level_part & selection_part).read words.old)) }
@@ -47,20 +47,20 @@ fn get(alloc: Global, words: &mut Words) -> Result<Event, RowFault>
     })
 }
 
-fn get_list(alloc: Global, words: &mut Words) -> Result<Event, RowFault>
+fn read_get_list(alloc: Global, words: &mut Words) -> Result<Event, RowFault>
     ensures { Reads (λ event. event) result words.new
         (read_as (λ p. event.GetList p.0 p.1)
         ((level_part & counted_items max_items selection_part).read words.old)) }
 {
     let level = next_level(words)?;
-    let items = selections(alloc, words)?;
+    let items = read_selections(alloc, words)?;
     Ok(Event::GetList {
         level,
         items: Listed::from_vec(items),
     })
 }
 
-fn set(alloc: Global, words: &mut Words) -> Result<Event, RowFault>
+fn read_set(alloc: Global, words: &mut Words) -> Result<Event, RowFault>
     ensures { Reads (λ event. event) result words.new
         (read_as (λ p. event.Set p.0 p.1.0.attr p.1.0.selected p.1.1)
         ((level_part & selection_part & data_part).read words.old)) }
@@ -77,7 +77,7 @@ fn set(alloc: Global, words: &mut Words) -> Result<Event, RowFault>
 }
 
 // Reads the parameter of a method, or `-` for none.
-fn parameter(alloc: Global, word: &[u8]) -> Result<Option<Data>, RowFault>
+fn parameter_in(alloc: Global, word: &[u8]) -> Result<Option<Data>, RowFault>
     ensures { Gives Memory (λ parameter. parameter) result (parameter_in word.now) }
 {
     if word == b"-".as_slice() {
@@ -86,14 +86,14 @@ fn parameter(alloc: Global, word: &[u8]) -> Result<Option<Data>, RowFault>
     Ok(Some(data_in(alloc, word)?))
 }
 
-fn execute(alloc: Global, words: &mut Words) -> Result<Event, RowFault>
+fn read_execute(alloc: Global, words: &mut Words) -> Result<Event, RowFault>
     ensures { Reads (λ event. event) result words.new
         (read_as (λ p. event.Execute p.0 p.1.0 p.1.1)
         ((level_part & method_part & parameter_part).read words.old)) }
 {
     let level = next_level(words)?;
     let method = next_method(alloc, words)?;
-    let parameter = parameter(alloc, next_word(words)?)?;
+    let parameter = parameter_in(alloc, next_word(words)?)?;
     Ok(Event::Execute {
         level,
         method,
@@ -101,12 +101,12 @@ fn execute(alloc: Global, words: &mut Words) -> Result<Event, RowFault>
     })
 }
 
-fn samples(alloc: Global, words: &mut Words) -> Result<Event, RowFault>
+fn read_samples(alloc: Global, words: &mut Words) -> Result<Event, RowFault>
     ensures { Reads (λ event. event) result words.new
         (read_as (λ values. event.Samples (values_alone values))
         ((items_to_end 256 sample_part).read words.old)) }
 {
-    let values = values(alloc, words)?;
+    let values = read_values(alloc, words)?;
     match Block::from_slice(alloc, values.as_slice()) {
         Ok(block) => Ok(Event::Samples(block)),
         Err(_) => Err(RowFault::Memory),
@@ -114,35 +114,35 @@ fn samples(alloc: Global, words: &mut Words) -> Result<Event, RowFault>
 }
 
 // Returns the import values of pairs.
-fn import_values(alloc: Global, pairs: &[(u32, u32)]) -> Result<Vec<u32>, AllocError>
+fn copy_imports(alloc: Global, pairs: &[(u32, u32)]) -> Result<Vec<u32>, AllocError>
     ensures { IfOk result (λ values. values.items ≡ map (λ pair. pair.0) pairs.now) }
 {
     pairs.iter().map(|pair| pair.0).collect(alloc)
 }
 
 // Returns the export values of pairs.
-fn export_values(alloc: Global, pairs: &[(u32, u32)]) -> Result<Vec<u32>, AllocError>
+fn copy_exports(alloc: Global, pairs: &[(u32, u32)]) -> Result<Vec<u32>, AllocError>
     ensures { IfOk result (λ values. values.items ≡ map (λ pair. pair.1) pairs.now) }
 {
     pairs.iter().map(|pair| pair.1).collect(alloc)
 }
 
-fn sample_pairs(alloc: Global, words: &mut Words) -> Result<Event, RowFault>
+fn read_sample_pairs(alloc: Global, words: &mut Words) -> Result<Event, RowFault>
     ensures { Reads (λ event. event) result words.new
         (read_as (λ pairs. event.Samples
         (pairs_of (map (λ pair. pair.0) pairs) (map (λ pair. pair.1) pairs)))
         ((items_to_end 256 pair_part).read words.old)) }
 {
-    let pairs = pairs(alloc, words)?;
-    let import = import_values(alloc, pairs.as_slice())?;
-    let export = export_values(alloc, pairs.as_slice())?;
+    let pairs = read_pairs(alloc, words)?;
+    let import = copy_imports(alloc, pairs.as_slice())?;
+    let export = copy_exports(alloc, pairs.as_slice())?;
     match Block::from_pairs(alloc, import.as_slice(), export.as_slice()) {
         Ok(block) => Ok(Event::Samples(block)),
         Err(_) => Err(RowFault::Memory),
     }
 }
 
-fn moment(words: &mut Words) -> Result<Event, RowFault>
+fn read_moment(words: &mut Words) -> Result<Event, RowFault>
     ensures { Reads (λ event. event) result words.new
         (read_as event.Moment ((number_part 4294967295).read words.old)) }
 {
@@ -150,7 +150,7 @@ fn moment(words: &mut Words) -> Result<Event, RowFault>
 }
 
 // Reads an event that version 1 does not have, by its first word.
-fn later_event(
+fn read_later_event(
     alloc: Global,
     version: Version,
     first: &[u8],
@@ -163,7 +163,7 @@ fn later_event(
         Version::One => Err(RowFault::Wrong),
         Version::Two => {
             if first == b"pairs".as_slice() {
-                sample_pairs(alloc, words)
+                read_sample_pairs(alloc, words)
             } else {
                 Err(RowFault::Wrong)
             }
@@ -172,7 +172,7 @@ fn later_event(
 }
 
 // Reads an event from the words after the first one.
-fn event_from(
+fn read_event_after(
     alloc: Global,
     version: Version,
     first: &[u8],
@@ -182,31 +182,35 @@ fn event_from(
         (keyed_read same_word (event_forms (later_forms version)) first.now words.old) }
 {
     if first == b"get".as_slice() {
-        get(alloc, words)
+        read_get(alloc, words)
     } else if first == b"getlist".as_slice() {
-        get_list(alloc, words)
+        read_get_list(alloc, words)
     } else if first == b"set".as_slice() {
-        set(alloc, words)
+        read_set(alloc, words)
     } else if first == b"execute".as_slice() {
-        execute(alloc, words)
+        read_execute(alloc, words)
     } else if first == b"button".as_slice() {
         Ok(Event::Button)
     } else if first == b"moment".as_slice() {
-        moment(words)
+        read_moment(words)
     } else if first == b"samples".as_slice() {
-        samples(alloc, words)
+        read_samples(alloc, words)
     } else {
-        later_event(alloc, version, first, words)
+        read_later_event(alloc, version, first, words)
     }
 }
 
 // Reads the event of a line of words.
 #[tactic(auto, unfolding(crate::specs::Events::event_of))]
-pub(crate) fn event(alloc: Global, version: Version, words: &mut Words) -> Result<Event, RowFault>
+pub(crate) fn read_event_words(
+    alloc: Global,
+    version: Version,
+    words: &mut Words,
+) -> Result<Event, RowFault>
     ensures { Gives Memory (λ event. event) result (event_of version words.old) }
 {
     let first = next_word(words)?;
-    let event = event_from(alloc, version, first, words)?;
+    let event = read_event_after(alloc, version, first, words)?;
     match expect_end(words) {
         Ok(()) => Ok(event),
         Err(fault) => {
@@ -222,5 +226,5 @@ pub fn read_event(alloc: Global, version: Version, line: &[u8]) -> Result<Event,
     ensures { Gives Memory (λ event. event) result (event_of version (words_of line.now)) }
 {
     let mut words = Words::new(line);
-    event(alloc, version, &mut words)
+    read_event_words(alloc, version, &mut words)
 }

@@ -54,7 +54,7 @@ pub(crate) fn next_selection(
 }
 
 // Reads a number of attributes, at most 102, and the attributes.
-pub(crate) fn selections(
+pub(crate) fn read_selections(
     alloc: Global,
     words: &mut Words,
 ) -> Result<Vec<AttributeSelection>, RowFault>
@@ -62,12 +62,12 @@ pub(crate) fn selections(
         ((counted_items MAX_ITEMS selection_part).read words.old) }
 {
     let count = number_in(next_word(words)?, MAX_ITEMS as u32)?;
-    selection_items(alloc, count as usize, words)
+    read_selection_items(alloc, count as usize, words)
 }
 
 // Reads `count` attributes.
 #[tactic(auto, using(wire_bytes::proofs::Items::item_loops))]
-fn selection_items(
+fn read_selection_items(
     alloc: Global,
     count: usize,
     words: &mut Words,

@@ -71,10 +71,10 @@ pub fn written_event_has_no_zero()
 #[tactic(auto, using(crate::proofs::CountLemmas::counts))]
 pub fn open_count_is_read()
     ensures opened { count_from open_row ≡ Ok None }
-    ensures only { (row : Row) → count_from row ≡ Ok None → row ≡ open_row }
-    ensures stated { (row : Row) (count : ℕ) → events_from row ≡ Ok count
+    ensures unique { (row : Row) → count_from row ≡ Ok None → row ≡ open_row }
+    ensures read_if_stated { (row : Row) (count : ℕ) → events_from row ≡ Ok count
         → count_from row ≡ Ok (Some count) }
-    ensures back { (row : Row) (count : ℕ) → count_from row ≡ Ok (Some count)
+    ensures stated_if_read { (row : Row) (count : ℕ) → count_from row ≡ Ok (Some count)
         → events_from row ≡ Ok count }
     ensures row { IsTrue (is_row open_row) }
 {}

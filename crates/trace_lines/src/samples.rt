@@ -12,23 +12,23 @@ use text_lines::Words;
 use trace_words::{RowFault, next_word, number_in};
 
 // Reads a sample, in watts.
-fn value(word: &[u8]) -> Result<u32, RowFault>
+fn value_in(word: &[u8]) -> Result<u32, RowFault>
     ensures { result ≡ value_in word.now }
 {
     number_in(word, u32::MAX)
 }
 
 // Reads a pair of samples: the import value (the word given), then the export value.
-fn pair_from(word: &[u8], words: &mut Words) -> Result<(u32, u32), RowFault>
+fn read_pair(word: &[u8], words: &mut Words) -> Result<(u32, u32), RowFault>
     ensures { Reads (λ pair. pair) result words.new (pair_part.read (word.now ∷ words.old)) }
 {
-    let import = value(word)?;
-    let export = value(next_word(words)?)?;
+    let import = value_in(word)?;
+    let export = value_in(next_word(words)?)?;
     Ok((import, export))
 }
 
 // Reads samples up to the end of the line, at most 256.
-pub(crate) fn values(alloc: Global, words: &mut Words) -> Result<Vec<u32>, RowFault>
+pub(crate) fn read_values(alloc: Global, words: &mut Words) -> Result<Vec<u32>, RowFault>
     ensures { Reads (λ values. values.items) result words.new
         ((items_to_end MAX_VALUES sample_part).read words.old) }
 {
@@ -37,13 +37,13 @@ pub(crate) fn values(alloc: Global, words: &mut Words) -> Result<Vec<u32>, RowFa
         if values.len() == MAX_VALUES {
             return Err(RowFault::Wrong);
         }
-        values.push(value(word)?)?;
+        values.push(value_in(word)?)?;
     }
     Ok(values)
 }
 
 // Reads pairs of samples up to the end of the line, at most 256.
-pub(crate) fn pairs(alloc: Global, words: &mut Words) -> Result<Vec<(u32, u32)>, RowFault>
+pub(crate) fn read_pairs(alloc: Global, words: &mut Words) -> Result<Vec<(u32, u32)>, RowFault>
     ensures { Reads (λ pairs. pairs.items) result words.new
         ((items_to_end MAX_VALUES pair_part).read words.old) }
 {
@@ -52,7 +52,7 @@ pub(crate) fn pairs(alloc: Global, words: &mut Words) -> Result<Vec<(u32, u32)>,
         if pairs.len() == MAX_VALUES {
             return Err(RowFault::Wrong);
         }
-        pairs.push(pair_from(word, words)?)?;
+        pairs.push(read_pair(word, words)?)?;
     }
     Ok(pairs)
 }

@@ -12,7 +12,7 @@ use text_lines::Words;
 use trace_words::{RowFault, bytes_in, next_word, number_in};
 
 // Reads the access level of a client's port: 1 for the management client, 16 for the public one.
-pub(crate) fn level(word: &[u8]) -> Result<Level, RowFault>
+pub(crate) fn level_in(word: &[u8]) -> Result<Level, RowFault>
     ensures { result ≡ level_in word.now }
 {
     match number_in(word, 16)? {
@@ -24,7 +24,7 @@ pub(crate) fn level(word: &[u8]) -> Result<Level, RowFault>
 
 // Reads a logical name, six bytes in hexadecimal.
 #[tactic(auto, unfolding(crate::specs::Reading::name_in))]
-pub(crate) fn name(alloc: Global, word: &[u8]) -> Result<Obis, RowFault>
+pub(crate) fn name_in(alloc: Global, word: &[u8]) -> Result<Obis, RowFault>
     ensures { Gives Memory (λ name. name) result (name_in word.now) }
 {
     let bytes = bytes_in(alloc, word)?;
@@ -47,5 +47,5 @@ pub(crate) fn next_byte(words: &mut Words) -> Result<u8, RowFault>
 pub(crate) fn next_name(alloc: Global, words: &mut Words) -> Result<Obis, RowFault>
     ensures { Reads (λ name. name) result words.new (next_as name_in words.old) }
 {
-    name(alloc, next_word(words)?)
+    name_in(alloc, next_word(words)?)
 }

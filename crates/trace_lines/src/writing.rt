@@ -1,7 +1,7 @@
 //! Appends the words of an event's line: ports, attributes, methods, parameters and samples.
 ghost use Rattle.std.specs.Prelude.{◌≡◌, ◌++◌, OnOk, length};
 ghost use Rattle.text_lines.specs.Lines.{IsPlain};
-ghost use Rattle.trace_words.specs.Parts.{before};
+ghost use Rattle.trace_words.specs.Parts.{words_before};
 ghost use Rattle.trace_words.specs.Writing.{words_after_blanks, all_words};
 ghost use Rattle.trace_lines.specs.Parts.{level_part, attribute_part, method_part, selection_part, parameter_part, sample_part, pairs_words};
 ghost use Rattle.trace_lines.specs.Reading.{parameter_word};
@@ -74,7 +74,7 @@ pub(crate) fn add_selections(
     items: &[AttributeSelection],
 ) -> Result<(), AllocError>
     ensures { OnOk result (out.new.items ≡ out.old.items
-        ++ words_after_blanks (all_words (before selection_part) items.now)) }
+        ++ words_after_blanks (all_words (words_before selection_part) items.now)) }
 {
     for item in items {
         add_selection(alloc, out, item)?;
@@ -101,7 +101,7 @@ pub(crate) fn add_parameter(
 // Appends samples.
 pub(crate) fn add_values(out: &mut Vec<u8>, values: &[u32]) -> Result<(), AllocError>
     ensures { OnOk result (out.new.items ≡ out.old.items
-        ++ words_after_blanks (all_words (before sample_part) values.now)) }
+        ++ words_after_blanks (all_words (words_before sample_part) values.now)) }
 {
     for value in values {
         add_number(out, u64::from(*value))?;

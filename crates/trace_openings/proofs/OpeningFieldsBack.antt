@@ -14,7 +14,7 @@ use Rattle.disconnect_control.specs.Transitions.{mode_number, state_number}
 use Rattle.disconnect_control.specs.declared.state.ControlMode.{ControlMode}
 use Rattle.disconnect_control.specs.declared.state.ControlState.{ControlState}
 use Rattle.trace_words.proofs.WordsBack.{number_back, next_back, next_number_back, last_read}
-use Rattle.trace_words.specs.Labels.{behind, labelled_value, number_row}
+use Rattle.trace_words.specs.Labels.{words_after, labelled_value, number_row}
 use Rattle.trace_openings.specs.OpeningFields.{label, version_in, device_in, state_in, mode_in, moment_in, entries_in, type_in, version_from, schedule_from}
 use Rattle.trace_openings.specs.OpeningForms.{entries_row}
 use Rattle.trace_openings.specs.OpeningRows.{moment_word}
@@ -81,7 +81,7 @@ pub schedule_read : (number : ℕ) (row : Row) (schedule : Schedule) → schedul
 unfolding schedule_from
 schedule_read number row schedule e =
     let name = codes "schedule" in
-    let words = bind_ok (behind name row) _ schedule e in
+    let words = bind_ok (words_after name row) _ schedule e in
     let found = bind_ok (next_as (number_in 3) words.0.1) _ schedule words.2 in
     let same = guard_ok (found.0.0 == number) Wrong _ schedule found.2 in
     let selector = bind_ok (next_as (number_in 65535) found.0.1) _ schedule same.1 in
@@ -108,8 +108,8 @@ schedule_read number row schedule e =
 
 -- ---- at a place
 
-pub value_back : (which : Which) (name : Word) (place : Place) (x : ℕ) (behind : Place)
-    → line_as (labelled_value (label which name) value_in) place ≡ Ok (x, behind)
-    → Took (number_row (label which name) x ∷ []) place behind
-value_back which name place x behind e = line_back ℕ (labelled_value (label which name) value_in)
-    (number_row (label which name)) (value_line_back (label which name)) place x behind e
+pub value_back : (which : Which) (name : Word) (place : Place) (x : ℕ) (later : Place)
+    → line_as (labelled_value (label which name) value_in) place ≡ Ok (x, later)
+    → Took (number_row (label which name) x ∷ []) place later
+value_back which name place x later e = line_back ℕ (labelled_value (label which name) value_in)
+    (number_row (label which name)) (value_line_back (label which name)) place x later e

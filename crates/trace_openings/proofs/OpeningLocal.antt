@@ -17,7 +17,7 @@ use Rattle.trace_words.proofs.PlainReads.{labelled_plain, labelled_reads, line_r
 use Rattle.trace_words.proofs.PlainReads.{next_plain, number_in_plain, row_plain, to_end_reads}
 use Rattle.trace_words.proofs.PlainWords.{ArePlain}
 use Rattle.trace_words.proofs.WordsBack.{last_read, same_is}
-use Rattle.trace_words.specs.Labels.{behind, labelled_value}
+use Rattle.trace_words.specs.Labels.{words_after, labelled_value}
 use Rattle.trace_words.specs.Parts.{flag_part, labelled_part, number_part}
 use Rattle.trace_words.specs.Reading.{next_as, number_in, value_in}
 use Rattle.trace_words.specs.Rows.{Word}
@@ -161,7 +161,7 @@ under_plain which last over row under e =
 schedule_plain : (number : ℕ) → ReadsPlain (schedule_from number)
 unfolding schedule_from
 schedule_plain number row schedule e =
-    let words = bind_ok (behind (codes "schedule") row) _ schedule e in
+    let words = bind_ok (words_after (codes "schedule") row) _ schedule e in
     let found = bind_ok (next_as (number_in 3) words.0.1) _ schedule words.2 in
     let same = guard_ok (found.0.0 == number) Wrong _ schedule found.2 in
     let selector = bind_ok (next_as (number_in 65535) found.0.1) _ schedule same.1 in

@@ -1,5 +1,5 @@
 -- The lines of an opening, one by one: a first word, the label, and its values.
---     behind, labelled_value          the words after the label; a line of one value
+--     words_after, labelled_value     the words after the label; a line of one value
 --     label                           the label of a limiter's line
 --     version_in .. entries_in        the value of a word
 --     version_from .. schedule_from   the value of a line of words
@@ -34,7 +34,7 @@ use Rattle.trace_words.specs.declared.fault.RowFault.{RowFault}
 use Rattle.trace_words.specs.declared.fault.RowFault.TheVariants.{Wrong}
 use Rattle.trace_words.specs.declared.version.Version.{Version}
 use Rattle.trace_words.specs.declared.version.Version.TheVariants.{One, Two}
-use Rattle.trace_words.specs.Labels.{labelled_value, behind}
+use Rattle.trace_words.specs.Labels.{labelled_value, words_after}
 use Rattle.trace_words.specs.Parts.{Part, word, number_part, flag_part, after_first, items_to_end, labelled_part, line_read}
 use Rattle.hex.specs.Hex.{encode_upper}
 use Rattle.wire_bytes.specs.Format.{iso, ◌&◌}
@@ -167,7 +167,7 @@ under_from which last over row = do
 -- one of the four schedules: its number, selector, type and entries
 unfoldable pub schedule_from : ℕ → Row → Result Schedule RowFault
 schedule_from number row = do
-  words ← behind (codes "schedule") row
+  words ← words_after (codes "schedule") row
   found ← next_as (number_in 3) words.1
   guard (found.0 == number) Wrong
   selector ← next_as (number_in 65535) found.1

@@ -88,9 +88,9 @@ pub record IsFitStart (device : List ℕ) (state : ControlState) (mode : Control
   pub control : mode ≡ Mode0 → state ≡ Connected
 
 -- the rest of an opening, from the lines after those of the import limiter
-unfoldable pub opening_behind_import : Version → List ℕ → ControlState → ControlMode → Option ℕ
+unfoldable pub opening_after_import : Version → List ℕ → ControlState → ControlMode → Option ℕ
     → LimiterOpening → Place → ReadLines Opening
-opening_behind_import version device state mode moment import place = do
+opening_after_import version device state mode moment import place = do
   export ← export_from version place
   scripts ← line_as (labelled_value (codes "scripts") table_in) export.1
   schedules ← schedules_from scripts.1

@@ -38,13 +38,13 @@ pub fn written_opening_is_read()
 /// that are written.
 #[tactic(auto, using(crate::proofs::OpeningBack::opening_back, crate::proofs::OpeningBack::opening_lines, crate::proofs::OpeningBack::written_rows))]
 pub fn read_opening_is_written()
-    ensures lines { (place behind : Place) (opening : Opening)
-        → opening_from place ≡ Ok ((Two, opening), behind)
+    ensures lines { (place later : Place) (opening : Opening)
+        → opening_from place ≡ Ok ((Two, opening), later)
         → (forms : Forms) × AreFormsOf opening forms
-        × (place.rows ≡ rows_with opening forms ++ behind.rows) }
-    ensures behind { (place behind : Place) (opening : Opening)
-        → opening_from place ≡ Ok ((Two, opening), behind)
-        → (behind.number ≡ place.number + 30) × (behind.unended ≡ place.unended) }
+        × (place.rows ≡ rows_with opening forms ++ later.rows) }
+    ensures place_after { (place later : Place) (opening : Opening)
+        → opening_from place ≡ Ok ((Two, opening), later)
+        → (later.number ≡ place.number + 30) × (later.unended ≡ place.unended) }
     ensures written { (opening : Opening)
         → rows_with opening (written_forms opening) ≡ opening_rows opening }
 {}

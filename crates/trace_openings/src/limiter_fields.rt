@@ -6,7 +6,7 @@ ghost use Rattle.wire_bytes.specs.Outcome.{Gives};
 ghost use Rattle.limiter_core.specs.Counting.{cap};
 ghost use Rattle.limiter_core.specs.State.{IsFit};
 ghost use Rattle.limiter_core.specs.declared.settings.TheConstants.{MAX_GROUPS};
-ghost use Rattle.trace_words.specs.Labels.{behind, labelled_value};
+ghost use Rattle.trace_words.specs.Labels.{words_after, labelled_value};
 ghost use Rattle.trace_openings.specs.OpeningFields.{label, start_in, id_from, profile_from, groups_from, actions_from, count_from, over_from, under_from};
 ghost use Rattle.trace_words.specs.Reading.{number_in, value_in};
 ghost use Rattle.trace_words.specs.Rows.{Reads, all_at};
@@ -37,9 +37,9 @@ fn is_label(which: Which, name: &[u8], word: &[u8]) -> bool
 }
 
 // Reads the first word of a limiter's line, which must be the label `name`. Errors: `Wrong`.
-#[tactic(auto, unfolding(trace_words::specs::Labels::behind))]
-fn behind_label(which: Which, name: &[u8], words: &mut Words) -> Result<(), RowFault>
-    ensures { Reads (λ done. done) result words.new (behind (label which name.now) words.old) }
+#[tactic(auto, unfolding(trace_words::specs::Labels::words_after))]
+fn read_label_of(which: Which, name: &[u8], words: &mut Words) -> Result<(), RowFault>
+    ensures { Reads (λ done. done) result words.new (words_after (label which name.now) words.old) }
 {
     if is_label(which, name, next_word(words)?) {
         Ok(())
@@ -49,11 +49,15 @@ fn behind_label(which: Which, name: &[u8], words: &mut Words) -> Result<(), RowF
 }
 
 // Reads a line of one value, in watts or seconds.
-pub(crate) fn value(which: Which, name: &[u8], words: &mut Words) -> Result<u32, RowFault>
+pub(crate) fn read_labelled_number(
+    which: Which,
+    name: &[u8],
+    words: &mut Words,
+) -> Result<u32, RowFault>
     ensures { Gives Memory (λ value. value) result
         (labelled_value (label which name.now) value_in words.old) }
 {
-    behind_label(which, name, words)?;
+    read_label_of(which, name, words)?;
     number_in(last_word(words)?, u32::MAX)
 }
 
@@ -71,10 +75,14 @@ fn start_in(alloc: Global, word: &[u8]) -> Result<DateTimeField, RowFault>
 
 // Reads the line of the emergency profile: id, start and duration.
 #[tactic(auto, unfolding(crate::specs::OpeningFields::profile_from))]
-pub(crate) fn profile(alloc: Global, which: Which, words: &mut Words) -> Result<Profile, RowFault>
+pub(crate) fn read_profile(
+    alloc: Global,
+    which: Which,
+    words: &mut Words,
+) -> Result<Profile, RowFault>
     ensures { Gives Memory (λ profile. profile) result (profile_from which words.old) }
 {
-    behind_label(which, b"profile", words)?;
+    read_label_of(which, b"profile", words)?;
     let id = next_long(words)?;
     let start = start_in(alloc, next_word(words)?)?;
     let duration = number_in(next_word(words)?, u32::MAX)?;
@@ -87,7 +95,7 @@ pub(crate) fn profile(alloc: Global, which: Which, words: &mut Words) -> Result<
 }
 
 // Reads group ids up to the end of the line, at most 32.
-fn ids(alloc: Global, words: &mut Words) -> Result<Vec<u16>, RowFault>
+fn read_ids(alloc: Global, words: &mut Words) -> Result<Vec<u16>, RowFault>
     ensures ids { Gives Memory (λ ids. ids.items) result (all_at id_from MAX_GROUPS words.old) }
     ensures within_max { IfOk result (λ ids. length ids.items ≤ MAX_GROUPS) }
 {
@@ -103,7 +111,7 @@ fn ids(alloc: Global, words: &mut Words) -> Result<Vec<u16>, RowFault>
 
 // Reads the line of the group ids, at most 32.
 #[tactic(auto, unfolding(crate::specs::OpeningFields::groups_from))]
-pub(crate) fn groups(
+pub(crate) fn read_groups(
     alloc: Global,
     which: Which,
     words: &mut Words,
@@ -111,17 +119,17 @@ pub(crate) fn groups(
     ensures groups { Gives Memory (λ groups. groups) result (groups_from which words.old) }
     ensures within_max { IfOk result (λ groups. length groups ≤ 32) }
 {
-    behind_label(which, b"groups", words)?;
-    let ids = ids(alloc, words)?;
+    read_label_of(which, b"groups", words)?;
+    let ids = read_ids(alloc, words)?;
     Ok(Listed::from_vec(ids))
 }
 
 // Reads the line of the actions: the script selectors over and under the threshold.
 #[tactic(auto, unfolding(crate::specs::OpeningFields::actions_from))]
-pub(crate) fn actions(which: Which, words: &mut Words) -> Result<Actions, RowFault>
+pub(crate) fn read_actions(which: Which, words: &mut Words) -> Result<Actions, RowFault>
     ensures { Gives Memory (λ actions. actions) result (actions_from which words.old) }
 {
-    behind_label(which, b"actions", words)?;
+    read_label_of(which, b"actions", words)?;
     let over = next_long(words)?;
     let under = next_long(words)?;
     expect_end(words)?;
@@ -137,10 +145,10 @@ fn run_in(word: &[u8]) -> Result<u64, RowFault>
 
 // Reads a line of a run: its length in samples, and whether it has fired.
 #[tactic(auto, unfolding(crate::specs::OpeningFields::count_from))]
-fn count(which: Which, name: &[u8], words: &mut Words) -> Result<Count, RowFault>
+fn read_count(which: Which, name: &[u8], words: &mut Words) -> Result<Count, RowFault>
     ensures { Gives Memory (λ count. count) result (count_from (label which name.now) words.old) }
 {
-    behind_label(which, name, words)?;
+    read_label_of(which, name, words)?;
     let run = run_in(next_word(words)?)?;
     let fired = flag_in(next_word(words)?)?;
     expect_end(words)?;
@@ -150,11 +158,11 @@ fn count(which: Which, name: &[u8], words: &mut Words) -> Result<Count, RowFault
 // Reads the line of the run over the threshold. Errors: `Wrong` if the last sample contradicts the
 // run; `Memory`.
 #[tactic(auto, unfolding(crate::specs::OpeningFields::over_from))]
-pub(crate) fn over(which: Which, last: u32, words: &mut Words) -> Result<Count, RowFault>
+pub(crate) fn read_over(which: Which, last: u32, words: &mut Words) -> Result<Count, RowFault>
     ensures { Gives Memory (λ over. over) result (over_from which last words.old) }
 {
-    let over = count(which, b"over", words)?;
-    if are_fit(last, over, Count::none()) {
+    let over = read_count(which, b"over", words)?;
+    if are_fit(last, over, Count::zero()) {
         Ok(over)
     } else {
         Err(RowFault::Wrong)
@@ -164,7 +172,7 @@ pub(crate) fn over(which: Which, last: u32, words: &mut Words) -> Result<Count, 
 // Reads the line of the run under the threshold. Errors: `Wrong` if the last sample or the run
 // over the threshold contradicts it; `Memory`.
 #[tactic(auto, unfolding(crate::specs::OpeningFields::under_from))]
-pub(crate) fn under(
+pub(crate) fn read_under(
     which: Which,
     last: u32,
     over: Count,
@@ -173,7 +181,7 @@ pub(crate) fn under(
     ensures under { Gives Memory (λ under. under) result (under_from which last over words.old) }
     ensures fit { IfOk result (λ under. IsFit last over under) }
 {
-    let under = count(which, b"under", words)?;
+    let under = read_count(which, b"under", words)?;
     if are_fit(last, over, under) {
         Ok(under)
     } else {

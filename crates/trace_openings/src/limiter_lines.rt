@@ -7,7 +7,9 @@ ghost use Rattle.trace_words.specs.Labels.{labelled_value};
 ghost use Rattle.trace_words.specs.Places.{ReadsLines, line_as};
 ghost use Rattle.trace_words.specs.Reading.{value_in};
 
-use crate::limiter_fields::{actions, groups, over, profile, under, value};
+use crate::limiter_fields::{
+    read_actions, read_groups, read_labelled_number, read_over, read_profile, read_under,
+};
 use cosem_names::Which;
 use limiter_core::{Count, Settings};
 use relay_core::LimiterOpening;
@@ -20,7 +22,7 @@ fn read_value(which: Which, word: &[u8], lines: &mut TraceLines) -> Result<u32, 
     ensures { ReadsLines (λ value. value) result lines.new
         (line_as (labelled_value (label which word.now) value_in) lines.old) }
 {
-    lines.read(|words| value(which, word, words))
+    lines.read(|words| read_labelled_number(which, word, words))
 }
 
 // Reads the line of a limiter's last sample, in watts.
@@ -45,9 +47,9 @@ fn read_settings(
     let threshold_emergency = read_value(which, b"emergency", lines)?;
     let min_over_threshold_duration = read_value(which, b"minover", lines)?;
     let min_under_threshold_duration = read_value(which, b"minunder", lines)?;
-    let profile = lines.read(|words| profile(alloc, which, words))?;
-    let groups = lines.read(|words| groups(alloc, which, words))?;
-    let (groups, actions) = and_keep(groups, lines.read(|words| actions(which, words)))?;
+    let profile = lines.read(|words| read_profile(alloc, which, words))?;
+    let groups = lines.read(|words| read_groups(alloc, which, words))?;
+    let (groups, actions) = and_keep(groups, lines.read(|words| read_actions(which, words)))?;
     Ok(Settings {
         threshold_normal,
         threshold_emergency,
@@ -72,8 +74,8 @@ pub(crate) fn read_limiter(
     ensures fit { IfOk result IsFitLimiterOpening }
 {
     let settings = read_settings(alloc, which, lines)?;
-    let (settings, over) = and_keep(settings, lines.read(|words| over(which, last, words)))?;
-    let under = lines.read(|words| under(which, last, over, words));
+    let (settings, over) = and_keep(settings, lines.read(|words| read_over(which, last, words)))?;
+    let under = lines.read(|words| read_under(which, last, over, words));
     let (settings, under) = and_keep(settings, under)?;
     Ok(LimiterOpening {
         settings,
@@ -91,8 +93,8 @@ fn new_limiter(alloc: Global) -> LimiterOpening
     LimiterOpening {
         settings: Settings::new(alloc),
         value: 0,
-        over: Count::none(),
-        under: Count::none(),
+        over: Count::zero(),
+        under: Count::zero(),
     }
 }
 

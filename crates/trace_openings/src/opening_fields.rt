@@ -16,7 +16,7 @@ use script_steps::{ScriptFault, ScriptTable};
 use std::alloc::Global;
 use text_lines::Words;
 use trace_words::{
-    RowFault, Version, behind, bytes_in, data_in, last_word, next_long, next_word, number_in,
+    RowFault, Version, bytes_in, data_in, last_word, next_long, next_word, number_in, read_label,
     read_labelled,
 };
 
@@ -32,7 +32,7 @@ fn version_in(word: &[u8]) -> Result<Version, RowFault>
 }
 
 // Reads the line of the version.
-pub(crate) fn version(words: &mut Words) -> Result<Version, RowFault>
+pub(crate) fn read_version(words: &mut Words) -> Result<Version, RowFault>
     ensures { Gives Memory (λ version. version) result (version_from words.old) }
 {
     read_labelled(b"RELAYTRACE", words, version_in)
@@ -53,7 +53,7 @@ fn device_in(alloc: Global, word: &[u8]) -> Result<Octets, RowFault>
 }
 
 // Reads the line of the device name.
-pub(crate) fn device(alloc: Global, words: &mut Words) -> Result<Octets, RowFault>
+pub(crate) fn read_device(alloc: Global, words: &mut Words) -> Result<Octets, RowFault>
     ensures device { Gives Memory (λ device. device) result
         (labelled_value (codes "device") device_in words.old) }
     ensures non_empty { IfOk result (λ device. 1 ≤ length device) }
@@ -74,7 +74,7 @@ fn state_in(word: &[u8]) -> Result<ControlState, RowFault>
 }
 
 // Reads the line of the control state.
-pub(crate) fn state(words: &mut Words) -> Result<ControlState, RowFault>
+pub(crate) fn read_state(words: &mut Words) -> Result<ControlState, RowFault>
     ensures { Gives Memory (λ state. state) result
         (labelled_value (codes "state") state_in words.old) }
 {
@@ -99,7 +99,7 @@ fn mode_in(state: ControlState, word: &[u8]) -> Result<ControlMode, RowFault>
 }
 
 // Reads the line of the control mode of a switch in `state`.
-pub(crate) fn mode(state: ControlState, words: &mut Words) -> Result<ControlMode, RowFault>
+pub(crate) fn read_mode(state: ControlState, words: &mut Words) -> Result<ControlMode, RowFault>
     ensures mode { Gives Memory (λ mode. mode) result
         (labelled_value (codes "mode") (mode_in state) words.old) }
     ensures fit { IfOk result (λ mode. mode ≡ Mode0 → state ≡ Connected) }
@@ -118,7 +118,7 @@ fn moment_in(word: &[u8]) -> Result<Option<u32>, RowFault>
 }
 
 // Reads the line of the clock's last moment.
-pub(crate) fn moment(words: &mut Words) -> Result<Option<u32>, RowFault>
+pub(crate) fn read_moment(words: &mut Words) -> Result<Option<u32>, RowFault>
     ensures { Gives Memory (λ moment. moment) result
         (labelled_value (codes "now") moment_in words.old) }
 {
@@ -142,7 +142,7 @@ fn table_in(alloc: Global, word: &[u8]) -> Result<ScriptTable, RowFault>
 }
 
 // Reads the line of the script table.
-pub(crate) fn table(alloc: Global, words: &mut Words) -> Result<ScriptTable, RowFault>
+pub(crate) fn read_table(alloc: Global, words: &mut Words) -> Result<ScriptTable, RowFault>
     ensures { Gives Memory (λ table. table) result
         (labelled_value (codes "scripts") table_in words.old) }
 {
@@ -190,14 +190,14 @@ fn with_entries(
 
 // Reads the line of the schedule with this number.
 #[tactic(auto, unfolding(crate::specs::OpeningFields::schedule_from))]
-pub(crate) fn schedule(
+pub(crate) fn read_schedule_words(
     alloc: Global,
     which: u32,
     words: &mut Words,
 ) -> Result<ActionSchedule, RowFault>
     ensures { Gives Memory (λ schedule. schedule) result (schedule_from which words.old) }
 {
-    behind(b"schedule", words)?;
+    read_label(b"schedule", words)?;
     if number_in(next_word(words)?, 3)? != which {
         return Err(RowFault::Wrong);
     }

@@ -2,11 +2,13 @@
 ghost use Rattle.std.specs.Prelude.{◌≤◌, IfOk};
 ghost use Rattle.relay_core.specs.Opening.{IsFitLimiterOpening, IsFitOpening};
 ghost use Rattle.trace_openings.specs.OpeningFields.{schedule_from};
-ghost use Rattle.trace_openings.specs.OpeningReading.{IsFitStart, opening_behind_import, opening_with, schedules_from, opening_in, opening_from};
+ghost use Rattle.trace_openings.specs.OpeningReading.{IsFitStart, opening_after_import, opening_with, schedules_from, opening_in, opening_from};
 ghost use Rattle.trace_words.specs.Places.{ReadsLines, line_as};
 
 use crate::limiter_lines::{read_export, read_last, read_limiter};
-use crate::opening_fields::{device, mode, moment, schedule, state, table, version};
+use crate::opening_fields::{
+    read_device, read_mode, read_moment, read_schedule_words, read_state, read_table, read_version,
+};
 use action_schedule::ActionSchedule;
 use cosem_axdr::Octets;
 use cosem_names::Which;
@@ -26,7 +28,7 @@ fn read_schedule(
     ensures { ReadsLines (λ schedule. schedule) result lines.new
         (line_as (schedule_from number) lines.old) }
 {
-    lines.read(|words| schedule(alloc, number, words))
+    lines.read(|words| read_schedule_words(alloc, number, words))
 }
 
 // Reads the lines of the four schedules.
@@ -58,8 +60,8 @@ struct Start {
 }
 
 // Reads the lines after those of the import limiter.
-#[tactic(auto, unfolding(crate::specs::OpeningReading::opening_behind_import))]
-fn read_behind_import(
+#[tactic(auto, unfolding(crate::specs::OpeningReading::opening_after_import))]
+fn read_after_import(
     alloc: Global,
     version: Version,
     start: Start,
@@ -70,14 +72,14 @@ fn read_behind_import(
     requires start { IsFitStart start.device start.state start.mode }
     requires import { IsFitLimiterOpening import }
     ensures reads { ReadsLines (λ opening. opening) result lines.new
-        (opening_behind_import version start.device start.state start.mode moment import
+        (opening_after_import version start.device start.state start.mode moment import
         lines.old) }
     ensures fit { IfOk result IsFitOpening }
 {
     let ((start, import), export) = and_keep((start, import), read_export(alloc, version, lines))?;
     let ((start, import, export), scripts) = and_keep(
         (start, import, export),
-        lines.read(|words| table(alloc, words)),
+        lines.read(|words| read_table(alloc, words)),
     )?;
     let ((start, import, export, scripts), schedules) = and_keep(
         (start, import, export, scripts),
@@ -101,8 +103,8 @@ fn read_behind_import(
 }
 
 // Reads the lines after that of the control mode.
-#[tactic(auto, unfolding(crate::specs::OpeningReading::opening_with, crate::specs::OpeningReading::opening_behind_import))]
-fn read_behind_mode(
+#[tactic(auto, unfolding(crate::specs::OpeningReading::opening_with, crate::specs::OpeningReading::opening_after_import))]
+fn read_after_mode(
     alloc: Global,
     version: Version,
     start: Start,
@@ -114,9 +116,9 @@ fn read_behind_mode(
     ensures fit { IfOk result IsFitOpening }
 {
     let (start, last) = and_keep(start, read_last(Which::Import, lines))?;
-    let (start, moment) = and_keep(start, lines.read(moment))?;
+    let (start, moment) = and_keep(start, lines.read(read_moment))?;
     let (start, import) = and_keep(start, read_limiter(alloc, Which::Import, last, lines))?;
-    let opening = read_behind_import(alloc, version, start, moment, import, lines)?;
+    let opening = read_after_import(alloc, version, start, moment, import, lines)?;
     Ok(opening)
 }
 
@@ -131,15 +133,15 @@ fn read_parts(
         (opening_in version lines.old) }
     ensures fit { IfOk result IsFitOpening }
 {
-    let device = lines.read(|words| device(alloc, words))?;
-    let (device, state) = and_keep(device, lines.read(state))?;
-    let (device, mode) = and_keep(device, lines.read(|words| mode(state, words)))?;
+    let device = lines.read(|words| read_device(alloc, words))?;
+    let (device, state) = and_keep(device, lines.read(read_state))?;
+    let (device, mode) = and_keep(device, lines.read(|words| read_mode(state, words)))?;
     let start = Start {
         device,
         state,
         mode,
     };
-    read_behind_mode(alloc, version, start, lines)
+    read_after_mode(alloc, version, start, lines)
 }
 
 /// Reads the opening of a trace: its lines from that of the version to that of the last schedule.
@@ -150,7 +152,7 @@ pub fn read_opening(alloc: Global, lines: &mut TraceLines) -> Result<(Version, O
     ensures reads { ReadsLines (λ parts. parts) result lines.new (opening_from lines.old) }
     ensures fit { IfOk result (λ parts. IsFitOpening parts.1) }
 {
-    let version = lines.read(version)?;
+    let version = lines.read(read_version)?;
     let opening = read_parts(alloc, version, lines)?;
     Ok((version, opening))
 }

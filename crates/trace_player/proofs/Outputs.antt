@@ -9,7 +9,7 @@ use Rattle.trace_words.specs.Places.{Place, ended_at}
 use Rattle.trace_words.specs.declared.fault.TraceFault.{TraceFault}
 use Rattle.trace_words.specs.declared.version.Version.{Version}
 use Rattle.trace_player.specs.Playing.{PlaysEvents, PlaysTrace}
-use Rattle.trace_player.specs.Traces.{trace_behind}
+use Rattle.trace_player.specs.Traces.{trace_of_opening}
 use Rattle.trace_player.proofs.Ends.{ended_as, unended_as}
 
 -- a trace of this opening and of the events that were played
@@ -21,7 +21,7 @@ trace_with opening played = record { opening = opening; events = played.events }
 pub played_behind : (version : Version) (count : ℕ) (opening : Opening) (place after : Place)
     (core : RelayCore) (out : List ℕ) → PlaysEvents version count place after core out
     → StandsFor core (world_of_opening opening) → ended_at {X = Unit {0}} after tt ≡ Ok tt
-    → PlaysTrace (trace_behind version count opening place) out count
+    → PlaysTrace (trace_of_opening version count opening place) out count
 played_behind version count opening place after core out played stands ended =
     record {
       trace = trace_with opening played;
@@ -34,6 +34,6 @@ played_behind version count opening place after core out played stands ended =
 pub surplus_behind : (version : Version) (count : ℕ) (opening : Opening) (place after : Place)
     (core : RelayCore) (out : List ℕ) (fault : TraceFault)
     → PlaysEvents version count place after core out → ended_at {X = Unit {0}} after tt ≡ Err fault
-    → trace_behind version count opening place ≡ Err fault
+    → trace_of_opening version count opening place ≡ Err fault
 surplus_behind version count opening place after core out fault played left =
     rw played.read (unended_as after (trace_with opening played) fault left)

@@ -1,9 +1,9 @@
 -- A trace as text: an opening, the number of its events, and the line of each.
---     events_at        a number of events, read from their lines
---     trace_behind     a trace of an opening and a number of events, after which nothing is left
---     trace_after      a trace of an opening and of the events after the line of their number
---     trace_of         the trace of a text, or its fault
---     trace_text       the text that is written for a trace, in version 2
+--     events_at         a number of events, read from their lines
+--     trace_of_opening  a trace of an opening and a number of events, after which nothing is left
+--     trace_after       a trace of an opening and of the events after the line of their number
+--     trace_of          the trace of a text, or its fault
+--     trace_text        the text that is written for a trace, in version 2
 use Rattle.std.specs.Prelude.{ℕ, zero, suc, nat_lt, if◌then◌else◌, codes, List, [], ◌∷◌, ◌++◌}
 use Rattle.std.specs.Prelude.{length, map, Option, Result, Ok, Err}
 use Rattle.wire_bytes.specs.Outcome.{◌>>=◌}
@@ -11,7 +11,7 @@ use Rattle.relay_events.specs.declared.event.Event.{Event}
 use Rattle.relay_core.specs.declared.opening.Opening.{Opening}
 use Rattle.relay_recorder.specs.declared.trace.Trace.{Trace}
 use Rattle.trace_lines.specs.Events.{event_of}
-use Rattle.trace_lines.specs.OpenCount.{count_at, events_behind}
+use Rattle.trace_lines.specs.OpenCount.{count_at, counted_events}
 use Rattle.trace_openings.specs.OpeningReading.{opening_from}
 use Rattle.trace_words.specs.Labels.{number_row}
 use Rattle.trace_openings.specs.OpeningRows.{opening_rows}
@@ -36,8 +36,8 @@ events_at version (suc count) place = do
   Ok (event.0 ∷ others.0, others.1)
 
 -- a trace of this opening and of this number of events from here on, after which nothing is left
-abbrev pub trace_behind : Version → ℕ → Opening → Place → Result Trace TraceFault
-trace_behind version count opening place = do
+abbrev pub trace_of_opening : Version → ℕ → Opening → Place → Result Trace TraceFault
+trace_of_opening version count opening place = do
   events ← events_at version count place
   ended_at events.1 (record { opening = opening; events = events.0 })
 
@@ -45,7 +45,8 @@ trace_behind version count opening place = do
 -- or none
 abbrev pub trace_after : Version → Option ℕ → Opening → Place → Result Trace TraceFault
 trace_after version counted opening place =
-    trace_behind version (events_behind counted place).0 opening (events_behind counted place).1
+    trace_of_opening version (counted_events counted place).0 opening
+    (counted_events counted place).1
 
 -- a trace: the opening, the number of the events, the events, and nothing more
 unfoldable pub trace_from : Place → Result Trace TraceFault

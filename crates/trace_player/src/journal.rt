@@ -59,7 +59,7 @@ fn skip_line(text: &[u8]) -> &[u8]
     ensures { lines_of result.now ≡ drop 1 (lines_of text.now) }
 {
     match split_line(text) {
-        Some((_, behind)) => behind,
+        Some((_, rest)) => rest,
         None => text,
     }
 }

@@ -4,10 +4,10 @@ ghost use Rattle.std.specs.Prelude.{IfErr, IfOk, IsErrOf};
 ghost use Rattle.trace_words.specs.Places.{place_at, place_of};
 ghost use Rattle.wire_bytes.specs.Outcome.{Fails};
 ghost use Rattle.relay_core.specs.Opening.{IsFitOpening};
-ghost use Rattle.trace_lines.specs.OpenCount.{events_behind};
+ghost use Rattle.trace_lines.specs.OpenCount.{counted_events};
 ghost use Rattle.trace_words.specs.declared.fault.TraceFault.TheVariants as trace_fault;
 ghost use Rattle.trace_player.specs.Playing.{PlaysTrace};
-ghost use Rattle.trace_player.specs.Traces.{max_bytes, trace_after, trace_behind, trace_from};
+ghost use Rattle.trace_player.specs.Traces.{max_bytes, trace_after, trace_of_opening, trace_from};
 ghost use Rattle.trace_player.specs.Traces.{trace_of};
 
 use crate::playing::play_events;
@@ -27,7 +27,7 @@ pub(crate) struct PlayedLines {
 
 // Plays the `count` events after an opening. Errors: `Line` if anything follows them, among
 // others.
-fn play_behind(
+fn play_after_opening(
     alloc: Global,
     version: Version,
     count: u64,
@@ -36,11 +36,12 @@ fn play_behind(
 ) -> Result<PlayedLines, TraceFault>
     requires { IsFitOpening opening.now }
     ensures ok { IfOk result
-        (λ output. PlaysTrace (trace_behind version count opening.now lines.old) output.lines.items
+        (λ output. PlaysTrace (trace_of_opening version count opening.now lines.old)
+        output.lines.items
         output.count) }
     ensures err { IfErr result
         (λ fault. Fails trace_fault.Memory fault
-        (trace_behind version count opening.now lines.old)) }
+        (trace_of_opening version count opening.now lines.old)) }
 {
     let mut core = RelayCore::from_fit_opening(alloc, opening)?;
     let played = play_events(alloc, version, count, lines, &mut core);
@@ -55,8 +56,8 @@ fn play_behind(
 
 // Returns the number of events. If none is stated, they are all whole lines, and what follows these
 // is dropped.
-fn count_behind(counted: Option<u32>, lines: &mut HeldLines) -> u64
-    ensures { events_behind counted lines.old ≡ (result, lines.new) }
+fn count_events_left(counted: Option<u32>, lines: &mut HeldLines) -> u64
+    ensures { counted_events counted lines.old ≡ (result, lines.new) }
 {
     match counted {
         Some(count) => u64::from(count),
@@ -91,8 +92,8 @@ fn play_held(
 {
     let taken = text.len() - left;
     let mut lines = HeldLines::new(text, taken, number);
-    let count = count_behind(counted, &mut lines);
-    let played = play_behind(alloc, version, count, opening, &mut lines);
+    let count = count_events_left(counted, &mut lines);
+    let played = play_after_opening(alloc, version, count, opening, &mut lines);
     drop(lines);
     played
 }
@@ -128,7 +129,7 @@ pub(crate) fn play_text(alloc: Global, text: Vec<u8>) -> Result<PlayedLines, Tra
     ensures ok { IfOk result
         (λ output. PlaysTrace (trace_of text.items) output.lines.items output.count) }
     ensures err { IfErr result (λ fault. Fails trace_fault.Memory fault (trace_of text.items)) }
-    ensures long { IsErrOf result trace_fault.TooLong → max_bytes < length text.items }
+    ensures too_long { IsErrOf result trace_fault.TooLong → max_bytes < length text.items }
 {
     if text.len() > MAX_BYTES {
         drop(text);

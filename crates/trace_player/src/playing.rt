@@ -13,7 +13,7 @@ ghost use Rattle.trace_words.specs.declared.fault.TraceFault.TheVariants as trac
 ghost use Rattle.trace_player.specs.Playing.{PlaysEvent, PlaysEvents};
 ghost use Rattle.trace_player.specs.Traces.{events_at};
 
-use relay_core::{RelayCore, line_after};
+use relay_core::{RelayCore, step_to_line};
 use relay_events::{Event, Line};
 use std::alloc::{AllocError, Global};
 use text_lines::end_line;
@@ -41,7 +41,7 @@ fn play_event(
     ensures line { OnOk result ((w : World) → StandsFor core.old w
         → out.new.items ≡ out.old.items ++ line_text number (line_at event.now w) ++ 10 ∷ []) }
 {
-    let line = line_after(alloc, core, event)?;
+    let line = step_to_line(alloc, core, event)?;
     add_line(alloc, out, number, &line)
 }
 

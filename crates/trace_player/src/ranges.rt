@@ -30,7 +30,7 @@ fn events_are_traced(events: &[Event])
 pub(crate) fn trace_is_read_again(trace: &Trace)
     ensures read_back { FitsText trace.now → length (trace_text trace.now) ≤ max_bytes
         → trace_of (trace_text trace.now) ≡ Ok trace.now }
-    ensures short { FitsText trace.now → length trace.now.events ≤ 1024
+    ensures within_max { FitsText trace.now → length trace.now.events ≤ 1024
         → length (trace_text trace.now) ≤ max_bytes }
 {
     opening_is_writable(&trace.opening);

@@ -75,7 +75,7 @@ fn read_lines(alloc: Global, lines: &mut TraceLines) -> Result<Trace, TraceFault
 pub fn read_trace(alloc: Global, text: &[u8]) -> Result<Trace, TraceFault>
     ensures exact { Gives trace_fault.Memory (λ trace. trace) result (trace_of text.now) }
     ensures fit { IfOk result (λ trace. IsFitOpening trace.opening) }
-    ensures long { IsErrOf result trace_fault.TooLong ↔ (max_bytes < length text.now) }
+    ensures too_long { IsErrOf result trace_fault.TooLong ↔ (max_bytes < length text.now) }
 {
     if text.len() > MAX_BYTES {
         return Err(TraceFault::TooLong);

@@ -30,13 +30,13 @@ fn take_events(alloc: Global, core: &mut RelayCore, events: &[Event]) -> Result<
 /// Whatever event comes next, the reply is the one that the meter that wrote the trace would have
 /// given. Fails only if out of memory.
 #[tactic(auto, using(crate::proofs::Alike::goes_on))]
-pub fn resumed_recorder(alloc: Global, trace: &Trace, capacity: u16) -> Result<Recorder, AllocError>
+pub fn resume_recorder(alloc: Global, trace: &Trace, capacity: u16) -> Result<Recorder, AllocError>
     requires fit { IsFitOpening trace.now.opening }
     requires capacity { (1 ≤ capacity) × (capacity ≤ 1024) }
     ensures empty { IfOk result (λ recorder. recorder.events ≡ []) }
     ensures capacity { IfOk result (λ recorder. recorder.capacity ≡ capacity) }
-    ensures stands { IfOk result (λ recorder. StandsFor recorder.core (world_of trace.now)) }
-    ensures goes_on { ContinuesRun trace.now (world_of trace.now) }
+    ensures world { IfOk result (λ recorder. StandsFor recorder.core (world_of trace.now)) }
+    ensures continues_run { ContinuesRun trace.now (world_of trace.now) }
 {
     has_range(&trace.opening);
     let mut core = RelayCore::from_fit_opening(alloc, &trace.opening)?;

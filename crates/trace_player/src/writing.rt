@@ -60,7 +60,7 @@ pub fn write_trace(alloc: Global, trace: &Trace) -> Result<Octets, AllocError>
     ensures text { IfOk result (λ text. text ≡ trace_text trace.now) }
     ensures read_back { IfOk result (λ text. FitsText trace.now → length text ≤ max_bytes
         → trace_of text ≡ Ok trace.now) }
-    ensures short { IfOk result (λ text. FitsText trace.now → length trace.now.events ≤ 1024
+    ensures within_max { IfOk result (λ text. FitsText trace.now → length trace.now.events ≤ 1024
         → length text ≤ max_bytes) }
 {
     trace_is_read_again(trace);

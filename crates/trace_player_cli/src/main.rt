@@ -13,12 +13,12 @@ mod options;
 mod telling;
 
 use crate::arguments::command_line;
-use crate::opening::not_opened;
+use crate::opening::report_not_opened;
 use crate::options::{Options, is_in_order, options_of};
 use crate::telling::{tell, tell_left_out};
 use clap::error::ErrorKind;
 use counted_io::{Counted, read_to_end_within};
-use program::{Fault, exit_code, without_work, words};
+use program::{Fault, exit_code, print_help_or_error, read_arguments};
 use std::fs;
 use std::io::Read;
 use std::process::ExitCode;
@@ -120,14 +120,14 @@ fn play_file(rt: &HostRuntime, options: &Options<'_>) -> Result<(), Fault> {
     };
     match fs::open(rt, path) {
         Ok(stream) => play_input(rt, path, stream, options),
-        Err(error) => Err(not_opened(rt, path, error.kind(), options.describes_faults())),
+        Err(error) => Err(report_not_opened(rt, path, error.kind(), options.describes_faults())),
     }
 }
 
 // Reads the command line and runs its command. Returns the exit status: 0, or 2 if the command line
 // is wrong.
 fn run(rt: &HostRuntime) -> Result<u8, Fault> {
-    let words = words(rt)?;
+    let words = read_arguments(rt)?;
     let mut command = command_line(rt.alloc()).map_err(|_| Fault::Memory)?;
     let options = match command.try_get_matches_from_mut(words.as_slice()) {
         Ok(matches) => {
@@ -135,14 +135,14 @@ fn run(rt: &HostRuntime) -> Result<u8, Fault> {
             drop(matches);
             options
         }
-        Err(error) => return without_work(rt, &error),
+        Err(error) => return print_help_or_error(rt, &error),
     };
     if is_in_order(&options.view) {
         play_file(rt, &options)?;
         return Ok(0);
     }
     match command.error(ErrorKind::ValueValidation, OUT_OF_ORDER) {
-        Ok(error) => without_work(rt, &error),
+        Ok(error) => print_help_or_error(rt, &error),
         Err(_) => Err(Fault::Memory),
     }
 }

@@ -30,7 +30,12 @@ fn why_not_opened(kind: ErrorKind) -> &'static str {
 
 // Returns the program's fault for a file that cannot be opened. If `is_told`, reports the reason
 // on standard error.
-pub(crate) fn not_opened(rt: &HostRuntime, path: &str, kind: ErrorKind, is_told: bool) -> Fault
+pub(crate) fn report_not_opened(
+    rt: &HostRuntime,
+    path: &str,
+    kind: ErrorKind,
+    is_told: bool,
+) -> Fault
     ensures memory { kind ≡ ErrorKind.OutOfMemory → result ≡ program.Memory }
     ensures read { kind ≢ ErrorKind.OutOfMemory → result ≡ program.Read }
 {

@@ -152,7 +152,7 @@ fn why_wrong(text: &[u8], number: u64) -> Why {
 // Writes to standard error, in one line, how many bytes of a journal were left out, if any. `text`
 // is a trace that was read from `name`.
 pub(crate) fn tell_left_out(rt: &HostRuntime, name: &str, text: &[u8]) {
-    let count = left_out(text);
+    let count = count_left_out(text);
     if count > 0 {
         let _ = eprintln!(rt;
             "{name}: bytes after the last whole line that were left out: {count}"
@@ -162,7 +162,7 @@ pub(crate) fn tell_left_out(rt: &HostRuntime, name: &str, text: &[u8]) {
 
 // Returns the number of bytes of a journal after its last whole line before the first byte 0.
 // Returns 0 for a text without the line `events -`.
-fn left_out(text: &[u8]) -> usize {
+fn count_left_out(text: &[u8]) -> usize {
     let mut lines = TextLines::new(text);
     if lines.nth(head_len(text).saturating_sub(1) as usize) != Some(b"events -".as_slice()) {
         return 0;

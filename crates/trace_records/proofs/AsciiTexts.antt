@@ -33,7 +33,7 @@ use Rattle.trace_lines.specs.Parts.{selection_part, sample_part, pair_part}
 use Rattle.trace_lines.specs.Reading.{level_number, parameter_word}
 use Rattle.trace_lines.specs.Replies.{reply_row, result_words}
 use Rattle.trace_lines.specs.Writing.{event_row}
-use Rattle.trace_words.specs.Parts.{before}
+use Rattle.trace_words.specs.Parts.{words_before}
 use Rattle.trace_words.specs.Rows.{Row}
 use Rattle.trace_words.specs.Writing.{all_words, data_word, flag_number, row_text}
 use Rattle.trace_words.specs.Writing.{words_after_blanks}
@@ -169,7 +169,7 @@ reply_is_ascii reply = row_is_ascii (reply_row reply) (reply_words reply)
 -- ---- events
 
 items_are_ascii : (items : List AttributeSelection)
-    → AreAscii (all_words (before selection_part) items)
+    → AreAscii (all_words (words_before selection_part) items)
 unfolding all_words
 items_are_ascii [] = tt
 items_are_ascii (item ∷ items) = (
@@ -183,12 +183,12 @@ items_are_ascii (item ∷ items) = (
   ),
 )
 
-values_are_ascii : (values : List ℕ) → AreAscii (all_words (before sample_part) values)
+values_are_ascii : (values : List ℕ) → AreAscii (all_words (words_before sample_part) values)
 unfolding all_words
 values_are_ascii [] = tt
 values_are_ascii (value ∷ values) = (decimal_is_ascii value, values_are_ascii values)
 
-pairs_are_ascii : (pairs : List (ℕ × ℕ)) → AreAscii (all_words (before pair_part) pairs)
+pairs_are_ascii : (pairs : List (ℕ × ℕ)) → AreAscii (all_words (words_before pair_part) pairs)
 unfolding all_words
 pairs_are_ascii [] = tt
 pairs_are_ascii (pair ∷ pairs) =

@@ -100,7 +100,7 @@ fn are_lines(alloc: Global, opening: &Opening, lines: &[u8]) -> Result<bool, All
 }
 
 // Returns whether the lines of an opening are appended after other text.
-fn are_lines_behind(alloc: Global, opening: &Opening, lines: &[u8]) -> Result<bool, AllocError> {
+fn are_lines_after(alloc: Global, opening: &Opening, lines: &[u8]) -> Result<bool, AllocError> {
     let mut out = Vec::from_slice(alloc, b"before\n")?;
     let written = write_opening(alloc, &mut out, opening);
     let same = out.as_slice().strip_prefix(b"before\n") == Some(lines);
@@ -175,7 +175,7 @@ fn is_written_from(
 ) -> Result<bool, AllocError> {
     match written {
         Written::New => are_lines(alloc, opening, NEW),
-        Written::NewBehind => are_lines_behind(alloc, opening, NEW),
+        Written::NewBehind => are_lines_after(alloc, opening, NEW),
         Written::Busy => {
             set_busy(alloc, opening)?;
             are_lines(alloc, opening, BUSY)

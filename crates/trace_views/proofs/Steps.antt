@@ -13,8 +13,8 @@ use Rattle.relay_core.specs.Stands.{StandsFor}
 use Rattle.relay_core.specs.World.{World}
 use Rattle.relay_core.specs.declared.relay.RelayCore.{RelayCore}
 use Rattle.relay_events.specs.declared.event.Event.{Event}
-use Rattle.trace_views.specs.Views.{Step, head_text, step_at, steps, shows, shown_text}
-use Rattle.trace_views.specs.Views.{steps_text, text_of}
+use Rattle.trace_views.specs.Views.{Step, head_text, step_at, steps, is_step_shown, shown_text}
+use Rattle.trace_views.specs.Views.{steps_text, text_of_step}
 use Rattle.trace_views.specs.declared.view.TraceView.{TraceView}
 
 -- the events of a run and one more
@@ -34,19 +34,20 @@ steps-append number (first ∷ events) event w =
 
 -- the text of one event
 one_shown : (view : TraceView) (step : Step) → steps_text view (step ∷ []) ≡ shown_text view step
-one_shown view step = by (shows view step)
+one_shown view step = by (is_step_shown view step)
   where
-    by : (is : Bool) → flat_map (text_of view) (cond is (step ∷ []) [])
-        ≡ (if is then text_of view step else [])
-    by true = append-nil (text_of view step)
+    by : (is : Bool) → flat_map (text_of_step view) (cond is (step ∷ []) [])
+        ≡ (if is then text_of_step view step else [])
+    by true = append-nil (text_of_step view step)
     by false = refl
 
 -- the text of the events of a run and one more
 steps_text-push : (view : TraceView) (front : List Step) (step : Step)
     → steps_text view (front ++ step ∷ []) ≡ steps_text view front ++ shown_text view step
 steps_text-push view front step =
-    ap (flat_map (text_of view)) (filter-append (shows view) front (step ∷ []))
-    ∙ flat_map-append (text_of view) (filter (shows view) front) (filter (shows view) (step ∷ []))
+    ap (flat_map (text_of_step view)) (filter-append (is_step_shown view) front (step ∷ []))
+    ∙ flat_map-append (text_of_step view) (filter (is_step_shown view) front)
+    (filter (is_step_shown view) (step ∷ []))
     ∙ ap (λ (bytes : List ℕ). steps_text view front ++ bytes) (one_shown view step)
 
 -- the core applied these events, and the lines that the view shows of them were written

@@ -15,7 +15,7 @@ use Rattle.trace_words.specs.Rows.{Row}
 use Rattle.trace_words.specs.declared.fault.TraceFault.{TraceFault}
 use Rattle.trace_words.specs.declared.fault.TraceFault.TheVariants.{TooLong}
 use Rattle.trace_words.specs.declared.version.Version.{Version}
-use Rattle.trace_views.specs.Fronts.{End, before, events_front, front_from, front_of, front_with}
+use Rattle.trace_views.specs.Fronts.{End, events_with, events_front, front_from, front_of, front_with}
 use Rattle.trace_views.specs.Fronts.{trace_by}
 
 -- the events that were read, if nothing is left after them
@@ -69,7 +69,7 @@ events_whole version (suc count) place =
         ≡ whole_events (events_front version count behind))
         → ended_events (read >>= λ event. events_at version count event.1 >>= λ others.
         done TraceFault (event.0 ∷ others.0, others.1))
-        ≡ whole_events (before read (λ behind. events_front version count behind))
+        ≡ whole_events (events_with read (λ behind. events_front version count behind))
     one_whole version count (Ok read) others =
         first_ended read.0 (events_at version count read.1)
         ∙ ap (with_first read.0) (others read.1)
@@ -94,11 +94,11 @@ by_opening opening (events, Ok done) = refl
 by_opening opening (events, Err fault) = refl
 
 -- the trace of an opening and of a number of events at a place
-behind_whole : (version : Version) (count : ℕ) (opening : Opening) (place : Place)
+skip_whole_line : (version : Version) (count : ℕ) (opening : Opening) (place : Place)
     → (events_at version count place >>= λ events.
     ended_at events.1 (front_with opening (events.0, done TraceFault tt)).0)
     ≡ trace_by (done TraceFault (front_with opening (events_front version count place)))
-behind_whole version count opening place =
+skip_whole_line version count opening place =
     with_opening opening (events_at version count place)
     ∙ ap (λ (read : Result (List Event) TraceFault). read >>= λ events.
     done TraceFault (front_with opening (events, done TraceFault tt)).0)
@@ -115,7 +115,7 @@ trace_whole place = by (opening_from place)
         ended_at events.1 (front_with opening (events.0, done TraceFault tt)).0)
         ≡ trace_by (read >>= λ count.
         done TraceFault (front_with opening (events_front version count.0 count.1)))
-    counted version opening (Ok count) = behind_whole version count.0 opening count.1
+    counted version opening (Ok count) = skip_whole_line version count.0 opening count.1
     counted version opening (Err fault) = refl
 
     by : (read : ReadLines (Version × Opening))

@@ -27,9 +27,9 @@ abbrev pub End : Type 0
 End = Result (Unit {0}) TraceFault
 
 -- an event that was read, before those of the lines after it; none if its line is wrong
-abbrev pub before : ReadLines Event → (Place → List Event × End) → List Event × End
-before (Ok read) others = (read.0 ∷ (others read.1).0, (others read.1).1)
-before (Err fault) others = ([], Err fault)
+abbrev pub events_with : ReadLines Event → (Place → List Event × End) → List Event × End
+events_with (Ok read) others = (read.0 ∷ (others read.1).0, (others read.1).1)
+events_with (Err fault) others = ([], Err fault)
 
 -- the fault of a line
 abbrev pub IsLine : TraceFault → Type 0
@@ -46,7 +46,7 @@ ReadsEvent (Err fault) new given = (given ≡ Err fault) × IsLine fault
 unfoldable pub events_front : Version → ℕ → Place → List Event × End
 events_front version zero place = ([], ended_at place tt)
 events_front version (suc count) place =
-    before (line_as (event_of version) place) (λ behind. events_front version count behind)
+    events_with (line_as (event_of version) place) (λ later. events_front version count later)
 
 -- a trace of an opening and of events
 abbrev pub front_with : Opening → List Event × End → Trace × End

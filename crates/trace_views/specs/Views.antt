@@ -5,7 +5,7 @@
 --                       the clock after them
 --     is_shown          whether a view shows the line of an event
 --     step_text         the line of an event as the player prints it
---     text_at           the line of an event in the format of a view
+--     text_in_view      the line of an event in the format of a view
 --     view_text         the text of a view of a trace
 use Rattle.std.specs.Prelude.{ℕ, suc, nat_lt, Bool, true, false, not, ◌&&◌, ◌||◌, codes, Option}
 use Rattle.std.specs.Prelude.{Some, None, List, [], ◌∷◌, ◌++◌, filter, flat_map, if◌then◌else◌}
@@ -84,22 +84,22 @@ abbrev pub is_within : TraceView → ℕ → Bool
 is_within view number = not (is_below view.first number) && not (is_above view.last number)
 
 -- whether a supply is on and the other off
-abbrev pub is_other : Bool → Bool → Bool
-is_other true output = not output
-is_other false output = output
+abbrev pub is_supply_change : Bool → Bool → Bool
+is_supply_change true output = not output
+is_supply_change false output = output
 
 -- whether the control state or the supply of a line differs from that before it
 abbrev pub is_change : Switch → Line → Bool
 is_change before line =
-    not (is_state before.state line.state) || is_other before.output line.output
+    not (is_state before.state line.state) || is_supply_change before.output line.output
 
 -- whether a view shows the line of the event of this number
 abbrev pub is_shown : TraceView → ℕ → Switch → Line → Bool
 is_shown view number before line =
     is_within view number && (not view.changes_only || is_change before line)
 
-abbrev pub shows : TraceView → Step → Bool
-shows view step = is_shown view step.number step.before step.line
+abbrev pub is_step_shown : TraceView → Step → Bool
+is_step_shown view step = is_shown view step.number step.before step.line
 
 -- the event at the end of its line, as the trace has it
 abbrev pub event_end : Bool → Event → List ℕ
@@ -112,36 +112,36 @@ step_text with_events number event line =
     line_text number line ++ event_end with_events event ++ 10 ∷ []
 
 -- an event in a format, after which the clock has this moment
-abbrev pub text_in : TraceFormat → Bool → ℕ → Event → Line → Option ℕ → List ℕ
-text_in Lines with_events number event line moment = step_text with_events number event line
-text_in Csv with_events number event line moment =
+abbrev pub text_in_format : TraceFormat → Bool → ℕ → Event → Line → Option ℕ → List ℕ
+text_in_format Lines with_events number event line moment = step_text with_events number event line
+text_in_format Csv with_events number event line moment =
     csv_line (fields_of with_events number event line moment)
-text_in Json with_events number event line moment =
+text_in_format Json with_events number event line moment =
     json_line (fields_of with_events number event line moment)
 
 -- an event in the format of a view
-abbrev pub text_at : TraceView → ℕ → Event → Line → Option ℕ → List ℕ
-text_at view number event line moment =
-    text_in view.format view.with_events number event line moment
+abbrev pub text_in_view : TraceView → ℕ → Event → Line → Option ℕ → List ℕ
+text_in_view view number event line moment =
+    text_in_format view.format view.with_events number event line moment
 
-abbrev pub text_of : TraceView → Step → List ℕ
-text_of view step = text_at view step.number step.event step.line step.moment
+abbrev pub text_of_step : TraceView → Step → List ℕ
+text_of_step view step = text_in_view view step.number step.event step.line step.moment
 
 -- what comes before the events in a format: of comma-separated values the names of the columns
-abbrev pub head_in : TraceFormat → Bool → List ℕ
-head_in Csv with_events = csv_head with_events
-head_in _ with_events = []
+abbrev pub head_of_format : TraceFormat → Bool → List ℕ
+head_of_format Csv with_events = csv_head with_events
+head_of_format _ with_events = []
 
 abbrev pub head_text : TraceView → List ℕ
-head_text view = head_in view.format view.with_events
+head_text view = head_of_format view.format view.with_events
 
 -- what a view shows of one event
 abbrev pub shown_text : TraceView → Step → List ℕ
-shown_text view step = if shows view step then text_of view step else []
+shown_text view step = if is_step_shown view step then text_of_step view step else []
 
 -- what a view shows of the events of a run: the lines that it selects
 abbrev pub steps_text : TraceView → List Step → List ℕ
-steps_text view steps = flat_map (text_of view) (filter (shows view) steps)
+steps_text view steps = flat_map (text_of_step view) (filter (is_step_shown view) steps)
 
 -- the text of a view of a trace: the events that it shows, after the head of its format
 abbrev pub view_text : TraceView → Trace → List ℕ

@@ -1,6 +1,6 @@
 //! Appends the line of an event as a view shows it, and what comes before the first.
 ghost use Rattle.std.specs.Prelude.{◌≡◌, ◌++◌, ◌∷◌, [], OnOk};
-ghost use Rattle.trace_views.specs.Views.{event_end, head_text, step_text, text_at};
+ghost use Rattle.trace_views.specs.Views.{event_end, head_text, step_text, text_in_view};
 
 use crate::format::TraceFormat;
 use crate::view::TraceView;
@@ -55,7 +55,7 @@ pub(crate) fn add_step(
     moment: Option<u32>,
 ) -> Result<(), AllocError>
     ensures { OnOk result (out.new.items ≡ out.old.items
-        ++ text_at view.now number event.now line.now moment) }
+        ++ text_in_view view.now number event.now line.now moment) }
 {
     match view.format {
         TraceFormat::Lines => add_line(alloc, out, view.with_events, number, event, line),

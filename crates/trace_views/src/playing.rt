@@ -18,7 +18,7 @@ use trace_player::{PlayFault, TraceFault, read_trace};
 fn view_text(alloc: Global, text: &[u8], view: &TraceView) -> Result<Vec<u8>, TraceFault>
     ensures ok { IfOk result (λ shown. Viewed view.now text.now shown.items) }
     ensures err { IfErr result (λ fault. Fails trace_fault.Memory fault (trace_of text.now)) }
-    ensures long { IsErrOf result trace_fault.TooLong → max_bytes < length text.now }
+    ensures too_long { IsErrOf result trace_fault.TooLong → max_bytes < length text.now }
 {
     let trace = read_trace(alloc, text)?;
     let shown = view_trace(alloc, &trace, view);

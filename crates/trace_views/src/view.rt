@@ -61,7 +61,7 @@ impl TraceView {
     }
 
     // Returns whether the line of an event is shown. `before` is the switch before the event.
-    pub(crate) fn shows(&self, number: u64, before: Switch, line: &Line) -> bool
+    pub(crate) fn is_shown(&self, number: u64, before: Switch, line: &Line) -> bool
         ensures { result ≡ is_shown self.now number before line.now }
     {
         self.is_within(number) && (!self.changes_only || is_change(before, line))

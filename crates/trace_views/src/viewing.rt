@@ -9,7 +9,7 @@ ghost use Rattle.trace_views.specs.Views.{view_text};
 
 use crate::lines::{add_head, add_step};
 use crate::view::{Switch, TraceView};
-use relay_core::{RelayCore, line_after};
+use relay_core::{RelayCore, step_to_line};
 use relay_events::Event;
 use std::alloc::{AllocError, Global};
 use trace_player::Trace;
@@ -32,8 +32,8 @@ fn view_event(
         state: core.state(),
         output: core.output(),
     };
-    let line = line_after(alloc, core, event)?;
-    if view.shows(number, before, &line) {
+    let line = step_to_line(alloc, core, event)?;
+    if view.is_shown(number, before, &line) {
         add_step(alloc, out, view, number, event, &line, core.last_moment())
     } else {
         Ok(())

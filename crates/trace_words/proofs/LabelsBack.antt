@@ -3,15 +3,15 @@ use Rattle.std.proofs.Common.{◌≡◌, nat_eq, [], ◌∷◌, Result, Ok, ap, 
 use Rattle.std.specs.Cmp.Lexicographic.{pointwise}
 use Rattle.wire_bytes.proofs.OutcomeLemmas.{ok_is, bind_ok, guard_ok}
 use Rattle.trace_words.proofs.WordsBack.{IsWrittenBack, same_is, last_read}
-use Rattle.trace_words.specs.Labels.{behind, labelled_value}
+use Rattle.trace_words.specs.Labels.{words_after, labelled_value}
 use Rattle.trace_words.specs.Rows.{Word, Row}
 use Rattle.trace_words.specs.declared.fault.RowFault.{RowFault}
 use Rattle.trace_words.specs.declared.fault.RowFault.TheVariants.{Wrong}
 
 -- the first word is this one
-pub behind_back : (name : Word) (row : Row) (u : Unit {0}) (words : Row) → behind name row
+pub behind_back : (name : Word) (row : Row) (u : Unit {0}) (words : Row) → words_after name row
     ≡ Ok (u, words) → row ≡ name ∷ words
-unfolding behind
+unfolding words_after
 behind_back name [] u words e = absurd cc
 behind_back name (word ∷ others) u words e =
     let same = guard_ok (pointwise nat_eq word name) Wrong _ (u, words) e in
@@ -23,7 +23,7 @@ pub labelled_read : (X : Type 0) (name : Word) (value_in : Word → Result X Row
     (x : X) → labelled_value name value_in row ≡ Ok x
     → (word : Word) × (row ≡ name ∷ word ∷ []) × (value_in word ≡ Ok x)
 labelled_read X name value_in row x e =
-    let words = bind_ok (behind name row) _ x e in
+    let words = bind_ok (words_after name row) _ x e in
     let read = last_read X value_in words.0.1 x words.2 in (
       read.0,
       behind_back name row words.0.0 words.0.1 words.1 ∙ ap (λ (ws : Row). name ∷ ws) read.1,

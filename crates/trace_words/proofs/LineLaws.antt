@@ -12,7 +12,7 @@ use Rattle.trace_words.proofs.LabelsBack.{IsRowBack, behind_back}
 use Rattle.trace_words.proofs.PartLaws.{Nothing, IsExact, line_back, line_again}
 use Rattle.trace_words.proofs.ShortRows.{IsShort, word_on, words_in}
 use Rattle.trace_words.proofs.WordLaws.{more, behind_again}
-use Rattle.trace_words.specs.Labels.{behind}
+use Rattle.trace_words.specs.Labels.{words_after}
 use Rattle.trace_words.specs.Parts.{Part, labelled_part, line_read}
 use Rattle.trace_words.specs.Rows.{Word, Row}
 use Rattle.trace_words.specs.declared.fault.RowFault.{RowFault}
@@ -32,7 +32,7 @@ pub labelled_exact : {A : Type 0} {MayFollow : Row → Type 0} {most : ℕ} (nam
     → IsExact MayFollow (1 + 20 + most) (labelled_part name part)
 labelled_exact {most = most} name part is long exact = record {
   back = λ row x e.
-      let others = bind_ok (behind name row) (λ others. part.read others.1) x e in
+      let others = bind_ok (words_after name row) (λ others. part.read others.1) x e in
       behind_back name row others.0.0 others.0.1 others.1
       ∙ ap (λ (words : Row). name ∷ words) (exact.back others.0.1 x others.2);
   again = λ a rest fit follows.

@@ -28,7 +28,7 @@ use Rattle.trace_words.proofs.WordLaws.{flag_again, flag_is_word, data_word_agai
 use Rattle.trace_words.proofs.WordLaws.{same_bytes}
 use Rattle.trace_words.proofs.WordsBack.{IsWrittenBack, next_back, number_back, flag_back, data_back}
 use Rattle.trace_words.proofs.WordsBack.{same_is, ended_back, all_back}
-use Rattle.trace_words.specs.Parts.{Part, before, word, number_part, flag_part, data_part, items_to_end}
+use Rattle.trace_words.specs.Parts.{Part, words_before, word, number_part, flag_part, data_part, items_to_end}
 use Rattle.trace_words.specs.Parts.{counted_items, Each, after_first, only_if, same_word, Forms, one_of, line_read}
 use Rattle.trace_words.specs.Reading.{number_in}
 use Rattle.trace_words.specs.Rows.{Word, Row, if_last, all_at}
@@ -74,7 +74,7 @@ append_short m n a b one two =
     }
 
 -- the words of a part before others are those of the part, followed by the others
-pub before_stands : {A : Type 0} (part : Part A) → Stands A (before part)
+pub before_stands : {A : Type 0} (part : Part A) → Stands A (words_before part)
 before_stands part a words = blanked-append (part.text a) words
     ∙ ap (λ (row : Row). words_after_blanks row ++ words_after_blanks words)
     (sym (append-nil (part.text a)))
@@ -174,21 +174,22 @@ both_exact {A = A} {B = B} {m = m} {n = n} first second one two = record {
 
 module _ {A : Type 0} {m : ℕ} (item : Part A) (exact : IsExact Anything m item) where
   items_are_words : (items : List A) → Each item.Fits items
-      → AreWords (all_words (before item) items)
+      → AreWords (all_words (words_before item) items)
   unfolding all_words
   items_are_words [] fit = refl
   items_are_words (x ∷ xs) fit =
-      append_words (item.text x) (all_words (before item) xs)
+      append_words (item.text x) (all_words (words_before item) xs)
       (exact.are_words x fit.0)
       (items_are_words xs fit.1)
 
   items_short : (items : List A) → Each item.Fits items
-      → HasWords (length items * m) (all_words (before item) items)
+      → HasWords (length items * m) (all_words (words_before item) items)
   unfolding all_words
   items_short [] fit = words_in 0 (0 * m) [] no_words (omega arith)
   items_short (x ∷ xs) fit =
-      words_in (m + length xs * m) (suc (length xs) * m) (item.text x ++ all_words (before item) xs)
-      (append_short m (length xs * m) (item.text x) (all_words (before item) xs)
+      words_in (m + length xs * m) (suc (length xs) * m)
+      (item.text x ++ all_words (words_before item) xs)
+      (append_short m (length xs * m) (item.text x) (all_words (words_before item) xs)
       (exact.short x fit.0)
       (items_short xs fit.1)) (omega (arith, suc-mul (length xs) m))
 
@@ -197,7 +198,7 @@ module _ {A : Type 0} {m : ℕ} (item : Part A) (exact : IsExact Anything m item
   HasFirst = (a : A) → (first : Word) × (others : Row) × (item.text a ≡ first ∷ others)
 
   all_again : HasFirst → (items : List A) (room : ℕ) → length items ≤ room → Each item.Fits items
-      → all_at (after_first item) room (all_words (before item) items)
+      → all_at (after_first item) room (all_words (words_before item) items)
       ≡ Ok items
   unfolding all_at all_words
   all_again first [] zero le fit = refl
@@ -205,7 +206,7 @@ module _ {A : Type 0} {m : ℕ} (item : Part A) (exact : IsExact Anything m item
   all_again first (x ∷ xs) zero le fit = absurd (omega arith)
   all_again first (x ∷ xs) (suc room) le fit =
       let head = first x in
-      let rest = all_words (before item) xs in
+      let rest = all_words (words_before item) xs in
       let read : item.read (head.0 ∷ head.1 ++ rest) ≡ Ok (x, rest) =
       ap (λ (words : Row). item.read (words ++ rest)) (sym head.2)
       ∙ exact.again x rest fit.0 tt in
@@ -217,30 +218,30 @@ module _ {A : Type 0} {m : ℕ} (item : Part A) (exact : IsExact Anything m item
     back = λ row x e.
         let items = bind_ok (all_at (after_first item) most row)
         (λ items. done RowFault (items, [])) x e in
-        all_back A (after_first item) (before item)
+        all_back A (after_first item) (words_before item)
         (λ word words y rest read. exact.back (word ∷ words) (y, rest) read) most row items.0
         items.1
-        ∙ sym (append-nil (all_words (before item) items.0))
-        ∙ ap (λ (y : List A × Row). all_words (before item) y.0 ++ y.1)
+        ∙ sym (append-nil (all_words (words_before item) items.0))
+        ∙ ap (λ (y : List A × Row). all_words (words_before item) y.0 ++ y.1)
         (ok_is (items.0, []) x items.2);
     again = λ items rest fit none.
         rw (
           none,
-          append-nil (all_words (before item) items),
+          append-nil (all_words (words_before item) items),
           all_again first items most fit.0 fit.1,
         ) refl;
     are_words = λ items fit. items_are_words items fit.1;
-    short = λ items fit. words_in (length items * m) bound (all_words (before item) items)
+    short = λ items fit. words_in (length items * m) bound (all_words (words_before item) items)
         (items_short items fit.1) (within (length items) fit.0);
   }
 
   items_again : (items : List A) (rest : Row) → Each item.Fits items
-      → items_read item.read (length items) (all_words (before item) items ++ rest)
+      → items_read item.read (length items) (all_words (words_before item) items ++ rest)
       ≡ Ok (items, rest)
   unfolding items_read all_words
   items_again [] rest fit = refl
   items_again (x ∷ xs) rest fit =
-      let others = all_words (before item) xs in
+      let others = all_words (words_before item) xs in
       rw (
         append_assoc (item.text x) others rest,
         exact.again x (others ++ rest) fit.0 tt,
@@ -248,11 +249,11 @@ module _ {A : Type 0} {m : ℕ} (item : Part A) (exact : IsExact Anything m item
       ) refl
 
   items_back : (n : ℕ) (row : Row) (x : List A × Row) → items_read item.read n row ≡ Ok x
-      → (row ≡ all_words (before item) x.0 ++ x.1) × (length x.0 ≡ n)
+      → (row ≡ all_words (words_before item) x.0 ++ x.1) × (length x.0 ≡ n)
   unfolding items_read all_words
   items_back zero row x e =
       let is = ok_is {F = RowFault} ([], row) x e in (
-        ap (λ (y : List A × Row). all_words (before item) y.0 ++ y.1) is,
+        ap (λ (y : List A × Row). all_words (words_before item) y.0 ++ y.1) is,
         sym (ap (λ (y : List A × Row). length y.0) is),
       )
   items_back (suc n) row x e =
@@ -262,9 +263,9 @@ module _ {A : Type 0} {m : ℕ} (item : Part A) (exact : IsExact Anything m item
       let is = ok_is (first.0.0 ∷ others.0.0, others.0.1) x others.2 in (
         exact.back row first.0 first.1
             ∙ ap (λ (rest : Row). item.text first.0.0 ++ rest) back.0
-            ∙ sym (append_assoc (item.text first.0.0) (all_words (before item) others.0.0)
+            ∙ sym (append_assoc (item.text first.0.0) (all_words (words_before item) others.0.0)
             others.0.1)
-            ∙ ap (λ (y : List A × Row). all_words (before item) y.0 ++ y.1) is,
+            ∙ ap (λ (y : List A × Row). all_words (words_before item) y.0 ++ y.1) is,
         sym (ap (λ (y : List A × Row). length y.0) is) ∙ ap suc back.1,
       )
 
@@ -282,12 +283,13 @@ module _ {A : Type 0} {m : ℕ} (item : Part A) (exact : IsExact Anything m item
           number_word_again most (length items) fit.0 (omega arith),
           items_again items rest fit.1,
         ) refl;
-    are_words = λ items fit. more (decimal (length items)) (all_words (before item) items)
+    are_words = λ items fit. more (decimal (length items)) (all_words (words_before item) items)
         (number_is_word (length items) (omega (arith, fit.0))) (items_are_words items fit.1);
     short = λ items fit.
         words_in (1 + 10 + length items * m) bound (decimal (length items)
-        ∷ all_words (before item) items)
-        (word_on 10 (length items * m) (decimal (length items)) (all_words (before item) items)
+        ∷ all_words (words_before item) items)
+        (word_on 10 (length items * m) (decimal (length items))
+        (all_words (words_before item) items)
         (number_short (length items) (omega (arith, fit.0))) (items_short items fit.1))
         (within (length items) fit.0);
   }

@@ -19,7 +19,7 @@ use Rattle.trace_words.proofs.LabelsBack.{behind_back, labelled_read}
 use Rattle.trace_words.proofs.PlainWords.{ArePlain, capital_plain, digit_plain, plain_line}
 use Rattle.trace_words.proofs.PlainWords.{test_plain}
 use Rattle.trace_words.proofs.WordsBack.{ended_back}
-use Rattle.trace_words.specs.Labels.{behind, labelled_value}
+use Rattle.trace_words.specs.Labels.{words_after, labelled_value}
 use Rattle.trace_words.specs.Parts.{Part, after_first, items_to_end, labelled_part, line_read}
 use Rattle.trace_words.specs.Parts.{word}
 use Rattle.trace_words.specs.Reading.{bytes_in, data_in, number_in, next_as}
@@ -137,7 +137,7 @@ to_end_reads {A = A} most item plain row x e left =
 pub labelled_reads : {A : Type 0} (name : Word) (part : Part A) → has_zero name ≡ false
     → PartIsPlain part → PartIsPlain (labelled_part name part)
 labelled_reads name part named plain row x e left =
-    let words = bind_ok (behind name row) (λ others. part.read others.1) x e in
+    let words = bind_ok (words_after name row) (λ others. part.read others.1) x e in
     let is = behind_back name row words.0.0 words.0.1 words.1 in
     subst ArePlain (sym is) (named, plain words.0.1 x words.2 left)
 

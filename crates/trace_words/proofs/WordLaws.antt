@@ -17,7 +17,7 @@ use Rattle.std.specs.List.{list_all}
 use Rattle.text_lines.specs.Lines.{is_row}
 use Rattle.text_lines.specs.Words.{is_word}
 use Rattle.text_lines.proofs.WordsLemmas.{decimal_is_word}
-use Rattle.trace_words.specs.Labels.{behind, labelled_value, number_row}
+use Rattle.trace_words.specs.Labels.{words_after, labelled_value, number_row}
 use Rattle.trace_words.specs.declared.fault.RowFault.{RowFault}
 
 pub number_word_again : (limit n : ℕ) → n ≤ limit → limit < 2 ^ 64
@@ -48,8 +48,8 @@ data_word_again value held =
     let same = same_bytes bytes in
     rw (h, whole, same) refl
 
-pub behind_again : (name : Word) (words : Row) → behind name (name ∷ words) ≡ Ok (tt, words)
-unfolding behind
+pub behind_again : (name : Word) (words : Row) → words_after name (name ∷ words) ≡ Ok (tt, words)
+unfolding words_after
 behind_again name words = let same = same_bytes name in rw same refl
 
 pub labelled_again : {X : Type 0} (name : Word) (value_in : Word → Result X RowFault) (word : Word)

@@ -1,5 +1,5 @@
 -- Lines that begin with a fixed word.
---     behind          the words after the first one
+--     words_after     the words after the first one
 --     labelled_value  a line of a first word and one value
 --     IsWordReader    what code reads from a word, compared with a definition
 --     number_row      the line that is written of a first word and a number
@@ -14,8 +14,8 @@ use Rattle.trace_words.specs.declared.fault.RowFault.{RowFault}
 use Rattle.trace_words.specs.declared.fault.RowFault.TheVariants.{Wrong, Memory}
 
 -- the words after the first one, which must be this word
-unfoldable pub behind : Word → Row → Read (Unit {0})
-behind label row = do
+unfoldable pub words_after : Word → Row → Read (Unit {0})
+words_after label row = do
   first ← word_at row
   guard (pointwise nat_eq first.0 label) Wrong
   Ok (tt, first.1)
@@ -24,7 +24,7 @@ behind label row = do
 abbrev pub labelled_value : {X : Type 0} → Word → (Word → Result X RowFault) → Row
     → Result X RowFault
 labelled_value label value_in row = do
-  words ← behind label row
+  words ← words_after label row
   last_as value_in words.1
 
 -- whatever this code can return for a word is what the definition says

@@ -14,7 +14,7 @@ use Rattle.wire_bytes.specs.Choice.{Choice, Parts, choice_by}
 use Rattle.wire_bytes.specs.Format.{Format, IsTagged, items_read, AreItems}
 use Rattle.wire_bytes.specs.Outcome.{◌>>=◌}
 use Rattle.cosem_axdr.specs.declared.value.Data.{Data}
-use Rattle.trace_words.specs.Labels.{behind}
+use Rattle.trace_words.specs.Labels.{words_after}
 use Rattle.trace_words.specs.Reading.{number_in, flag_in, data_in, next_as}
 use Rattle.trace_words.specs.Rows.{Word, Row, Read, if_last, all_at}
 use Rattle.trace_words.specs.Writing.{IsHeld, flag_number, data_word, all_words}
@@ -26,8 +26,8 @@ abbrev pub Part : Type 0 → Type 1
 Part A = Format Word RowFault A
 
 -- the words of a value, before other words
-abbrev pub before : {A : Type 0} → Part A → A → Row → Row
-before part a words = part.text a ++ words
+abbrev pub words_before : {A : Type 0} → Part A → A → Row → Row
+words_before part a words = part.text a ++ words
 
 -- ---- one word
 
@@ -67,7 +67,7 @@ after_first part first others = part.read (first ∷ others)
 abbrev pub items_to_end : {A : Type 0} → ℕ → Part A → Part (List A)
 items_to_end most item = record {
   read = λ words. all_at (after_first item) most words >>= λ items. Ok (items, []);
-  text = all_words (before item);
+  text = all_words (words_before item);
   Fits = λ items. (length items ≤ most) × Each item.Fits items;
   Spells = λ items words. (length items ≤ most) × AreItems item.Spells items words;
 }
@@ -77,7 +77,7 @@ abbrev pub counted_items : {A : Type 0} → ℕ → Part A → Part (List A)
 counted_items most item = record {
   read = λ words.
       (number_part most).read words >>= λ count. items_read item.read count.0 count.1;
-  text = λ items. decimal (length items) ∷ all_words (before item) items;
+  text = λ items. decimal (length items) ∷ all_words (words_before item) items;
   Fits = λ items. (length items ≤ most) × Each item.Fits items;
   Spells = λ items words. (others : Row) × (words ≡ decimal (length items) ∷ others)
       × (length items ≤ most) × AreItems item.Spells items others;
@@ -111,7 +111,7 @@ one_of c parts = choice_by same_word Wrong c parts
 -- a first word, and a part
 abbrev pub labelled_part : {A : Type 0} → Word → Part A → Part A
 labelled_part name part = record {
-  read = λ words. behind name words >>= λ others. part.read others.1;
+  read = λ words. words_after name words >>= λ others. part.read others.1;
   text = λ a. name ∷ part.text a;
   Fits = part.Fits;
   Spells = λ a words. IsTagged name (part.Spells a) words;

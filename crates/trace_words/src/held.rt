@@ -51,7 +51,7 @@ impl HeldLines {
     }
 
     // Drops the text that has been read if it is at least half of the whole text.
-    fn let_go(&mut self)
+    fn drop_read_text(&mut self)
         ensures { self.new ≡ self.old }
     {
         if self.taken >= self.text.len() - self.taken {
@@ -70,7 +70,7 @@ impl HeldLines {
         ensures { (value_from : Row → Result X RowFault) → IsLineReader F.FnOnce value_in value_from
             → ReadsLines (λ x. x) result self.new (line_as value_from self.old) }
     {
-        self.let_go();
+        self.drop_read_text();
         let number = self.number;
         match split_line(&self.text.as_slice()[self.taken..]) {
             Some((line, rest)) => {
@@ -87,7 +87,7 @@ impl HeldLines {
     /// Keeps the whole lines before the first byte 0, drops the text after them, and returns the
     /// number of these lines.
     pub fn keep_whole_lines(&mut self) -> u64
-        ensures kept { self.new ≡ whole_lines self.old }
+        ensures whole_lines { self.new ≡ whole_lines self.old }
         ensures count { result ≡ length self.new.rows }
     {
         let (len, count) = whole_lines(&self.text.as_slice()[self.taken..]);

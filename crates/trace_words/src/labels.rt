@@ -2,7 +2,7 @@
 ghost use Rattle.std.specs.Prelude.{Result, Ok, IfOk};
 ghost use Rattle.std.specs.Fn.{FnOnceReturnsAt};
 ghost use Rattle.wire_bytes.specs.Outcome.{Gives};
-ghost use Rattle.trace_words.specs.Labels.{IsWordReader, behind, labelled_value};
+ghost use Rattle.trace_words.specs.Labels.{IsWordReader, words_after, labelled_value};
 ghost use Rattle.trace_words.specs.Rows.{Word, Reads};
 ghost use Rattle.trace_words.specs.declared.fault.RowFault.{RowFault};
 ghost use Rattle.trace_words.specs.declared.fault.RowFault.TheVariants.{Memory};
@@ -12,9 +12,9 @@ use crate::words::{last_word, next_word};
 use text_lines::Words;
 
 /// Reads the next word, which must be `label`. Errors: `Wrong` if it is missing or another word.
-#[tactic(auto, unfolding(crate::specs::Labels::behind))]
-pub fn behind(label: &[u8], words: &mut Words) -> Result<(), RowFault>
-    ensures { Reads (λ done. done) result words.new (behind label.now words.old) }
+#[tactic(auto, unfolding(crate::specs::Labels::words_after))]
+pub fn read_label(label: &[u8], words: &mut Words) -> Result<(), RowFault>
+    ensures { Reads (λ done. done) result words.new (words_after label.now words.old) }
 {
     if next_word(words)? == label {
         Ok(())
@@ -36,6 +36,6 @@ pub fn read_labelled<X: Drop, F: FnOnce(&[u8]) -> Result<X, RowFault>>(
     ensures answered { IfOk result (λ x. (word : Word)
         × FnOnceReturnsAt F.FnOnce value_in word (Ok x)) }
 {
-    behind(label, words)?;
+    read_label(label, words)?;
     value_in(last_word(words)?)
 }

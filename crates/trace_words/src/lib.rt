@@ -21,7 +21,7 @@ mod writing;
 
 pub use fault::{RowFault, TraceFault};
 pub use held::HeldLines;
-pub use labels::{behind, read_labelled};
+pub use labels::{read_label, read_labelled};
 pub use place::TraceLines;
 pub use spelling::data_in;
 pub use version::Version;

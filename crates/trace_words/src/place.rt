@@ -96,7 +96,7 @@ impl<'a> TraceLines<'a> {
     /// Keeps the whole lines before the first byte 0, drops the text after them, and returns the
     /// number of these lines.
     pub fn keep_whole_lines(&mut self) -> u64
-        ensures kept { self.new ≡ whole_lines self.old }
+        ensures whole_lines { self.new ≡ whole_lines self.old }
         ensures count { result ≡ length self.new.rows }
     {
         let text = self.lines.rest();

@@ -13,7 +13,7 @@ fn has_zero(line: &[u8]) -> bool
 }
 
 // Returns the text after the first line, or `None` if no line is ended, or the first has a byte 0.
-fn behind_whole(text: &[u8]) -> Option<&[u8]>
+fn skip_whole_line(text: &[u8]) -> Option<&[u8]>
     ensures { MatchOption result (IsTail text.now) (λ rest. FirstWhole text.now rest.now) }
 {
     let Some((line, rest)) = split_line(text) else {
@@ -31,9 +31,9 @@ pub(crate) fn whole_lines(text: &[u8]) -> (usize, u64)
 {
     let mut rest = text;
     let mut count: u64 = 0;
-    'lines: while let Some(behind) = behind_whole(rest) {
+    'lines: while let Some(next_rest) = skip_whole_line(rest) {
         count += 1;
-        rest = behind;
+        rest = next_rest;
     }
     (text.len() - rest.len(), count)
 }

@@ -117,8 +117,8 @@ module _ {T E R O : Type 0} where
   abbrev pub known_of : Seat (Slot T E R) (View E R O) → Known E R O
   known_of seat = (view_of seat).known
 
-  abbrev pub carried_by : Seat (Slot T E R) (View E R O) → Carried T E R
-  carried_by seat = (state_of seat).carried
+  abbrev pub carried_of : Seat (Slot T E R) (View E R O) → Carried T E R
+  carried_of seat = (state_of seat).carried
 
   -- the seat with its stage replaced
   abbrev pub at_stage : SeatState T E R O → Stage E R O → SeatState T E R O
@@ -129,7 +129,7 @@ module _ {T E R O : Type 0} where
       (carried : Carried T E R) : Type 0 where
     pub port : (view_of seat).is_port ≡ true
     pub stage_is : (view_of seat).stage ≡ stage
-    pub carried_is : carried_by seat ≡ carried
+    pub carried_is : carried_of seat ≡ carried
 
   -- What always holds of a port: its seat is at its table, idle and without a slot, the history
   -- that it has seen is legal, and its bound is one that a lock may be made with.
@@ -145,6 +145,6 @@ module _ {T E R O : Type 0} where
   -- has seen is legal.
   pub record IsNoteSeat (legal : O → List (Entry E R) → Type 0)
       (seat : Seat (Slot T E R) (View E R O)) : Type 0 where
-    pub carried_is : carried_by seat ≡ []
+    pub carried_is : carried_of seat ≡ []
     pub no_port : (view_of seat).is_port ≡ false
     pub lawful : IsLegal legal (known_of seat)

@@ -55,7 +55,7 @@ impl<T: Inspected> Lodged<T> {
     // Asks the value a question, as [`Inspected::inspect`] does.
     pub(crate) fn inspect(&mut self, alloc: Global, question: T::Question) -> T::Finding
         ensures same { T.origin self.new ≡ T.origin self.old }
-        ensures stays { (h : List (Entry T.Event T.Reply)) → T.stands self.old h
+        ensures preserved { (h : List (Entry T.Event T.Reply)) → T.stands self.old h
             → T.stands self.new h }
         ensures finds { (h : List (Entry T.Event T.Reply)) → T.stands self.old h
             → T.finds h question result }

@@ -99,8 +99,8 @@ impl<T: Turned> Port<T> {
     /// Returns `AllocError`, with nothing changed, if the lock can't have another owner.
     pub fn split(&mut self) -> Result<Port<T>, AllocError>
         ensures lock { (self.new.lock ≡ self.old.lock) × (self.new.bound ≡ self.old.bound) }
-        ensures this { OnOk result (self.new.known ≡ parent_after_split self.old.known) }
-        ensures other { IfOk result (λ p. (p.lock ≡ self.old.lock) × (p.bound ≡ self.old.bound)
+        ensures parent { OnOk result (self.new.known ≡ parent_after_split self.old.known) }
+        ensures child { IfOk result (λ p. (p.lock ≡ self.old.lock) × (p.bound ≡ self.old.bound)
             × (p.known ≡ child_after_split self.old.known) × HasNoCalls p.known) }
         ensures err { OnErr result (self.new.known ≡ self.old.known) }
     {
@@ -119,7 +119,7 @@ impl<T: Turned> Port<T> {
 
     /// Writes a note of all that this port has seen.
     pub fn tell(&mut self) -> Note<T>
-        ensures this { self.new ≡ self.old }
+        ensures unchanged { self.new ≡ self.old }
         ensures note { (result.lock ≡ self.old.lock) × (result.origin ≡ self.old.known.origin)
             × (result.seen ≡ self.old.known.seen) }
     {

@@ -7,7 +7,7 @@ ghost use Rattle.turn_lock.specs.Rule.{max_turns, LastCall, full_slot, HasNoCall
 ghost use Rattle.turn_lock.specs.Calls.{IsLegal, Watches, Called, IsCause, EndsTurn, IsBusy};
 ghost use Rattle.turn_lock.specs.Seats.{IsSized, IsReady, empty_slot, with_stage, new_entries};
 ghost use Rattle.turn_lock.specs.Seats.{parent_view, child_view, note_view, seat_with, at_stage};
-ghost use Rattle.turn_lock.specs.Seats.{state_of, view_of, known_of, carried_by};
+ghost use Rattle.turn_lock.specs.Seats.{state_of, view_of, known_of, carried_of};
 ghost use Rattle.turn_lock.specs.Plays.{AddsCall, KnowsBoth, TakesTurn};
 
 use crate::board::{HOME, Place, SERVING, Slot, TICKET, Top};
@@ -51,9 +51,9 @@ fn try_draw<T: Turned>(top: &Top<T>, place: &mut Place<T>, turn: u64) -> bool
     requires table { (place.old.table_id ≡ top.now.table_id) × IsSized top.now.table_id }
     requires bound { turn < max_turns }
     ensures seat { place.new.table_id ≡ place.old.table_id }
-    ensures yes { IsTrue result
+    ensures on_true { IsTrue result
         → state_of place.new ≡ at_stage (state_of place.old) (Waiting turn) }
-    ensures no { IsFalse result → state_of place.new ≡ state_of place.old }
+    ensures on_false { IsFalse result → state_of place.new ≡ state_of place.old }
 {
     top.compare_exchange::<Draw>(place, TICKET, turn, turn + 1) == turn
 }
@@ -88,8 +88,8 @@ pub(crate) fn draw<T: Turned, W: Wait>(
     requires ready { IsReady place.old Idle [] × IsLegal T.legal (known_of place.old) }
     ensures seat { place.new.table_id ≡ place.old.table_id }
     ensures watches { Watches T.legal (known_of place.old) (known_of place.new) }
-    ensures some { IfSome result (λ n. IsReady place.new (Waiting n) [] × (n < bound)) }
-    ensures next { IfSome result (λ n. (known_of place.old).drawn ≤ n) }
+    ensures waiting { IfSome result (λ n. IsReady place.new (Waiting n) [] × (n < bound)) }
+    ensures at_least_drawn { IfSome result (λ n. (known_of place.old).drawn ≤ n) }
     ensures none { IfNone result (IsReady place.new Idle []
         × (bound ≤ (known_of place.new).drawn)) }
 {
@@ -113,9 +113,9 @@ fn try_reach<T: Turned>(top: &Top<T>, place: &mut Place<T>, turn: u64) -> bool
     requires table { (place.old.table_id ≡ top.now.table_id) × IsSized top.now.table_id }
     requires waiting { IsReady place.old (Waiting turn) [] }
     ensures seat { place.new.table_id ≡ place.old.table_id }
-    ensures yes { IsTrue result
+    ensures on_true { IsTrue result
         → TakesTurn T.origin T.stands T.legal turn (state_of place.old) (state_of place.new) }
-    ensures no { IsFalse result → state_of place.new ≡ state_of place.old }
+    ensures on_false { IsFalse result → state_of place.new ≡ state_of place.old }
 {
     top.load::<Reach<T>>(place, SERVING) == turn
 }
@@ -124,11 +124,11 @@ fn try_reach<T: Turned>(top: &Top<T>, place: &mut Place<T>, turn: u64) -> bool
 fn take_out<T: Turned>(top: &Top<T>, place: &mut Place<T>) -> Lodged<T>
     requires table { (place.old.table_id ≡ top.now.table_id) × IsSized top.now.table_id }
     requires holds { (x : T) × (last : LastCall T.Event T.Reply)
-        × (carried_by place.old ≡ (0, full_slot x last) ∷ []) }
+        × (carried_of place.old ≡ (0, full_slot x last) ∷ []) }
     ensures seat { (place.new.table_id ≡ place.old.table_id)
         × (state_of place.new ≡ seat_with (view_of place.old) ((0, empty_slot) ∷ [])) }
     ensures value { (last : LastCall T.Event T.Reply)
-        × (carried_by place.old ≡ (0, full_slot result last) ∷ []) }
+        × (carried_of place.old ≡ (0, full_slot result last) ∷ []) }
 {
     let empty = Slot {
         value: None,
@@ -140,7 +140,7 @@ fn take_out<T: Turned>(top: &Top<T>, place: &mut Place<T>) -> Lodged<T>
 // Puts `slot` into the slot, which the seat holds.
 fn put_back<T: Turned>(top: &Top<T>, place: &mut Place<T>, slot: Slot<T, T::Event, T::Reply>)
     requires table { (place.old.table_id ≡ top.now.table_id) × IsSized top.now.table_id }
-    requires holds { carried_by place.old ≡ (0, empty_slot) ∷ [] }
+    requires holds { carried_of place.old ≡ (0, empty_slot) ∷ [] }
     ensures { (place.new.table_id ≡ place.old.table_id)
         × (state_of place.new ≡ seat_with (view_of place.old) ((0, slot) ∷ [])) }
 {
@@ -186,7 +186,7 @@ pub(crate) fn end_turn<T: Turned>(
     requires value { ((known_of place.old).origin ≡ Some (T.origin value))
         × T.stands value ((known_of place.old).seen
         ++ new_entries (known_of place.old).number last) }
-    ensures seat { (place.new.table_id ≡ place.old.table_id) × (carried_by place.new ≡ []) }
+    ensures seat { (place.new.table_id ≡ place.old.table_id) × (carried_of place.new ≡ []) }
     ensures call { AddsCall T.legal last (view_of place.old) (view_of place.new) }
     ensures within { length (known_of place.new).seen ≤ turn + 1 }
 {
@@ -295,9 +295,9 @@ pub(crate) fn write_note<T: Turned>(top: &Top<T>, place: &mut Place<T>) -> Place
 pub(crate) fn take_in<T: Turned>(top: &Top<T>, place: &mut Place<T>, other: Place<T>)
     requires table { (place.old.table_id ≡ top.now.table_id) × (other.table_id ≡ top.now.table_id)
         × IsSized top.now.table_id }
-    requires ready { IsReady place.old Idle [] × (carried_by other ≡ []) }
-    ensures seat { (place.new.table_id ≡ place.old.table_id) × (carried_by place.new ≡ []) }
-    ensures both { KnowsBoth T.legal (known_of place.old) (view_of other) (view_of place.new) }
+    requires ready { IsReady place.old Idle [] × (carried_of other ≡ []) }
+    ensures seat { (place.new.table_id ≡ place.old.table_id) × (carried_of place.new ≡ []) }
+    ensures merged { KnowsBoth T.legal (known_of place.old) (view_of other) (view_of place.new) }
 {
     top.join_seat::<TakeIn>(place, other);
     top.load::<Merge<T>>(place, SERVING);

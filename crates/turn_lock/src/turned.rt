@@ -64,7 +64,7 @@ pub trait Inspected: Turned {
     /// results from the histories it resulted from before.
     fn inspect(&mut self, alloc: Global, question: Self::Question) -> Self::Finding
         ensures same { Self.origin self.new ≡ Self.origin self.old }
-        ensures stays { (h : List (Entry Self.Event Self.Reply)) → Self.stands self.old h
+        ensures preserved { (h : List (Entry Self.Event Self.Reply)) → Self.stands self.old h
             → Self.stands self.new h }
         ensures finds { (h : List (Entry Self.Event Self.Reply)) → Self.stands self.old h
             → finds h question result };

@@ -55,7 +55,7 @@ impl<'a> Cursor<'a> {
     }
 
     /// Reads the next byte, or returns `fault` if there is none.
-    pub fn byte<F: Copy>(&mut self, fault: F) -> Result<u8, F>
+    pub fn read_byte<F: Copy>(&mut self, fault: F) -> Result<u8, F>
         ensures { Reads (λ byte. byte) result self.new (first_byte fault self.old) }
     {
         let [byte, rest @ ..] = self.rest else {
@@ -66,7 +66,7 @@ impl<'a> Cursor<'a> {
     }
 
     /// Reads the next `count` bytes. Returns `fault` and reads nothing if there are fewer.
-    pub fn bytes<F: Copy>(&mut self, count: usize, fault: F) -> Result<&'a [u8], F>
+    pub fn read_bytes<F: Copy>(&mut self, count: usize, fault: F) -> Result<&'a [u8], F>
         ensures read { Reads (λ bytes. bytes.now) result self.new
             (first_bytes fault count self.old) }
         ensures len { IfOk result (λ bytes. length bytes.now ≡ count) }
@@ -80,11 +80,11 @@ impl<'a> Cursor<'a> {
     }
 
     /// Reads the next `N` bytes. Returns `fault` and reads nothing if there are fewer.
-    pub fn array<const N: usize, F: Copy>(&mut self, fault: F) -> Result<[u8; N], F>
+    pub fn read_array<const N: usize, F: Copy>(&mut self, fault: F) -> Result<[u8; N], F>
         ensures { Reads (λ bytes. bytes) result self.new (first_bytes fault N self.old) }
     {
         let mut array = [0; N];
-        array.copy_from_slice(self.bytes(N, fault)?);
+        array.copy_from_slice(self.read_bytes(N, fault)?);
         Ok(array)
     }
 }

@@ -5,7 +5,7 @@ use Rattle.wrapper_frame.specs.declared.parts.Frame.{Frame}
 use Rattle.wrapper_frame.specs.declared.header.Head.{Head}
 use Rattle.wrapper_frame.specs.declared.header.Head.TheVariants.{Part, BadVersion, TooLong, Whole}
 use Rattle.wrapper_frame.specs.Header.{header_size, head_of}
-use Rattle.wrapper_frame.specs.Messages.{Cut, first_frame, after_first, cut_after, cut_by, cut_in, frames_of, rest_of}
+use Rattle.wrapper_frame.specs.Messages.{Cut, first_frame, after_first, cut_after, cut_by_head, cut_in, frames_of, rest_of}
 use Rattle.wrapper_frame.specs.Stream.{IsFirst, IsPart, KeepsFrames, Stops, Fronts}
 use Rattle.wrapper_frame.proofs.FrontLemmas.{whole_parts, field_more, whole_more, version_more, long_more, part_few}
 
@@ -16,7 +16,7 @@ uncut bytes = record { frames = []; rest = bytes }
 -- two splits by the same beginning are equal if the bytes after the first frame are split equally
 cut_by_same : (head : Head) (bytes : List ℕ) (f g : List ℕ → Cut)
     → ((n : ℕ) → head ≡ Whole n → f (after_first n bytes) ≡ g (after_first n bytes))
-    → cut_by head bytes f ≡ cut_by head bytes g
+    → cut_by_head head bytes f ≡ cut_by_head head bytes g
 cut_by_same (Whole n) bytes f g same = ap (cut_after (first_frame n bytes)) (same n refl)
 cut_by_same Part bytes f g same = refl
 cut_by_same BadVersion bytes f g same = refl
@@ -24,7 +24,7 @@ cut_by_same TooLong bytes f g same = refl
 
 -- without a whole frame at the front, nothing is split off
 cut_none : (head : Head) (bytes : List ℕ) (f : List ℕ → Cut) → ((n : ℕ) → head ≢ Whole n)
-    → cut_by head bytes f ≡ uncut bytes
+    → cut_by_head head bytes f ≡ uncut bytes
 cut_none (Whole n) bytes f unlike = absurd (unlike n refl)
 cut_none Part bytes f unlike = refl
 cut_none BadVersion bytes f unlike = refl
@@ -59,7 +59,7 @@ abbrev pub cut_of : List ℕ → Cut
 cut_of bytes = cut_in (length bytes) bytes
 
 cut_step_in : (most : ℕ) (bytes : List ℕ) → length bytes ≤ most → cut_in most bytes
-    ≡ cut_by (head_of bytes) bytes cut_of
+    ≡ cut_by_head (head_of bytes) bytes cut_of
 unfolding cut_in
 cut_step_in zero bytes short = sym (cut_none (head_of bytes) bytes cut_of (short_whole bytes short))
 cut_step_in (suc most) bytes short =
@@ -68,7 +68,7 @@ cut_step_in (suc most) bytes short =
     (after_first n bytes) (omega arith) (omega arith))
 
 -- one step of the split
-pub cut_step : (bytes : List ℕ) → cut_of bytes ≡ cut_by (head_of bytes) bytes cut_of
+pub cut_step : (bytes : List ℕ) → cut_of bytes ≡ cut_by_head (head_of bytes) bytes cut_of
 cut_step bytes = cut_step_in (length bytes) bytes (omega arith)
 
 -- without a whole frame at the front there are no frames
@@ -78,7 +78,7 @@ cut_stays bytes unlike = cut_step bytes ∙ cut_none (head_of bytes) bytes cut_o
 -- a whole frame at the front is the first; the others are those of the bytes after it
 pub cut_first : (bytes : List ℕ) (n : ℕ) → head_of bytes ≡ Whole n → cut_of bytes
     ≡ cut_after (first_frame n bytes) (cut_of (after_first n bytes))
-cut_first bytes n h = cut_step bytes ∙ ap (λ (head : Head). cut_by head bytes cut_of) h
+cut_first bytes n h = cut_step bytes ∙ ap (λ (head : Head). cut_by_head head bytes cut_of) h
 
 -- the frame at the front is independent of the bytes after it
 frame_more : (bytes more : List ℕ) (n : ℕ) → header_size + n ≤ length bytes

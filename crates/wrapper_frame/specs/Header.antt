@@ -23,21 +23,21 @@ abbrev pub max_payload : ℕ
 max_payload = 1024
 
 -- the field of the header after this number of other fields
-abbrev pub field_behind : ℕ → List ℕ → ℕ
-field_behind others bytes = big_number 2 (drop (others * 2) bytes)
+abbrev pub header_field : ℕ → List ℕ → ℕ
+header_field others bytes = big_number 2 (drop (others * 2) bytes)
 
 -- the four fields; the length is that of the payload
 abbrev pub version_of : List ℕ → ℕ
-version_of bytes = field_behind 0 bytes
+version_of bytes = header_field 0 bytes
 
 abbrev pub src_of : List ℕ → ℕ
-src_of bytes = field_behind 1 bytes
+src_of bytes = header_field 1 bytes
 
 abbrev pub dst_of : List ℕ → ℕ
-dst_of bytes = field_behind 2 bytes
+dst_of bytes = header_field 2 bytes
 
 abbrev pub length_of : List ℕ → ℕ
-length_of bytes = field_behind 3 bytes
+length_of bytes = header_field 3 bytes
 
 -- What bytes begin with. A header is checked once it is complete, its version before its length.
 unfoldable pub head_of : List ℕ → Head

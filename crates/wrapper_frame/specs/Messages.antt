@@ -30,16 +30,17 @@ cut_after frame cut = record { frames = frame ∷ cut.frames; rest = cut.rest }
 
 -- bytes split by what they begin with; a frame is split off, and the bytes after it are split in
 -- turn
-abbrev pub cut_by : Head → List ℕ → (List ℕ → Cut) → Cut
-cut_by (Whole n) bytes cut_next = cut_after (first_frame n bytes) (cut_next (after_first n bytes))
-cut_by Part bytes cut_next = record { frames = []; rest = bytes }
-cut_by BadVersion bytes cut_next = record { frames = []; rest = bytes }
-cut_by TooLong bytes cut_next = record { frames = []; rest = bytes }
+abbrev pub cut_by_head : Head → List ℕ → (List ℕ → Cut) → Cut
+cut_by_head (Whole n) bytes cut_next = cut_after (first_frame n bytes)
+    (cut_next (after_first n bytes))
+cut_by_head Part bytes cut_next = record { frames = []; rest = bytes }
+cut_by_head BadVersion bytes cut_next = record { frames = []; rest = bytes }
+cut_by_head TooLong bytes cut_next = record { frames = []; rest = bytes }
 
 -- bytes split into at most this many frames
 unfoldable pub cut_in : ℕ → List ℕ → Cut
 cut_in zero bytes = record { frames = []; rest = bytes }
-cut_in (suc most) bytes = cut_by (head_of bytes) bytes (cut_in most)
+cut_in (suc most) bytes = cut_by_head (head_of bytes) bytes (cut_in most)
 
 -- the frames that bytes begin with; each has at least one byte
 unfoldable pub frames_of : List ℕ → List Frame

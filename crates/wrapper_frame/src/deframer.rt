@@ -127,8 +127,8 @@ impl Deframer {
     #[tactic(auto, using(crate::proofs::CutLemmas::whole_there))]
     pub fn pass(&mut self, size: usize)
         requires { head_of self.old ≡ Whole size }
-        ensures after { self.new ≡ after_first size self.old }
-        ensures goes_on { KeepsFrames self.old (Some (first_frame size self.old)) self.new }
+        ensures new_state { self.new ≡ after_first size self.old }
+        ensures keeps_frames { KeepsFrames self.old (Some (first_frame size self.old)) self.new }
     {
         self.pending.advance(HEADER_SIZE + size);
         self.front = judge(self.pending.as_slice());
@@ -139,7 +139,7 @@ impl Deframer {
     #[tactic(auto, using(crate::proofs::CutLemmas::is_part, crate::proofs::CutLemmas::stops_version, crate::proofs::CutLemmas::stops_long))]
     pub fn take(&mut self, alloc: Global) -> Result<Option<Frame>, WrapperFault>
         ensures taken { IfOk result (λ taken. TakesFirst self.old taken self.new) }
-        ensures goes_on { IfOk result (λ taken. KeepsFrames self.old taken self.new) }
+        ensures keeps_frames { IfOk result (λ taken. KeepsFrames self.old taken self.new) }
         ensures err { OnErr result (self.new ≡ self.old) }
 
         // A wrong header at the front is reported again by each call.

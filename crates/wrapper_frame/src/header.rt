@@ -36,7 +36,7 @@ pub enum Head {
 #[tactic(auto, unfolding(crate::specs::Header::head_of))]
 pub fn judge(bytes: &[u8]) -> Head
     ensures head { result ≡ head_of bytes.now }
-    ensures there { IsThere bytes.now result }
+    ensures present { IsThere bytes.now result }
 {
     if bytes.len() < HEADER_SIZE {
         return Head::Part;

@@ -5,7 +5,7 @@ ghost use Rattle.wrapper_frame.specs.Law.{IsFound, IsOnly, HasEnd, IsReadBack};
 /// with a frame, and of no other frames and rest.
 pub fn one_reading()
     ensures found { IsFound }
-    ensures only { IsOnly }
+    ensures unique { IsOnly }
     ensures ends { HasEnd }
     ensures read_back { IsReadBack }
 {}

@@ -21,14 +21,14 @@ use wire_bytes::Cursor;
 pub(crate) fn read_flag(reader: &mut Cursor) -> Result<bool, ApduFault>
     ensures { Reads (λ flag. flag) result reader.new (flag_part.read reader.old) }
 {
-    Ok(reader.byte(ApduFault::Unreadable)? != 0)
+    Ok(reader.read_byte(ApduFault::Unreadable)? != 0)
 }
 
 // Reads a block number: four bytes, highest first.
 pub(crate) fn read_block_number(reader: &mut Cursor) -> Result<u32, ApduFault>
     ensures { Reads (λ number. number) result reader.new (number_part.read reader.old) }
 {
-    Ok(BigEndian::read_u32(reader.bytes(4, ApduFault::Unreadable)?))
+    Ok(BigEndian::read_u32(reader.read_bytes(4, ApduFault::Unreadable)?))
 }
 
 // Reads a length or count: one byte below 80 hex, or 81 to 84 hex followed by one to four bytes.
@@ -36,9 +36,9 @@ pub(crate) fn read_block_number(reader: &mut Cursor) -> Result<u32, ApduFault>
 pub(crate) fn read_length(reader: &mut Cursor) -> Result<usize, ApduFault>
     ensures { Reads (λ n. n) result reader.new (count_read ApduFault.Unreadable reader.old) }
 {
-    match reader.byte(ApduFault::Unreadable)? {
+    match reader.read_byte(ApduFault::Unreadable)? {
         short @ 0..=0x7F => Ok(usize::from(short)),
-        form @ 0x81..=0x84 => Ok(number_of(reader.bytes(
+        form @ 0x81..=0x84 => Ok(number_of(reader.read_bytes(
             usize::from(form - 0x80),
             ApduFault::Unreadable,
         )?)),
@@ -51,7 +51,7 @@ pub(crate) fn read_raw(alloc: Global, reader: &mut Cursor) -> Result<Octets, Apd
     ensures { Reads (λ raw. raw) result reader.new (raw_part.read reader.old) }
 {
     let count = read_length(reader)?;
-    Ok(Octets::from_slice(alloc, reader.bytes(count, ApduFault::Unreadable)?)?)
+    Ok(Octets::from_slice(alloc, reader.read_bytes(count, ApduFault::Unreadable)?)?)
 }
 
 // Reads a Data. Its limit on bytes counts from its own tag.
@@ -72,26 +72,26 @@ pub(crate) fn read_data(alloc: Global, reader: &mut Cursor) -> Result<Data, Apdu
 pub(crate) fn read_invoke_id(reader: &mut Cursor) -> Result<InvokeId, ApduFault>
     ensures { Reads (λ id. id) result reader.new (invoke_id_part.read reader.old) }
 {
-    Ok(InvokeId(reader.byte(ApduFault::Unreadable)?))
+    Ok(InvokeId(reader.read_byte(ApduFault::Unreadable)?))
 }
 
 // Reads a Data-Access-Result or an Action-Result.
 pub(crate) fn read_code(reader: &mut Cursor) -> Result<ResultCode, ApduFault>
     ensures { Reads (λ code. code) result reader.new (code_part.read reader.old) }
 {
-    Ok(ResultCode::try_from(reader.byte(ApduFault::Unreadable)?)?)
+    Ok(ResultCode::try_from(reader.read_byte(ApduFault::Unreadable)?)?)
 }
 
 fn read_class(reader: &mut Cursor) -> Result<ClassId, ApduFault>
     ensures { Reads (λ class. class) result reader.new (class_part.read reader.old) }
 {
-    Ok(ClassId(BigEndian::read_u16(reader.bytes(2, ApduFault::Unreadable)?)))
+    Ok(ClassId(BigEndian::read_u16(reader.read_bytes(2, ApduFault::Unreadable)?)))
 }
 
 fn read_name(reader: &mut Cursor) -> Result<Obis, ApduFault>
     ensures { Reads (λ name. name) result reader.new (name_part.read reader.old) }
 {
-    Ok(Obis(reader.array(ApduFault::Unreadable)?))
+    Ok(Obis(reader.read_array(ApduFault::Unreadable)?))
 }
 
 // Reads an invoke-id-and-priority and the number of a block.
@@ -135,7 +135,7 @@ fn read_descriptor(reader: &mut Cursor) -> Result<(ClassId, Obis, u8), ApduFault
 {
     let class = read_class(reader)?;
     let name = read_name(reader)?;
-    let number = reader.byte(ApduFault::Unreadable)?;
+    let number = reader.read_byte(ApduFault::Unreadable)?;
     Ok((class, name, number))
 }
 
@@ -146,7 +146,7 @@ pub(crate) fn read_selection(alloc: Global, reader: &mut Cursor) -> Result<bool,
 {
     let selected = read_flag(reader)?;
     if selected {
-        let _selector = reader.byte(ApduFault::Unreadable)?;
+        let _selector = reader.read_byte(ApduFault::Unreadable)?;
         drop(read_data(alloc, reader)?);
     }
     Ok(selected)
@@ -191,7 +191,7 @@ pub(crate) fn read_block(alloc: Global, reader: &mut Cursor) -> Result<DataBlock
 pub(crate) fn read_result(alloc: Global, reader: &mut Cursor) -> Result<GetResult, ApduFault>
     ensures { Reads (λ result. result) result reader.new (result_part.read reader.old) }
 {
-    match reader.byte(ApduFault::Unreadable)? {
+    match reader.read_byte(ApduFault::Unreadable)? {
         choice::DATA => Ok(GetResult::Value(read_data(alloc, reader)?)),
         choice::RESULT => Ok(GetResult::Code(read_code(reader)?)),
         _ => Err(ApduFault::Unreadable),

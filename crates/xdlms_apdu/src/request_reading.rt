@@ -32,7 +32,7 @@ pub fn read_request(alloc: Global, bytes: &[u8]) -> Result<Request, ApduFault>
     ensures found { IfOk result (SpellsRequest bytes.now) }
 
     // If the bytes spell a request, that request is read, unless out of memory.
-    ensures only { (request : Request) → SpellsRequest bytes.now request
+    ensures unique { (request : Request) → SpellsRequest bytes.now request
         → MatchResult result (λ read. read ≡ request) (λ fault. fault ≡ ApduFault.Memory) }
 
     // The fault is that of the definition, or out of memory.
@@ -55,7 +55,7 @@ fn read_whole(alloc: Global, bytes: &[u8]) -> Result<Request, ApduFault>
 fn read_tagged(alloc: Global, reader: &mut Cursor) -> Result<Request, ApduFault>
     ensures { Reads (λ request. request) result reader.new (request_format.read reader.old) }
 {
-    match reader.byte(ApduFault::UnknownTag)? {
+    match reader.read_byte(ApduFault::UnknownTag)? {
         tag::GET_REQUEST => read_get(alloc, reader),
         tag::SET_REQUEST => read_set(alloc, reader),
         tag::ACTION_REQUEST => read_action(alloc, reader),
@@ -68,7 +68,7 @@ fn read_get(alloc: Global, reader: &mut Cursor) -> Result<Request, ApduFault>
     ensures { Reads (λ request. request) result reader.new
         (read_one_of ApduFault.Unreadable get_forms reader.old) }
 {
-    match reader.byte(ApduFault::Unreadable)? {
+    match reader.read_byte(ApduFault::Unreadable)? {
         form::NORMAL => read_get_normal(alloc, reader),
         form::get_request::NEXT => read_get_next(reader),
         form::get_request::WITH_LIST => read_get_list(alloc, reader),
@@ -111,7 +111,7 @@ fn read_set(alloc: Global, reader: &mut Cursor) -> Result<Request, ApduFault>
     ensures { Reads (λ request. request) result reader.new
         (read_one_of ApduFault.Unreadable set_forms reader.old) }
 {
-    match reader.byte(ApduFault::Unreadable)? {
+    match reader.read_byte(ApduFault::Unreadable)? {
         form::NORMAL => read_set_normal(alloc, reader),
         form::set_request::WITH_FIRST_DATABLOCK => read_set_first(alloc, reader),
         form::set_request::WITH_DATABLOCK => read_set_next(alloc, reader),
@@ -158,7 +158,7 @@ fn read_action(alloc: Global, reader: &mut Cursor) -> Result<Request, ApduFault>
     ensures { Reads (λ request. request) result reader.new
         (read_one_of ApduFault.Unreadable action_forms reader.old) }
 {
-    match reader.byte(ApduFault::Unreadable)? {
+    match reader.read_byte(ApduFault::Unreadable)? {
         form::NORMAL => read_action_normal(alloc, reader),
         form::action_request::WITH_FIRST_PBLOCK => read_action_first(alloc, reader),
         form::action_request::WITH_PBLOCK => read_action_next(alloc, reader),

@@ -38,7 +38,7 @@ pub fn read_response(alloc: Global, bytes: &[u8]) -> Result<Response, ApduFault>
     ensures found { IfOk result (SpellsResponse bytes.now) }
 
     // If the bytes spell a response, that response is read, unless out of memory.
-    ensures only { (response : Response) → SpellsResponse bytes.now response
+    ensures unique { (response : Response) → SpellsResponse bytes.now response
         → MatchResult result (λ read. read ≡ response) (λ fault. fault ≡ ApduFault.Memory) }
 
     // The fault is that of the definition, or out of memory.
@@ -62,7 +62,7 @@ fn read_whole(alloc: Global, bytes: &[u8]) -> Result<Response, ApduFault>
 fn read_tagged(alloc: Global, reader: &mut Cursor) -> Result<Response, ApduFault>
     ensures { Reads (λ response. response) result reader.new (response_format.read reader.old) }
 {
-    match reader.byte(ApduFault::UnknownTag)? {
+    match reader.read_byte(ApduFault::UnknownTag)? {
         tag::GET_RESPONSE => read_get(alloc, reader),
         tag::SET_RESPONSE => read_set(reader),
         tag::ACTION_RESPONSE => read_action(reader),
@@ -76,7 +76,7 @@ fn read_get(alloc: Global, reader: &mut Cursor) -> Result<Response, ApduFault>
     ensures { Reads (λ response. response) result reader.new
         (read_one_of ApduFault.Unreadable get_response_forms reader.old) }
 {
-    match reader.byte(ApduFault::Unreadable)? {
+    match reader.read_byte(ApduFault::Unreadable)? {
         form::NORMAL => read_get_normal(alloc, reader),
         form::get_response::WITH_DATABLOCK => read_get_block(alloc, reader),
         form::get_response::WITH_LIST => read_get_list(alloc, reader),
@@ -113,7 +113,7 @@ fn read_get_block(alloc: Global, reader: &mut Cursor) -> Result<Response, ApduFa
     let id = read_invoke_id(reader)?;
     let last = read_flag(reader)?;
     let number = read_block_number(reader)?;
-    match reader.byte(ApduFault::Unreadable)? {
+    match reader.read_byte(ApduFault::Unreadable)? {
         choice::DATA => read_block_raw(alloc, id, last, number, reader),
         choice::RESULT => read_block_refusal(id, last, number, reader),
         _ => Err(ApduFault::Unreadable),
@@ -163,7 +163,7 @@ fn read_set(reader: &mut Cursor) -> Result<Response, ApduFault>
     ensures { Reads (λ response. response) result reader.new
         (read_one_of ApduFault.Unreadable set_response_forms reader.old) }
 {
-    match reader.byte(ApduFault::Unreadable)? {
+    match reader.read_byte(ApduFault::Unreadable)? {
         form::NORMAL => read_set_normal(reader),
         form::set_response::DATABLOCK => read_set_block(reader),
         form::set_response::LAST_DATABLOCK => read_set_last(reader),
@@ -208,7 +208,7 @@ fn read_action(reader: &mut Cursor) -> Result<Response, ApduFault>
     ensures { Reads (λ response. response) result reader.new
         (read_one_of ApduFault.Unreadable action_response_forms reader.old) }
 {
-    match reader.byte(ApduFault::Unreadable)? {
+    match reader.read_byte(ApduFault::Unreadable)? {
         form::NORMAL => read_action_normal(reader),
         form::action_response::NEXT_PBLOCK => read_action_block(reader),
         _ => Err(ApduFault::UnknownForm),
@@ -241,7 +241,7 @@ fn read_action_block(reader: &mut Cursor) -> Result<Response, ApduFault>
 fn read_nothing(reader: &mut Cursor) -> Result<(), ApduFault>
     ensures { Reads (λ nothing. nothing) result reader.new (nothing_part.read reader.old) }
 {
-    if reader.byte(ApduFault::Unreadable)? != ABSENT {
+    if reader.read_byte(ApduFault::Unreadable)? != ABSENT {
         return Err(ApduFault::Unreadable);
     }
     Ok(())
@@ -252,13 +252,13 @@ fn read_exception(reader: &mut Cursor) -> Result<Response, ApduFault>
     ensures { Reads (λ response. response) result reader.new
         (read_as Response.Exception (exception_part.read reader.old)) }
 {
-    Ok(Response::Exception(match reader.byte(ApduFault::Unreadable)? {
-        state_error::SERVICE_NOT_ALLOWED => match reader.byte(ApduFault::Unreadable)? {
+    Ok(Response::Exception(match reader.read_byte(ApduFault::Unreadable)? {
+        state_error::SERVICE_NOT_ALLOWED => match reader.read_byte(ApduFault::Unreadable)? {
             service_error::OPERATION_NOT_POSSIBLE => Exception::NotAllowed,
             service_error::OTHER_REASON => Exception::Unreadable,
             _ => return Err(ApduFault::Unreadable),
         },
-        state_error::SERVICE_UNKNOWN => match reader.byte(ApduFault::Unreadable)? {
+        state_error::SERVICE_UNKNOWN => match reader.read_byte(ApduFault::Unreadable)? {
             service_error::SERVICE_NOT_SUPPORTED => Exception::Unknown,
             _ => return Err(ApduFault::Unreadable),
         },

@@ -18,12 +18,12 @@ joining_after_block last raw j =
     }
 
 -- a transfer that has ended
-abbrev pub over : Joining → Joining
-over j = record { number = j.number; bytes = []; is_open = false }
+abbrev pub ended_joining : Joining → Joining
+ended_joining j = record { number = j.number; bytes = []; is_open = false }
 
 -- the transfer after a fault: all but `Memory` end it
 abbrev pub joining_by : BlockFault → Joining → Joining
-joining_by NoTransfer j = over j
-joining_by WrongNumber j = over j
-joining_by TooLong j = over j
+joining_by NoTransfer j = ended_joining j
+joining_by WrongNumber j = ended_joining j
+joining_by TooLong j = ended_joining j
 joining_by Memory j = j

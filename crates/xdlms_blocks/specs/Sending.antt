@@ -32,12 +32,12 @@ after_next s = record {
 }
 
 -- a transfer that has ended
-abbrev pub over : Sending → Sending
-over s = record { text = s.text; number = s.number; size = s.size; is_open = false }
+abbrev pub ended_sending : Sending → Sending
+ended_sending s = record { text = s.text; number = s.number; size = s.size; is_open = false }
 
 -- the transfer after a fault: all but `Memory` end it
 abbrev pub sending_by : BlockFault → Sending → Sending
-sending_by NoTransfer s = over s
-sending_by WrongNumber s = over s
-sending_by TooLong s = over s
+sending_by NoTransfer s = ended_sending s
+sending_by WrongNumber s = ended_sending s
+sending_by TooLong s = ended_sending s
 sending_by Memory s = s

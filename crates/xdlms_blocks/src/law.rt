@@ -6,6 +6,6 @@ ghost use Rattle.xdlms_blocks.specs.Law.{IsCut, IsWhole, IsOnly, IsJoined};
 pub fn one_text()
     ensures cut { IsCut }
     ensures whole { IsWhole }
-    ensures only { IsOnly }
+    ensures unique { IsOnly }
     ensures joined { IsJoined }
 {}

@@ -16,5 +16,5 @@ pub returns-clause-found : goal.returns-clause-found
 returns-clause-found c = found_by (SpellsAare c.args.bytes.now) c.read_whole.result
     (aare_of c.args.bytes.now) c.read_whole.ensures (aare_found c.args.bytes.now)
 
-pub returns-clause-only : goal.returns-clause-only
-returns-clause-only c = λ a s. c.read_whole.ensures ∙ aare_again c.args.bytes.now a s
+pub returns-clause-unique : goal.returns-clause-unique
+returns-clause-unique c = λ a s. c.read_whole.ensures ∙ aare_again c.args.bytes.now a s

@@ -11,7 +11,7 @@ returns-clause-found c =
     gives_found (SpellsAarq c.args.bytes.now) Memory (λ (a : Aarq). a) c.read_whole.result
     (aarq_of c.args.bytes.now) c.read_whole.ensures (aarq_found c.args.bytes.now)
 
-pub returns-clause-only : goal.returns-clause-only
-returns-clause-only c = λ a s.
+pub returns-clause-unique : goal.returns-clause-unique
+returns-clause-unique c = λ a s.
     gives_only Memory (λ (r : Aarq). r) c.read_whole.result (aarq_of c.args.bytes.now) a
     c.read_whole.ensures (aarq_again c.args.bytes.now a s)

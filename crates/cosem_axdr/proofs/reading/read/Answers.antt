@@ -9,5 +9,5 @@ returns-clause-found c =
     gives_found (IsFound c.args.bytes.now) Memory (λ read. read) c.read_first.result
     (first_data c.args.bytes.now) c.read_first.ensures (data_found c.args.bytes.now)
 
-pub returns-clause-only : goal.returns-clause-only
-returns-clause-only c = read_only c.args.bytes.now c.read_first.result c.read_first.ensures
+pub returns-clause-unique : goal.returns-clause-unique
+returns-clause-unique c = read_only c.args.bytes.now c.read_first.result c.read_first.ensures

@@ -9,8 +9,8 @@ returns-clause-found c =
     rw c.date_fields.ensures (if_ok (date_of c.args.bytes.now) _
     (λ p e. date_takes c.args.bytes.now p (λ i. omega (arith, c.type_inv.bytes i)) e))
 
-pub returns-clause-only : goal.returns-clause-only
-returns-clause-only c = λ p h e. c.date_fields.ensures ∙ ap date_of e ∙ date_again p h
+pub returns-clause-unique : goal.returns-clause-unique
+returns-clause-unique c = λ p h e. c.date_fields.ensures ∙ ap date_of e ∙ date_again p h
 
 pub returns-clause-length : goal.returns-clause-length
 returns-clause-length c = rw c.date_fields.ensures (date_length c.args.bytes.now)

@@ -9,8 +9,8 @@ returns-clause-found c =
     rw c.date_time_fields.ensures (if_ok (date_time_of c.args.bytes.now) _
     (λ p e. date_time_takes c.args.bytes.now p (λ i. omega (arith, c.type_inv.bytes i)) e))
 
-pub returns-clause-only : goal.returns-clause-only
-returns-clause-only c = λ p h e. c.date_time_fields.ensures ∙ ap date_time_of e
+pub returns-clause-unique : goal.returns-clause-unique
+returns-clause-unique c = λ p h e. c.date_time_fields.ensures ∙ ap date_time_of e
     ∙ date_time_again p h
 
 pub returns-clause-length : goal.returns-clause-length

@@ -9,8 +9,8 @@ returns-clause-found c =
     rw c.time_fields.ensures (if_ok (time_of c.args.bytes.now) _
     (λ p e. time_takes c.args.bytes.now p e))
 
-pub returns-clause-only : goal.returns-clause-only
-returns-clause-only c = λ p h e. c.time_fields.ensures ∙ ap time_of e ∙ time_again p h
+pub returns-clause-unique : goal.returns-clause-unique
+returns-clause-unique c = λ p h e. c.time_fields.ensures ∙ ap time_of e ∙ time_again p h
 
 pub returns-clause-length : goal.returns-clause-length
 returns-clause-length c = rw c.time_fields.ensures (time_length c.args.bytes.now)

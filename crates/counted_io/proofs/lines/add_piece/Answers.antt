@@ -25,14 +25,14 @@ returns g c =
       piece = take end.result shown;
       added = c.in_ok-extend_from_slice.ensures.items;
       read = moved.0;
-      stops = StopsAt-take shown 10 end.result end.ensures.bound end.ensures.before;
+      stops = StopsAt-take shown 10 end.result end.ensures.bound end.ensures.no_earlier_end;
       inside = λ not_done. elim c.if-end-eq0.branch [
         | then-end-eq0 w ↦ absurd (one_answer c.if-end-eq0.is_done (w.is_done-is
             ∙ eq-eqb _ _ w.if-end-eq0.true) not_done)
         | else-end-eq0 w ↦ subst (λ k. All (λ x. x ≢ 10) (take k shown))
             (omega (arith, w.if-end-eq0.false))
             (All-more (λ x. x ≢ 10) shown (end.result - 1) 0
-            (omega (arith, w.if-end-eq0.false, end.ensures.bound)) end.ensures.before
+            (omega (arith, w.if-end-eq0.false, end.ensures.bound)) end.ensures.no_earlier_end
             (λ e. one_answer c.if-end-eq0.is_done (w.is_done-is ∙ eq-eqb _ _ e) not_done))
       ];
       more = λ not_done. elim c.if-end-eq0.branch [

@@ -8,7 +8,7 @@ lines-init c = rw c.new-jobs.ensures (left_all c.args.text.now)
 pub returns-in-Err : goal.returns-in-Err
 returns-in-Err c =
     wrong_line c.args.text.now c.lines.jobs c.add_job.new.jobs c.lines.number c.lines.rest.now
-    c.in-Some.line.now c.in-Some.behind.now c.in-Err.fault c.lines.invariant
+    c.in-Some.line.now c.in-Some.next_rest.now c.in-Err.fault c.lines.invariant
     c.in-Some.ensures.lines c.in-Some.ensures.unended c.in-Err.ensures
 
 pub overflow_add-number : goal.overflow_add-number
@@ -17,7 +17,7 @@ overflow_add-number c = omega (arith, c.lines.invariant.count, lines_few c.args.
 pub lines-preserved : goal.lines-preserved
 lines-preserved c =
     left_more c.args.text.now c.lines.jobs c.add_job.new.jobs c.lines.number c.lines.rest.now
-    c.in-Some.line.now c.in-Some.behind.now c.lines.invariant
+    c.in-Some.line.now c.in-Some.next_rest.now c.lines.invariant
     c.in-Some.ensures.lines c.in-Some.ensures.unended c.in-Ok.ensures
 
 pub returns-in-Err-add_job : goal.returns-in-Err-add_job

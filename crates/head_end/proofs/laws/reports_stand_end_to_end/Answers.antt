@@ -7,5 +7,5 @@ returns-clause-text c = reports_join
 pub returns-clause-lines : goal.returns-clause-lines
 returns-clause-lines c = lines_join
 
-pub returns-clause-only : goal.returns-clause-only
-returns-clause-only c = is_the_report
+pub returns-clause-unique : goal.returns-clause-unique
+returns-clause-unique c = is_the_report

@@ -18,8 +18,8 @@ run c =
 pub returns-clause-within : goal.returns-clause-within
 returns-clause-within c = (run c).within
 
-pub returns-clause-ones : goal.returns-clause-ones
-returns-clause-ones c k lt =
+pub returns-clause-set_bits : goal.returns-clause-set_bits
+returns-clause-set_bits c k lt =
     same_word c.args.words.now c.args.at k (omega (arith, (run c).within)) ∙ (run c).ones k lt
 
 pub returns-clause-stops : goal.returns-clause-stops

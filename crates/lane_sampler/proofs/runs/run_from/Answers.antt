@@ -12,5 +12,5 @@ pub returns-clause-passing : goal.returns-clause-passing
 returns-clause-passing c test values mask long =
     run_passes _ _ _ _ c.requires (run c) test values mask long
 
-pub returns-clause-all : goal.returns-clause-all
-returns-clause-all c test values mask = all_pass _ _ _ _ c.requires (run c) test values mask
+pub returns-clause-all_pass : goal.returns-clause-all_pass
+returns-clause-all_pass c test values mask = all_pass _ _ _ _ c.requires (run c) test values mask

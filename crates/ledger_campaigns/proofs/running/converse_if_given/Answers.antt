@@ -7,6 +7,6 @@ returns-clause-log g c = inr (
   may_still c.args.task.now.job.now.verb _ _
       (given_kept c.args.task.now.place _ _ c.report_outcome-stored.ensures.seen)
       c.in-Some.ensures.given,
-  c.report_outcome-stored.ensures.asked,
+  c.report_outcome-stored.ensures.asked_to_store,
   c.in_ok-outcome.ensures.log,
 )

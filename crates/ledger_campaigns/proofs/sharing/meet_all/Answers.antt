@@ -6,7 +6,8 @@ use Rattle.ledger_campaigns.proofs.sharing.meet_all.Goals as goal
 pub loop-i-preserved : goal.loop-i-preserved
 loop-i-preserved g c =
     let meets = c.meet.ensures.meets in (
-      rw c.tell-note.ensures.this (set-get_or c.loop-i.places c.loop-i.i c.index-places-i.result
+      rw c.tell-note.ensures.unchanged
+          (set-get_or c.loop-i.places c.loop-i.i c.index-places-i.result
           ∙ c.loop-i.invariant.0),
       c.meet.ensures.lock.0 ∙ c.loop-i.invariant.1,
       meets.watches.sees.origin ∙ c.loop-i.invariant.2,

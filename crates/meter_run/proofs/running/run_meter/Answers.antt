@@ -10,6 +10,6 @@ returns-in-Ok-clause-run g c =
       moments = g.M.MomentSource.forecast c.args.sources.moments;
       presses = g.U.ButtonSource.forecast c.args.sources.buttons;
       password = c.args.password.now;
-    }) c.serve-port.result.1 c.trace_text-trace.result c.in-Ok.port c.serve-port.result.0
+    }) c.serve-port.result.1 c.close_and_export-trace.result c.in-Ok.port c.serve-port.result.0
     (c.in-Ok.ensures.known ∙ ap first_known c.new.ensures.origin) c.serve-port.ensures.serves
-    c.trace_text-trace.ensures.traces
+    c.close_and_export-trace.ensures.traces

@@ -26,7 +26,7 @@ returns-clause-journaled g c =
 pub returns-in_default-clause-journaled : goal.returns-in_default-clause-journaled
 returns-in_default-clause-journaled g c =
     no_journaled c.args.terms.now.journal g.D.Durability.is_durable _
-    c.start_worker.new.port (omega (arith, c.in_default.ensures.most))
+    c.start_worker.new.port (omega (arith, c.in_default.ensures.within_one))
 
 pub returns-clause-limit : goal.returns-clause-limit
 returns-clause-limit g c = ok_beside c.join_both.ensures _ c.serve_clients-served.ensures.limit
@@ -43,7 +43,7 @@ returns-clause-fault g c =
 pub returns-in_default-clause-serves : goal.returns-in_default-clause-serves
 returns-in_default-clause-serves g c =
     serves_none _ 0 _ _ _ c.in_default.ensures.none.0 c.in_default.ensures.none.1
-    c.in_default.ensures.most
+    c.in_default.ensures.within_one
 
 pub start_worker-requires-send-T : goal.start_worker-requires-send-T
 start_worker-requires-send-T g c κs within =

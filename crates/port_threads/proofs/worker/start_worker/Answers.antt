@@ -10,12 +10,13 @@ returns-in-Err-clause-none g c =
     split.lock.1 split.this split.other.2 c.in-Err.ensures.err joined.lock.0 joined.lock.1
     joined.joins
 
-pub returns-in_default-clause-most : goal.returns-in_default-clause-most
-returns-in_default-clause-most g c = omega (arith, ap (λ k. k.splits) c.in_default.ensures.err)
+pub returns-in_default-clause-within_one : goal.returns-in_default-clause-within_one
+returns-in_default-clause-within_one g c = omega
+    (arith, ap (λ k. k.splits) c.in_default.ensures.err)
 
-pub returns-in-Err-clause-most : goal.returns-in-Err-clause-most
-returns-in-Err-clause-most g c = omega (
+pub returns-in-Err-clause-within_one : goal.returns-in-Err-clause-within_one
+returns-in-Err-clause-within_one g c = omega (
   arith,
-  ap (λ k. k.splits) c.in-Ok.ensures.this,
+  ap (λ k. k.splits) c.in-Ok.ensures.parent,
   c.join.ensures.joins.sees.splits,
 )

@@ -17,7 +17,7 @@ returns-in-Err-clause-stop c =
     subst (λ (lines : List Line). Runs c.args.core.now c.events.core
     (take c.events.event-index c.args.events.now) lines)
     (sym c.from_vec.ensures) c.events.invariant.ran in
-    stops_at c.args.core.now c.events.core c.line_after.new.core c.args.events.now
+    stops_at c.args.core.now c.events.core c.step_to_line.new.core c.args.events.now
     c.events.event-index event c.from_vec.result
     below is ran c.in-Err.ensures.err c.in-Err.ensures.sure
 
@@ -31,12 +31,12 @@ events-preserved c =
     c.as_slice-event-items.ensures in
     let pushed = rw c.unwrap.ensures at c.push.ensures.items in
     let counted = rw c.unwrap.ensures at c.push.ensures.len in
-    let ran = ran_further c.args.core.now c.events.core c.line_after.new.core c.args.events.now
+    let ran = ran_further c.args.core.now c.events.core c.step_to_line.new.core c.args.events.now
     c.events.event-index event
-    c.events.lines.items c.in-Ok-line_after.line below is c.events.invariant.ran
-    c.in-Ok-line_after.ensures.world c.in-Ok-line_after.ensures.line in
+    c.events.lines.items c.in-Ok-step_to_line.line below is c.events.invariant.ran
+    c.in-Ok-step_to_line.ensures.world c.in-Ok-step_to_line.ensures.line in
     record {
-      ran = subst (λ (lines : List Line). Runs c.args.core.now c.line_after.new.core
+      ran = subst (λ (lines : List Line). Runs c.args.core.now c.step_to_line.new.core
           (take (c.events.event-index + 1) c.args.events.now) lines)
           (sym pushed) ran;
       counted = omega (arith, counted);

@@ -9,7 +9,7 @@ pub returns-then-over-gt0-clause-kind : goal.returns-then-over-gt0-clause-kind
 returns-then-over-gt0-clause-kind c = λ n within.
     let P : ℕ → Type 0 = λ v. IsTrue (is_over c.args.scan.now.threshold v) in
     let rest = drop c.args.at c.args.values.now in
-    let all = c.run_from-over.ensures.all (is_over c.args.scan.now.threshold) c.args.values.now
+    let all = c.run_from-over.ensures.all_pass (is_over c.args.scan.now.threshold) c.args.values.now
     c.requires.right.over in
     let fewer : n ≤ c.run_from-over.result = omega (arith, within, c.from.ensures) in
     over_are_of_kind c.args.scan.now.threshold (take n rest)
@@ -20,7 +20,8 @@ pub returns-then-under-gt0-clause-kind : goal.returns-then-under-gt0-clause-kind
 returns-then-under-gt0-clause-kind c = λ n within.
     let P : ℕ → Type 0 = λ v. IsTrue (is_under c.args.scan.now.threshold v) in
     let rest = drop c.args.at c.args.values.now in
-    let all = c.run_from-under.ensures.all (is_under c.args.scan.now.threshold) c.args.values.now
+    let all = c.run_from-under.ensures.all_pass (is_under c.args.scan.now.threshold)
+    c.args.values.now
     c.requires.right.under in
     let fewer : n ≤ c.run_from-under.result =
     omega (arith, within, c.from-then-under-gt0.ensures) in

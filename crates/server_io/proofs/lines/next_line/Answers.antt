@@ -9,17 +9,17 @@ returns-in-Ok-None-clause-end g c = λ _. ended c.bytes.invariant.read
 
 pub returns-then-is_long-clause-too_long : goal.returns-then-is_long-clause-too_long
 returns-then-is_long-clause-too_long g c =
-    let read = rw c.in-Ok-Some.field-0-is at c.in-Ok-Some.ensures.some in
+    let read = rw c.in-Ok-Some.field-0-is at c.in-Ok-Some.ensures.byte in
     λ _. passes c.bytes.invariant.read read c.if-byte-eq-LINE_END.true c.if-is_long.true
 
 pub returns-else-is_long-clause-whole : goal.returns-else-is_long-clause-whole
 returns-else-is_long-clause-whole g c =
-    let read = rw c.in-Ok-Some.field-0-is at c.in-Ok-Some.ensures.some in
+    let read = rw c.in-Ok-Some.field-0-is at c.in-Ok-Some.ensures.byte in
     λ _. takes c.bytes.invariant.read read c.if-byte-eq-LINE_END.true c.if-is_long.false
 
 pub bytes-preserved : goal.bytes-preserved
 bytes-preserved g c =
-    let read = rw c.in-Ok-Some.field-0-is at c.in-Ok-Some.ensures.some in
+    let read = rw c.in-Ok-Some.field-0-is at c.in-Ok-Some.ensures.byte in
     elim c.if-len-lt-MAX_KEPT.branch [
       | then-len-lt-MAX_KEPT+in-Ok w ↦ record {
         room = search rules;

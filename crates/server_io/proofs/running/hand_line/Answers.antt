@@ -3,7 +3,7 @@ use Rattle.server_io.proofs.running.hand_line.Goals as goal
 
 pub returns-in-Ok-Some-clause-ok : goal.returns-in-Ok-Some-clause-ok
 returns-in-Ok-Some-clause-ok g c = one_taken _ _ _ _
-    (rw c.in-Ok-Some.field-0-is at c.in-Ok-Some.ensures.some) c.take.ensures
+    (rw c.in-Ok-Some.field-0-is at c.in-Ok-Some.ensures.event) c.take.ensures
 
 pub returns-in-Ok-None-clause-ok : goal.returns-in-Ok-None-clause-ok
 returns-in-Ok-None-clause-ok g c = none_taken _ _

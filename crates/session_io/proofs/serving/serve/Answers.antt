@@ -94,8 +94,8 @@ returns-in-Some-clause-served g c = λ password owes.
     (c.read.auto.buffer ∙ c.reads.invariant.room))
     (omega (arith, c.reads-test.true))
     (omega (arith, c.in-Ok.ensures.counted, c.reads.invariant.counted))
-    (rw c.in-Some.ensures.some.0 at c.in_ok-end.ensures.ok)
-    (wrong_ends c.in-Some.end (g.R.Reader.remaining c.read.new.reader) c.in-Some.ensures.some.1)
+    (rw c.in-Some.ensures.header.0 at c.in_ok-end.ensures.ok)
+    (wrong_ends c.in-Some.end (g.R.Reader.remaining c.read.new.reader) c.in-Some.ensures.header.1)
 
 pub reads-preserved : goal.reads-preserved
 reads-preserved g c = record {

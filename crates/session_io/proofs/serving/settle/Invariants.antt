@@ -6,7 +6,7 @@ use Rattle.relay_events.specs.declared.reply.Reply.{Reply}
 use Rattle.session_io.specs.Serving.{remaining_plan}
 use Rattle.session_io.specs.Settling.{HasDone}
 use Rattle.session_io.specs.Sides.{outlets_of}
-use Rattle.session_core.specs.Remaining.{still_sends, is_asking, is_finished, load}
+use Rattle.session_core.specs.Remaining.{still_sends, is_asking, is_finished, load_of}
 use Rattle.session_io.proofs.serving.settle.Given as goal
 
 abbrev pub invariant-due : goal.invariant-due
@@ -26,4 +26,4 @@ invariant-due g l = record {
 }
 
 abbrev pub decreases-due : goal.decreases-due
-decreases-due g l = load l.session
+decreases-due g l = load_of l.session

@@ -15,4 +15,4 @@ returns c =
     tells_run c.args.recorder.now c.args.recorder.now c.in_ok-trace.trace
     c.write_trace-text.result refl is
     c.exported_run_is_played.ensures c.write_trace-text.ensures.text
-    c.write_trace-text.ensures.read_back c.write_trace-text.ensures.short
+    c.write_trace-text.ensures.read_back c.write_trace-text.ensures.within_max

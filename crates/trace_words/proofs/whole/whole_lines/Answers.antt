@@ -9,12 +9,12 @@ pub overflow_add-count : goal.overflow_add-count
 overflow_add-count c =
     omega (
       arith,
-      room_for_one c.args.text.now c.lines.rest.now c.in-Some.behind.now c.lines.count
+      room_for_one c.args.text.now c.lines.rest.now c.in-Some.next_rest.now c.lines.count
           c.in-Some.ensures c.lines.invariant,
     )
 
 pub lines-preserved : goal.lines-preserved
-lines-preserved c = one_kept c.args.text.now c.lines.rest.now c.in-Some.behind.now c.lines.count
+lines-preserved c = one_kept c.args.text.now c.lines.rest.now c.in-Some.next_rest.now c.lines.count
     c.in-Some.ensures c.lines.invariant
 
 pub returns : goal.returns

@@ -15,7 +15,7 @@ returns-then-turn-bound-clause-watches g c = watches_trans _ _ _ c.loop.invarian
 pub returns-then-try_draw-clause-watches : goal.returns-then-try_draw-clause-watches
 returns-then-try_draw-clause-watches g c =
     let first = known_of c.args.place.now in
-    let drew = c.try_draw.ensures.yes c.if-try_draw.true in
+    let drew = c.try_draw.ensures.on_true c.if-try_draw.true in
     subst (λ s. Watches g.T.Turned.legal first s.view.known) (sym drew)
     (watches_trans _ _ _ c.loop.invariant.4 c.look-turn.ensures.watches)
 
@@ -31,7 +31,7 @@ loop-preserved g c =
         ap (λ p. p.table_id) w.place-is
             ∙ w.try_draw.ensures.seat,
         ap (λ p. state_of p) w.place-is
-            ∙ w.try_draw.ensures.no w.if-try_draw.false,
+            ∙ w.try_draw.ensures.on_false w.if-try_draw.false,
       )
       | else-served-turn-via-else-served-turn w ↦ (
         ap (λ p. p.table_id) w.place-is,

@@ -26,7 +26,7 @@ load-requires g c =
           (ap (λ m. m.0.stage) now),
     )
 
-pub returns-clause-both : goal.returns-clause-both
-returns-clause-both g c = let now = c.join_seat.ensures.2 in let other = view_of c.args.other in
+pub returns-clause-merged : goal.returns-clause-merged
+returns-clause-merged g c = let now = c.join_seat.ensures.2 in let other = view_of c.args.other in
     subst (λ m. KnowsBoth g.T.Turned.legal m.0.known other (view_of c.load.new.seat)) now
     (c.load.ensures.2.knows_both other (ap (λ m. m.0.stage) now))

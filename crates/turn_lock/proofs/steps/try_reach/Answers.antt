@@ -13,10 +13,12 @@ load-requires g c =
           c.args.turn _ was.port was.stage_is,
     )
 
-pub returns-clause-yes : goal.returns-clause-yes
-returns-clause-yes g c = λ yes. (c.load.ensures.2 c.args.turn c.requires.waiting.stage_is).if_served
+pub returns-clause-on_true : goal.returns-clause-on_true
+returns-clause-on_true g c = λ yes.
+    (c.load.ensures.2 c.args.turn c.requires.waiting.stage_is).if_served
     (eqb-true c.load.result c.args.turn yes)
 
-pub returns-clause-no : goal.returns-clause-no
-returns-clause-no g c = λ no_turn. (c.load.ensures.2 c.args.turn c.requires.waiting.stage_is).if_not
+pub returns-clause-on_false : goal.returns-clause-on_false
+returns-clause-on_false g c = λ no_turn.
+    (c.load.ensures.2 c.args.turn c.requires.waiting.stage_is).if_not
     (eqb-false c.load.result c.args.turn no_turn)

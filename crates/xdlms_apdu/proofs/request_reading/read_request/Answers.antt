@@ -14,8 +14,8 @@ returns-clause-found c =
     c.read_whole.result (request_of bytes) c.read_whole.ensures
     (found Unreadable request_lawful bytes)
 
-pub returns-clause-only : goal.returns-clause-only
+pub returns-clause-unique : goal.returns-clause-unique
 unfolding request_of SpellsRequest
-returns-clause-only c = λ r s.
+returns-clause-unique c = λ r s.
     gives_only Memory (λ (q : Request). q) c.read_whole.result (request_of c.args.bytes.now) r
     c.read_whole.ensures (read_again Unreadable request_lawful c.args.bytes.now r s)

@@ -5,9 +5,10 @@ use Rattle.cosem_datetime.proofs.entry.EntryPattern.matches_on.Goals as goal
 pub returns-then-matches_day : goal.returns-then-matches_day
 returns-then-matches_day c =
     day_tells c.args.self.now c.args.day c.args.from c.args.to c.matches_between.result
-    c.requires.to (sym c.matches_day.ensures ∙ c.if-matches_day.true) c.matches_between.ensures
+    c.requires.to_in_day (sym c.matches_day.ensures ∙ c.if-matches_day.true)
+    c.matches_between.ensures
 
 pub returns-else-matches_day : goal.returns-else-matches_day
 returns-else-matches_day c =
     rw c.if-matches_day.false (day_fails c.args.self.now c.args.day c.args.from c.args.to
-    c.requires.to (sym c.matches_day.ensures ∙ c.if-matches_day.false))
+    c.requires.to_in_day (sym c.matches_day.ensures ∙ c.if-matches_day.false))

@@ -15,6 +15,6 @@ invariant_of-self-in-Under c =
       over = c.self.inside.over;
       under = c.self.inside.under;
     })
-    c.args.self.now c.none-self-inside-in-Under.result c.skip-in-Under.new.self c.args.n c.args.last
-    c.self.view_is c.none-self-inside-in-Under.ensures c.skip-in-Under.ensures c.requires.non_zero
+    c.args.self.now c.zero-self-inside-in-Under.result c.skip-in-Under.new.self c.args.n c.args.last
+    c.self.view_is c.zero-self-inside-in-Under.ensures c.skip-in-Under.ensures c.requires.non_zero
     (subst Few c.in-Under.is c.requires.quiet) (c.requires.last ∙ c.in-Under.is) c.self.invariant

@@ -36,4 +36,4 @@ returns-in-Err-clause-tends g c =
 pub take_back-requires : goal.take_back-requires
 take_back-requires g c =
     let same = returned_same _ _ _ (c.requires.hands_back _) c.in-Err.ensures.err in
-    same.lock ∙ c.in-Ok.ensures.other.0 ∙ sym c.in-Ok.ensures.lock.0
+    same.lock ∙ c.in-Ok.ensures.child.0 ∙ sym c.in-Ok.ensures.lock.0

@@ -9,12 +9,12 @@ use Rattle.relay_core.proofs.relay.RelayCore.take_pairs.Goals as goal
 pub samples-init : goal.samples-init
 samples-init c = record {
   takes = subst (λ (f : FiringCounts). Takes c.args.self.now c.args.self.now no_firings f [])
-      (sym c.none-firings.ensures.firings)
+      (sym c.zero-firings.ensures.firings)
       (takes_none c.args.self.now no_firings);
   within = omega arith;
   right = c.scan_at-scan.ensures.right;
   other_right = c.scan_at-other_scan.ensures.right;
-  counted = c.none-firings.ensures.none;
+  counted = c.zero-firings.ensures.none;
 }
 
 pub scan_at-scan-requires-in-samples-clause-right :

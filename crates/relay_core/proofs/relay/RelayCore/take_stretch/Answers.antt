@@ -23,4 +23,4 @@ returns-clause-takes c =
     c.take_sample-fire.ensures.world c.take_sample-fire.ensures.fire c.count.ensures.firings)
 
 pub returns-clause-counted : goal.returns-clause-counted
-returns-clause-counted c = c.count.ensures.most c.args.at c.requires.counted
+returns-clause-counted c = c.count.ensures.within_one c.args.at c.requires.counted

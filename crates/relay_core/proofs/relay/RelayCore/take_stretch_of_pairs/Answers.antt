@@ -18,7 +18,7 @@ pub count-requires-2 : goal.count-requires-2
 count-requires-2 c =
     at_most_more (2 * c.args.at + 1) 512 c.count.new.self
     (omega (arith, c.requires.within, c.requires.within_max))
-    (c.count.ensures.most (2 * c.args.at) c.requires.counted)
+    (c.count.ensures.within_one (2 * c.args.at) c.requires.counted)
 
 pub returns-clause-takes : goal.returns-clause-takes
 returns-clause-takes c =
@@ -46,5 +46,5 @@ returns-clause-takes c =
 pub returns-clause-counted : goal.returns-clause-counted
 returns-clause-counted c =
     at_most_more (2 * c.args.at + 1 + 1) (2 * (c.args.at + 1)) c.count-2.new.self (omega arith)
-    (c.count-2.ensures.most (2 * c.args.at + 1)
-    (c.count.ensures.most (2 * c.args.at) c.requires.counted))
+    (c.count-2.ensures.within_one (2 * c.args.at + 1)
+    (c.count.ensures.within_one (2 * c.args.at) c.requires.counted))

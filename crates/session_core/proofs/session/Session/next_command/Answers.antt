@@ -10,5 +10,5 @@ returns-clause-asks c =
     c.in_ok-link.link c.in_ok-link.command
     c.in-Listen.is (sym c.front.ensures.head ∙ c.in-Whole.is) c.ports-source.ensures.src
     c.ports-source.ensures.dst c.if-destination-ne-SERVER_PORT.false
-    c.payload-payload.ensures c.pass.ensures.after c.pass.ensures.goes_on
+    c.payload-payload.ensures c.pass.ensures.new_state c.pass.ensures.keeps_frames
     c.in_ok-link.ensures.heard (rw c.form-form.ensures at c.turn_to.ensures))

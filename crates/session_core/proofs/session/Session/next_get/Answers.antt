@@ -9,5 +9,5 @@ returns-clause-asks c =
     c.in_ok-asked.asked c.in_ok-asked.attr
     c.in-Listen.is (sym c.front.ensures.head ∙ c.in-Whole.is) c.ports-source.ensures.src
     c.ports-source.ensures.dst c.if-destination-ne-SERVER_PORT.false
-    c.payload-payload.ensures c.pass.ensures.after c.pass.ensures.goes_on
+    c.payload-payload.ensures c.pass.ensures.new_state c.pass.ensures.keeps_frames
     c.in_ok-asked.ensures.heard c.turn_to.ensures

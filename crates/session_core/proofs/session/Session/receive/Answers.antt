@@ -7,7 +7,7 @@ pub returns-then-dst-ne-SERVER_PORT-clause-works : goal.returns-then-dst-ne-SERV
 returns-then-dst-ne-SERVER_PORT-clause-works c =
     passes_any the_row.Denot c.args.self.now c.pass.new.self c.ports-src.result.1 c.args.size
     c.requires.listening c.requires.whole c.ports-src.ensures.dst
-    (ne_eqb _ _ c.if-dst-ne-SERVER_PORT.true) c.pass.ensures.after c.pass.ensures.goes_on
+    (ne_eqb _ _ c.if-dst-ne-SERVER_PORT.true) c.pass.ensures.new_state c.pass.ensures.keeps_frames
 
 pub returns-clause-works : goal.returns-clause-works
 returns-clause-works c =
@@ -16,5 +16,5 @@ returns-clause-works c =
     c.args.size c.in_ok-step.step c.take.result
     c.requires.listening c.requires.whole c.ports-src.ensures.src c.ports-src.ensures.dst
     c.if-dst-ne-SERVER_PORT.false c.payload-payload.ensures
-    c.pass-2.ensures.after c.pass-2.ensures.goes_on c.in_ok-step.ensures.outcome
-    c.in_ok-step.ensures.after c.take.ensures.next c.take.ensures.after
+    c.pass-2.ensures.new_state c.pass-2.ensures.keeps_frames c.in_ok-step.ensures.outcome
+    c.in_ok-step.ensures.after c.take.ensures.next c.take.ensures.new_state

@@ -7,7 +7,7 @@ pub returns-in_ok-step-in-Read-clause-works : goal.returns-in_ok-step-in-Read-cl
 returns-in_ok-step-in-Read-clause-works c =
     reads_any the_row.Denot c.args.self.now c.take.new.self c.in-Read.joined
     c.in_ok-step-in-Read.step c.take.result c.in-Read.is c.in_ok-step-in-Read.ensures.outcome
-    c.in_ok-step-in-Read.ensures.settled c.take.ensures.next c.take.ensures.after
+    c.in_ok-step-in-Read.ensures.settled c.take.ensures.next c.take.ensures.new_state
 
 pub returns-in-Await-clause-works : goal.returns-in-Await-clause-works
 returns-in-Await-clause-works c = awaits_any ℕ c.args.self.now c.in-Await.field-0 c.in-Await.is

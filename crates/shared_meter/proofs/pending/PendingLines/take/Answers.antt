@@ -2,6 +2,6 @@ use Rattle.std.proofs.Common.{refl, ap, ◌∙◌}
 use Rattle.shared_meter.proofs.PendingLemmas.{none_left}
 use Rattle.shared_meter.proofs.pending.PendingLines.take.Goals as goal
 
-pub returns-clause-stays : goal.returns-clause-stays
-returns-clause-stays c = rw (← c.self.view_is) (λ lines was. none_left _ _ lines
+pub returns-clause-preserved : goal.returns-clause-preserved
+returns-clause-preserved c = rw (← c.self.view_is) (λ lines was. none_left _ _ lines
     (ap (λ v. v.items) c.replace-text.ensures.after ∙ c.clear.ensures.items) refl refl was)

@@ -11,8 +11,8 @@ invariant_of-self c =
     c.whole_lines-len.ensures in
     (held.within, held.few)
 
-pub returns-clause-kept : goal.returns-clause-kept
-returns-clause-kept c =
+pub returns-clause-whole_lines : goal.returns-clause-whole_lines
+returns-clause-whole_lines c =
     let held = held_whole c.as_slice.result.now c.self.inside.text.items c.truncate.new.self.items
     c.self.inside.taken c.self.inside.number c.whole_lines-len.result.0 c.whole_lines-len.result.1
     c.as_slice.ensures.value c.self.invariant.0 c.self.invariant.1 c.truncate.ensures.items

@@ -64,7 +64,7 @@ returns-in-Some g c = λ value_from reader.
       refl,
     ) in
     let place : place_at c.self.inside.number (drop c.self.inside.taken c.self.inside.text.items)
-    ≡ c.args.self.now = c.self.view_is ∙ c.let_go.ensures in
+    ≡ c.args.self.now = c.self.view_is ∙ c.drop_read_text.ensures in
     rw (← place, c.at_line.ensures, long, left)
     (held_read value_from c.self.inside.number (drop c.self.inside.taken c.self.inside.text.items)
     c.in-Some.line.now c.in-Some.rest.now c.value_in-read.result here ends read)
@@ -76,6 +76,6 @@ returns-in-None g c = λ value_from reader.
     let none : lines_of (drop c.self.inside.taken c.self.inside.text.items) ≡ [] =
     ap lines_of (sym slice) ∙ c.in-None.ensures.lines in
     let place : place_at c.self.inside.number (drop c.self.inside.taken c.self.inside.text.items)
-    ≡ c.args.self.now = c.self.view_is ∙ c.let_go.ensures in
+    ≡ c.args.self.now = c.self.view_is ∙ c.drop_read_text.ensures in
     inr (ap (line_as value_from) (sym place) ∙ none_held value_from c.self.inside.number
     (drop c.self.inside.taken c.self.inside.text.items) none)

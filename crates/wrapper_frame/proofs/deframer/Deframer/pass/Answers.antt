@@ -9,5 +9,5 @@ overflow_add-size c =
     let w = whole_parts c.args.self.now c.args.size c.requires in
     omega (arith, w.small)
 
-pub returns-clause-goes_on : goal.returns-clause-goes_on
-returns-clause-goes_on c = goes_on_as _ _ _ c.requires (grind (arith, common_steps))
+pub returns-clause-keeps_frames : goal.returns-clause-keeps_frames
+returns-clause-keeps_frames c = goes_on_as _ _ _ c.requires (grind (arith, common_steps))

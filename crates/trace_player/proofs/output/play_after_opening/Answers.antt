@@ -1,7 +1,7 @@
 use Rattle.std.proofs.Common.{inr, sym, ◌∙◌}
 use Rattle.std.proofs.lemmas.Result.{err_from_is_err_and}
 use Rattle.trace_player.proofs.Outputs.{played_behind, surplus_behind}
-use Rattle.trace_player.proofs.output.play_behind.Goals as goal
+use Rattle.trace_player.proofs.output.play_after_opening.Goals as goal
 
 pub returns-in_err-end-clause-err : goal.returns-in_err-end-clause-err
 returns-in_err-end-clause-err c =

@@ -5,7 +5,7 @@ use Rattle.trace_openings.specs.OpeningFields.{id_from}
 use Rattle.trace_words.specs.Rows.{all_at}
 use Rattle.trace_words.proofs.Steps.{goes_on, refused, too_many, is_done}
 use Rattle.trace_openings.proofs.OpeningLemmas.{id_is, id_fails}
-use Rattle.trace_openings.proofs.limiter_fields.ids.Goals as goal
+use Rattle.trace_openings.proofs.limiter_fields.read_ids.Goals as goal
 
 pub returns-then-len-eq-MAX_GROUPS : goal.returns-then-len-eq-MAX_GROUPS
 returns-then-len-eq-MAX_GROUPS c =

@@ -2,7 +2,7 @@ use Rattle.std.proofs.Common.{◌-◌, vec_len}
 use Rattle.lane_sampler.specs.declared.samples.TheConstants.{MAX_VALUES}
 use Rattle.trace_lines.specs.Parts.{sample_part}
 use Rattle.trace_words.proofs.Steps.{ItemsSoFar}
-use Rattle.trace_lines.proofs.samples.values.Given as goal
+use Rattle.trace_lines.proofs.samples.read_values.Given as goal
 
 abbrev pub invariant-items : goal.invariant-items
 invariant-items l = record {

@@ -3,7 +3,7 @@ use Rattle.wire_bytes.specs.Format.{items_read}
 use Rattle.wire_bytes.proofs.Items.{ends}
 use Rattle.trace_lines.specs.Parts.{selection_part}
 use Rattle.trace_words.specs.declared.fault.RowFault.TheVariants.{Memory}
-use Rattle.trace_lines.proofs.items.selection_items.Goals as goal
+use Rattle.trace_lines.proofs.items.read_selection_items.Goals as goal
 
 pub returns-in_err-next_selection : goal.returns-in_err-next_selection
 returns-in_err-next_selection c =

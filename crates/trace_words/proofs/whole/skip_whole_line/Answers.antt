@@ -1,6 +1,6 @@
 use Rattle.std.proofs.Common.{sym, ◌∙◌}
 use Rattle.trace_words.proofs.WholeLemmas.{none_whole, zero_whole}
-use Rattle.trace_words.proofs.whole.behind_whole.Goals as goal
+use Rattle.trace_words.proofs.whole.skip_whole_line.Goals as goal
 
 pub returns-in_default : goal.returns-in_default
 returns-in_default c = none_whole c.args.text.now c.in_default.ensures.lines

@@ -6,7 +6,7 @@ use Rattle.program.specs.declared.fault.Fault.TheVariants.{Input}
 use Rattle.server_commands.specs.Heads.{Grows, lines_before}
 use Rattle.server_commands.proofs.Heads.{grows_on}
 use Rattle.server_commands.proofs.HeadsFound.{ahead_new, ahead_end, behind_first, fault_on, from_count, line_cut, same_fault, version_line, whole_line}
-use Rattle.server_commands.proofs.heading.head_text.Goals as goal
+use Rattle.server_commands.proofs.heading.read_head_text.Goals as goal
 
 pub returns-in_err-add_line-clause-input : goal.returns-in_err-add_line-clause-input
 returns-in_err-add_line-clause-input g c = λ is whole rest left small laid.

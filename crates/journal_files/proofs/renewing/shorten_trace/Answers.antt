@@ -1,7 +1,7 @@
 use Rattle.std.proofs.Common.{◌≡◌, ℕ, ◌-◌, List, length, take, drop, ap, ◌∙◌}
 use Rattle.journal_files.proofs.RenewalLemmas as lemma
 use Rattle.relay_events.specs.declared.event.Event.{Event}
-use Rattle.journal_files.proofs.renewing.later_trace.Goals as goal
+use Rattle.journal_files.proofs.renewing.shorten_trace.Goals as goal
 
 pub returns-in-Ok : goal.returns-in-Ok
 returns-in-Ok c =
@@ -11,7 +11,7 @@ returns-in-Ok c =
     let count : c.saturating_sub.result ≡ length earlier.events - depth =
     c.saturating_sub.ensures ∙ ap (λ (es : List Event). length es - depth) events in
     let state = c.in_ok-opening.ensures in
-    lemma.later_trace depth earlier
+    lemma.shorten_trace depth earlier
     (record { opening = c.in_ok-opening.opening; events = c.in-Ok.events })
     c.split_at.result.0.now state.fit state.range state.agrees
     (c.split_at.ensures.front ∙ (λ i. take (count i) (events i)))

@@ -6,7 +6,7 @@ use Rattle.trace_words.specs.Parts.{after_first}
 use Rattle.trace_words.specs.Rows.{all_at}
 use Rattle.trace_lines.specs.Parts.{sample_part}
 use Rattle.trace_lines.proofs.SampleSteps.{value_is, value_fails}
-use Rattle.trace_lines.proofs.samples.values.Goals as goal
+use Rattle.trace_lines.proofs.samples.read_values.Goals as goal
 
 pub returns-then-len-eq-MAX_VALUES : goal.returns-then-len-eq-MAX_VALUES
 returns-then-len-eq-MAX_VALUES c =
@@ -15,16 +15,16 @@ returns-then-len-eq-MAX_VALUES c =
     items_too_many sample_part MAX_VALUES c.items.values.items c.items.words c.in-Some.word.now
     c.next.new.self c.args.words.now is full c.items.invariant.so_far
 
-pub returns-in_err-value : goal.returns-in_err-value
-returns-in_err-value c =
+pub returns-in_err-value_in : goal.returns-in_err-value_in
+returns-in_err-value_in c =
     let is : c.items.words ≡ c.in-Some.word.now ∷ c.next.new.self = search rules in
     let more : length c.items.values.items ≢ MAX_VALUES = omega arith in
-    let p = err_from_is_err_and c.from_residual-in_err-value.result
-    c.from_residual-in_err-value.ensures.1 in
-    rw (p.1, p.2) (items_refused sample_part MAX_VALUES c.in_err-value.field-0.0
+    let p = err_from_is_err_and c.from_residual-in_err-value_in.result
+    c.from_residual-in_err-value_in.ensures.1 in
+    rw (p.1, p.2) (items_refused sample_part MAX_VALUES c.in_err-value_in.field-0.0
     c.items.values.items c.items.words c.in-Some.word.now c.next.new.self c.args.words.now is more
-    (value_fails c.in-Some.word.now c.next.new.self c.in_err-value.field-0.0
-    (sym c.value.ensures ∙ c.in_err-value.was)) c.items.invariant.so_far)
+    (value_fails c.in-Some.word.now c.next.new.self c.in_err-value_in.field-0.0
+    (sym c.value_in.ensures ∙ c.in_err-value_in.was)) c.items.invariant.so_far)
 
 pub items-preserved : goal.items-preserved
 items-preserved c =
@@ -34,10 +34,10 @@ items-preserved c =
       terms = (tt, tt);
       so_far = rw c.in_ok-push.ensures.items (goes_on (after_first sample_part) MAX_VALUES
           c.items.values.items c.items.words c.in-Some.word.now c.next.new.self
-          c.in_ok-value.field-0 c.next.new.self
+          c.in_ok-value_in.field-0 c.next.new.self
           (all_at (after_first sample_part) MAX_VALUES c.args.words.now) is more
-          (value_is c.in-Some.word.now c.next.new.self c.in_ok-value.field-0
-          (sym c.value.ensures ∙ c.in_ok-value.was))
+          (value_is c.in-Some.word.now c.next.new.self c.in_ok-value_in.field-0
+          (sym c.value_in.ensures ∙ c.in_ok-value_in.was))
           c.items.invariant.so_far);
     }
 

@@ -3,7 +3,7 @@ use Rattle.limiter_core.specs.declared.settings.TheConstants.{MAX_GROUPS}
 use Rattle.trace_openings.specs.OpeningFields.{id_from}
 use Rattle.trace_words.specs.Rows.{all_at}
 use Rattle.trace_words.proofs.Steps.{SoFar}
-use Rattle.trace_openings.proofs.limiter_fields.ids.Given as goal
+use Rattle.trace_openings.proofs.limiter_fields.read_ids.Given as goal
 
 abbrev pub invariant-items : goal.invariant-items
 invariant-items l = record {

@@ -1,6 +1,6 @@
 use Rattle.relay_core.specs.Machine.{at_event}
 use Rattle.relay_core.proofs.RunLemmas.{same_line}
-use Rattle.relay_core.proofs.running.line_after.Goals as goal
+use Rattle.relay_core.proofs.running.step_to_line.Goals as goal
 
 pub returns-clause-line : goal.returns-clause-line
 returns-clause-line c = λ w stands.

@@ -1,7 +1,7 @@
 use denote.Param.Send.{sendable}
 use Rattle.std.proofs.Crossing.{crosses}
 use Rattle.turn_lock.proofs.Sent.{port_send}
-use Rattle.thread_tests.proofs.locks.call_behind.Goals as goal
+use Rattle.thread_tests.proofs.locks.call_after.Goals as goal
 
 pub join-held-requires-send-F : goal.join-held-requires-send-F
 join-held-requires-send-F g c κs within =
