@@ -283,6 +283,26 @@ def a_file_has_the_password(name):
         check(f"{name}: end", server.ended()[0] == 0)
 
 
+def each_meter_has_its_password(name):
+    """A campaign whose meters have passwords of their own, in a file; m3 has the common one, and m4
+    gets a wrong one."""
+    with tempfile.TemporaryDirectory(prefix="passwords-") as folder:
+        path = pathlib.Path(folder) / "passwords"
+        path.touch(0o600)
+        path.write_text("m2 22222222\nm1 11111111\nm4 wrong\nother 1\n")
+        servers = [Server("--connections", "1", "--password", word, password=None) for word in ("11111111", "22222222", "33333333", "44444444")]
+        jobs = "".join(f"m{number} 127.0.0.1:{server.port} state\n" for number, server in enumerate(servers, 1))
+        campaign = subprocess.Popen([str(HEAD_END), "run", "--passwords", str(path), *LIMITS], stdin=subprocess.PIPE, stdout=subprocess.PIPE, stderr=subprocess.PIPE,
+                                    text=True, env={**os.environ, "METER_PASSWORD": "33333333"})
+        shown = shown_of(campaign)
+        report, errors = campaign.communicate(jobs, timeout=LONGEST)
+        wanted = "m1 done 1\nm2 done 1\nm3 done 1\nm4 rejected 13\n"
+        check(f"{name}: report", (campaign.returncode, report, errors) == (0, wanted, ""), campaign.returncode, report, errors)
+        check(f"{name}: not shown", not any(word in shown for word in (b"11111111", b"22222222", b"wrong")), shown)
+        for server in servers:
+            check(f"{name}: end", server.ended()[0] == 0)
+
+
 def text_of_terminal(terminal):
     """All that was written to a terminal that nobody has open any more: a read gives some of it,
     one at the end fails."""
@@ -795,7 +815,7 @@ def main():
             return 1
     _, most = resource.getrlimit(resource.RLIMIT_NOFILE)
     resource.setrlimit(resource.RLIMIT_NOFILE, (most, most))
-    for function in (campaigns_among_running_meters, a_meter_is_reached_by_its_name, a_file_has_the_password, progress_is_reported):
+    for function in (campaigns_among_running_meters, a_meter_is_reached_by_its_name, a_file_has_the_password, each_meter_has_its_password, progress_is_reported):
         test(function)
 
     def campaigns_of_many_jobs(name):

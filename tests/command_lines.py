@@ -547,6 +547,35 @@ for reader, crate, words, stderr, status in READERS:
         CASES.append((f"{reader}: a password file that {what}", crate, [*words, "--password-file", path], b"", b"", FAULT_INPUT, 2))
         CASES.append((f"{reader}: why a password file that {what} is wrong", crate, [*words, "--verbose", "--password-file", path], b"", b"",
                       b"password: must be 1 to 32 bytes\n" + FAULT_INPUT, 2))
+# Files of meters' passwords.
+UNKNOWN_BOTH = b"m1 unknown\nm2 unknown\n"
+PASSWORDS = ["run", "--connect-timeout", "2", "--passwords"]
+BOTH_FILE = password_file("both", b"m2 22222222\n\nm9 9\nm1 1")
+ONE_FILE = password_file("one", b"m2 22222222\n")
+TWO_METERS = b"m1 127.0.0.1:1 state\nm2 127.0.0.2:1 state\n"
+CASES += [
+    ("passwords of all meters", "head_end_cli", [*PASSWORDS, BOTH_FILE], TWO_METERS, UNKNOWN_BOTH, b"", 0),
+    ("a common password for the others", "head_end_cli", [*PASSWORDS, ONE_FILE, "--password", "12345678"], TWO_METERS, UNKNOWN_BOTH, b"", 0),
+    ("a common password of a file", "head_end_cli", [*PASSWORDS, ONE_FILE, "--password-file", ENDED_FILE], TWO_METERS, UNKNOWN_BOTH, b"", 0),
+    ("a meter without a password", "head_end_cli", [*PASSWORDS, ONE_FILE], TWO_METERS, b"",
+     b"job m1: it has no line in the file of --passwords, and there is no common password\n" + FAULT_INPUT, 2),
+    ("a wrong common password", "head_end_cli", [*PASSWORDS, BOTH_FILE, "--password", ""], TWO_METERS, b"", FAULT_INPUT, 2),
+    ("no file of passwords", "head_end_cli", PASSWORDS, b"", b"", None, 2),
+    ("no jobs, and no passwords", "head_end_cli", [*PASSWORDS, password_file("none", b"")], b"", b"", b"", 0),
+]
+for what, text, line in (
+        ("a word is missing", b"m1 1\nm2\n", b"line 2: expected `NAME PASSWORD`: PASSWORD is missing\n"),
+        ("blanks are doubled", b"m1  1\n", b"line 1: expected `NAME PASSWORD`: PASSWORD is empty (one blank separates two words)\n"),
+        ("a word is too many", b"m1 1\n\nm2 2 2\n", b"line 3: expected `NAME PASSWORD`: unexpected extra word\n"),
+        ("lines end with a carriage return", b"m1 1\r\n", b"line 1: expected `NAME PASSWORD`: PASSWORD has a byte that is not visible ASCII\n"),
+        ("a password has 33 bytes", b"m1 " + b"p" * 33, b"line 1: expected `NAME PASSWORD`: PASSWORD has more than 32 bytes\n"),
+        ("a name has 33 bytes", b"n" * 33 + b" 1", b"line 1: expected `NAME PASSWORD`: NAME has more than 32 bytes\n"),
+        ("a name comes twice", b"m1 1\nm2 2\nm1 1\n", b"line 3: line 1 has the same name\n"),
+        ("there are 1,048,577 bytes", b"\n" * 1048577, b"the file has more than 1,048,576 bytes\n")):
+    path = password_file(what, text)
+    CASES.append((f"passwords: {what}", "head_end_cli", [*PASSWORDS, path, "--password", "12345678"], TWO_METERS, b"", path.encode() + b": " + line + FAULT_INPUT, 2))
+for what, path, line, fault_status in WRONG_FILES[:6]:
+    CASES.append((f"passwords: a file that {what}", "head_end_cli", [*PASSWORDS, path], TWO_METERS, b"", path.encode() + b": " + line, fault_status))
 
 
 def differs(want, got):

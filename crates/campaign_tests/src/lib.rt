@@ -17,6 +17,8 @@ mod loopback;
 #[cfg(test)]
 mod meters;
 #[cfg(test)]
+mod passwords;
+#[cfg(test)]
 mod recording;
 #[cfg(test)]
 mod scripts;

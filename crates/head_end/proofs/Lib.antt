@@ -6,4 +6,5 @@ pub mod JobOutcomes
 mod Places
 mod CampaignLemmas
 mod ReadingLemmas
+mod PasswordLemmas
 mod LawLemmas

@@ -7,5 +7,6 @@ pub mod Rows
 pub mod Campaigns
 pub mod Reports
 pub mod Jobs
+pub mod JobPasswords
 pub mod Laws
 pub mod Numbers

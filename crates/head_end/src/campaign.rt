@@ -6,12 +6,13 @@ ghost use Rattle.client_core.specs.declared.job.Job.{Job};
 ghost use Rattle.head_end.specs.declared.row.Row.{Row};
 ghost use Rattle.head_end.specs.declared.row.ReportLine.{ReportLine};
 ghost use Rattle.head_end.specs.Attempts.{unused};
-ghost use Rattle.head_end.specs.Campaigns.{place_at, slot_at, turns_for, slots_for, IsRun, EachChange, AreTried};
+ghost use Rattle.head_end.specs.Campaigns.{place_at, slot_at, turns_for, slots_for, IsRun, EachChange, AreTried, AreTriedWith};
 ghost use Rattle.head_end.specs.Connections.{Forecast};
 ghost use Rattle.head_end.specs.Rows.{AreLines};
 
 use crate::connection::Connector;
 use crate::job_list::Jobs;
+use crate::passwords::repeat_password;
 use crate::placing::{JobPlace, turns_for};
 use crate::report_lines::Report;
 use crate::row::{ReportLine, Row};
@@ -50,37 +51,42 @@ pub fn run_campaign<R: Threads + Sync, C: Connector>(
         (map (λ place. place.attempt.stage) places.new)) }
     ensures unchanged_on_error { OnErr result (places.new ≡ places.old) }
 {
-    run_watched_campaign(
+    let passwords = repeat_password(alloc, password, jobs.len())?;
+    let report = run_watched_campaign(
         rt,
         alloc,
         jobs,
         places,
-        password,
+        passwords.as_slice(),
         workers,
         &UnwatchedCampaign,
-    )
+    );
+    drop(passwords);
+    report
 }
 
-/// Runs all jobs as [`run_campaign`] does, and calls a watcher after each job.
+/// Runs all jobs as [`run_campaign`] does, each with its own password of 1 to 32 bytes, and calls a
+/// watcher after each job. The passwords are in the order of the jobs.
 pub fn run_watched_campaign<R: Threads + Sync, C: Connector, W: Watcher>(
     rt: &R,
     alloc: Global,
     jobs: &Jobs,
     places: &mut [JobPlace<C>],
-    password: &Octets,
+    passwords: &[Octets],
     workers: u8,
     watcher: &W,
 ) -> Result<Report, AllocError>
     requires non_zero { 1 ≤ workers }
     requires within_max { workers ≤ 16 }
-    requires password { IsPassword password.now }
+    requires passwords { All IsPassword passwords.now }
+    requires paired { length passwords.now ≡ length jobs.now }
     requires count { length places.old ≡ slots_for (length jobs.now) workers }
     requires unused { All (λ place. place.attempt.stage ≡ unused) places.old }
     ensures lines { IfOk result (λ lines. (tells : List ℕ → Option Forecast)
         → All (λ place. C.tells place.attempt.source.value ≡ tells) places.old
         → AreLines tells jobs.now lines) }
-    ensures tried { IfOk result (λ lines. AreTried (turns_for (length jobs.now) workers)
-        workers jobs.now password.now lines
+    ensures tried { IfOk result (λ lines. AreTriedWith (turns_for (length jobs.now) workers)
+        workers jobs.now passwords.now lines
         (map (λ place. place.attempt.stage) places.new)) }
     ensures unchanged_on_error { OnErr result (places.new ≡ places.old) }
 {
@@ -89,7 +95,7 @@ pub fn run_watched_campaign<R: Threads + Sync, C: Connector, W: Watcher>(
     let mut lines = blank_lines(alloc, jobs.as_slice())?;
     let campaign = Campaign {
         jobs: jobs.as_slice(),
-        password,
+        passwords,
         turns,
         workers,
         watcher,
@@ -102,14 +108,15 @@ pub fn run_watched_campaign<R: Threads + Sync, C: Connector, W: Watcher>(
 #[derive(Drop)]
 struct Campaign<'a, W: Watcher> {
     jobs: &'a [Job],
-    password: &'a Octets,
+    passwords: &'a [Octets],
     turns: usize,
     workers: usize,
     watcher: &'a W,
     ghost some_turns: { 0 < turns },
     ghost some_workers: { 0 < workers },
     ghost fits: { turns * workers < 2 ^ 64 },
-    ghost sized: { IsPassword password.now },
+    ghost sized: { All IsPassword passwords.now },
+    ghost paired: { length passwords.now ≡ length jobs.now },
 }
 
 impl<'a, W: Watcher> Campaign<'a, W> {
@@ -129,8 +136,8 @@ impl<'a, W: Watcher> Campaign<'a, W> {
         ensures lines { (tells : List ℕ → Option Forecast)
             → All (λ place. C.tells place.attempt.source.value ≡ tells) places.old
             → AreLines tells self.now.jobs.now lines.new }
-        ensures tried { AreTried self.now.turns self.now.workers self.now.jobs.now
-            self.now.password.now lines.new (map (λ place. place.attempt.stage) places.new) }
+        ensures tried { AreTriedWith self.now.turns self.now.workers self.now.jobs.now
+            self.now.passwords.now lines.new (map (λ place. place.attempt.stage) places.new) }
         ensures len { length lines.new ≡ length lines.old }
     {
         self.work(rt, alloc, places);
@@ -147,7 +154,7 @@ impl<'a, W: Watcher> Campaign<'a, W> {
         requires slots { length places.old ≡ self.now.turns * self.now.workers }
         requires unused { All (λ place. place.attempt.stage ≡ unused) places.old }
         ensures { EachChange (λ slot old new. IsRun self.now.turns self.now.workers
-            self.now.jobs.now self.now.password.now slot (C.tells old.attempt.source.value)
+            self.now.jobs.now self.now.passwords.now slot (C.tells old.attempt.source.value)
             new.attempt.stage new.row) places.old places.new }
     {
         let campaign = self;
@@ -159,7 +166,7 @@ impl<'a, W: Watcher> Campaign<'a, W> {
                 requires { (slot < campaign.now.turns * campaign.now.workers)
                     × (place.now.attempt.stage ≡ unused) }
                 ensures { IsRun campaign.entry.now.turns campaign.entry.now.workers
-                    campaign.entry.now.jobs.now campaign.entry.now.password.now slot
+                    campaign.entry.now.jobs.now campaign.entry.now.passwords.now slot
                     (C.tells place.entry.now.attempt.source.value) place.exit.now.attempt.stage
                     place.exit.now.row }
             {
@@ -172,11 +179,12 @@ impl<'a, W: Watcher> Campaign<'a, W> {
     fn work_slot<C: Connector>(&self, alloc: Global, slot: usize, place: &mut JobPlace<C>)
         requires slot { slot < self.now.turns * self.now.workers }
         requires unused { place.old.attempt.stage ≡ unused }
-        ensures { IsRun self.now.turns self.now.workers self.now.jobs.now self.now.password.now
+        ensures { IsRun self.now.turns self.now.workers self.now.jobs.now self.now.passwords.now
             slot (C.tells place.old.attempt.source.value) place.new.attempt.stage place.new.row }
     {
-        if let Some(job) = self.jobs.get(place_of(self.turns, self.workers, slot)) {
-            place.row = run_job(alloc, job, &mut place.attempt, self.password);
+        let index = place_of(self.turns, self.workers, slot);
+        if let Some(job) = self.jobs.get(index) {
+            place.row = run_job(alloc, job, &mut place.attempt, &self.passwords[index]);
             self.watcher.on_job_done(job, place.row);
         }
     }

@@ -7,6 +7,7 @@
 
 mod arguments;
 mod campaign;
+mod passwords;
 mod progress;
 mod telling;
 mod text_filter;
@@ -116,6 +117,7 @@ fn begin(rt: &HostRuntime) -> Result<HeadEndCommand, Fault> {
     let words = words(rt)?;
     // (clap's `required_unless_present` would print the options of the usage in another order)
     let has_password = has_option(words.as_slice(), "--password-file")
+        || has_option(words.as_slice(), "--passwords")
         || !matches!(env::var(rt, PASSWORD_VARIABLE), Err(VarError::NotPresent));
     let command = command_line(alloc, has_password).map_err(|_| Fault::Memory)?;
     match command.try_get_matches_from(words.as_slice()) {

@@ -9,5 +9,5 @@ returns g c = λ slot place below.
     (slice_index_or c.for_each_mut.new.s slot place) changes.after_call.now
     (λ p. g.C.Connector.tells p.attempt.source.value) (λ p. p.attempt.stage) (λ p. p.row)
     c.args.self.now.turns c.args.self.now.workers c.args.self.now.jobs.now
-    c.args.self.now.password.now slot changes.argument_is
+    c.args.self.now.passwords.now slot changes.argument_is
     changes.left changes.call
