@@ -21,6 +21,8 @@ mod passwords;
 #[cfg(test)]
 mod recording;
 #[cfg(test)]
+mod rounds;
+#[cfg(test)]
 mod scripts;
 #[cfg(test)]
 mod side_by_side;

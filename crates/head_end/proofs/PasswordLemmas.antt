@@ -1,5 +1,8 @@
 -- Lists of passwords that are read line by line.
-use Rattle.std.proofs.Common.{◌≡◌, ◌+◌, ◌≤◌, ◌<◌, ℕ, suc, add-one, Bool, true, false, ◌&&◌, bytes_eq, if◌then◌else◌, IfSome, List, [], ◌∷◌, ◌++◌, length, map, take, slice_index_or, Option, Some, None, refl, sym, ap, subst, ◌∙◌, arith}
+use Rattle.std.proofs.Common.{◌≡◌, ◌+◌, ◌<◌, ℕ, suc, add-one, Bool, true, false, ◌&&◌}
+use Rattle.std.proofs.Common.{bytes_eq, if◌then◌else◌, List, [], ◌∷◌, ◌++◌, length}
+use Rattle.std.proofs.Common.{take, slice_index_or, Option, Some, None, refl, sym, ap, subst, ◌∙◌}
+use Rattle.std.proofs.Common.{arith}
 use Rattle.std.proofs.lemmas.Grind.{common_steps}
 use Rattle.text_lines.specs.Lines.{lines_of, unended_of}
 use Rattle.head_end.proofs.ReadingLemmas.{lines_taken, lines_last}
@@ -7,7 +10,9 @@ use Rattle.acse_ber.specs.Password.{IsPassword}
 use Rattle.text_lines.specs.Words.{words_of}
 use Rattle.client_core.specs.declared.job.Job.{Job}
 use Rattle.head_end.specs.Jobs.{is_name, job_lines}
-use Rattle.head_end.specs.JobPasswords.{are_password_words, is_password_line, wrong_line_in, word_after, first_of, password_in, password_of, password_for, HavePasswords, LacksPassword}
+use Rattle.head_end.specs.JobPasswords.{are_password_words, is_password_line, wrong_line_in}
+use Rattle.head_end.specs.JobPasswords.{word_after, first_of, password_in, password_of}
+use Rattle.head_end.specs.JobPasswords.{password_for, HavePasswords}
 
 -- the first wrong line is that of the lines that are left
 pub record LeftLines (text : List ℕ) (number : ℕ) (rest : List ℕ) : Type 0 where

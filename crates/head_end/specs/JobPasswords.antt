@@ -4,7 +4,9 @@
 --     password_of       the password of a name, by the lines of a list
 --     password_for      the password of a job: that of its name, else the common one
 --     GivesPasswords    the passwords of all jobs
-use Rattle.std.specs.Prelude.{◌≡◌, ℕ, suc, Bool, true, false, ◌&&◌, if◌then◌else◌, List, [], ◌∷◌, map, slice_index_or, take, bytes_eq, Option, Some, None, Result, Ok, Err, ⊤}
+use Rattle.std.specs.Prelude.{◌≡◌, ℕ, suc, Bool, true, false, ◌&&◌, if◌then◌else◌, List, [], ◌∷◌}
+use Rattle.std.specs.Prelude.{map, slice_index_or, take, bytes_eq, Option, Some, None, Result, Ok}
+use Rattle.std.specs.Prelude.{Err, ⊤}
 use Rattle.text_lines.specs.Words.{words_of}
 use Rattle.client_core.specs.declared.job.Job.{Job}
 use Rattle.head_end.specs.Jobs.{is_name}
