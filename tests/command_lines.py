@@ -479,19 +479,37 @@ CASES = [
     ("1,001 jobs", "head_end_cli", ["check"], b"m 127.0.0.1:4059 state\n" * 1001, b"", FAULT_INPUT, 2),
     ("1,048,577 bytes of jobs", "head_end_cli", ["check"], b"\n" * 1048577, b"", FAULT_INPUT, 2),
     ("where a verb is wrong", "head_end_cli", ["check", "--verbose"], b"m1 127.0.0.1:4059 state\n\nm2 127.0.0.1:4059 close\n", b"",
-     b"line 3: expected `NAME ADDRESS VERB`: VERB must be disconnect, reconnect or state\n" + FAULT_INPUT, 2),
+     b"line 3: expected `NAME ADDRESS VERB`: VERB must be disconnect, reconnect or state\n"
+     b"line 3: note: line 1 has the same address\nfindings: 1\n" + FAULT_INPUT, 2),
     ("where an address is missing", "head_end_cli", ["check", "--verbose"], b"m1  127.0.0.1:4059 state\n", b"",
-     b"line 1: expected `NAME ADDRESS VERB`: ADDRESS is empty (one blank separates two words)\n" + FAULT_INPUT, 2),
+     b"line 1: byte 3: doubled blank: one blank separates two words\nfindings: 1\n" + FAULT_INPUT, 2),
     ("where a name is too long", "head_end_cli", ["check", "--verbose"], b"n" * 33 + b" 127.0.0.1:4059 state\n", b"",
-     b"line 1: expected `NAME ADDRESS VERB`: NAME has more than 32 bytes\n" + FAULT_INPUT, 2),
+     b"line 1: expected `NAME ADDRESS VERB`: NAME has more than 32 bytes\nfindings: 1\n" + FAULT_INPUT, 2),
     ("where a word is too many", "head_end_cli", ["run", "--verbose", "--password", "12345678"], b"m1 127.0.0.1:4059 state now", b"",
      b"line 1: expected `NAME ADDRESS VERB`: unexpected extra word\n" + FAULT_INPUT, 2),
     ("where a verb is missing", "head_end_cli", ["check", "--verbose"], b"m1 127.0.0.1:4059\n", b"",
-     b"line 1: expected `NAME ADDRESS VERB`: VERB is missing\n" + FAULT_INPUT, 2),
+     b"line 1: expected `NAME ADDRESS VERB`: VERB is missing\nfindings: 1\n" + FAULT_INPUT, 2),
     ("where a job ends with a carriage return", "head_end_cli", ["check", "--verbose"], b"m1 127.0.0.1:4059 state\r\n", b"",
+     b"line 1: byte 24: carriage return (0D): lines end with 0A alone\nfindings: 1\n" + FAULT_INPUT, 2),
+    ("where a campaign's job ends with a carriage return", "head_end_cli", ["run", "--verbose", "--password", "12345678"], b"m1 127.0.0.1:4059 state\r\n", b"",
      b"line 1: expected `NAME ADDRESS VERB`: VERB has the byte 0x0D, which is not visible ASCII\n" + FAULT_INPUT, 2),
+    ("all findings of a list", "head_end_cli", ["check", "--verbose"],
+     b"\xEF\xBB\xBFm1 127.0.0.1:4059 state\r\nm2\t127.0.0.1:4060 state\n\nm3  127.0.0.1:4061 close\n m4 127.0.0.1:4062 state \nm5 127.0.0.1:4063 close\n"
+     b"m5 127.0.0.1:4063 state\nm6 127.0.0.1:4064 state now\n", b"",
+     b"line 1: byte 1: byte order mark (EF BB BF)\n"
+     b"line 1: byte 27: carriage return (0D): lines end with 0A alone\n"
+     b"line 2: byte 3: tab (09): one blank separates two words\n"
+     b"line 4: byte 3: doubled blank: one blank separates two words\n"
+     b"line 5: byte 1: blank at the start of the line\n"
+     b"line 5: byte 25: blank at the end of the line\n"
+     b"line 6: expected `NAME ADDRESS VERB`: VERB must be disconnect, reconnect or state\n"
+     b"line 7: note: line 6 has the same name\n"
+     b"line 7: note: line 6 has the same address\n"
+     b"line 8: expected `NAME ADDRESS VERB`: unexpected extra word\n"
+     b"findings: 8\n" + FAULT_INPUT, 2),
+    ("all findings without --verbose", "head_end_cli", ["check"], b"m1\t127.0.0.1:4059 state\r\n", b"", FAULT_INPUT, 2),
     ("where an address is too long", "head_end_cli", ["check", "--verbose"], b"m1 " + b"a" * 65 + b" state\n", b"",
-     b"line 1: expected `NAME ADDRESS VERB`: ADDRESS has more than 64 bytes\n" + FAULT_INPUT, 2),
+     b"line 1: expected `NAME ADDRESS VERB`: ADDRESS has more than 64 bytes\nfindings: 1\n" + FAULT_INPUT, 2),
     ("where jobs are too many", "head_end_cli", ["check", "--verbose"], b"m 127.0.0.1:4059 state\n" * 1001, b"",
      b"job 1001: the list has more than 1,000 jobs\n" + FAULT_INPUT, 2),
     ("where jobs are too long", "head_end_cli", ["check", "--verbose"], b"\n" * 1048577, b"", b"byte 1048577: the list has more than 1,048,576 bytes\n" + FAULT_INPUT, 2),
@@ -505,7 +523,7 @@ CASES = [
      b"line 4: warning: the host of the address is not valid (expected HOST:PORT)\n"
      b"line 6: warning: the host of the address is not valid (expected HOST:PORT)\n"
      b"line 7: warning: line 3 has the same name\n"
-     b"line 8: warning: line 5 has the same address: the two run in any order\n"
+     b"line 8: warning: line 5 has the same address: the two run in the order of the list\n"
      b"line 9: warning: the port of the address must be 1 to 65535 (expected HOST:PORT)\n"
      b"line 10: warning: the port of the address must be 1 to 65535 (expected HOST:PORT)\n"
      b"line 11: warning: the host of the address is not valid (expected HOST:PORT)\n", 0),

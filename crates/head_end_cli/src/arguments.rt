@@ -122,7 +122,7 @@ fn check_command<'a>(alloc: Global) -> Result<Command<'a>, AllocError> {
         .about(
             "Counts the jobs on standard input: NAME ADDRESS VERB (disconnect, reconnect or state)",
         )
-        .arg(verbose(alloc))
+        .arg(verbose(alloc).help("If the list is wrong, report all findings on standard error"))
 }
 
 // Returns the program without its commands.

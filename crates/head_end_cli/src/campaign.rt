@@ -143,9 +143,9 @@ fn stored_password(
 }
 
 // Returns the common password: that of the command line, else that of the file that it names, else
-// that of the environment, or `None` if there is none of them. Errors: those of a file without a
-// password, with a line on standard error; `Input` if the password does not have 1 to 32 bytes,
-// with a line if `is_verbose`; `Memory`.
+// that of the environment, or `None` without one. Errors: those of a file without a password, with
+// a line on standard error; `Input` if the password does not have 1 to 32 bytes, with a line if
+// `is_verbose`; `Memory`.
 fn common_password(
     rt: &HostRuntime,
     matches: &ArgMatches<'_>,

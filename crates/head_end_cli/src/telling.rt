@@ -105,7 +105,7 @@ fn line_of(text: &[u8], number: u64) -> &[u8] {
 
 // Returns why a line is not a job.
 fn why_no_job(line: &[u8]) -> LineFault {
-    match check_words(line) {
+    match check_job_line(line) {
         Ok(()) => LineFault::Surplus,
         Err(fault) => fault,
     }
@@ -130,16 +130,18 @@ fn check_password_line(line: &[u8]) -> Result<(), LineFault> {
     }
 }
 
-// Checks the first three words of a line.
-fn check_words(line: &[u8]) -> Result<(), LineFault> {
+// Checks that a line is a job: three words, the last a verb.
+pub(crate) fn check_job_line(line: &[u8]) -> Result<(), LineFault> {
     let mut words = Words::new(line);
     check_word("NAME", words.next(), MAX_ID)?;
     check_word("ADDRESS", words.next(), MAX_ADDRESS)?;
     let verb = check_word("VERB", words.next(), usize::MAX)?;
-    if is_verb(verb) {
-        Ok(())
-    } else {
-        Err(LineFault::Verb)
+    if !is_verb(verb) {
+        return Err(LineFault::Verb);
+    }
+    match words.next() {
+        Some(_) => Err(LineFault::Surplus),
+        None => Ok(()),
     }
 }
 
