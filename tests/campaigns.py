@@ -26,7 +26,7 @@ sys.dont_write_bytecode = True  # importing the modules of tests/ leaves no file
 
 import serving
 from one_node_slurm import LONG_PATIENCE, Slurm, missing_commands, wait_until
-from scripted_meters import AARQ, CROWD, HOLDING, RELEASE, REQUESTS, SCRIPTS, Crowd, ScriptedMeter, Unheard, does_it
+from scripted_meters import AARQ, CROWD, HOLDING, RELEASE, REQUESTS, SCRIPTS, Crowd, ScriptedMeter, Unheard, answers_slowly, answers_the_release, does_it
 from serving import MODE, PASSWORD, PATIENCE, PLAYER, SERVER, TOP, Client, Server, check, played, shown_of, test
 
 HEAD_END = os.environ.get("HEAD_END") or TOP / "crates" / "head_end_cli" / "out" / "head_end_cli"
@@ -283,6 +283,53 @@ def a_file_has_the_password(name):
         check(f"{name}: end", server.ended()[0] == 0)
 
 
+def each_meter_has_its_password(name):
+    """A campaign whose meters have passwords of their own, in a file; m3 has the common one, and m4
+    gets a wrong one."""
+    with tempfile.TemporaryDirectory(prefix="passwords-") as folder:
+        path = pathlib.Path(folder) / "passwords"
+        path.touch(0o600)
+        path.write_text("m2 22222222\nm1 11111111\nm4 wrong\nother 1\n")
+        servers = [Server("--connections", "1", "--password", word, password=None) for word in ("11111111", "22222222", "33333333", "44444444")]
+        jobs = "".join(f"m{number} 127.0.0.1:{server.port} state\n" for number, server in enumerate(servers, 1))
+        campaign = subprocess.Popen([str(HEAD_END), "run", "--passwords", str(path), *LIMITS], stdin=subprocess.PIPE, stdout=subprocess.PIPE, stderr=subprocess.PIPE,
+                                    text=True, env={**os.environ, "METER_PASSWORD": "33333333"})
+        shown = shown_of(campaign)
+        report, errors = campaign.communicate(jobs, timeout=LONGEST)
+        wanted = "m1 done 1\nm2 done 1\nm3 done 1\nm4 rejected 13\n"
+        check(f"{name}: report", (campaign.returncode, report, errors) == (0, wanted, ""), campaign.returncode, report, errors)
+        check(f"{name}: not shown", not any(word in shown for word in (b"11111111", b"22222222", b"wrong")), shown)
+        for server in servers:
+            check(f"{name}: end", server.ended()[0] == 0)
+
+
+def jobs_of_a_meter_run_in_order(name):
+    """Jobs of one meter reach it one after the other, in the order of the list, whatever the number
+    of workers."""
+    verbs = ["disconnect", "reconnect", "state", "disconnect", "state", "reconnect", "disconnect"]
+    for workers in ("1", "4", "16"):
+        meters = [ScriptedMeter(answers_slowly) for _ in range(3)]
+        rows = [(f"m{number}{verb}{turn}", meter, verb) for turn, verb in enumerate(verbs) for number, meter in enumerate(meters)]
+        jobs = "".join(f"{job} 127.0.0.1:{meter.port} {verb}\n" for job, meter, verb in rows)
+        made = run_head_end(jobs, "--workers", workers, *LIMITS)
+        check(f"{name}, workers {workers}: report", made == (0, report_of((job, "done 0") for job, _, _ in rows), ""), made)
+        for meter in meters:
+            requests = [talk.frames[1] for talk in meter.talked(len(verbs))]
+            check(f"{name}, workers {workers}: order", requests == [REQUESTS[verb] for verb in verbs], requests)
+            meter.stop()
+
+
+def no_connection_is_reset(name):
+    """The client reads the answer to its release before it closes: the meter sees the end of the
+    stream, and no reset."""
+    meter = ScriptedMeter(answers_the_release)
+    made = run_head_end("".join(f"m{turn} 127.0.0.1:{meter.port} {verb}\n" for turn, verb in enumerate(REQUESTS)), *LIMITS)
+    check(f"{name}: report", made == (0, "m0 done 0\nm1 done 0\nm2 done 0\n", ""), made)
+    endings = [talk.ending for talk in meter.talked(3)]
+    check(f"{name}: endings", endings == ["end"] * 3, endings)
+    meter.stop()
+
+
 def text_of_terminal(terminal):
     """All that was written to a terminal that nobody has open any more: a read gives some of it,
     one at the end fails."""
@@ -397,8 +444,8 @@ def a_wrong_list_sends_nothing(name, crowd, folder):
     path.write_text(jobs + "wrong1 127.0.0.1:1 close\nwrong2 127.0.0.1:1 open\n" + "\n" * 997 + "\nwrong3 127.0.0.1:1\n")
     status, text, errors, _ = run_campaign(path, "--jobs", "2")
     check(f"{name}: status", (status, text) == (2, ""), status, text)
-    lines = [line.split(":")[1] for line in own_lines(errors)]
-    check(f"{name}: the first wrong line of each part", lines == [" line 1002", " line 2002", " nothing was sent"], errors)
+    lines = [line.split(":")[1] for line in own_lines(errors) if "findings:" not in line]
+    check(f"{name}: all wrong lines", lines == [" line 1002", " line 1003", " line 2002", " nothing was sent"], errors)
     check(f"{name}: no command", crowd.counts() == counted(none))
 
 def a_list_is_warned_of(name, crowd, folder):
@@ -795,7 +842,8 @@ def main():
             return 1
     _, most = resource.getrlimit(resource.RLIMIT_NOFILE)
     resource.setrlimit(resource.RLIMIT_NOFILE, (most, most))
-    for function in (campaigns_among_running_meters, a_meter_is_reached_by_its_name, a_file_has_the_password, progress_is_reported):
+    for function in (campaigns_among_running_meters, a_meter_is_reached_by_its_name, a_file_has_the_password, each_meter_has_its_password,
+                     jobs_of_a_meter_run_in_order, no_connection_is_reset, progress_is_reported):
         test(function)
 
     def campaigns_of_many_jobs(name):

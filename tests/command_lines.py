@@ -479,19 +479,37 @@ CASES = [
     ("1,001 jobs", "head_end_cli", ["check"], b"m 127.0.0.1:4059 state\n" * 1001, b"", FAULT_INPUT, 2),
     ("1,048,577 bytes of jobs", "head_end_cli", ["check"], b"\n" * 1048577, b"", FAULT_INPUT, 2),
     ("where a verb is wrong", "head_end_cli", ["check", "--verbose"], b"m1 127.0.0.1:4059 state\n\nm2 127.0.0.1:4059 close\n", b"",
-     b"line 3: expected `NAME ADDRESS VERB`: VERB must be disconnect, reconnect or state\n" + FAULT_INPUT, 2),
+     b"line 3: expected `NAME ADDRESS VERB`: VERB must be disconnect, reconnect or state\n"
+     b"line 3: note: line 1 has the same address\nfindings: 1\n" + FAULT_INPUT, 2),
     ("where an address is missing", "head_end_cli", ["check", "--verbose"], b"m1  127.0.0.1:4059 state\n", b"",
-     b"line 1: expected `NAME ADDRESS VERB`: ADDRESS is empty (one blank separates two words)\n" + FAULT_INPUT, 2),
+     b"line 1: byte 3: doubled blank: one blank separates two words\nfindings: 1\n" + FAULT_INPUT, 2),
     ("where a name is too long", "head_end_cli", ["check", "--verbose"], b"n" * 33 + b" 127.0.0.1:4059 state\n", b"",
-     b"line 1: expected `NAME ADDRESS VERB`: NAME has more than 32 bytes\n" + FAULT_INPUT, 2),
+     b"line 1: expected `NAME ADDRESS VERB`: NAME has more than 32 bytes\nfindings: 1\n" + FAULT_INPUT, 2),
     ("where a word is too many", "head_end_cli", ["run", "--verbose", "--password", "12345678"], b"m1 127.0.0.1:4059 state now", b"",
      b"line 1: expected `NAME ADDRESS VERB`: unexpected extra word\n" + FAULT_INPUT, 2),
     ("where a verb is missing", "head_end_cli", ["check", "--verbose"], b"m1 127.0.0.1:4059\n", b"",
-     b"line 1: expected `NAME ADDRESS VERB`: VERB is missing\n" + FAULT_INPUT, 2),
+     b"line 1: expected `NAME ADDRESS VERB`: VERB is missing\nfindings: 1\n" + FAULT_INPUT, 2),
     ("where a job ends with a carriage return", "head_end_cli", ["check", "--verbose"], b"m1 127.0.0.1:4059 state\r\n", b"",
+     b"line 1: byte 24: carriage return (0D): lines end with 0A alone\nfindings: 1\n" + FAULT_INPUT, 2),
+    ("where a campaign's job ends with a carriage return", "head_end_cli", ["run", "--verbose", "--password", "12345678"], b"m1 127.0.0.1:4059 state\r\n", b"",
      b"line 1: expected `NAME ADDRESS VERB`: VERB has the byte 0x0D, which is not visible ASCII\n" + FAULT_INPUT, 2),
+    ("all findings of a list", "head_end_cli", ["check", "--verbose"],
+     b"\xEF\xBB\xBFm1 127.0.0.1:4059 state\r\nm2\t127.0.0.1:4060 state\n\nm3  127.0.0.1:4061 close\n m4 127.0.0.1:4062 state \nm5 127.0.0.1:4063 close\n"
+     b"m5 127.0.0.1:4063 state\nm6 127.0.0.1:4064 state now\n", b"",
+     b"line 1: byte 1: byte order mark (EF BB BF)\n"
+     b"line 1: byte 27: carriage return (0D): lines end with 0A alone\n"
+     b"line 2: byte 3: tab (09): one blank separates two words\n"
+     b"line 4: byte 3: doubled blank: one blank separates two words\n"
+     b"line 5: byte 1: blank at the start of the line\n"
+     b"line 5: byte 25: blank at the end of the line\n"
+     b"line 6: expected `NAME ADDRESS VERB`: VERB must be disconnect, reconnect or state\n"
+     b"line 7: note: line 6 has the same name\n"
+     b"line 7: note: line 6 has the same address\n"
+     b"line 8: expected `NAME ADDRESS VERB`: unexpected extra word\n"
+     b"findings: 8\n" + FAULT_INPUT, 2),
+    ("all findings without --verbose", "head_end_cli", ["check"], b"m1\t127.0.0.1:4059 state\r\n", b"", FAULT_INPUT, 2),
     ("where an address is too long", "head_end_cli", ["check", "--verbose"], b"m1 " + b"a" * 65 + b" state\n", b"",
-     b"line 1: expected `NAME ADDRESS VERB`: ADDRESS has more than 64 bytes\n" + FAULT_INPUT, 2),
+     b"line 1: expected `NAME ADDRESS VERB`: ADDRESS has more than 64 bytes\nfindings: 1\n" + FAULT_INPUT, 2),
     ("where jobs are too many", "head_end_cli", ["check", "--verbose"], b"m 127.0.0.1:4059 state\n" * 1001, b"",
      b"job 1001: the list has more than 1,000 jobs\n" + FAULT_INPUT, 2),
     ("where jobs are too long", "head_end_cli", ["check", "--verbose"], b"\n" * 1048577, b"", b"byte 1048577: the list has more than 1,048,576 bytes\n" + FAULT_INPUT, 2),
@@ -505,7 +523,7 @@ CASES = [
      b"line 4: warning: the host of the address is not valid (expected HOST:PORT)\n"
      b"line 6: warning: the host of the address is not valid (expected HOST:PORT)\n"
      b"line 7: warning: line 3 has the same name\n"
-     b"line 8: warning: line 5 has the same address: the two run in any order\n"
+     b"line 8: warning: line 5 has the same address: the two run in the order of the list\n"
      b"line 9: warning: the port of the address must be 1 to 65535 (expected HOST:PORT)\n"
      b"line 10: warning: the port of the address must be 1 to 65535 (expected HOST:PORT)\n"
      b"line 11: warning: the host of the address is not valid (expected HOST:PORT)\n", 0),
@@ -547,6 +565,35 @@ for reader, crate, words, stderr, status in READERS:
         CASES.append((f"{reader}: a password file that {what}", crate, [*words, "--password-file", path], b"", b"", FAULT_INPUT, 2))
         CASES.append((f"{reader}: why a password file that {what} is wrong", crate, [*words, "--verbose", "--password-file", path], b"", b"",
                       b"password: must be 1 to 32 bytes\n" + FAULT_INPUT, 2))
+# Files of meters' passwords.
+UNKNOWN_BOTH = b"m1 unknown\nm2 unknown\n"
+PASSWORDS = ["run", "--connect-timeout", "2", "--passwords"]
+BOTH_FILE = password_file("both", b"m2 22222222\n\nm9 9\nm1 1")
+ONE_FILE = password_file("one", b"m2 22222222\n")
+TWO_METERS = b"m1 127.0.0.1:1 state\nm2 127.0.0.2:1 state\n"
+CASES += [
+    ("passwords of all meters", "head_end_cli", [*PASSWORDS, BOTH_FILE], TWO_METERS, UNKNOWN_BOTH, b"", 0),
+    ("a common password for the others", "head_end_cli", [*PASSWORDS, ONE_FILE, "--password", "12345678"], TWO_METERS, UNKNOWN_BOTH, b"", 0),
+    ("a common password of a file", "head_end_cli", [*PASSWORDS, ONE_FILE, "--password-file", ENDED_FILE], TWO_METERS, UNKNOWN_BOTH, b"", 0),
+    ("a meter without a password", "head_end_cli", [*PASSWORDS, ONE_FILE], TWO_METERS, b"",
+     b"job m1: it has no line in the file of --passwords, and there is no common password\n" + FAULT_INPUT, 2),
+    ("a wrong common password", "head_end_cli", [*PASSWORDS, BOTH_FILE, "--password", ""], TWO_METERS, b"", FAULT_INPUT, 2),
+    ("no file of passwords", "head_end_cli", PASSWORDS, b"", b"", None, 2),
+    ("no jobs, and no passwords", "head_end_cli", [*PASSWORDS, password_file("none", b"")], b"", b"", b"", 0),
+]
+for what, text, line in (
+        ("a word is missing", b"m1 1\nm2\n", b"line 2: expected `NAME PASSWORD`: PASSWORD is missing\n"),
+        ("blanks are doubled", b"m1  1\n", b"line 1: expected `NAME PASSWORD`: PASSWORD is empty (one blank separates two words)\n"),
+        ("a word is too many", b"m1 1\n\nm2 2 2\n", b"line 3: expected `NAME PASSWORD`: unexpected extra word\n"),
+        ("lines end with a carriage return", b"m1 1\r\n", b"line 1: expected `NAME PASSWORD`: PASSWORD has a byte that is not visible ASCII\n"),
+        ("a password has 33 bytes", b"m1 " + b"p" * 33, b"line 1: expected `NAME PASSWORD`: PASSWORD has more than 32 bytes\n"),
+        ("a name has 33 bytes", b"n" * 33 + b" 1", b"line 1: expected `NAME PASSWORD`: NAME has more than 32 bytes\n"),
+        ("a name comes twice", b"m1 1\nm2 2\nm1 1\n", b"line 3: line 1 has the same name\n"),
+        ("there are 1,048,577 bytes", b"\n" * 1048577, b"the file has more than 1,048,576 bytes\n")):
+    path = password_file(what, text)
+    CASES.append((f"passwords: {what}", "head_end_cli", [*PASSWORDS, path, "--password", "12345678"], TWO_METERS, b"", path.encode() + b": " + line + FAULT_INPUT, 2))
+for what, path, line, fault_status in WRONG_FILES[:6]:
+    CASES.append((f"passwords: a file that {what}", "head_end_cli", [*PASSWORDS, path], TWO_METERS, b"", path.encode() + b": " + line, fault_status))
 
 
 def differs(want, got):

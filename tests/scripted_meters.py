@@ -140,6 +140,26 @@ def does_it(talk):
     talk.send(answer_to(talk.open()))
 
 
+def answers_slowly(talk):
+    request = talk.open()
+    time.sleep(0.05)
+    talk.send(answer_to(request))
+
+
+def answers_the_release(talk):
+    """Answers the release a little later, then looks how the client's side ended."""
+    talk.send(answer_to(talk.open()))
+    talk.take()
+    time.sleep(0.1)
+    talk.send("6303800100")
+    time.sleep(0.1)
+    try:
+        talk.ending = "end" if talk.stream.recv(1) == b"" else "more"
+    except OSError as error:
+        talk.ending = str(error)
+    return True
+
+
 def is_silent(talk):
     talk.take()
 

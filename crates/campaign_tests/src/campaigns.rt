@@ -9,8 +9,8 @@ use crate::scripts::{Everywhere, Meters};
 use client_core::{Job, Outcome};
 use cosem_axdr::Octets;
 use head_end::{
-    Attempt, Connector, Jobs, Report, Row, Watcher, jobs_may_be_cut, places_for, report,
-    reports_stand_end_to_end, run_campaign, run_job, run_watched_campaign,
+    Attempt, Connector, Jobs, Report, Row, Watcher, jobs_may_be_cut, places_for, repeat_password,
+    report, reports_stand_end_to_end, run_campaign, run_job, run_watched_campaign,
 };
 use std::alloc::{AllocError, Global};
 use std::sync::atomic::{AtomicU64, Ordering};
@@ -260,9 +260,19 @@ fn watched_at<R: Threads + Sync, C: Connector, W: Watcher>(
 ) -> Result<Report, AllocError>
     requires { IsPassword password.now }
 {
+    let passwords = repeat_password(alloc, password, jobs.len())?;
     let mut places = places_for(alloc, meters, jobs.len(), 3)?;
-    let lines = run_watched_campaign(rt, alloc, jobs, places.as_mut_slice(), password, 3, watcher);
+    let lines = run_watched_campaign(
+        rt,
+        alloc,
+        jobs,
+        places.as_mut_slice(),
+        passwords.as_slice(),
+        3,
+        watcher,
+    );
     drop(places);
+    drop(passwords);
     lines
 }
 

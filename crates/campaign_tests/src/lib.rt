@@ -17,7 +17,11 @@ mod loopback;
 #[cfg(test)]
 mod meters;
 #[cfg(test)]
+mod passwords;
+#[cfg(test)]
 mod recording;
+#[cfg(test)]
+mod rounds;
 #[cfg(test)]
 mod scripts;
 #[cfg(test)]

@@ -1,6 +1,6 @@
 -- Lines that are filled with their rows one by one, and the lines of all jobs.
-use Rattle.std.proofs.Common.{◌≡◌, ◌+◌, ◌<◌, ◌*◌, ℕ, zero, suc, List, [], ◌∷◌, ◌++◌, length, take, map, slice_index_or, Option, refl, sym, ap, subst, ◌∙◌, ◌≤◌, arith}
-use Rattle.std.proofs.lemmas.List.{take_at, length-map}
+use Rattle.std.proofs.Common.{◌≡◌, ◌+◌, ◌<◌, ◌*◌, ℕ, zero, suc, List, [], ◌∷◌, ◌++◌, length, take, map, slice_index_or, replicate, Option, Result, Ok, Err, IfOk, refl, sym, ap, subst, ◌∙◌, ◌≤◌, arith}
+use Rattle.std.proofs.lemmas.List.{take_at, length-map, get_or-replicate}
 use Rattle.std.proofs.lemmas.List.{get_or-map}
 use Rattle.std.proofs.lemmas.List.Elements.{All-get_or}
 use Rattle.std.proofs.lemmas.Grind.{common_steps}
@@ -11,7 +11,7 @@ use Rattle.head_end.specs.declared.row.Row.{Row}
 use Rattle.head_end.specs.declared.row.ReportLine.{ReportLine}
 use Rattle.head_end.specs.Connections.{Forecast}
 use Rattle.head_end.specs.Attempts.{State, unused, IsTried}
-use Rattle.head_end.specs.Campaigns.{place_at, slot_at, IsRun, EachChange, AreTried}
+use Rattle.head_end.specs.Campaigns.{place_at, slot_at, IsRun, EachChange, AreTried, AreTriedWith}
 use Rattle.head_end.specs.Rows.{IsRow, IsLine, AreLines}
 
 -- the first lines have the rows of their slots, and all keep their names
@@ -98,15 +98,15 @@ an_element (x ∷ xs) i below = x
 -- the row of a slot, by its index
 pub row_at : {X : Type 0} (old new : List X) (tells_of : X → List ℕ → Option Forecast) (stage_of : X
     → State) (row_of : X → Row) (tells : List ℕ → Option Forecast)
-    (turns workers : ℕ) (jobs : List Job) (password : List ℕ) → length old ≡ turns * workers
+    (turns workers : ℕ) (jobs : List Job) (passwords : List (List ℕ)) → length old ≡ turns * workers
     → length new ≡ length old
-    → EachChange (λ slot o n. IsRun turns workers jobs password slot (tells_of o) (stage_of n)
+    → EachChange (λ slot o n. IsRun turns workers jobs passwords slot (tells_of o) (stage_of n)
     (row_of n)) old new → All (λ o. tells_of o ≡ tells) old
     → (slot : ℕ) (job : Job) (row : Row) → slot < turns * workers
     → place_at turns workers slot < length jobs
     → IsRow tells (slice_index_or jobs (place_at turns workers slot) job) (slice_index_or
     (map row_of new) slot row)
-row_at {X} old new tells_of stage_of row_of tells turns workers jobs password count same each all
+row_at {X} old new tells_of stage_of row_of tells turns workers jobs passwords count same each all
     slot job row below there =
     let within : slot < length old = omega arith in
     let x = an_element old slot within in
@@ -126,16 +126,18 @@ row_at {X} old new tells_of stage_of row_of tells turns workers jobs password co
 -- the use of its attempt by the job of a slot
 tried_at : {X : Type 0} (old new : List X) (tells_of : X → List ℕ → Option Forecast) (stage_of : X
     → State) (row_of : X → Row)
-    (turns workers : ℕ) (jobs : List Job) (password : List ℕ) → length old ≡ turns * workers
+    (turns workers : ℕ) (jobs : List Job) (passwords : List (List ℕ)) → length old ≡ turns * workers
     → length new ≡ length old
-    → EachChange (λ slot o n. IsRun turns workers jobs password slot (tells_of o) (stage_of n)
+    → EachChange (λ slot o n. IsRun turns workers jobs passwords slot (tells_of o) (stage_of n)
     (row_of n)) old new
-    → (slot : ℕ) (job : Job) (row : Row) (stage : State) → slot < turns * workers
-    → place_at turns workers slot < length jobs
-    → IsTried (slice_index_or jobs (place_at turns workers slot) job) password (slice_index_or
+    → (slot : ℕ) (job : Job) (password : List ℕ) (row : Row) (stage : State)
+    → slot < turns * workers → place_at turns workers slot < length jobs
+    → IsTried (slice_index_or jobs (place_at turns workers slot) job)
+    (slice_index_or passwords (place_at turns workers slot) password) (slice_index_or
     (map row_of new) slot row) (slice_index_or (map stage_of new) slot stage)
-tried_at old new tells_of stage_of row_of turns workers jobs password count same each slot job row
-    stage below there =
+tried_at old new tells_of stage_of row_of turns workers jobs passwords count same each slot job
+    password row stage below there =
+    let own = slice_index_or passwords (place_at turns workers slot) password in
     let within : slot < length old = omega arith in
     let x = an_element old slot within in
     let run = each slot x within in
@@ -144,23 +146,23 @@ tried_at old new tells_of stage_of row_of turns workers jobs password count same
     let stages : slice_index_or (map stage_of new) slot stage ≡ stage_of
     (slice_index_or new slot x) = get_or-map stage_of new slot x stage (omega arith) in
     subst (λ (r : Row). IsTried (slice_index_or jobs
-    (place_at turns workers slot) job) password r (slice_index_or
+    (place_at turns workers slot) job) own r (slice_index_or
     (map stage_of new) slot stage)) (sym rows)
     (subst (λ (t : State). IsTried (slice_index_or jobs
-    (place_at turns workers slot) job) password (row_of (slice_index_or new slot x)) t)
+    (place_at turns workers slot) job) own (row_of (slice_index_or new slot x)) t)
     (sym stages)
-    (run.tried job there))
+    (run.tried job password there))
 
 -- the attempt of a slot without a job is unused
 unused_at : {X : Type 0} (old new : List X) (tells_of : X → List ℕ → Option Forecast) (stage_of : X
     → State) (row_of : X → Row)
-    (turns workers : ℕ) (jobs : List Job) (password : List ℕ) → length old ≡ turns * workers
+    (turns workers : ℕ) (jobs : List Job) (passwords : List (List ℕ)) → length old ≡ turns * workers
     → length new ≡ length old
-    → EachChange (λ slot o n. IsRun turns workers jobs password slot (tells_of o) (stage_of n)
+    → EachChange (λ slot o n. IsRun turns workers jobs passwords slot (tells_of o) (stage_of n)
     (row_of n)) old new
     → (slot : ℕ) (stage : State) → slot < length old → length jobs ≤ place_at turns workers slot
     → slice_index_or (map stage_of new) slot stage ≡ unused
-unused_at old new tells_of stage_of row_of turns workers jobs password count same each slot stage
+unused_at old new tells_of stage_of row_of turns workers jobs passwords count same each slot stage
     within free =
     let x = an_element old slot within in
     get_or-map stage_of new slot x stage (omega arith) ∙ (each slot x within).others free
@@ -168,29 +170,29 @@ unused_at old new tells_of stage_of row_of turns workers jobs password count sam
 -- the use of their attempts by all jobs
 pub are_tried : {X : Type 0} (old new : List X) (tells_of : X → List ℕ
     → Option Forecast) (stage_of : X → State) (row_of : X → Row)
-    (turns workers : ℕ) (jobs : List Job) (password : List ℕ) (blank lines : List ReportLine)
+    (turns workers : ℕ) (jobs : List Job) (passwords : List (List ℕ)) (blank lines : List ReportLine)
     → 0 < workers → length jobs < turns * workers
     → map (λ (l : ReportLine). l.id) blank ≡ map (λ (j : Job). j.id) jobs
     → length old ≡ turns * workers → length new ≡ length old
-    → EachChange (λ slot o n. IsRun turns workers jobs password slot (tells_of o) (stage_of n)
+    → EachChange (λ slot o n. IsRun turns workers jobs passwords slot (tells_of o) (stage_of n)
     (row_of n)) old new
     → Gathers turns workers blank (map row_of new) (length blank) lines
-    → AreTried turns workers jobs password lines (map stage_of new)
-are_tried old new tells_of stage_of row_of turns workers jobs password blank lines some few names
+    → AreTriedWith turns workers jobs passwords lines (map stage_of new)
+are_tried old new tells_of stage_of row_of turns workers jobs passwords blank lines some few names
     count same each gathers =
     let long : length blank ≡ length jobs = same_length jobs blank names in
     record {
-      of_jobs = λ i job line stage below.
+      of_jobs = λ i job password line stage below.
           let back = place_back turns workers i some (omega arith) in
           let slot = slot_below turns workers i some (omega arith) in
           let there : place_at turns workers
           (slot_at turns workers i) < length jobs = rw back below in
-          let is = tried_at old new tells_of stage_of row_of turns workers jobs password count
-          same each (slot_at turns workers i) job
+          let is = tried_at old new tells_of stage_of row_of turns workers jobs passwords count
+          same each (slot_at turns workers i) job password
           (slice_index_or lines i line).row stage slot there in
           rw (gathers.rows i line (slice_index_or lines i line).row (omega arith)) (rw back at is);
       others = λ slot stage below free.
-          unused_at old new tells_of stage_of row_of turns workers jobs password count same each
+          unused_at old new tells_of stage_of row_of turns workers jobs passwords count same each
           slot stage
           (let within : slot < length old = omega (arith, length-map new stage_of) in within) free;
     }
@@ -198,16 +200,42 @@ are_tried old new tells_of stage_of row_of turns workers jobs password blank lin
 -- the result of a slot, moved along equal values
 pub run_moved : {X : Type 0} (old here new there : X) (tells_of : X → List ℕ
     → Option Forecast) (stage_of : X → State) (row_of : X → Row)
-    (turns workers : ℕ) (jobs : List Job) (password : List ℕ) (slot : ℕ) → here ≡ old → there ≡ new
-    → IsRun turns workers jobs password slot (tells_of here) (stage_of there) (row_of there)
-    → IsRun turns workers jobs password slot (tells_of old) (stage_of new) (row_of new)
-run_moved {X} old here new there tells_of stage_of row_of turns workers jobs password slot before
+    (turns workers : ℕ) (jobs : List Job) (passwords : List (List ℕ)) (slot : ℕ) → here ≡ old
+    → there ≡ new
+    → IsRun turns workers jobs passwords slot (tells_of here) (stage_of there) (row_of there)
+    → IsRun turns workers jobs passwords slot (tells_of old) (stage_of new) (row_of new)
+run_moved {X} old here new there tells_of stage_of row_of turns workers jobs passwords slot before
     after run =
-    subst (λ (n : X). IsRun turns workers jobs password slot (tells_of old) (stage_of n)
+    subst (λ (n : X). IsRun turns workers jobs passwords slot (tells_of old) (stage_of n)
     (row_of n)) after
-    (subst (λ (o : X). IsRun turns workers jobs password slot (tells_of o) (stage_of there)
+    (subst (λ (o : X). IsRun turns workers jobs passwords slot (tells_of o) (stage_of there)
     (row_of there)) before run)
 
 -- the elements written to all indexes of a list are its elements
 pub written : {T : Type 0} (n : ℕ) (xs ys : List T) → n ≡ length xs → take n (xs ++ ys) ≡ xs
 written n xs ys is = rw is (take_at xs ys (length xs) refl)
+
+-- jobs that all have one password
+pub one_password : (turns workers : ℕ) (jobs : List Job) (password : List ℕ)
+    (passwords : List (List ℕ)) (lines : List ReportLine) (stages : List State)
+    → passwords ≡ replicate (length jobs) password
+    → AreTriedWith turns workers jobs passwords lines stages
+    → AreTried turns workers jobs password lines stages
+one_password turns workers jobs password passwords lines stages same tried = record {
+  of_jobs = λ i job line stage below.
+      let own : slice_index_or passwords i password ≡ password =
+      rw same (get_or-replicate (length jobs) i password password below) in
+      subst (λ (p : List ℕ). IsTried (slice_index_or jobs i job) p (slice_index_or lines i line).row
+      (slice_index_or stages (slot_at turns workers i) stage)) own
+      (tried.of_jobs i job password line stage below);
+  others = tried.others;
+}
+
+pub one_password_in : {E : Type 0} (turns workers : ℕ) (jobs : List Job) (password : List ℕ)
+    (passwords : List (List ℕ)) (stages : List State) (result : Result (List ReportLine) E)
+    → passwords ≡ replicate (length jobs) password
+    → IfOk result (λ lines. AreTriedWith turns workers jobs passwords lines stages)
+    → IfOk result (λ lines. AreTried turns workers jobs password lines stages)
+one_password_in turns workers jobs password passwords stages (Ok lines) same tried =
+    one_password turns workers jobs password passwords lines stages same tried
+one_password_in turns workers jobs password passwords stages (Err error) same tried = tt

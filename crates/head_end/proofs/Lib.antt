@@ -5,5 +5,7 @@ mod Turning
 pub mod JobOutcomes
 mod Places
 mod CampaignLemmas
+mod RoundLemmas
 mod ReadingLemmas
+mod PasswordLemmas
 mod LawLemmas

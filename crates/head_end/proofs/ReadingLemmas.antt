@@ -44,12 +44,12 @@ pub left_all : (text : List ℕ) → Left text [] 1 text
 left_all text = record { all = joined_none (jobs_in 1 (job_lines text)); count = refl }
 
 -- a line is removed from the text, and its jobs follow the others
-lines_taken : (rest line behind : List ℕ) → lines_of rest ≡ line ∷ lines_of behind → unended_of rest
-    ≡ unended_of behind → job_lines rest ≡ line ∷ job_lines behind
+pub lines_taken : (rest line behind : List ℕ) → lines_of rest ≡ line ∷ lines_of behind
+    → unended_of rest ≡ unended_of behind → job_lines rest ≡ line ∷ job_lines behind
 lines_taken rest line behind lines unended = rw (lines, unended) refl
 
-lines_last : (rest : List ℕ) → lines_of rest ≡ [] → unended_of rest ≡ rest → job_lines rest ≡ rest
-    ∷ []
+pub lines_last : (rest : List ℕ) → lines_of rest ≡ [] → unended_of rest ≡ rest
+    → job_lines rest ≡ rest ∷ []
 lines_last rest lines unended = rw (lines, unended) refl
 
 taken_all : (text : List ℕ) (old : List Job) (number : ℕ) (rest line : List ℕ)

@@ -1,5 +1,5 @@
 -- A client's conversation, by the log of its connection.
-use Rattle.std.proofs.Common.{◌≡◌, ◌≢◌, ◌≤◌, ◌<◌, ◌+◌, ℕ, zero, suc, Bool, true, false, List, [], ◌∷◌, ◌++◌, length, take, Some, None, Ok, Err, refl, sym, ap, subst, ◌∙◌, append-nil, append_assoc, inl, inr, add-one, arith}
+use Rattle.std.proofs.Common.{◌≡◌, ◌≢◌, ◌≤◌, ◌+◌, ℕ, zero, suc, true, false, List, [], ◌∷◌, ◌++◌, length, take, Some, None, Ok, Err, refl, sym, ap, subst, ◌∙◌, append-nil, append_assoc, inl, inr, add-one, arith}
 use Rattle.std.specs.Prelude.{Option, Result, IsSome}
 use Rattle.std.specs.Result.{IsErr}
 use Rattle.std.specs.List.{concat}
@@ -16,8 +16,8 @@ use Rattle.client_core.proofs.Accepting.{accepted_stays}
 use Rattle.client_core.proofs.Lookups.{nothing_said}
 use Rattle.head_end.specs.Connections.{ended}
 use Rattle.head_end.specs.Logs.{Happening, heard, heard_nothing, sent, cut_off, heard_in, sent_in, reads_in, ReadLogs, WriteLogs, IsFront, IsCutOff}
-use Rattle.head_end.specs.Wires.{due_text, given_text, IsDueNext, Listens, Permits, Conversation, HasConversed}
-use Rattle.head_end.specs.Conversations.{GivesUp, Talks, HasSent, Waits, IsCut, SentAfter, Sends, TurnAfter, TakesTurn, Speaks}
+use Rattle.head_end.specs.Wires.{due_text, given_text, IsDueNext, Permits, HasConversed}
+use Rattle.head_end.specs.Conversations.{GivesUp, Talks, HasSent, Waits, IsCut, Sends, TurnAfter, TakesTurn, Speaks}
 use Rattle.head_end.proofs.Texts.{due_by, given_by, given_within, all_given, three_given, given_front, front_more, due_grows}
 
 -- ---- one more happening

@@ -1,12 +1,9 @@
 -- The messages that may be sent, and those that a client returned.
 use Rattle.std.proofs.Common.{◌≡◌, ◌≤◌, ℕ, zero, suc, Bool, true, false, List, [], ◌∷◌, ◌++◌, length, Some, None, refl, sym, ap, ◌∙◌, append-nil, append_assoc, arith}
-use Rattle.std.specs.Prelude.{if◌then◌else◌, Option}
+use Rattle.std.specs.Prelude.{if◌then◌else◌}
 use Rattle.std.specs.List.{concat}
 use Rattle.client_core.specs.declared.job.Verb.{Verb}
-use Rattle.client_core.specs.declared.job.Outcome.{Outcome}
-use Rattle.client_core.specs.declared.progress.Progress.{Progress}
 use Rattle.client_core.specs.Texts.{aarq_frame, request_frame, release_frame, text_at}
-use Rattle.client_core.specs.Outcomes.{due_frames, is_served}
 use Rattle.head_end.specs.Logs.{IsFront}
 use Rattle.head_end.specs.Wires.{given_text}
 

@@ -4,7 +4,8 @@
 --     slot_at           the slot of a job
 --     turns_for         the number of slots of each worker, and slots_for of all workers
 --     IsRun             the result of a slot
---     AreTried          the use of their attempts by all jobs
+--     AreTried          the use of their attempts by all jobs, with one password
+--     AreTriedWith      their use with a password for each job
 use Rattle.std.specs.Prelude.{◌≡◌, ◌+◌, ◌*◌, ◌/◌, ◌%◌, ◌<◌, ◌≤◌, ℕ, List, length, slice_index_or, Option}
 use Rattle.client_core.specs.declared.job.Job.{Job}
 use Rattle.head_end.specs.declared.row.Row.{Row}
@@ -30,12 +31,13 @@ slots_for jobs workers = turns_for jobs workers * workers
 
 -- the result of a slot: the row of its job, and the use of its attempt. Without a job the attempt
 -- is unused
-pub record IsRun (turns workers : ℕ) (jobs : List Job) (password : List ℕ) (slot : ℕ)
+pub record IsRun (turns workers : ℕ) (jobs : List Job) (passwords : List (List ℕ)) (slot : ℕ)
     (tells : List ℕ → Option Forecast) (stage : State) (row : Row) : Type 0 where
   pub row_is : (job : Job) → place_at turns workers slot < length jobs
       → IsRow tells (slice_index_or jobs (place_at turns workers slot) job) row
-  pub tried : (job : Job) → place_at turns workers slot < length jobs
-      → IsTried (slice_index_or jobs (place_at turns workers slot) job) password row stage
+  pub tried : (job : Job) (password : List ℕ) → place_at turns workers slot < length jobs
+      → IsTried (slice_index_or jobs (place_at turns workers slot) job)
+      (slice_index_or passwords (place_at turns workers slot) password) row stage
   pub others : length jobs ≤ place_at turns workers slot → stage ≡ unused
 
 -- a relation between the elements of two lists at each index
@@ -50,6 +52,18 @@ pub record AreTried (turns workers : ℕ) (jobs : List Job) (password : List ℕ
     (stages : List State) : Type 0 where
   pub of_jobs : (i : ℕ) (job : Job) (line : ReportLine) (stage : State) → i < length jobs
       → IsTried (slice_index_or jobs i job) password (slice_index_or lines i line).row
+      (slice_index_or stages (slot_at turns workers i) stage)
+  pub others : (slot : ℕ) (stage : State) → slot < length stages
+      → length jobs ≤ place_at turns workers slot → slice_index_or stages slot stage ≡ unused
+
+-- the same for jobs that have a password each
+pub record AreTriedWith (turns workers : ℕ) (jobs : List Job) (passwords : List (List ℕ))
+    (lines : List ReportLine)
+    (stages : List State) : Type 0 where
+  pub of_jobs : (i : ℕ) (job : Job) (password : List ℕ) (line : ReportLine) (stage : State)
+      → i < length jobs
+      → IsTried (slice_index_or jobs i job) (slice_index_or passwords i password)
+      (slice_index_or lines i line).row
       (slice_index_or stages (slot_at turns workers i) stage)
   pub others : (slot : ℕ) (stage : State) → slot < length stages
       → length jobs ≤ place_at turns workers slot → slice_index_or stages slot stage ≡ unused

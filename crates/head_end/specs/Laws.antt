@@ -14,7 +14,7 @@ use Rattle.client_core.specs.Outcomes.{outcome_of}
 use Rattle.head_end.specs.declared.row.Row.TheVariants.{Came, Memory}
 use Rattle.head_end.specs.declared.row.ReportLine.{ReportLine}
 use Rattle.head_end.specs.Attempts.{State}
-use Rattle.head_end.specs.Campaigns.{turns_for, AreTried}
+use Rattle.head_end.specs.Campaigns.{turns_for, AreTriedWith}
 use Rattle.head_end.specs.Connections.{Forecast}
 use Rattle.head_end.specs.Jobs.{job_lines, jobs_in}
 use Rattle.head_end.specs.Reports.{report_text}
@@ -71,10 +71,10 @@ JobsJoin = (text rest : List ℕ) (jobs others : List Job) → unended_of text �
 -- the text is the report of lines that are those of the jobs, each of which used its attempt
 -- correctly
 pub record Reports {X : Type 0} (tells_of : X → List ℕ
-    → Option Forecast) (workers : ℕ) (jobs : List Job) (password : List ℕ) (old : List X)
+    → Option Forecast) (workers : ℕ) (jobs : List Job) (passwords : List (List ℕ)) (old : List X)
     (stages : List State) (text : List ℕ) : Type 0 where
   pub lines : List ReportLine
   pub text_is : text ≡ report_text lines
   pub lines_are : (tells : List ℕ → Option Forecast) → All (λ x. tells_of x ≡ tells) old
       → AreLines tells jobs lines
-  pub tried : AreTried (turns_for (length jobs) workers) workers jobs password lines stages
+  pub tried : AreTriedWith (turns_for (length jobs) workers) workers jobs passwords lines stages

@@ -5,7 +5,9 @@ pub mod Conversations
 pub mod Attempts
 pub mod Rows
 pub mod Campaigns
+pub mod Rounds
 pub mod Reports
 pub mod Jobs
+pub mod JobPasswords
 pub mod Laws
 pub mod Numbers

@@ -98,12 +98,14 @@ impl<'a, C: Connector> Attempt<'a, C> {
         }
     }
 
-    /// Closes the connection of the attempt.
+    /// Ends the connection of the attempt in order, and closes it.
     pub fn close(&mut self, connection: C::Connection)
         requires { is_connected self.old.stage }
         ensures closed { self.new.stage ≡ close_state (C.Connection.log connection) self.old.stage }
         ensures source { self.new.source.value ≡ self.old.source.value }
     {
+        let mut connection = connection;
+        connection.finish();
         self.stage.closed = Some(Snapshot::of(&connection));
         drop(connection);
     }

@@ -1,6 +1,6 @@
 //! The traits of a connection to a meter and of a connector that opens it; contracts may predict
 //! what it reads.
-ghost use Rattle.std.specs.Prelude.{ℕ, List, Option, None, IfOk};
+ghost use Rattle.std.specs.Prelude.{◌≡◌, ℕ, List, Option, None, IfOk};
 ghost use Rattle.std.specs.Io.{ReadsAtMost};
 ghost use Rattle.head_end.specs.Connections.{Forecast, ReadTells, WriteTells, ConnectTells};
 ghost use Rattle.head_end.specs.Logs.{Happening, ReadLogs, WriteLogs, IsNewLog};
@@ -30,6 +30,13 @@ pub trait Connection: Drop {
     fn write_all(&mut self, bytes: &[u8]) -> Result<(), StreamFault>
         ensures forecast { WriteTells (forecast self.old) result (forecast self.new) }
         ensures log { WriteLogs (log self.old) bytes.now result (log self.new) };
+
+    /// Ends the connection in order, after its conversation: sends its end, and discards what still
+    /// comes until the other side's end, within the connection's limit of time. So the close is no
+    /// reset. The log has nothing of this. The default does nothing.
+    fn finish(&mut self)
+        ensures log { log self.new ≡ log self.old }
+    {}
 }
 
 /// Connects to meters, from several threads in parallel.

@@ -128,7 +128,7 @@ fn verb_of(word: &[u8]) -> Option<Verb>
 }
 
 // Returns whether a word has 1 to `most` bytes, all of them visible ASCII.
-fn is_name(word: &[u8], most: usize) -> bool
+pub(crate) fn is_name(word: &[u8], most: usize) -> bool
     ensures { result ≡ is_name most word.now }
 {
     !word.is_empty() && word.len() <= most && all_visible(word)

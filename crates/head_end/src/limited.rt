@@ -8,6 +8,11 @@ use crate::connection::Connection;
 use counted_io::StreamFault;
 use std::time::{Clock, Duration, Instant};
 
+// The maximum number of reads after the end of a conversation, and the limit of each in seconds.
+const MAX_LAST_READS: u32 = 16;
+
+const MAX_LAST_WAIT: u64 = 5;
+
 /// A stream whose next read or write has a time limit.
 pub trait LimitedStream: Drop {
     // Ghost value: the reads and writes so far, in order. The default claims nothing.
@@ -23,6 +28,15 @@ pub trait LimitedStream: Drop {
     /// have been written. Fails if the limit is zero.
     fn write_all_within(&mut self, limit: Duration, bytes: &[u8]) -> Result<(), StreamFault>
         ensures log { WriteLogs (log self.old) bytes.now result (log self.new) };
+
+    /// Sends the end of the stream: nothing more is written. The log has nothing of this.
+    fn end_writing(&mut self)
+        ensures log { log self.new ≡ log self.old };
+
+    /// Reads and discards bytes within a limit, and returns their number: 0 at the end of the
+    /// stream. Fails if the limit is zero. The log has nothing of this.
+    fn discard_within(&mut self, limit: Duration) -> Result<usize, StreamFault>
+        ensures log { log self.new ≡ log self.old };
 }
 
 /// A connection over a stream whose reads and writes fail once the time limit has passed.
@@ -60,6 +74,19 @@ impl<R: Clock + Drop, S: LimitedStream> Connection for LimitedConnection<R, S> {
     fn write_all(&mut self, bytes: &[u8]) -> Result<(), StreamFault> {
         let limit = time_left(&self.rt, self.opened, self.within);
         self.stream.write_all_within(limit, bytes)
+    }
+
+    fn finish(&mut self) {
+        self.stream.end_writing();
+        'reads: for _ in 0..MAX_LAST_READS {
+            let limit = time_left(&self.rt, self.opened, self.within);
+            let limit = limit.min(Duration::from_secs(MAX_LAST_WAIT));
+            match self.stream.discard_within(limit) {
+                Ok(0) => return,
+                Ok(_) => {}
+                Err(_) => return,
+            }
+        }
     }
 }
 

@@ -52,22 +52,23 @@ pub fn report_jobs<R: Threads + Sync, C: Connector, W: Watcher>(
     alloc: Global,
     jobs: &Jobs,
     places: &mut [JobPlace<C>],
-    password: &Octets,
+    passwords: &[Octets],
     workers: u8,
     watcher: &W,
 ) -> Result<Octets, AllocError>
     requires non_zero { 1 ≤ workers }
     requires within_max { workers ≤ 16 }
-    requires password { IsPassword password.now }
+    requires passwords { All IsPassword passwords.now }
+    requires paired { length passwords.now ≡ length jobs.now }
     requires count { length places.old ≡ slots_for (length jobs.now) workers }
     requires unused { All (λ place. place.attempt.stage ≡ unused) places.old }
     ensures { IfOk result (Reports
-        (λ place. C.tells place.attempt.source.value) workers jobs.now password.now places.old
+        (λ place. C.tells place.attempt.source.value) workers jobs.now passwords.now places.old
         (map (λ place. place.attempt.stage) places.new)) }
 {
     let room = Vec::with_capacity(alloc, jobs.len().saturating_mul(LONGEST_LINE))?;
     let mut text = Octets::from_vec(room);
-    let report = run_watched_campaign(rt, alloc, jobs, places, password, workers, watcher)?;
+    let report = run_watched_campaign(rt, alloc, jobs, places, passwords, workers, watcher)?;
     add_report(&report, &mut text)?;
     drop(report);
     Ok(text)

@@ -27,6 +27,7 @@ pub fn run_job<C: Connector>(
     requires password { IsPassword password.now }
     ensures row { IsRow (C.tells attempt.old.source.value) job.now result }
     ensures tried { IsTried job.now password.now result attempt.new.stage }
+    ensures source { attempt.new.source.value ≡ attempt.old.source.value }
 {
     match try_job(alloc, job, attempt, password) {
         Ok(outcome) => Row::Came(outcome),
@@ -46,6 +47,7 @@ fn try_job<C: Connector>(
     ensures outcome { IfOk result (IsOutcome
         (C.tells attempt.old.source.value job.now.address) job.now.verb) }
     ensures tried { IsTried job.now password.now (row_in result) attempt.new.stage }
+    ensures source { attempt.new.source.value ≡ attempt.old.source.value }
 {
     let mut client = Client::start(alloc, job, password)?;
     match attempt.connect(&job.address) {

@@ -5,8 +5,11 @@ use crate::connection::{ConnectFault, Connector};
 use crate::limited::{LimitedConnection, LimitedStream};
 use cosem_axdr::Octets;
 use counted_io::{Counted, Reader, StreamFault, Writer};
-use std::net::{Net, TcpStream, ToSocketAddrs};
+use std::net::{Net, Shutdown, TcpStream, ToSocketAddrs};
 use std::time::{Clock, Duration, Instant};
+
+// The maximum number of bytes that one read discards.
+const MAX_DISCARDED: usize = 1_024;
 
 /// The time limits of a connector.
 #[derive(Clone, Copy, Debug, PartialEq, Eq)]
@@ -62,6 +65,15 @@ impl LimitedStream for TcpStream {
         }
         let mut stream = Counted::new(&*self);
         stream.write_all(bytes)
+    }
+
+    fn end_writing(&mut self) {
+        let _ = self.shutdown(Shutdown::Write);
+    }
+
+    fn discard_within(&mut self, limit: Duration) -> Result<usize, StreamFault> {
+        let mut buffer = [0; MAX_DISCARDED];
+        self.read_within(limit, &mut buffer)
     }
 }
 

@@ -50,6 +50,15 @@ fn password_file<'a>(alloc: Global) -> Arg<'a> {
         .action(ArgAction::Set)
 }
 
+// Returns the option `--passwords`.
+fn passwords<'a>(alloc: Global) -> Arg<'a> {
+    Arg::new(alloc, "passwords")
+        .long("passwords")
+        .value_name("FILE")
+        .help("File of lines `NAME PASSWORD`; only its owner may have access to it")
+        .action(ArgAction::Set)
+}
+
 // Returns the option `--workers`.
 fn workers<'a>(alloc: Global) -> Arg<'a> {
     Arg::new(alloc, "workers")
@@ -99,6 +108,7 @@ fn run_command<'a>(alloc: Global, has_password: bool) -> Result<Command<'a>, All
     );
     let made = with_argument(made, password(alloc, !has_password));
     let made = with_argument(made, password_file(alloc));
+    let made = with_argument(made, passwords(alloc));
     let made = with_argument(made, workers(alloc));
     let made = with_argument(made, timeout(alloc));
     let made = with_argument(made, connect_timeout(alloc));
@@ -112,7 +122,7 @@ fn check_command<'a>(alloc: Global) -> Result<Command<'a>, AllocError> {
         .about(
             "Counts the jobs on standard input: NAME ADDRESS VERB (disconnect, reconnect or state)",
         )
-        .arg(verbose(alloc))
+        .arg(verbose(alloc).help("If the list is wrong, report all findings on standard error"))
 }
 
 // Returns the program without its commands.

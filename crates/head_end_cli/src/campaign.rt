@@ -1,12 +1,16 @@
 //! The command `head_end run`: its options, its jobs from standard input, and its report.
-ghost use Rattle.std.specs.Prelude.{◌≡◌, ◌≤◌, ℕ, List, Some, None, codes, IfOk, OnOk};
+ghost use Rattle.std.specs.Prelude.{◌≡◌, ◌≤◌, ℕ, List, Some, codes, length, string_bytes};
+ghost use Rattle.std.specs.Prelude.{IfOk, IfSome, OnOk};
+ghost use Rattle.std.specs.List.{All};
 ghost use Rattle.acse_ber.specs.Password.{IsPassword};
 ghost use Rattle.clap.specs.Matches.{first_value, found_of};
 ghost use Rattle.program.specs.Passwords.{HasNoLineEnd};
 ghost use Rattle.head_end_cli.specs.Options.{AreLimits, AreWorkers, IsLimit, IsNumber};
+ghost use Rattle.head_end_cli.specs.Passwords.{ArePasswords, HasPasswords, IsCommonPassword};
 ghost use Rattle.head_end_cli.specs.Printed.{PrintsReport};
 
 use crate::load_jobs;
+use crate::passwords::passwords;
 use crate::progress::{CampaignProgress, ProgressWatch};
 use acse_ber::MAX_PASSWORD;
 use clap::ArgMatches;
@@ -19,6 +23,7 @@ use std::env::VarError;
 use std::io::{IsTerminal, Write};
 use std::thread::Threads;
 use std::time::Duration;
+use wire_bytes::Listed;
 
 // The environment variable that can hold the password.
 pub(crate) const PASSWORD_VARIABLE: &str = "METER_PASSWORD";
@@ -27,11 +32,12 @@ pub(crate) const PASSWORD_VARIABLE: &str = "METER_PASSWORD";
 #[derive(Drop)]
 pub(crate) struct CampaignPlan {
     pub(crate) jobs: Jobs,
-    pub(crate) password: Octets,
+    pub(crate) passwords: Listed<Octets>,
     pub(crate) workers: u8,
     pub(crate) limits: TcpLimits,
     pub(crate) is_shown: bool,
-    ghost sized: { IsPassword password },
+    ghost sized: { All IsPassword passwords },
+    ghost paired: { length passwords ≡ length jobs },
     ghost some: { 1 ≤ workers },
     ghost within_max: { workers ≤ 16 },
 }
@@ -104,11 +110,12 @@ fn check_password(rt: &HostRuntime, text: &str, is_verbose: bool) -> Result<Octe
     password
 }
 
-// Returns the password of the environment. Errors: `Input` if it is not UTF-8, with a line on
-// standard error if `is_verbose`; `Memory`.
-fn read_environment_password(rt: &HostRuntime, is_verbose: bool) -> Result<String, Fault> {
+// Returns the password of the environment, if it has one. Errors: `Input` if it is not UTF-8, with
+// a line on standard error if `is_verbose`; `Memory`.
+fn read_environment_password(rt: &HostRuntime, is_verbose: bool) -> Result<Option<String>, Fault> {
     match env::var(rt, PASSWORD_VARIABLE) {
-        Ok(text) => Ok(text),
+        Ok(text) => Ok(Some(text)),
+        Err(VarError::NotPresent) => Ok(None),
         Err(VarError::OutOfMemory) => Err(Fault::Memory),
         Err(_) => {
             if is_verbose {
@@ -119,58 +126,89 @@ fn read_environment_password(rt: &HostRuntime, is_verbose: bool) -> Result<Strin
     }
 }
 
-// Returns the password of the command line, else that of the file that it names, else that of the
-// environment. Errors: those of a file without a password, with a line on standard error; `Input`
-// if there is none or it does not have 1 to 32 bytes, with a line if `is_verbose`; `Memory`.
-fn find_password(
+// Returns the password of the file of `--password-file`, else that of the environment.
+fn stored_password(
     rt: &HostRuntime,
     matches: &ArgMatches<'_>,
     is_verbose: bool,
-) -> Result<Octets, Fault>
-    ensures sized { IfOk result IsPassword }
-    ensures from_option { IfOk result (λ password. (text : List ℕ)
-        → first_value (found_of matches.now) (codes "password") ≡ Some text → password ≡ text) }
-    ensures of_file { IfOk result (λ password. (path : List ℕ)
-        → first_value (found_of matches.now) (codes "password") ≡ None
+) -> Result<Option<String>, Fault>
+    ensures { IfOk result (λ password. (path : List ℕ)
         → first_value (found_of matches.now) (codes "password-file") ≡ Some path
-        → HasNoLineEnd password) }
+        → IfSome password (λ text. HasNoLineEnd (string_bytes text))) }
 {
-    if let Some(text) = matches.get_str("password") {
-        return check_password(rt, text, is_verbose);
+    match matches.get_str("password-file") {
+        Some(path) => Ok(Some(read_password_file(rt, path)?)),
+        None => read_environment_password(rt, is_verbose),
     }
-    let text = match matches.get_str("password-file") {
-        Some(path) => read_password_file(rt, path)?,
-        None => read_environment_password(rt, is_verbose)?,
-    };
-    check_password(rt, text.as_str(), is_verbose)
 }
 
-// Validates the options and reads the jobs on standard input. If `--verbose` is given, a line on
-// standard error describes the fault.
+// Returns the common password: that of the command line, else that of the file that it names, else
+// that of the environment, or `None` without one. Errors: those of a file without a password, with
+// a line on standard error; `Input` if the password does not have 1 to 32 bytes, with a line if
+// `is_verbose`; `Memory`.
+fn common_password(
+    rt: &HostRuntime,
+    matches: &ArgMatches<'_>,
+    is_verbose: bool,
+) -> Result<Option<Octets>, Fault>
+    ensures { IfOk result (IsCommonPassword (found_of matches.now)) }
+{
+    if let Some(text) = matches.get_str("password") {
+        return Ok(Some(check_password(rt, text, is_verbose)?));
+    }
+    match stored_password(rt, matches, is_verbose)? {
+        Some(text) => Ok(Some(check_password(rt, text.as_str(), is_verbose)?)),
+        None => Ok(None),
+    }
+}
+
+// Returns the password of each job.
+fn job_passwords(
+    rt: &HostRuntime,
+    matches: &ArgMatches<'_>,
+    jobs: &Jobs,
+    common: &Option<Octets>,
+) -> Result<Listed<Octets>, Fault>
+    requires { IfSome common.now IsPassword }
+    ensures passwords { IfOk result (ArePasswords (found_of matches.now) common.now jobs.now) }
+    ensures sized { IfOk result (λ passwords. All IsPassword passwords) }
+    ensures paired { IfOk result (λ passwords. length passwords ≡ length jobs.now) }
+{
+    match common {
+        Some(password) => passwords(rt, matches, jobs, Some(password.as_slice())),
+        None => passwords(rt, matches, jobs, None),
+    }
+}
+
+// Validates the options and reads the jobs on standard input, and then the passwords of the jobs.
+// If `--verbose` is given, a line on standard error describes the fault.
 pub(crate) fn plan_campaign(
     rt: &HostRuntime,
     matches: &ArgMatches<'_>,
 ) -> Result<CampaignPlan, Fault>
     ensures limits { IfOk result (λ plan. AreLimits (found_of matches.now) plan.limits) }
     ensures workers { IfOk result (λ plan. AreWorkers (found_of matches.now) plan.workers) }
-    ensures password { IfOk result (λ plan. (text : List ℕ)
-        → first_value (found_of matches.now) (codes "password") ≡ Some text
-        → plan.password ≡ text) }
-    ensures of_file { IfOk result (λ plan. (path : List ℕ)
-        → first_value (found_of matches.now) (codes "password") ≡ None
-        → first_value (found_of matches.now) (codes "password-file") ≡ Some path
-        → HasNoLineEnd plan.password) }
+    ensures passwords { IfOk result (λ plan. HasPasswords (found_of matches.now) plan.jobs
+        plan.passwords) }
 {
     let is_verbose = matches.get_flag("verbose");
-    let password = find_password(rt, matches, is_verbose)?;
+    let common = common_password(rt, matches, is_verbose)?;
     let jobs = load_jobs(rt, rt.stdin(), is_verbose)?;
-    Ok(CampaignPlan {
-        jobs,
-        password,
-        workers: workers(matches),
-        limits: limits_of(matches),
-        is_shown: matches.get_flag("progress") || rt.stderr().is_terminal(),
-    })
+    let passwords = job_passwords(rt, matches, &jobs, &common);
+    drop(common);
+    match passwords {
+        Ok(passwords) => Ok(CampaignPlan {
+            jobs,
+            passwords,
+            workers: workers(matches),
+            limits: limits_of(matches),
+            is_shown: matches.get_flag("progress") || rt.stderr().is_terminal(),
+        }),
+        Err(fault) => {
+            drop(jobs);
+            Err(fault)
+        }
+    }
 }
 
 // Runs the jobs and prints the report.
@@ -182,7 +220,7 @@ pub(crate) fn run<R: Threads + Sync, C: Connector, W: Write>(
     output: &mut W,
 ) -> Result<(), Fault>
     ensures { OnOk result
-        (PrintsReport (C.tells connector.now) plan.now.workers plan.now.jobs plan.now.password
+        (PrintsReport (C.tells connector.now) plan.now.workers plan.now.jobs plan.now.passwords
         (W.contents output.old) (W.contents output.new)) }
 {
     let progress = CampaignProgress::new(rt, plan.jobs.len());
@@ -198,7 +236,7 @@ pub(crate) fn run<R: Threads + Sync, C: Connector, W: Write>(
         rt.alloc(),
         &plan.jobs,
         places.as_mut_slice(),
-        &plan.password,
+        plan.passwords.as_slice(),
         plan.workers,
         &watch,
     );

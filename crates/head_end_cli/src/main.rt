@@ -7,6 +7,8 @@
 
 mod arguments;
 mod campaign;
+mod findings;
+mod passwords;
 mod progress;
 mod telling;
 mod text_filter;
@@ -14,6 +16,7 @@ mod warnings;
 
 use crate::arguments::command_line;
 use crate::campaign::{CampaignPlan, PASSWORD_VARIABLE};
+use crate::findings::report_findings;
 use crate::telling::{ListFault, input_fault, jobs_fault};
 use crate::warnings::warn;
 use clap::ArgMatches;
@@ -76,13 +79,23 @@ fn warn_of_text(rt: &HostRuntime, text: &[u8]) {
     }
 }
 
+// Returns the fault of a text that `check` read and that is not a list of jobs. If `is_verbose`,
+// writes all findings in its lines on standard error.
+fn report_check_fault(rt: &HostRuntime, text: &[u8], fault: JobsFault, is_verbose: bool) -> Fault {
+    if is_verbose && matches!(fault, JobsFault::Line(_)) {
+        report_findings(rt, text);
+        return jobs_fault(fault);
+    }
+    report_list_fault(rt, text, fault, is_verbose)
+}
+
 // Runs `check`: prints the number of jobs on standard input, and writes the warnings about them.
 fn check(rt: &HostRuntime, is_verbose: bool) -> Result<(), Fault> {
     let text = text_of(rt, rt.stdin(), is_verbose)?;
     warn_of_text(rt, text.as_slice());
     match count_jobs(rt.alloc(), text.as_slice()) {
         Ok(line) => print_text(&mut rt.stdout(), line.as_slice()),
-        Err(fault) => Err(report_list_fault(rt, text.as_slice(), fault, is_verbose)),
+        Err(fault) => Err(report_check_fault(rt, text.as_slice(), fault, is_verbose)),
     }
 }
 
@@ -116,6 +129,7 @@ fn begin(rt: &HostRuntime) -> Result<HeadEndCommand, Fault> {
     let words = read_arguments(rt)?;
     // (clap's `required_unless_present` would print the options of the usage in another order)
     let has_password = has_option(words.as_slice(), "--password-file")
+        || has_option(words.as_slice(), "--passwords")
         || !matches!(env::var(rt, PASSWORD_VARIABLE), Err(VarError::NotPresent));
     let command = command_line(alloc, has_password).map_err(|_| Fault::Memory)?;
     match command.try_get_matches_from(words.as_slice()) {

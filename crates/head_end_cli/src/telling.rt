@@ -2,6 +2,7 @@
 ghost use Rattle.std.specs.Prelude.{◌≡◌};
 ghost use Rattle.head_end_cli.specs.Faults.{input_fault, jobs_fault};
 
+use acse_ber::MAX_PASSWORD;
 use counted_io::InputFault;
 use head_end::{JobsFault, MAX_ADDRESS, MAX_ID};
 use program::Fault;
@@ -61,6 +62,9 @@ pub(crate) enum LineFault {
     // The word has this byte.
     #[error("{0} has the byte 0x{1:02X}, which is not visible ASCII")]
     Invisible(&'static str, u8),
+    // The word has a byte that is not visible ASCII, and is not shown.
+    #[error("{0} has a byte that is not visible ASCII")]
+    Hidden(&'static str),
     // The third word is not a verb.
     #[error("VERB must be disconnect, reconnect or state")]
     Verb,
@@ -101,22 +105,43 @@ fn line_of(text: &[u8], number: u64) -> &[u8] {
 
 // Returns why a line is not a job.
 fn why_no_job(line: &[u8]) -> LineFault {
-    match check_words(line) {
+    match check_job_line(line) {
         Ok(()) => LineFault::Surplus,
         Err(fault) => fault,
     }
 }
 
-// Checks the first three words of a line.
-fn check_words(line: &[u8]) -> Result<(), LineFault> {
+// Returns why a line of a list of passwords, with that number, is not a name and a password.
+pub(crate) fn why_no_password(text: &[u8], number: u64) -> LineFault {
+    match check_password_line(line_of(text, number)) {
+        Ok(()) => LineFault::Surplus,
+        Err(fault) => fault,
+    }
+}
+
+// Checks the first two words of a line of a list of passwords.
+fn check_password_line(line: &[u8]) -> Result<(), LineFault> {
+    let mut words = Words::new(line);
+    check_word("NAME", words.next(), MAX_ID)?;
+    match check_word("PASSWORD", words.next(), MAX_PASSWORD) {
+        Ok(_) => Ok(()),
+        Err(LineFault::Invisible(name, _)) => Err(LineFault::Hidden(name)),
+        Err(fault) => Err(fault),
+    }
+}
+
+// Checks that a line is a job: three words, the last a verb.
+pub(crate) fn check_job_line(line: &[u8]) -> Result<(), LineFault> {
     let mut words = Words::new(line);
     check_word("NAME", words.next(), MAX_ID)?;
     check_word("ADDRESS", words.next(), MAX_ADDRESS)?;
     let verb = check_word("VERB", words.next(), usize::MAX)?;
-    if is_verb(verb) {
-        Ok(())
-    } else {
-        Err(LineFault::Verb)
+    if !is_verb(verb) {
+        return Err(LineFault::Verb);
+    }
+    match words.next() {
+        Some(_) => Err(LineFault::Surplus),
+        None => Ok(()),
     }
 }
 

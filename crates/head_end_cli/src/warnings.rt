@@ -82,7 +82,7 @@ impl<'a> EarlierJobs<'a> {
             if let Some(first) = self.line_of(place) {
                 let _ = eprintln!(rt;
                     "line {number}: warning: line {first} has the same address: \
-                    the two run in any order"
+                    the two run in the order of the list"
                 );
             }
         }

@@ -6,6 +6,7 @@ complete -c head_end -f -n '__fish_seen_subcommand_from check' -l verbose -d 'On
 complete -c head_end -f -n __fish_use_subcommand -a run -d 'Runs the jobs on standard input and prints a report'
 complete -c head_end -f -n '__fish_seen_subcommand_from run' -l password -r -d 'Password of the management client, 1 to 32 bytes; default: METER_PASSWORD'
 complete -c head_end -f -n '__fish_seen_subcommand_from run' -l password-file -r -d 'File whose one line is the password; only its owner may have access to it'
+complete -c head_end -f -n '__fish_seen_subcommand_from run' -l passwords -r -d 'File of lines `NAME PASSWORD`; only its owner may have access to it'
 complete -c head_end -f -n '__fish_seen_subcommand_from run' -l workers -r -d 'Number of meters to contact in parallel, 1 to 16'
 complete -c head_end -f -n '__fish_seen_subcommand_from run' -l timeout -r -d 'Time limit for an open connection; 0 means no limit'
 complete -c head_end -f -n '__fish_seen_subcommand_from run' -l connect-timeout -r -d 'Time limit for connecting to a meter; 0 means no limit'

@@ -9,7 +9,7 @@ returns-clause-lines g c = λ tells all.
     (arith, c.fill.ensures.len, c.as_mut_slice.ensures.len) in
     let whole : c.from_vec.result ≡ c.fill.new.lines =
     c.from_vec.ensures ∙ written c.in_ok-lines.lines.len c.fill.new.lines _ long in
-    rw whole (rw c.as_slice-2.ensures.jobs at (c.fill.ensures.lines tells all))
+    rw whole (rw c.as_slice-3.ensures.jobs at (c.fill.ensures.lines tells all))
 
 pub returns-clause-tried : goal.returns-clause-tried
 returns-clause-tried g c =
@@ -20,4 +20,4 @@ returns-clause-tried g c =
     let turns : c.in_ok-turns.turns ≡ turns_for
     (length c.args.jobs.now) c.args.workers = search rules in
     let workers : c.from-workers.result ≡ c.args.workers = search rules in
-    rw whole (rw (c.as_slice-2.ensures.jobs, turns, workers) at c.fill.ensures.tried)
+    rw whole (rw (c.as_slice-3.ensures.jobs, turns, workers) at c.fill.ensures.tried)

@@ -1,4 +1,4 @@
-use Rattle.std.proofs.Common.{true, false, arith}
+use Rattle.std.proofs.Common.{arith}
 use Rattle.head_end.proofs.Turning.{goes_first, goes_on, converses_cut, converses_turn, converses_last}
 use Rattle.head_end.proofs.Talking.{reaches_first, reaches_next, speaks_unsent, speaks_turn, speaks_starved, speaks_last}
 use Rattle.head_end.proofs.conversing.converse.Goals as goal

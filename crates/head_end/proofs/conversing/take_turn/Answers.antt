@@ -1,4 +1,4 @@
-use Rattle.std.proofs.Common.{◌≡◌, true, false, rules, arith, refl}
+use Rattle.std.proofs.Common.{◌≡◌, rules, arith, refl}
 use Rattle.head_end.proofs.Turning.{feeding, turn_ended, turn_failed, turn_cut, turn_on}
 use Rattle.head_end.proofs.Talking.{turn_over, turn_broken, turn_starved, hears, turn_unsent, turn_settled}
 use Rattle.head_end.proofs.conversing.take_turn.Goals as goal

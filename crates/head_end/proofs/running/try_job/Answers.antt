@@ -1,4 +1,3 @@
-use Rattle.std.proofs.Common.{◌≡◌, rules}
 use Rattle.head_end.proofs.JobOutcomes.{connected, unconnected, tried_closed, tried_refused}
 use Rattle.head_end.proofs.running.try_job.Goals as goal
 

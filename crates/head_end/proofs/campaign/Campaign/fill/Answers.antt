@@ -18,7 +18,7 @@ returns-clause-lines g c = λ tells all.
     (row_at c.args.places.now c.work.new.places (λ p. g.C.Connector.tells p.attempt.source.value)
     (λ p. p.attempt.stage) (λ p. p.row) tells
     c.args.self.now.turns c.args.self.now.workers c.args.self.now.jobs.now
-    c.args.self.now.password.now c.requires.slots
+    c.args.self.now.passwords.now c.requires.slots
     (omega arith) c.work.ensures all)
     (record {
       rows = λ i line row below. c.gather.ensures.rows i line row below;
@@ -31,7 +31,7 @@ returns-clause-tried g c =
     are_tried c.args.places.now c.work.new.places
     (λ p. g.C.Connector.tells p.attempt.source.value) (λ p. p.attempt.stage) (λ p. p.row)
     c.args.self.now.turns c.args.self.now.workers c.args.self.now.jobs.now
-    c.args.self.now.password.now c.args.lines.now
+    c.args.self.now.passwords.now c.args.lines.now
     c.gather.new.lines
     c.args.self.now.some_workers c.requires.room c.requires.names c.requires.slots
     (omega arith) c.work.ensures

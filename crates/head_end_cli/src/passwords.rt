@@ -1,0 +1,183 @@
+//! The passwords of the jobs of `run`: those of the file of `--passwords`, and the common one.
+ghost use Rattle.std.specs.Prelude.{◌≡◌, [], None, IfOk, IfSome, codes, length};
+ghost use Rattle.std.specs.List.{All};
+ghost use Rattle.std.specs.Option.{option_copied};
+ghost use Rattle.acse_ber.specs.Password.{IsPassword};
+ghost use Rattle.clap.specs.Matches.{first_value, found_of};
+ghost use Rattle.head_end_cli.specs.Passwords.{ArePasswords};
+
+use crate::telling::{LineFault, why_no_password};
+use crate::text_filter::TextFilter;
+use clap::ArgMatches;
+use cosem_axdr::Octets;
+use counted_io::{Counted, InputFault, read_to_end_within};
+use head_end::{Jobs, PasswordsFault, passwords_for};
+use program::{Fault, PasswordFault};
+use std::fs::File;
+use std::os::unix::fs::MetadataExt;
+use text_lines::Words;
+use thiserror::Error;
+use wire_bytes::Listed;
+
+// The permissions of others than the file's owner.
+const OTHERS: u32 = 0o077;
+
+// The maximum length of the file in bytes.
+const MAX_LENGTH: usize = 1_048_576;
+
+// Why the file of `--passwords` is not a list of passwords. Its message follows the file's path,
+// and contains no password. Lines are counted from 1.
+#[derive(Clone, Copy, Debug, PartialEq, Eq, Error)]
+enum PasswordListFault {
+    #[error("{0}")]
+    File(PasswordFault),
+    #[error("the file has more than 1,048,576 bytes")]
+    TooLong,
+    #[error("line {0}: expected `NAME PASSWORD`: {1}")]
+    Line(u64, LineFault),
+    #[error("line {0}: line {1} has the same name")]
+    Double(u64, u64),
+}
+
+// Returns the program's fault.
+impl From<PasswordListFault> for Fault {
+    fn from(fault: PasswordListFault) -> Fault {
+        match fault {
+            PasswordListFault::File(fault) => Fault::from(fault),
+            PasswordListFault::TooLong
+            | PasswordListFault::Line(_, _)
+            | PasswordListFault::Double(_, _) => Fault::Input,
+        }
+    }
+}
+
+// Reads a file that only its owner may access.
+fn read_own_file(rt: &HostRuntime, path: &str) -> Result<Vec<u8>, PasswordListFault> {
+    let Ok(file) = File::open(rt, path) else {
+        return Err(PasswordListFault::File(PasswordFault::Read));
+    };
+    let Ok(metadata) = file.metadata() else {
+        return Err(PasswordListFault::File(PasswordFault::Read));
+    };
+    if metadata.mode() & OTHERS != 0 {
+        return Err(PasswordListFault::File(PasswordFault::Exposed));
+    }
+    match read_to_end_within(rt.alloc(), &mut Counted::new(&file), MAX_LENGTH) {
+        Ok(text) => Ok(text),
+        Err(InputFault::TooLong) => Err(PasswordListFault::TooLong),
+        Err(InputFault::Read) => Err(PasswordListFault::File(PasswordFault::Read)),
+        Err(InputFault::Memory) => Err(PasswordListFault::File(PasswordFault::Memory)),
+    }
+}
+
+// Writes a line on standard error about the file of `--passwords`, and returns the program's
+// fault.
+fn report_list_fault(rt: &HostRuntime, path: &str, fault: PasswordListFault) -> Fault {
+    let _ = eprintln!(rt; "{path}: {fault}");
+    Fault::from(fault)
+}
+
+// Returns the text of the file of `--passwords`, or an empty text without that option.
+fn read_list(rt: &HostRuntime, matches: &ArgMatches<'_>) -> Result<Vec<u8>, Fault>
+    ensures { first_value (found_of matches.now) (codes "passwords") ≡ None
+        → IfOk result (λ text. text.items ≡ []) }
+{
+    let Some(path) = matches.get_str("passwords") else {
+        return Ok(Vec::new(rt.alloc()));
+    };
+    match read_own_file(rt, path) {
+        Ok(text) => Ok(text),
+        Err(fault) => Err(report_list_fault(rt, path, fault)),
+    }
+}
+
+// Returns the first line of a list of passwords whose name an earlier line has, and that line.
+fn find_double(text: &[u8]) -> Option<PasswordListFault> {
+    let mut number: u64 = 0;
+    let mut names = TextFilter::new();
+    for line in text.split(|byte| *byte == b'\n') {
+        number = number.saturating_add(1);
+        if let Some(name) = name_of(line) {
+            if names.may_have(name) {
+                let first = first_line_of(text, name);
+                if first < number {
+                    return Some(PasswordListFault::Double(number, first));
+                }
+            }
+            names.add(name);
+        }
+    }
+    None
+}
+
+// Returns the name of a line of a list of passwords, or `None` if the line is empty.
+fn name_of(line: &[u8]) -> Option<&[u8]> {
+    if line.is_empty() {
+        return None;
+    }
+    Words::new(line).next()
+}
+
+// Returns the number of the first line that has this name, counted from 1.
+fn first_line_of(text: &[u8], name: &[u8]) -> u64 {
+    let mut number: u64 = 0;
+    for line in text.split(|byte| *byte == b'\n') {
+        number = number.saturating_add(1);
+        if name_of(line) == Some(name) {
+            return number;
+        }
+    }
+    number
+}
+
+// Writes a line on standard error about a job without a password.
+fn report_job(rt: &HostRuntime, jobs: &Jobs, place: usize) {
+    if let Some(job) = jobs.as_slice().get(place) {
+        if let Ok(name) = str::from_utf8(job.id.as_slice()) {
+            let _ = eprintln!(rt;
+                "job {name}: it has no line in the file of --passwords, \
+                and there is no common password"
+            );
+        }
+    }
+}
+
+// Returns the password of each job: that of its name in the file of `--passwords`, else the common
+// one. If a job has none, or the file is not a list of passwords, writes a line on standard error.
+// Errors: `Read` if the file can't be read; `Input` if it is not a list of passwords, or a job has
+// no password; `Memory`.
+pub(crate) fn passwords(
+    rt: &HostRuntime,
+    matches: &ArgMatches<'_>,
+    jobs: &Jobs,
+    common: Option<&[u8]>,
+) -> Result<Listed<Octets>, Fault>
+    requires { IfSome (option_copied common) IsPassword }
+    ensures passwords { IfOk result (ArePasswords (found_of matches.now)
+        (option_copied common.entry) jobs.now) }
+    ensures sized { IfOk result (λ passwords. All IsPassword passwords) }
+    ensures paired { IfOk result (λ passwords. length passwords ≡ length jobs.now) }
+{
+    let text = read_list(rt, matches)?;
+    let passwords = passwords_for(rt.alloc(), jobs.as_slice(), text.as_slice(), common);
+    let path = matches.get_str("passwords").unwrap_or("passwords");
+    let double = find_double(text.as_slice());
+    match passwords {
+        Ok(passwords) => match double {
+            None => Ok(passwords),
+            Some(fault) => {
+                drop(passwords);
+                Err(report_list_fault(rt, path, fault))
+            }
+        },
+        Err(PasswordsFault::Line(number)) => {
+            let why = why_no_password(text.as_slice(), number);
+            Err(report_list_fault(rt, path, PasswordListFault::Line(number, why)))
+        }
+        Err(PasswordsFault::Job(place)) => {
+            report_job(rt, jobs, place);
+            Err(Fault::Input)
+        }
+        Err(PasswordsFault::Memory) => Err(Fault::Memory),
+    }
+}
