@@ -1,6 +1,7 @@
 # Completions of campaign for fish; written by bin/manuals.
 complete -c campaign -l help -d 'Print help'
 complete -c campaign -l version -d 'Print version'
+complete -c campaign -l ledgers -d 'store in JOBS.ledgers what may have been sent; the same command then continues a campaign that was stopped, and commands no meter twice'
 complete -c campaign -l jobs -r -d 'number of parts to run in parallel on each machine, or with --slurm in all'
 complete -c campaign -l workers -r -d 'number of meters that each part contacts in parallel, 1 to 16'
 complete -c campaign -l timeout -r -d 'time limit for an open connection; 0 means no limit'
@@ -9,7 +10,7 @@ complete -c campaign -l joblog -r -d 'write the log of GNU parallel to FILE: a l
 complete -c campaign -l sshlogin -r -d 'run the parts on these machines, separated by commas'
 complete -c campaign -l sshloginfile -r -d 'run the parts on the machines that FILE lists'
 complete -c campaign -l slurm -d 'run the parts as an array of Slurm (sbatch), which never requeues'
-complete -c campaign -l folder -r -d 'with --slurm: folder that the nodes share, for the parts and their reports; the default is that of JOBS'
+complete -c campaign -l folder -r -d 'folder that all machines share, for the parts and reports of --slurm and for the ledgers; the default is that of JOBS'
 complete -c campaign -l program -r -d 'run COMMAND instead of head_end'
 complete -c campaign -l progress -d 'report on standard error the jobs done, the unknown ones, and the time to go: at most once a second on a terminal, else in 10 s'
 complete -c campaign -l fail -d 'exit with status 1 if a row of the report is not done'
