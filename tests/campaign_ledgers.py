@@ -8,7 +8,7 @@ test is skipped; without a `head_end run --ledger` all of it is.
 
 usage: tests/campaign_ledgers.py [--long] [--seed N]
 
-  --long     50 campaigns that are stopped or killed instead of 6
+  --long     50 campaigns that are stopped or killed instead of 4
   --seed N   the seed of the random choices; the times are never the same twice"""
 
 import argparse
@@ -33,12 +33,12 @@ from journal import in_folder
 from ledger import HEAD_END, any_verb, entries, first_differences, has_ledger, report_of, text_of
 from one_node_slurm import LONG_PATIENCE, Slurm, missing_commands, wait_until
 from scripted_meters import CROWD
-from serving import PASSWORD, PATIENCE, check, test
+from serving import PASSWORD, check, test
 
-JOBS, PARTS, LINES = 300, 3, 1_000  # a part of 100 jobs is filled up with empty lines
-KILLED, LONG_KILLED = 6, 50
+JOBS, PARTS, LINES = 150, 3, 1_000  # a part of 50 jobs is filled up with empty lines
+KILLED, LONG_KILLED, KILLED_JOBS = 4, 50, 90
 MOST_RUNS = 40  # of one campaign
-LONGEST = 120  # the time limit of a run, in seconds
+LONGEST = 300  # the time limit of a run, in seconds
 is_long, seed = False, 49
 
 
@@ -148,7 +148,7 @@ def a_campaign_is_run_again(name, folder):
         check(f"{name}: the record", f"\nhost {socket.gethostname()}\nfolder {folder}/jobs.ledgers\n"
               in text, text)
         found = entries(folder / "jobs.ledgers" / "ledger.2")
-        check(f"{name}: the ledger of a part", found and found.jobs == campaign.jobs[100:200])
+        check(f"{name}: the ledger of a part", found and found.jobs == campaign.jobs[50:100])
         again = campaign.run("--jobs", "3")
         check(f"{name}: again", again[:2] == ran[:2], first_differences(wanted, again[1]), again[2])
         received = meters.take_counts()
@@ -194,12 +194,12 @@ def refusals(name, campaign, record, text):
 def until_whole(name, campaign, choose, words_of):
     """Stops or kills a campaign at random times and runs it again until it ends. Returns the number
     of runs."""
-    longest = choose.choice((1.0, 2.0, 3.0))
+    longest = choose.choice((0.5, 1.0, 2.0))
     for runs in range(1, MOST_RUNS):
         process = campaign.start(*words_of(choose))
         how = choose.choice(("stop", "kill", "kill all"))
         try:
-            status = process.wait(choose.uniform(0.2, longest))
+            status = process.wait(choose.uniform(0.1, longest))
         except subprocess.TimeoutExpired:
             status = None
         if status is None:
@@ -219,7 +219,7 @@ def until_whole(name, campaign, choose, words_of):
         known = campaign.output.read_text().splitlines()
         order = [int(line.split()[0][3:]) for line in known]
         assert order == sorted(order), "the rows that are known are not in the list's order"
-        longest *= 1.2  # so that it ends
+        longest *= 1.5  # so that it ends
     raise AssertionError(f"not whole after {MOST_RUNS} runs")
 
 
@@ -227,7 +227,7 @@ def until_whole(name, campaign, choose, words_of):
 def killed_campaigns_command_nobody_twice(name, folder):
     runs, left = 0, 0
     for number in range(LONG_KILLED if is_long else KILLED):
-        choose, meters = random.Random(f"{seed} {number}"), CountedMeters(JOBS)
+        choose, meters = random.Random(f"{seed} {number}"), CountedMeters(KILLED_JOBS)
         place = folder / str(number)
         place.mkdir()
         try:
@@ -240,7 +240,7 @@ def killed_campaigns_command_nobody_twice(name, folder):
         finally:
             stop_campaigns()
             meters.stop()
-    print(f"{name}: {runs} runs, {left} jobs left unknown")
+    print(f"{name}: {runs} runs, {left} jobs left unknown", flush=True)
 
 
 @in_folder
@@ -249,17 +249,17 @@ def what_is_known_is_printed(name, folder):
     refused."""
     meters = CountedMeters(JOBS)
     with socket.create_server(("127.0.0.1", 0)) as silent:
-        silent.settimeout(PATIENCE)
+        silent.settimeout(LONG_PATIENCE)
         try:
             campaign = Long(folder, meters)
             job = f"silent 127.0.0.1:{silent.getsockname()[1]} disconnect\n"
             lines = campaign.path.read_text().splitlines(keepends=True)
-            campaign.path.write_text("".join([*lines[:99], job, *lines[100:]]))
+            campaign.path.write_text("".join([*lines[:49], job, *lines[50:]]))
             process = campaign.start("--workers", "1", "--timeout", "0")
             output, errors = campaign.output, campaign.errors
             client, _ = silent.accept()
             ledger = folder / "jobs.ledgers" / "ledger.1"
-            wait_until(lambda: len(entries(ledger).outcomes) == 99)
+            wait_until(lambda: len(entries(ledger).outcomes) == 49, LONG_PATIENCE)
             campaign.output, campaign.errors = folder / "report2", folder / "errors2"
             second = subprocess.run([str(CAMPAIGN), "--ledgers", "--program", str(HEAD_END),
                                      str(campaign.path)], capture_output=True, text=True,
@@ -270,10 +270,10 @@ def what_is_known_is_printed(name, folder):
             status = process.wait(LONGEST)
             client.close()
             found = output.read_text()
-            wanted = report_of(campaign.jobs[:99], campaign.rows[:99]) + "silent unknown\n"
+            wanted = report_of(campaign.jobs[:49], campaign.rows[:49]) + "silent unknown\n"
             check(f"{name}: report", (status, found) == (143, wanted), status,
                   first_differences(wanted, found), errors.read_text()[-500:])
-            check(f"{name}: how many rows", "100 of 300 jobs have a row" in errors.read_text(),
+            check(f"{name}: how many rows", "50 of 150 jobs have a row" in errors.read_text(),
                   errors.read_text()[-500:])
         finally:
             stop_campaigns()

@@ -450,6 +450,34 @@ def jobs_of_an_address_are_in_one_part(name, folder):
     check(f"{name}: too many jobs of one address", (status, text) == (2, "") and "line 1001: h:1: a part has at most 1,000 jobs" in errors, status, errors)
 
 
+# A head end that knows --passwords, and reports its words and the password of its environment.
+TELLING = """#!/bin/sh
+case "$*" in run*--help) echo --passwords ;; run*) echo "$* [$METER_PASSWORD]" >&2; sed '/^$/d; s/ .*/ done 0/' ;; esac
+"""
+
+
+def a_file_of_passwords_is_passed_on(name, folder):
+    program, path, passwords = (folder / it for it in ("telling", "two", "passwords"))
+    program.write_text(TELLING)
+    program.chmod(0o700)
+    path.write_text("m1 h:1 state\nm2 h:2 state\n")
+    passwords.write_text("m1 one\n")
+
+    def run(password):
+        environment = {it: text for it, text in os.environ.items() if it != "METER_PASSWORD"} | {"PARALLEL_HOME": str(folder), **password}
+        return subprocess.run([str(CAMPAIGN), "--program", str(program), "--passwords", str(passwords), str(path)], stdin=subprocess.DEVNULL, capture_output=True,
+                              text=True, timeout=LONGEST, env=environment)
+
+    made = run({})
+    check(f"{name}: a job without one", (made.returncode, made.stdout) == (2, "") and "job m2: it has no line in" in made.stderr, made)
+    made = run({"METER_PASSWORD": "common"})
+    wanted = "m1 done 0\nm2 done 0\n", f"run --passwords {passwords} [common]\n"
+    check(f"{name}: with a common one", (made.returncode, made.stdout, made.stderr) == (0, *wanted), made)
+    passwords.write_text("m1 one\nm2 two\n")
+    made = run({})
+    check(f"{name}: one for each", (made.returncode, made.stderr) == (0, wanted[1].replace("common", "")), made)
+
+
 def is_running(program):
     """Whether a process runs this executable."""
     for it in pathlib.Path("/proc").iterdir():
@@ -810,6 +838,7 @@ def campaigns_of_a_crowd(name, count):
             a_wrong_list_sends_nothing(f"{name}: a wrong list", crowd, folder)
             a_list_is_warned_of(f"{name}: warnings", crowd, folder)
             jobs_of_an_address_are_in_one_part(f"{name}: one address", folder)
+            a_file_of_passwords_is_passed_on(f"{name}: passwords", folder)
             a_campaign_is_stopped(f"{name}: a signal", folder)
             what_is_known_is_printed(f"{name}: a signal and a part that has ended", crowd, folder)
             campaigns_report_progress(f"{name}: progress", folder)
