@@ -358,6 +358,11 @@ def progress_is_reported(name):
     meter.stop()
 
 
+def address_of(number, port):
+    """A loopback address of its own for each job."""
+    return f"127.{number // 65_536 + 1}.{number // 256 % 256}.{number % 256}:{port}"
+
+
 def crowd_jobs(crowd, count):
     """A list of jobs, each for a kind of meter and a verb; the expected report; and the number of
     jobs of each kind and verb."""
@@ -365,7 +370,7 @@ def crowd_jobs(crowd, count):
     jobs, rows, expected = [], [], [dict.fromkeys(("jobs", *verbs), 0) for _ in CROWD]
     for number in range(count):
         kind, verb = number % len(CROWD), verbs[number // len(CROWD) % len(verbs)]
-        jobs.append(f"job{number} 127.0.0.1:{crowd.ports[kind]} {verb}\n")
+        jobs.append(f"job{number} {address_of(number, crowd.ports[kind])} {verb}\n")
         rows.append((f"job{number}", CROWD[kind][2][verb]))
         expected[kind]["jobs"] += 1
         expected[kind][verb] += 1
@@ -462,6 +467,64 @@ def a_list_is_warned_of(name, crowd, folder):
     check(f"{name}: lines", len(lines) == len(wanted) and all(line.startswith(it) for line, it in zip(lines, wanted)), made.stderr)
 
 
+# A head end that keeps the list of each part, and reports each job as done.
+KEEPING = """#!/bin/sh
+case $1 in run) tee "{folder}/kept.$PARALLEL_SEQ" | sed '/^$/d; s/ .*/ done 0/' ;; esac
+"""
+
+
+def jobs_of_an_address_are_in_one_part(name, folder):
+    """Jobs of one address are in one part, in the list's order, and the report is in the list's
+    order too; an address with more jobs than a part is refused."""
+    program, path = folder / "keeping", folder / "shared"
+    program.write_text(KEEPING.format(folder=folder))
+    program.chmod(0o700)
+    # (so that each third job has an address of the first part)
+    jobs = [f"job{number} {address_of(number % 900 if number % 3 == 0 else number, 1)} state\n" for number in range(2_500)]
+    path.write_text("".join(jobs))
+    status, text, _, _ = run_campaign(path, "--jobs", "2", "--program", str(program))
+    check(f"{name}: report", (status, text) == (0, "".join(f"job{number} done 0\n" for number in range(2_500))), status, text[:200])
+    parts = [it.read_text().splitlines() for it in folder.glob("kept.*")]
+    parts = [[line for line in it if line] for it in parts]
+    check(f"{name}: all jobs", sorted(line for it in parts for line in it) == sorted(line.strip() for line in jobs))
+    check(f"{name}: at most 1,000 in a part", max(map(len, parts)) <= 1_000 and len(parts) >= 3, [len(it) for it in parts])
+    addresses = [{line.split()[1] for line in it} for it in parts]
+    check(f"{name}: no address in two parts", sum(map(len, addresses)) == len(set.union(*addresses)))
+    ordered = all(it == sorted(it, key=lambda line: int(line.split()[0][3:])) for it in parts)
+    check(f"{name}: in the list's order", ordered)
+    path.write_text("".join(f"job{number} h:1 state\n" for number in range(1_001)))
+    status, text, errors, _ = run_campaign(path, "--program", str(program))
+    check(f"{name}: too many jobs of one address", (status, text) == (2, "") and "line 1001: h:1: a part has at most 1,000 jobs" in errors, status, errors)
+
+
+# A head end that knows --passwords, and reports its words and the password of its environment.
+TELLING = """#!/bin/sh
+case "$*" in run*--help) echo --passwords ;; run*) echo "$* [$METER_PASSWORD]" >&2; sed '/^$/d; s/ .*/ done 0/' ;; esac
+"""
+
+
+def a_file_of_passwords_is_passed_on(name, folder):
+    program, path, passwords = (folder / it for it in ("telling", "two", "passwords"))
+    program.write_text(TELLING)
+    program.chmod(0o700)
+    path.write_text("m1 h:1 state\nm2 h:2 state\n")
+    passwords.write_text("m1 one\n")
+
+    def run(password):
+        environment = {it: text for it, text in os.environ.items() if it != "METER_PASSWORD"} | {"PARALLEL_HOME": str(folder), **password}
+        return subprocess.run([str(CAMPAIGN), "--program", str(program), "--passwords", str(passwords), str(path)], stdin=subprocess.DEVNULL, capture_output=True,
+                              text=True, timeout=LONGEST, env=environment)
+
+    made = run({})
+    check(f"{name}: a job without one", (made.returncode, made.stdout) == (2, "") and "job m2: it has no line in" in made.stderr, made)
+    made = run({"METER_PASSWORD": "common"})
+    wanted = "m1 done 0\nm2 done 0\n", f"run --passwords {passwords} [common]\n"
+    check(f"{name}: with a common one", (made.returncode, made.stdout, made.stderr) == (0, *wanted), made)
+    passwords.write_text("m1 one\nm2 two\n")
+    made = run({})
+    check(f"{name}: one for each", (made.returncode, made.stderr) == (0, wanted[1].replace("common", "")), made)
+
+
 def is_running(program):
     """Whether a process runs this executable."""
     for it in pathlib.Path("/proc").iterdir():
@@ -509,10 +572,10 @@ def a_campaign_is_stopped(name, folder):
     program = folder / "head_end"
     shutil.copy(HEAD_END, program)
     path = folder / "silent"
-    with socket.create_server(("127.0.0.1", 0)) as silent:
+    with socket.create_server(("0.0.0.0", 0)) as silent:
         silent.settimeout(PATIENCE)
         port = silent.getsockname()[1]
-        path.write_text("".join(f"job{number} 127.0.0.1:{port} disconnect\n" for number in range(2_500)))
+        path.write_text("".join(f"job{number} {address_of(number, port)} disconnect\n" for number in range(2_500)))
         for signal_sent, wanted in (signal.SIGTERM, 143), (signal.SIGINT, 130):
             # (standard error is a file: a pipe that nobody reads would block the campaign)
             log = folder / "errors"
@@ -765,10 +828,10 @@ def an_array_is_stopped(name, crowd, slurm, folder):
     jobs, wanted, expected = crowd_jobs(crowd, 1000)
     program, copy = program_of_tasks(folder)
     path, log = folder / "stopped", folder / "errors"
-    with socket.create_server(("127.0.0.1", 0)) as silent:
+    with socket.create_server(("0.0.0.0", 0)) as silent:
         silent.settimeout(LONG_PATIENCE)
         port = silent.getsockname()[1]
-        path.write_text(jobs + "".join(f"job{number} 127.0.0.1:{port} disconnect\n" for number in range(1000, 2001)))
+        path.write_text(jobs + "".join(f"job{number} {address_of(number, port)} disconnect\n" for number in range(1000, 2001)))
         with log.open("w") as errors:
             made = start_campaign(path, "--slurm", "--workers", "8", "--program", str(program), errors=errors)
         client, _ = silent.accept()
@@ -821,6 +884,8 @@ def campaigns_of_a_crowd(name, count):
             a_part_that_fails_is_named(f"{name}: a part fails", crowd, folder)
             a_wrong_list_sends_nothing(f"{name}: a wrong list", crowd, folder)
             a_list_is_warned_of(f"{name}: warnings", crowd, folder)
+            jobs_of_an_address_are_in_one_part(f"{name}: one address", folder)
+            a_file_of_passwords_is_passed_on(f"{name}: passwords", folder)
             a_campaign_is_stopped(f"{name}: a signal", folder)
             what_is_known_is_printed(f"{name}: a signal and a part that has ended", crowd, folder)
             campaigns_report_progress(f"{name}: progress", folder)

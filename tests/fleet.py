@@ -1,15 +1,17 @@
 #!/usr/bin/env python3
 """Tests `meter_fleet serve` with clients over TCP at addresses 127.a.b.c. 300 meters are switched
-and asked by hand-written frames, and by a campaign of `head_end` if that is built. Every wait has a
-time limit."""
+and asked by hand-written frames, by hostile clients while a good one asks, and by a campaign of
+`head_end` if that is built. Every wait has a time limit."""
 
 import os
 import pathlib
+import random
 import re
 import socket
 import subprocess
 import sys
 import threading
+import time
 
 TOP = pathlib.Path(__file__).resolve().parent.parent
 CRATES = TOP / "crates"
@@ -29,6 +31,11 @@ DONE = bytes.fromhex("0001000100010005C701C10000")
 STATE = bytes.fromhex("000100010001000DC001C10046000060030AFF0300")
 DISCONNECTED, CONNECTED = (bytes.fromhex(f"0001000100010006C401C10016{state}") for state in ("00", "01"))
 WRONG_VERSION = bytes.fromhex("0002000100010000")
+# GET of the object list (class 15), which is answered in blocks; and blocks that follow none.
+OBJECTS = bytes.fromhex("000100010001000DC001C1000F0000280000FF0200")
+WRONG_BLOCKS = [bytes.fromhex(f"000100010001{len(it) // 2:04X}{it}") for it in (
+    "C002C100000005", "C103C1010000000201AA", "C103C10100000009020000", "C306C10100000007020100")]
+ATTACKS = 40  # of each kind
 
 passed = failed = 0
 
@@ -153,6 +160,103 @@ def connections_end(fleet):
         check("a client that has ended its side is answered", answered and is_closed(client))
 
 
+def stops_in_a_frame(client, choose):
+    client.sendall(AARQ[:choose.randrange(1, len(AARQ))])
+
+
+def resets(client, choose):
+    client.sendall(AARQ + STATE)
+    client.setsockopt(socket.SOL_SOCKET, socket.SO_LINGER, b"\1\0\0\0\0\0\0\0")
+
+
+def never_reads(client, choose):
+    """Asks for the object list until its requests are not taken any more."""
+    client.sendall(AARQ)
+    client.settimeout(0.5)
+    while True:
+        client.sendall(OBJECTS * 100)
+
+
+def babbles(client, choose):
+    client.sendall(choose.randbytes(choose.randrange(1, 4_000)))
+    client.settimeout(0.2)
+    client.recv(4_096)
+
+
+def sends_wrong_blocks(client, choose):
+    client.sendall(AARQ + b"".join(WRONG_BLOCKS))
+    client.settimeout(0.2)
+    received(client, 4_096)
+
+
+def has_a_wrong_password(client, choose):
+    client.sendall(AARQ.replace(PASSWORD.encode(), b"87654321") + DISCONNECT)
+    client.settimeout(0.2)
+    client.recv(4_096)
+
+
+HOSTILE = (stops_in_a_frame, resets, never_reads, babbles, sends_wrong_blocks, has_a_wrong_password)
+
+
+def attack(fleet, meter, script):
+    """Attacks a meter; a connection that it closes, or does not serve in time, ends the attack."""
+    choose = random.Random(script.__name__)
+    for _ in range(4 if script is never_reads else ATTACKS):
+        try:
+            with fleet.connect(meter) as client:
+                script(client, choose)
+        except OSError:
+            pass
+
+
+def memory_of(process):
+    """The resident memory of a process in KiB."""
+    status = pathlib.Path(f"/proc/{process}/status").read_text()
+    return int(re.search(r"VmRSS:\s+(\d+)", status)[1])
+
+
+def files_of(process):
+    return len(os.listdir(f"/proc/{process}/fd"))
+
+
+def hostile_clients_disturb_nobody(fleet):
+    """Each kind of hostile client attacks a meter of its own while a good client asks another
+    meter, and one asks an attacked one."""
+    process, before = fleet.process.pid, files_of(fleet.process.pid)
+    attackers = [threading.Thread(target=attack, args=(fleet, 20 + place, script), daemon=True)
+                 for place, script in enumerate(HOSTILE)]
+    slowest, answers, most = 0.0, 0, 0
+    with fleet.connect(30) as good, fleet.connect(20) as attacked:
+        opened = ask(good, AARQ, AARE) and ask(attacked, AARQ, AARE)
+        check("good clients associate", opened)
+        for it in attackers:
+            it.start()
+        end, are_right = time.monotonic() + 6 * PATIENCE, True
+        while any(it.is_alive() for it in attackers) and time.monotonic() < end:
+            for client in (good, attacked):
+                begun = time.monotonic()
+                are_right &= ask(client, STATE, CONNECTED)
+                slowest, answers = max(slowest, time.monotonic() - begun), answers + 1
+            most = max(most, memory_of(process))
+            time.sleep(0.002)
+    check("good clients are answered meanwhile", are_right)
+    check("the attacks end", not any(it.is_alive() for it in attackers))
+    # (meters_are_apart has disconnected those with odd numbers)
+    switched = [meter for meter in range(20, 31)
+                if not talk(fleet, meter, (STATE, DISCONNECTED if meter % 2 else CONNECTED))]
+    check(f"no attacked meter is switched: {switched}", not switched)
+    clients = [fleet.connect(22) for _ in range(8)]
+    check("all sessions are free again", all(ask(it, AARQ, AARE) for it in clients))
+    for client in clients:
+        client.close()
+    end = time.monotonic() + PATIENCE
+    while files_of(process) > before and time.monotonic() < end:
+        time.sleep(0.05)
+    check("no descriptor is leaked", files_of(process) <= before)
+    print(f"hostile clients: {answers} answers to the good ones, the slowest in {slowest:.3f} s, "
+          f"resident at most {most} KiB")
+
+
 def run_head_end(fleet, verb):
     """The rows of a campaign over all meters."""
     jobs = "".join(f"m{meter} {address_of(meter)}:{fleet.port} {verb}\n" for meter in range(1, METERS + 1))
@@ -188,6 +292,7 @@ def main():
         others_are_closed(fleet)
         frames_are_cut(fleet)
         connections_end(fleet)
+        hostile_clients_disturb_nobody(fleet)
         if os.path.exists(HEAD_END):
             campaigns_agree(fleet)
         else:

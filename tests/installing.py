@@ -16,7 +16,7 @@ import tempfile
 from pathlib import Path
 
 TOP = Path(__file__).resolve().parent.parent
-PROGRAMS = ("meter_server", "head_end", "trace_player")
+PROGRAMS = ("meter_server", "head_end", "trace_player", "meter_fleet")
 SCRIPTS = ("campaign", "trace_chart", "meter_service")
 COMMANDS = PROGRAMS + SCRIPTS
 RECORD = "share/wesplina/installed"
@@ -28,6 +28,7 @@ PAGES = {
     "head_end": ["NAME done N", "NAME unknown", "does not mean that the meter did not switch"],
     "campaign": ["NAME done N", "NAME unknown", "does not mean that the meter did not switch"],
     "trace_player": ["docs/TRACE.md"],
+    "meter_fleet": ["127.0.0.1 is meter 1", "Password of the management client"],
     "trace_chart": ["--from PLACE", "--to PLACE", "sampler: reads both thresholds"],
     "meter_service": ["FOLDER/console", "FOLDER/running", "SIGTERM"],
 }
@@ -138,7 +139,8 @@ def versions(root):
 
 def options_of(root, name):
     """The options that the help of a command and of its subcommands describes."""
-    commands = {"meter_server": ("apdu", "hex", "serve"), "head_end": ("check", "run")}
+    commands = {"meter_server": ("apdu", "hex", "serve"), "head_end": ("check", "run"),
+                "meter_fleet": ("serve",)}
     texts = [run(root / "bin" / name, *it, "--help").stdout
              for it in ((), *((it,) for it in commands.get(name, ())))]
     return sorted(set(re.findall(r"(?m)^ +(?:-\w, )?(--[a-z-]+)", "\n".join(texts))))

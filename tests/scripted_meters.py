@@ -356,7 +356,8 @@ class Crowd:
     counts what they send."""
 
     def __init__(self):
-        listeners = [socket.create_server(("127.0.0.1", 0), backlog=1024) for _ in CROWD]
+        # (at every loopback address, so that each job can have one of its own)
+        listeners = [socket.create_server(("0.0.0.0", 0), backlog=1024) for _ in CROWD]
         self.ports = [listener.getsockname()[1] for listener in listeners]
         self.pipe, theirs = multiprocessing.Pipe()
         self.process = multiprocessing.get_context("fork").Process(target=answer_all, args=(listeners, self.pipe, theirs), daemon=True)

@@ -1,0 +1,10 @@
+# Completions of meter_fleet for fish; written by bin/manuals.
+complete -c meter_fleet -f -l help -d 'Print help'
+complete -c meter_fleet -f -l version -d 'Print version'
+complete -c meter_fleet -f -n __fish_use_subcommand -a serve -d 'Serves the clients of many meters, each at its own loopback address'
+complete -c meter_fleet -f -n '__fish_seen_subcommand_from serve' -l meters -r -d 'Number of meters, 1 to 16777215'
+complete -c meter_fleet -f -n '__fish_seen_subcommand_from serve' -l password -r -d 'Password of the management client, 1 to 32 bytes'
+complete -c meter_fleet -f -n '__fish_seen_subcommand_from serve' -l listen -r -d 'Address to listen on; 0.0.0.0 reaches every meter'
+complete -c meter_fleet -f -n '__fish_seen_subcommand_from serve' -l port -r -d 'Port of every meter'
+complete -c meter_fleet -f -n '__fish_seen_subcommand_from serve' -l mode -r -d 'Control mode of a new meter, 0 to 6 (class 70, attribute 4)'
+complete -c meter_fleet -f -n '__fish_seen_subcommand_from serve' -l verbose -d 'Report the address, and faults in full, on standard error'

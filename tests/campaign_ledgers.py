@@ -1,0 +1,351 @@
+#!/usr/bin/env python3
+"""Tests `bin/campaign --ledgers`. Campaigns of three parts against scripted meters that count what
+they receive are stopped and killed at random times, by GNU parallel and by a Slurm cluster of one
+node that the test starts, and run again until they are whole: no meter may get a second command,
+and the report must be whole and right. Also tested: ledgers that are missing, elsewhere or of
+another list, and two campaigns at once. Every wait has a time limit. What a missing program would
+test is skipped; without a `head_end run --ledger` all of it is.
+
+usage: tests/campaign_ledgers.py [--long] [--seed N]
+
+  --long     50 campaigns that are stopped or killed instead of 4
+  --seed N   the seed of the random choices; the times are never the same twice"""
+
+import argparse
+import fcntl
+import importlib.machinery
+import importlib.util
+import os
+import random
+import shutil
+import signal
+import socket
+import subprocess
+import sys
+import time
+
+sys.dont_write_bytecode = True  # importing the modules of tests/ leaves no files
+
+import serving
+from campaigns import CAMPAIGN, stop_campaigns, started
+from counted_meters import COMMANDS, CountedMeters, kind_of
+from journal import in_folder
+from ledger import HEAD_END, any_verb, entries, first_differences, has_ledger, report_of, text_of
+from one_node_slurm import LONG_PATIENCE, Slurm, missing_commands, wait_until
+from scripted_meters import CROWD
+from serving import PASSWORD, check, test
+
+JOBS, PARTS, LINES = 150, 3, 1_000  # a part of 50 jobs is filled up with empty lines
+KILLED, LONG_KILLED, KILLED_JOBS = 4, 50, 90
+MOST_RUNS = 40  # of one campaign
+LONGEST = 300  # the time limit of a run, in seconds
+is_long, seed = False, 49
+
+
+def module_of(path):
+    """A script of bin/ as a module."""
+    loader = importlib.machinery.SourceFileLoader(path.name, str(path))
+    module = importlib.util.module_from_spec(importlib.util.spec_from_loader(path.name, loader))
+    loader.exec_module(module)
+    return module
+
+
+processes_of = module_of(CAMPAIGN).processes_of
+
+
+class Long:
+    """A list of three parts at meters that count, in a file, and the commands that they received
+    over all runs."""
+
+    def __init__(self, folder, meters, verb_of=any_verb):
+        self.path, self.meters = folder / "jobs", meters
+        self.jobs = [(f"job{place}", f"127.0.0.1:{port}", verb_of(place))
+                     for place, port in enumerate(meters.ports)]
+        self.rows = [CROWD[kind_of(place)][2][job[2]] for place, job in enumerate(self.jobs)]
+        self.commands = [0] * len(self.jobs)
+        size = len(self.jobs) // PARTS
+        for at in range(0, len(self.jobs), size):
+            with self.path.open("a") as file:
+                file.write(text_of(self.jobs[at:at + size]) + "\n" * (LINES - size))
+
+    def start(self, *words):
+        """Starts the campaign, whose output goes to files."""
+        environment = {**os.environ, "METER_PASSWORD": PASSWORD,
+                       "PARALLEL_HOME": str(self.path.parent), "TMPDIR": str(self.path.parent)}
+        words = [str(CAMPAIGN), "--ledgers", "--program", str(HEAD_END), "--timeout", "10",
+                 "--connect-timeout", "5", *words, str(self.path)]
+        self.output, self.errors = (self.path.with_name(it) for it in ("report", "errors"))
+        with self.output.open("w") as output, self.errors.open("w") as errors:
+            process = subprocess.Popen(words, stdin=subprocess.DEVNULL, stdout=output,
+                                       stderr=errors, env=environment)
+        started.append(process)
+        return process
+
+    def run(self, *words):
+        """Runs the campaign; returns its status, report and standard error."""
+        process = self.start(*words)
+        status = process.wait(LONGEST)
+        started.remove(process)
+        return status, self.output.read_text(), self.errors.read_text()
+
+    def is_free(self):
+        """Whether no process holds the lock of the record."""
+        with self.path.with_name("jobs.campaign").open("a") as record:
+            try:
+                fcntl.flock(record, fcntl.LOCK_EX | fcntl.LOCK_NB)
+            except OSError:
+                return False
+        return True
+
+    def follow(self):
+        """Adds what the meters received. Fails if one got a second command."""
+        received = self.meters.take_counts()
+        assert received is not None, "the meters do not answer"
+        for place, it in enumerate(received):
+            self.commands[place] += sum(it[verb] for verb in COMMANDS)
+        twice = [place for place, count in enumerate(self.commands) if count > 1]
+        assert not twice, f"commanded twice: places {twice}"
+
+    def check_end(self, name, ran):
+        """Checks a whole report: each row is the meter's, or unknown where a run was stopped."""
+        status, report, errors = ran
+        lines = report.splitlines()
+        names = [line.split()[0] for line in lines] == [job[0] for job in self.jobs]
+        check(f"{name}: a whole report", status == 0 and names, status, len(lines), errors[-500:])
+        rows = [line.split(" ", 1)[1] for line in lines]
+        wrong = [(row, wanted) for row, wanted in zip(rows, self.rows) if row not in (wanted, "unknown")]
+        check(f"{name}: its rows", not wrong, wrong[:5])
+        unsent = [place for place, row in enumerate(rows) if row.startswith(("done", "refused"))
+                  and self.jobs[place][2] in COMMANDS and self.commands[place] != 1]
+        check(f"{name}: each command once", not unsent, unsent)
+        return sum(row != wanted for row, wanted in zip(rows, self.rows))
+
+
+def kill_all(process):
+    """Kills a campaign and all that it started."""
+    while found := processes_of(process.pid):
+        for it in (process.pid, *found):
+            try:
+                os.kill(it, signal.SIGKILL)
+            except ProcessLookupError:
+                pass
+        process.poll()
+        time.sleep(0.02)
+
+
+@in_folder
+def a_campaign_is_run_again(name, folder):
+    meters = CountedMeters(JOBS)
+    try:
+        campaign = Long(folder, meters)
+        ran = campaign.run("--jobs", "2", "--workers", "8")
+        campaign.follow()
+        wanted = report_of(campaign.jobs, campaign.rows)
+        check(f"{name}: report", ran[:2] == (0, wanted), ran[0], first_differences(wanted, ran[1]),
+              ran[2][-500:])
+        record = folder / "jobs.campaign"
+        text = record.read_text()
+        check(f"{name}: the record", f"\nhost {socket.gethostname()}\nfolder {folder}/jobs.ledgers\n"
+              in text, text)
+        found = entries(folder / "jobs.ledgers" / "ledger.2")
+        check(f"{name}: the ledger of a part", found and found.jobs == campaign.jobs[50:100])
+        again = campaign.run("--jobs", "3")
+        check(f"{name}: again", again[:2] == ran[:2], first_differences(wanted, again[1]), again[2])
+        received = meters.take_counts()
+        check(f"{name}: no connection again", not any(map(sum, map(dict.values, received))))
+        refusals(name, campaign, record, text)
+        check(f"{name}: nothing was sent",
+              not any(map(sum, map(dict.values, meters.take_counts()))))
+    finally:
+        meters.stop()
+
+
+def refusals(name, campaign, record, text):
+    """What is refused with status 2 and before anything is sent."""
+    folder = campaign.path.with_name("jobs.ledgers")
+
+    def is_refused(what, message, *words):
+        ran = campaign.run(*words)
+        check(f"{name}: refused: {what}", ran[:2] == (2, "") and message in ran[2], ran)
+
+    list_before = campaign.path.read_text()
+    campaign.path.write_text(list_before + "more 127.0.0.1:1 state\n")
+    is_refused("another list", "the list is not the one of")
+    campaign.path.write_text(list_before)
+    (folder / "ledger.3").rename(folder / "away")
+    is_refused("a missing ledger", "ledger.3: the ledger is missing")
+    (folder / "away").rename(folder / "ledger.3")
+    record.write_text(text.replace("host ", "host other"))
+    is_refused("another machine", "and the campaign runs nowhere else")
+    record.write_text(text)
+    is_refused("another folder", "and the campaign runs nowhere else", "--folder", "/tmp")
+    is_refused("ssh without a shared folder", "expected --folder DIR", "--sshlogin", "127.0.0.1")
+    token = (folder / "token").read_text()
+    (folder / "token").write_text("0" * 32 + "\n")
+    is_refused("a copy of other ledgers", "are not there")
+    (folder / "token").write_text(token)
+    record.unlink()
+    is_refused("no record", "has ledgers of a campaign")
+    record.write_text("minutes of a meeting\n")
+    is_refused("a record of another program", "is no record of a campaign")
+    check(f"{name}: it is left", record.read_text() == "minutes of a meeting\n")
+
+
+def until_whole(name, campaign, choose, words_of):
+    """Stops or kills a campaign at random times and runs it again until it ends. Returns the number
+    of runs."""
+    longest = choose.choice((0.5, 1.0, 2.0))
+    for runs in range(1, MOST_RUNS):
+        process = campaign.start(*words_of(choose))
+        how = choose.choice(("stop", "kill", "kill all"))
+        try:
+            status = process.wait(choose.uniform(0.1, longest))
+        except subprocess.TimeoutExpired:
+            status = None
+        if status is None:
+            if how == "kill all":
+                kill_all(process)
+            else:
+                process.send_signal(signal.SIGTERM if how == "stop" else signal.SIGKILL)
+            process.wait(LONGEST)
+        started.remove(process)
+        # (the processes that a killed campaign started run on, and hold the lock)
+        assert wait_until(campaign.is_free, LONGEST), "what the campaign started does not end"
+        campaign.follow()
+        if status == 0:
+            ran = status, campaign.output.read_text(), campaign.errors.read_text()
+            left = campaign.check_end(name, ran)
+            return runs, left
+        known = campaign.output.read_text().splitlines()
+        order = [int(line.split()[0][3:]) for line in known]
+        assert order == sorted(order), "the rows that are known are not in the list's order"
+        longest *= 1.5  # so that it ends
+    raise AssertionError(f"not whole after {MOST_RUNS} runs")
+
+
+@in_folder
+def killed_campaigns_command_nobody_twice(name, folder):
+    runs, left = 0, 0
+    for number in range(LONG_KILLED if is_long else KILLED):
+        choose, meters = random.Random(f"{seed} {number}"), CountedMeters(KILLED_JOBS)
+        place = folder / str(number)
+        place.mkdir()
+        try:
+            campaign = Long(place, meters, lambda _: choose.choice(("disconnect", "reconnect", "state")))
+            found = until_whole(f"{name} {number}", campaign, choose, lambda it: (
+                "--jobs", it.choice("123"), "--workers", it.choice(("1", "4", "16"))))
+            runs, left = runs + found[0], left + found[1]
+        except AssertionError as error:
+            check(f"{name}: campaign {number}, seed {seed}", False, error)
+        finally:
+            stop_campaigns()
+            meters.stop()
+    print(f"{name}: {runs} runs, {left} jobs left unknown", flush=True)
+
+
+@in_folder
+def what_is_known_is_printed(name, folder):
+    """A campaign that is stopped prints the rows of its ledgers; a second one meanwhile is
+    refused."""
+    meters = CountedMeters(JOBS)
+    with socket.create_server(("127.0.0.1", 0)) as silent:
+        silent.settimeout(LONG_PATIENCE)
+        try:
+            campaign = Long(folder, meters)
+            job = f"silent 127.0.0.1:{silent.getsockname()[1]} disconnect\n"
+            lines = campaign.path.read_text().splitlines(keepends=True)
+            campaign.path.write_text("".join([*lines[:49], job, *lines[50:]]))
+            process = campaign.start("--workers", "1", "--timeout", "0")
+            output, errors = campaign.output, campaign.errors
+            client, _ = silent.accept()
+            ledger = folder / "jobs.ledgers" / "ledger.1"
+            wait_until(lambda: len(entries(ledger).outcomes) == 49, LONG_PATIENCE)
+            campaign.output, campaign.errors = folder / "report2", folder / "errors2"
+            second = subprocess.run([str(CAMPAIGN), "--ledgers", "--program", str(HEAD_END),
+                                     str(campaign.path)], capture_output=True, text=True,
+                                    env={**os.environ, "METER_PASSWORD": PASSWORD}, timeout=LONGEST)
+            check(f"{name}: a second campaign", second.returncode == 2 and not second.stdout
+                  and "another campaign of this list runs" in second.stderr, second)
+            process.send_signal(signal.SIGTERM)
+            status = process.wait(LONGEST)
+            client.close()
+            found = output.read_text()
+            wanted = report_of(campaign.jobs[:49], campaign.rows[:49]) + "silent unknown\n"
+            check(f"{name}: report", (status, found) == (143, wanted), status,
+                  first_differences(wanted, found), errors.read_text()[-500:])
+            check(f"{name}: how many rows", "50 of 150 jobs have a row" in errors.read_text(),
+                  errors.read_text()[-500:])
+        finally:
+            stop_campaigns()
+            meters.stop()
+
+
+@in_folder
+def arrays_command_nobody_twice(name, folder):
+    missing = missing_commands()
+    if missing:
+        print(f"SKIPPED Slurm: {', '.join(missing)} not installed")
+        return
+    slurm, meters = Slurm(folder / "slurm"), CountedMeters(JOBS)
+    try:
+        if not slurm.start():
+            print(f"SKIPPED Slurm: the daemons that the test started accept no tasks: {slurm.errors()}")
+            return
+        os.environ["SLURM_CONF"] = str(slurm.configuration)
+        campaign = Long(folder, meters)
+        process = campaign.start("--slurm", "--jobs", "3", "--workers", "1")
+        ledgers = [folder / "jobs.ledgers" / f"ledger.{it}" for it in range(1, PARTS + 1)]
+        begun = wait_until(lambda: all(it.exists() and it.stat().st_size for it in ledgers),
+                           LONG_PATIENCE)
+        check(f"{name}: the parts begin", begun)
+        process.kill()
+        process.wait(LONGEST)
+        started.remove(process)
+        ran = campaign.run("--slurm", "--jobs", "3", "--workers", "1")
+        check(f"{name}: while tasks of the killed one run", ran[0] == 2 and (
+            "another campaign of this list runs" in ran[2] or "of an earlier run has tasks" in ran[2]), ran)
+        slurm.run("scancel", f"--user={os.environ.get('USER', 'root')}")
+        check(f"{name}: they end", wait_until(slurm.has_no_task, LONG_PATIENCE))
+        campaign.follow()
+        wait_until(lambda: campaign.run("--slurm", "--jobs", "3")[0] == 0, LONG_PATIENCE)
+        campaign.follow()
+        left = campaign.check_end(name, (0, campaign.output.read_text(), campaign.errors.read_text()))
+        print(f"{name}: {left} jobs left unknown")
+        ran = campaign.run("--jobs", "3")
+        check(f"{name}: and by GNU parallel in the shared folder", ran[0] == 0, ran[2])
+        campaign.follow()
+        campaign.check_end(f"{name}: again", ran)
+    finally:
+        stop_campaigns()
+        slurm.stop()
+        os.environ.pop("SLURM_CONF", None)
+        meters.stop()
+
+
+TESTS = (a_campaign_is_run_again, what_is_known_is_printed, killed_campaigns_command_nobody_twice,
+         arrays_command_nobody_twice)
+
+
+def main():
+    global is_long, seed
+    parser = argparse.ArgumentParser(description=__doc__,
+                                     formatter_class=argparse.RawDescriptionHelpFormatter)
+    parser.add_argument("--long", action="store_true")
+    parser.add_argument("--seed", type=int, default=seed)
+    given = parser.parse_args()
+    is_long, seed = given.long, given.seed
+    if not os.access(HEAD_END, os.X_OK):
+        print(f"{HEAD_END} is missing: run bin/build or bin/test\n0 passed, 1 failed")
+        return 1
+    if not has_ledger() or not shutil.which("parallel"):
+        missing = "no --ledger" if not has_ledger() else "GNU parallel is not installed"
+        print(f"skipped: {missing}\n0 passed, 0 failed")
+        return 0
+    for function in TESTS:
+        test(function)
+    print(f"{serving.passed} passed, {serving.failed} failed")
+    return 1 if serving.failed else 0
+
+
+if __name__ == "__main__":
+    sys.exit(main())
