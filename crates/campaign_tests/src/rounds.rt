@@ -4,7 +4,7 @@ use head_end::{jobs_of_a_meter_run_in_order, rounds_of};
 use std::alloc::{AllocError, Global};
 use std::test::Fail;
 
-/// Returns whether jobs at these addresses have these rounds, and so many of them.
+/// Returns whether jobs at these addresses have these rounds, `count` in all.
 fn have_rounds(
     alloc: Global,
     addresses: &[&[u8]],
