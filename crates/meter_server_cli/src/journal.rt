@@ -367,7 +367,10 @@ fn without_file(
             file: RelayedFile::new(rt.alloc(), OptionalFile::new(None), Some(relay)),
             lock: None,
         }),
-        Err(_) => Err(Fault::Memory),
+        Err(_) => {
+            drop(relay);
+            Err(Fault::Memory)
+        }
     }
 }
 
