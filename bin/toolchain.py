@@ -5,7 +5,11 @@ usage: toolchain.py            print RT_JOBS for a run of many checks, or an emp
                                decide
        toolchain.py stamp TOP  mark the libraries that a run of the gate left in TOP, a copy of the
                                repository, as proved, so that `rt run` does not prove them again
+       toolchain.py built TOP  record what the executables of TOP, which were just built, were built
+                               with, for their --version
 """
+import glob
+import hashlib
 import importlib.machinery
 import importlib.util
 import os
@@ -70,6 +74,47 @@ def stamp(rt, top):
                 file.write(it.stamp())
 
 
+def output_of(words):
+    """What a command prints, without its line end; nothing if it fails or is not installed."""
+    try:
+        ran = subprocess.run(words, capture_output=True, text=True)
+    except OSError:
+        return ""
+    return "" if ran.returncode else ran.stdout.strip()
+
+
+def identity(top):
+    """What a program that is built now is built with: the commit of the sources if git knows it,
+    and the toolchain with its proof logic."""
+    commit = output_of(["git", "-C", str(top), "describe", "--always", "--abbrev=40", "--exclude=*",
+                        "--dirty"]).replace("-dirty", " and changes")
+    return ", ".join([f"commit {it}" for it in [commit] if it]
+                     + [it for it in [output_of(["rt", "version"])] if it])
+
+
+def digest_of(path):
+    with open(path, "rb") as file:
+        return hashlib.sha256(file.read()).hexdigest()
+
+
+def write_built(top, crate):
+    """Records what the executable of a program's crate, which was just built, was built with: its
+    digest and its `identity`, in the file CRATE.built next to it."""
+    path = f"{top}/crates/{crate}/out/{crate}"
+    with open(f"{path}.built", "w", encoding="utf-8") as file:
+        file.write(f"{digest_of(path)} {identity(top)}\n")
+
+
+def built(path):
+    """What an executable was built with; nothing if that is not recorded for its bytes."""
+    try:
+        with open(f"{path}.built", encoding="utf-8") as file:
+            digest, _, text = file.read().strip().partition(" ")
+        return text if digest == digest_of(path) else ""
+    except OSError:
+        return ""
+
+
 def lanes(rt):
     """The number of checks that may run in parallel: one for each processor if each can have the
     memory of the largest check. Else None: rt estimates the need of each from its lines, and leaves
@@ -81,6 +126,10 @@ def lanes(rt):
 if __name__ == "__main__":
     if sys.argv[1:2] == ["stamp"] and len(sys.argv) == 3:
         stamp(command(), sys.argv[2])
+    elif sys.argv[1:2] == ["built"] and len(sys.argv) == 3:
+        for it in glob.glob(f"{sys.argv[2]}/crates/*_cli"):
+            if os.path.exists(f"{it}/out/{os.path.basename(it)}"):
+                write_built(sys.argv[2], os.path.basename(it))
     elif len(sys.argv) == 1:
         print(lanes(command()) or "")
     else:

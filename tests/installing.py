@@ -121,13 +121,37 @@ def arguments():
     yield "help", ran.returncode == 0 and "--remove PREFIX" in ran.stdout and not ran.stderr
 
 
+def versions_of(root, program, number):
+    """What the executable of a program prints, and what is added by the script that runs it: the
+    commit and the proof logic, if they are recorded for the executable."""
+    executable = root / "libexec/wesplina" / program
+    record = Path(f"{executable}.built")
+    built = record.read_text().strip() if record.exists() else ""
+    ran = run(executable, "--version")
+    yield (f"the version of the executable {program}",
+           (ran.returncode, ran.stdout) == (0, f"{program} {number}\n"))
+    for command in (root / "bin" / program, TOP / "bin" / program):
+        for flag in ("--version", "-V"):
+            ran = run(command, flag)
+            wanted = f"{program} {number}" + (f" ({built})" if built else "") + "\n"
+            yield f"the version of {command} {flag}", (ran.returncode, ran.stdout) == (0, wanted)
+    if not built:
+        print(f"SKIPPED the commit of {program}: not recorded (bin/build and bin/test record it)")
+    else:
+        yield (f"{program} names a commit and a proof logic",
+               re.fullmatch(r"(commit \w+( and changes)?, )?\S+ logic [0-9a-f]+", built) is not None)
+    ran = run(root / "bin" / program, "--version", "more")
+    wanted = run(executable, "--version", "more")
+    yield (f"{program} gets all words", (ran.returncode, ran.stdout, ran.stderr)
+           == (wanted.returncode, wanted.stdout, wanted.stderr))
+
+
 def versions(root):
     first = (root / RECORD).read_text().partition("\n")[0]
     number = re.match(r"# wesplina (\d+\.\d+\.\d+)", first)
     yield "the record has the version", number is not None
     for it in PROGRAMS:
-        ran = run(root / "bin" / it, "--version")
-        yield f"the version of {it}", (ran.returncode, ran.stdout) == (0, f"{it} {number[1]}\n")
+        yield from versions_of(root, it, number[1])
     for it in SCRIPTS:
         wanted = first.replace("# wesplina", it) + "\n"
         for flag in ("--version", "-V"):

@@ -1,4 +1,5 @@
-//! The journal of `serve`: its lock file, its file, and the recorder that resumes where it ends.
+//! The journal of `serve`: its lock file, its file, the recorder that resumes where it ends, and
+//! the relay that is given what the journal has.
 ghost use Rattle.std.specs.Prelude.{◌≡◌, [], None, IfOk, IfSome, OnOk, length};
 ghost use Rattle.meter_run.specs.Journaled.{IsJournaledRun};
 ghost use Rattle.meter_server_cli.specs.Endings.{PrintsText};
@@ -11,12 +12,13 @@ use journal_files::{
     resume_journal,
 };
 use meter_journal::{FailureAction, JournalFault};
+use meter_relay::{OptionalFile, Relay, RelayFault, RelayedFile};
 use meter_run::{JournaledRun, MeterJournal, RunTerms, run_journaled_meter};
 use meter_server::{ServeFault, Served};
 use program::Fault;
 use relay_recorder::Recorder;
-use server_commands::Bounds;
-use server_io::{Closing, ConsoleSources, Sockets, SourcesEnd};
+use server_commands::{Bounds, ServeOptions};
+use server_io::{Closing, ConsoleSources, RelayLog, Sockets, SourcesEnd, open_relay};
 use std::alloc::AllocError;
 use std::fs::File;
 use std::io::{ErrorKind, Write};
@@ -38,6 +40,16 @@ pub(crate) struct OpenJournal {
     lock: LockFile,
 }
 
+// A journal with the relay of the meter, or either of them.
+#[derive(Drop)]
+pub(crate) struct RelayedJournal {
+    // The path of the journal, or of the relay if there is no journal.
+    path: String,
+    file: RelayedFile<OptionalFile<RenewedFile<HostRuntime>>, File, RelayLog<HostRuntime>>,
+    // The lock of the journal, if there is one.
+    lock: Option<LockFile>,
+}
+
 // What ends a server whose journal has failed: its listening, and the sources of its own events.
 #[derive(Drop)]
 pub(crate) struct ServerEnd<R> {
@@ -49,21 +61,26 @@ pub(crate) struct ServerEnd<R> {
 #[derive(Drop)]
 pub(crate) struct JournaledParts<R> {
     pub(crate) sources: ConsoleSources<R>,
-    pub(crate) journal: OpenJournal,
+    pub(crate) journal: RelayedJournal,
     pub(crate) end: ServerEnd<R>,
 }
 
-// Reports that the journal of a path has failed, and ends its server.
+// Reports that the journal of a path has failed, and ends its server. A relay without a journal has
+// reported its own fault.
 #[derive(Drop)]
 struct JournalEnd<R> {
     rt: HostRuntime,
     path: String,
+    has_journal: bool,
     server: ServerEnd<R>,
 }
 
 impl<R: Wait + Copy + Drop + Send> FailureAction for JournalEnd<R> {
     fn act(self, fault: JournalFault) {
-        let _ = eprintln!(self.rt; "{}: the journal failed: {fault}", self.path);
+        let _ = match fault {
+            JournalFault::File(_) if !self.has_journal => Ok(()),
+            _ => eprintln!(self.rt; "{}: the journal failed: {fault}", self.path),
+        };
         self.server.closing.close();
         self.server.sources.end();
     }
@@ -316,8 +333,77 @@ pub(crate) fn open_journal(
     }
 }
 
-// Runs a meter with its journal, and prints its trace. Returns the result of its connections, that
-// of the journal, and whether the trace was printed.
+// Opens the relay of the options, if they name one, for the meter of this recorder.
+fn start_relay(
+    rt: &HostRuntime,
+    options: &ServeOptions,
+    recorder: &Recorder,
+) -> Result<Option<Relay<File, RelayLog<HostRuntime>>>, Fault> {
+    let Some(path) = &options.relay else {
+        return Ok(None);
+    };
+    match open_relay(
+        rt,
+        path.as_str(),
+        recorder.core(),
+        options.bounds.is_verbose,
+    ) {
+        Ok(relay) => Ok(Some(relay)),
+        Err(RelayFault::Memory) => Err(Fault::Memory),
+        Err(_) => Err(Fault::Write),
+    }
+}
+
+// Returns a meter's relay as a journal without a file.
+fn without_file(
+    rt: &HostRuntime,
+    options: &ServeOptions,
+    relay: Relay<File, RelayLog<HostRuntime>>,
+) -> Result<RelayedJournal, Fault> {
+    let path = options.relay.as_deref().unwrap_or("");
+    match with_suffix(rt, path, "") {
+        Ok(path) => Ok(RelayedJournal {
+            path,
+            file: RelayedFile::new(rt.alloc(), OptionalFile::new(None), Some(relay)),
+            lock: None,
+        }),
+        Err(_) => {
+            drop(relay);
+            Err(Fault::Memory)
+        }
+    }
+}
+
+// Opens the relay of the options, if they name one, and connects it to the journal. Returns `None`
+// if there is neither.
+pub(crate) fn with_relay(
+    rt: &HostRuntime,
+    options: &ServeOptions,
+    recorder: &Recorder,
+    journal: Option<OpenJournal>,
+) -> Result<Option<RelayedJournal>, Fault> {
+    let relay = match start_relay(rt, options, recorder) {
+        Ok(relay) => relay,
+        Err(fault) => {
+            drop(journal);
+            return Err(fault);
+        }
+    };
+    match journal {
+        Some(OpenJournal { path, file, lock }) => Ok(Some(RelayedJournal {
+            path,
+            file: RelayedFile::new(rt.alloc(), OptionalFile::new(Some(file)), relay),
+            lock: Some(lock),
+        })),
+        None => match relay {
+            Some(relay) => Ok(Some(without_file(rt, options, relay)?)),
+            None => Ok(None),
+        },
+    }
+}
+
+// Runs a meter with its journal or its relay, and prints its trace. Returns the result of its
+// connections, that of the journal or the relay, and whether the trace was printed.
 pub(crate) fn run_journaled<R: Threads + Wait + Copy + Drop + Send + 'static, W: Write>(
     rt: &HostRuntime,
     threads: &R,
@@ -344,10 +430,11 @@ pub(crate) fn run_journaled<R: Threads + Wait + Copy + Drop + Send + 'static, W:
         journal,
         end,
     } = parts;
-    let OpenJournal { path, file, lock } = journal;
+    let RelayedJournal { path, file, lock } = journal;
     let on_failure = JournalEnd {
         rt: *rt,
         path,
+        has_journal: lock.is_some(),
         server: end,
     };
     let sources = meter_sources(sources);

@@ -5,7 +5,9 @@ ghost use Rattle.meter_run.specs.Runs.{IsRun};
 ghost use Rattle.meter_server_cli.specs.Endings.{PrintsText};
 
 use crate::ending::{Ends, print_trace, run_fault};
-use crate::journal::{JournaledParts, OpenJournal, ServerEnd, open_journal, run_journaled};
+use crate::journal::{
+    JournaledParts, OpenJournal, RelayedJournal, ServerEnd, open_journal, run_journaled, with_relay,
+};
 use crate::messages::{why_not_listening, why_wrong_input};
 use cosem_axdr::Octets;
 use counted_io::Monitored;
@@ -190,12 +192,12 @@ fn start_server<R: Threads + Wait + Copy + Drop + Send + 'static>(
     }
 }
 
-// A server that is ready to serve: the meter, its journal if it has one, and the sockets for its
-// clients.
+// A server that is ready to serve: the meter, its journal and its relay if it has one, and the
+// sockets for its clients.
 #[derive(Drop)]
 pub(crate) struct Server {
     plan: ServePlan<Stdin>,
-    journal: Option<OpenJournal>,
+    journal: Option<RelayedJournal>,
     listener: TcpListener,
     address: SocketAddr,
 }
@@ -269,18 +271,36 @@ fn with_journal(
     }
 }
 
-// Prepares a server up to the first client: validates the options, reads the trace to resume from,
-// opens the journal, and listens.
-pub(crate) fn begin(rt: &HostRuntime, options: &ServeOptions) -> Result<Server, Fault> {
-    let plan = plan_server(rt, options)?;
-    let (plan, journal) = with_journal(rt, options, plan)?;
-    match listen_on(rt, options.address.as_str(), options.bounds.is_verbose) {
-        Ok((listener, address)) => Ok(Server {
+// Returns the server of a plan that listens, once its relay is given the supply output.
+fn ready(
+    rt: &HostRuntime,
+    options: &ServeOptions,
+    plan: ServePlan<Stdin>,
+    journal: Option<OpenJournal>,
+    listening: (TcpListener, SocketAddr),
+) -> Result<Server, Fault> {
+    let (listener, address) = listening;
+    match with_relay(rt, options, &plan.recorder, journal) {
+        Ok(journal) => Ok(Server {
             plan,
             journal,
             listener,
             address,
         }),
+        Err(fault) => {
+            drop(plan);
+            Err(fault)
+        }
+    }
+}
+
+// Prepares a server up to the first client: validates the options, reads the trace to resume from,
+// opens the journal, listens, and opens the relay.
+pub(crate) fn begin(rt: &HostRuntime, options: &ServeOptions) -> Result<Server, Fault> {
+    let plan = plan_server(rt, options)?;
+    let (plan, journal) = with_journal(rt, options, plan)?;
+    match listen_on(rt, options.address.as_str(), options.bounds.is_verbose) {
+        Ok(listening) => ready(rt, options, plan, journal, listening),
         Err(fault) => {
             drop(plan);
             drop(journal);
@@ -289,14 +309,14 @@ pub(crate) fn begin(rt: &HostRuntime, options: &ServeOptions) -> Result<Server, 
     }
 }
 
-// Runs the meter, with its journal if it has one, and prints its trace. Returns the results of
-// serving, of the journal and of printing.
+// Runs the meter, with its journal and its relay if it has one, and prints its trace. Returns the
+// results of serving, of the journal or the relay, and of printing.
 fn serve_and_print<R: Threads + Wait + Copy + Drop + Send + 'static>(
     rt: &HostRuntime,
     threads: &R,
     server: (Sockets<HostRuntime>, ConsoleSources<R>, ServerEnd<R>),
     recorder: Recorder,
-    journal: Option<OpenJournal>,
+    journal: Option<RelayedJournal>,
     meter: &ClientParameters,
 ) -> (Result<(), Fault>, Result<(), Fault>, Result<(), Fault>)
     requires { length recorder.events ≡ 0 }

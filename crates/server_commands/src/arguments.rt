@@ -130,6 +130,17 @@ fn journal<'a>(alloc: Global) -> Arg<'a> {
         .action(ArgAction::Set)
 }
 
+// Returns the option `--relay`, which has no default.
+fn relay<'a>(alloc: Global) -> Arg<'a> {
+    Arg::new(alloc, "relay")
+        .long("relay")
+        .value_name("FILE")
+        .help(
+            "Write the supply output to FILE at the start and at each change: 1 or 0, a line each",
+        )
+        .action(ArgAction::Set)
+}
+
 // Returns the option `--depth`.
 fn depth<'a>(alloc: Global) -> Arg<'a>
     ensures { default_of result ≡ Some (codes "256") }
@@ -221,8 +232,8 @@ fn apdu<'a>(alloc: Global) -> Result<Command<'a>, AllocError> {
         .arg(verbose(alloc))
 }
 
-// Adds the options of `serve` for the meter, its address and its journal. `--password` is required
-// unless `has_password`.
+// Adds the options of `serve` for the meter, its address, its journal and its relay. The option
+// `--password` is required unless `has_password`.
 fn with_meter<'a>(
     alloc: Global,
     made: Result<Command<'a>, AllocError>,
@@ -239,7 +250,8 @@ fn with_meter<'a>(
     let made = with_argument(made, password_file(alloc));
     let made = with_argument(made, device(alloc));
     let made = with_argument(made, listen(alloc));
-    with_argument(made, journal(alloc))
+    let made = with_argument(made, journal(alloc));
+    with_argument(made, relay(alloc))
 }
 
 // Adds the options of `serve` that limit the trace, the journal, the connections and their

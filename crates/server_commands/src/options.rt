@@ -63,6 +63,8 @@ pub struct ServeOptions {
     pub address: String,
     /// The path of the journal, if the meter has one.
     pub journal: Option<String>,
+    /// The path of the file that is given the supply output, if there is one.
+    pub relay: Option<String>,
     /// The limits and flags.
     pub bounds: Bounds,
 }
@@ -227,6 +229,8 @@ pub(crate) fn serve_options<R: Env + AllocGlobal + Eprint + Files<File = File>>(
         (λ options. IsText (found_of matches.now) (codes "listen") (string_bytes options.address)) }
     ensures journal { IfOk result (λ options. option_map string_bytes options.journal
         ≡ first_value (found_of matches.now) (codes "journal")) }
+    ensures relay { IfOk result (λ options. option_map string_bytes options.relay
+        ≡ first_value (found_of matches.now) (codes "relay")) }
     ensures bounds { IfOk result (λ options. IsBounds (found_of matches.now) options.bounds) }
     ensures err { IfErr result (λ fault. is_of_asking fault ≡ true) }
 {
@@ -235,11 +239,13 @@ pub(crate) fn serve_options<R: Env + AllocGlobal + Eprint + Files<File = File>>(
     let device = text_of(rt.alloc(), matches, "device")?;
     let address = text_of(rt.alloc(), matches, "listen")?;
     let journal = find_text(rt.alloc(), matches, "journal")?;
+    let relay = find_text(rt.alloc(), matches, "relay")?;
     Ok(ServeOptions {
         password,
         device,
         address,
         journal,
+        relay,
         bounds,
     })
 }

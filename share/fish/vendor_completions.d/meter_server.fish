@@ -13,6 +13,7 @@ complete -c meter_server -f -n '__fish_seen_subcommand_from serve' -l password-f
 complete -c meter_server -f -n '__fish_seen_subcommand_from serve' -l device -r -d 'Name of the meter, 1 to 16 bytes'
 complete -c meter_server -f -n '__fish_seen_subcommand_from serve' -l listen -r -d 'Address to listen on, HOST:PORT'
 complete -c meter_server -f -n '__fish_seen_subcommand_from serve' -l journal -r -d 'Journal: events are on disk before they are answered; the meter resumes from FILE'
+complete -c meter_server -f -n '__fish_seen_subcommand_from serve' -l relay -r -d 'Write the supply output to FILE at the start and at each change: 1 or 0, a line each'
 complete -c meter_server -f -n '__fish_seen_subcommand_from serve' -l depth -r -d 'Number of events that the trace keeps, the latest ones, 1 to 1024'
 complete -c meter_server -f -n '__fish_seen_subcommand_from serve' -l journal-limit -r -d 'Number of bytes after which the journal is renewed, 4096 to 16777216'
 complete -c meter_server -f -n '__fish_seen_subcommand_from serve' -l keep-journals -r -d 'Number of journals before a renewal to keep, as FILE.1, FILE.2 and so on, 0 to 99'

@@ -1,0 +1,5 @@
+pub mod Following
+pub mod Histories
+pub mod OptionalFile
+pub mod RelayedFile
+pub mod Relaying
