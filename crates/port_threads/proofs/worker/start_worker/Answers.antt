@@ -7,7 +7,7 @@ returns-in-Err-clause-none g c =
     let split = c.in-Ok.ensures in
     let joined = c.join.ensures in
     none_lost g.T.Turned.legal _ c.split.new.self _ c.in-Ok.own c.in-Err.unused split.lock.0
-    split.lock.1 split.this split.other.2 c.in-Err.ensures.err joined.lock.0 joined.lock.1
+    split.lock.1 split.parent split.child.2 c.in-Err.ensures.err joined.lock.0 joined.lock.1
     joined.joins
 
 pub returns-in_default-clause-within_one : goal.returns-in_default-clause-within_one

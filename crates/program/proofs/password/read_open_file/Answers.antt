@@ -9,4 +9,4 @@ returns-in-Ok-clause-err g c =
     (g.R.Reader.remaining c.read_to_end_within.new.reader)) (sym c.as_slice.ensures.value)
     c.in-Ok.ensures.read in
     no_line_read c.args.mode _ _ _ _ c.as_slice.result.now c.line_of_file.result read
-    c.in-Ok.ensures.whole c.line_of_file.ensures.err
+    c.in-Ok.ensures.at_end c.line_of_file.ensures.err

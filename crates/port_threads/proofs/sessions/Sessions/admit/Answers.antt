@@ -19,7 +19,7 @@ returns-in-Ok-start-clause-tends g c =
     tends_open port_of (terms_of conn.terms) conn.hands_back _ c.args.port.now c.split.new.self
     c.args.self.now.handles c.insert_reserved.new.self c.insert_reserved.result
     c.in-Ok-start.session c.in-Ok.own
-    split.lock.0 split.lock.1 split.this begun.ok split.other.0 split.other.2 split.other.3
+    split.lock.0 split.lock.1 split.parent begun.ok split.child.0 split.child.2 split.child.3
     (ap conn.terms begun.connection) put.was_vacant
     (omega (arith, put.key, c.vacant_key-key.ensures.value)) put.updates put.capacity
 
@@ -30,7 +30,7 @@ returns-in-Err-clause-tends g c =
     let joined = c.take_back.ensures in
     let same = returned_same _ _ _ (c.requires.hands_back _) c.in-Err.ensures.err in
     tends_back port_of (terms_of conn.terms) conn.hands_back _ g.T.Turned.legal _ c.split.new.self _
-    c.in-Ok.own c.in-Err.own _ split.lock.0 split.lock.1 split.this split.other.2 split.other.3
+    c.in-Ok.own c.in-Err.own _ split.lock.0 split.lock.1 split.parent split.child.2 split.child.3
     c.in-Err.ensures.err same joined.lock.0 joined.lock.1 joined.joins
 
 pub take_back-requires : goal.take_back-requires
