@@ -2,10 +2,15 @@
 """Checks how the repository is written. A count of a rule in a folder must not grow.
 
 - length: a line of a .rt or .antt file, or of prose in a .md file, has at most 100 columns. Tables,
-  blocks of code and lines with links may be longer.
+  blocks of code, lines with links, imports and attributes may be longer.
 - phrase: comments, docstrings, messages and prose have no phrase of tests/prose_phrases.txt.
 - alone: the first sentence of a doc comment or a docstring does not need the one above it.
-- participle: no definition of specs/ is named by a bare participle, such as `told` or `merged`.
+- participle: no definition of specs/ is named by a bare participle or preposition, such as `told`,
+  `merged` or `before`, also followed by `_by`.
+- clause: no clause of a contract has a name of BAD_CLAUSES, such as `some`, that says nothing.
+- action: no function has a name of BAD_FUNCTIONS, such as `turns`, that does not say what it does,
+  or is a bare participle, such as `judged_trace`.
+- behind: no name of src/ or specs/ has the part `behind`.
 - twice: no struct, enum or trait has the name of one in another crate (the tests' crates aside).
 
 tests/prose_counts.txt has the allowed counts; a folder that it does not name has none.
@@ -27,10 +32,25 @@ COLUMNS = 100
 SHOWN = 5
 RATTLE = (".rt", ".bench")
 COMMENTS = {".rt": "//", ".bench": "//", ".rs": "//", ".antt": "--", ".py": "#", ".sh": "#", "": "#"}
+PARTICIPLES = ("[a-z]+ed|told|shown|begun|sent|taken|drawn|drew|seen|saw|kept|held|made|given|met|found"
+               "|spent|born|lost|known|done|written|heard|laid|ran|gone|torn|cut|left|read")
+PREPOSITIONS = "before|after|behind|over|under|past|beside|above|below|back|ahead|out|again"
 PARTICIPLE = re.compile(
-    r"\s*(?:abbrev|unfoldable|opaque)(?: pub)? ((?!need )[a-z]+ed|told|shown|begun|sent|taken|drawn"
-    r"|drew|seen|saw|kept|held|made|given|met|found|spent|born|lost|known|done|written|heard|laid"
-    r"|ran|gone) :")
+    rf"\s*(?:abbrev|unfoldable|opaque)(?: pub)? ((?!need )(?:(?:{PARTICIPLES})(?:_by)?"
+    rf"|{PREPOSITIONS})) :")
+CLAUSE = re.compile(r"\s*(?:ensures|requires)\*? (\w+) \{")
+BAD_CLAUSES = {*"""some most back few again even this own other one two three both here there yes no only
+    to from before after behind told begun asked out goes goes_on goes_err all ones stay stays shut
+    silent made""".split()}
+FUNCTION = re.compile(r"\s*(?:pub(?:\([a-z]+\))? )?(?:const )?fn (\w+)")
+BAD_FUNCTIONS = {*"""turns samples pairs selections after before behind beside since fresh none nowhere words
+    listening draft torn_by asked asked_in planned begun prepared started judged taken_out without_work
+    written_down let_go copied""".split()}
+ACTED = re.compile(r"(?:told|shown|begun|asked|planned|prepared|judged|renewed|resumed|recovered|given"
+                   r"|kept|started|locked|moved|merged|listened|opened|stored|told)_(?:trace|text|of"
+                   r"|recorder|in|by|from|journal|meter|file|lines)$")
+BEHIND = re.compile(r"(?:\w+_)?behind(?:_\w+)?(?=\b)")
+WRAPLESS = re.compile(r"\s*(?:(?:pub(?:\([a-z]+\))? |ghost )*use |#!?\[)")
 TYPE = re.compile(r"\s*(?:pub(?:\([a-z]+\))? )?(?:struct|enum|trait) ([A-Z]\w*)")
 LEANING = re.compile(r"(The same\b|Same as\b|As (above|before)\b|See above\b|Likewise\b|Ditto\b)")
 
@@ -73,7 +93,8 @@ def comment_lines(kind, lines):
 def long_lines(kind, lines):
     numbered = prose_lines(lines) if kind == ".md" else enumerate(lines, 1)
     for number, line in numbered if kind in (".rt", ".antt", ".md") else ():
-        if len(line) > COLUMNS and (kind != ".md" or is_prose(line)):
+        is_free = not is_prose(line) if kind == ".md" else WRAPLESS.match(line)
+        if len(line) > COLUMNS and not is_free:
             yield number, f"{len(line)} columns"
 
 
@@ -108,6 +129,31 @@ def participle_lines(path, lines):
             yield number, f"`{found[1]}`, write a noun phrase: `state_after`, `count_of`"
 
 
+def clause_lines(path, lines):
+    """The clauses of contracts with a name that says nothing."""
+    for number, line in enumerate(lines, 1) if path.endswith(".rt") else ():
+        found = CLAUSE.match(line)
+        if found and found[1] in BAD_CLAUSES:
+            yield number, f"clause `{found[1]}`, write what holds: `unchanged_on_error`, `non_empty`"
+
+
+def action_lines(path, lines):
+    """The functions with a name that does not say what they do."""
+    for number, line in enumerate(lines, 1) if path.endswith(".rt") else ():
+        found = FUNCTION.match(line)
+        if found and (found[1] in BAD_FUNCTIONS or ACTED.match(found[1])):
+            yield number, f"function `{found[1]}`, write a verb: `parse_command_line`, `read_text`"
+
+
+def behind_lines(path, lines):
+    """The names of src/ and specs/ with the part `behind`."""
+    is_read = path.endswith((".rt", ".antt")) and ("/src/" in path or "/specs/" in path)
+    for number, line in enumerate(lines, 1) if is_read else ():
+        found = BEHIND.search(re.sub(r"(?:--|//).*", "", line))
+        if found:
+            yield number, f"name `{found[0]}`, write `after`, `rest` or what follows"
+
+
 def types_in(path, lines):
     """The types that a file declares, each with its line."""
     is_source = path.endswith(".rt") and "/src/" in path and "_tests/" not in path
@@ -134,6 +180,9 @@ def places_in(path, text, patterns):
     yield from (("phrase", *it) for it in phrase_lines(kind, lines, patterns))
     yield from (("alone", *it) for it in leaning_lines(kind, lines))
     yield from (("participle", *it) for it in participle_lines(path, lines))
+    yield from (("clause", *it) for it in clause_lines(path, lines))
+    yield from (("action", *it) for it in action_lines(path, lines))
+    yield from (("behind", *it) for it in behind_lines(path, lines))
 
 
 def folder_of(path):
@@ -177,9 +226,13 @@ PLANTED = {
     "alone": ("crates/one/src/alone.rt", "/// The same for a list.\nfn list() {}"),
     "participle": ("crates/one/specs/Participle.antt", "abbrev pub " + "told : ℕ"),
     "twice": ("crates/two/src/twice.rt", "pub struct Clean;"),
+    "clause": ("crates/one/src/clause.rt", "    ensures " + "some { IsSome result }"),
+    "action": ("crates/one/src/action.rt", "fn " + "turns(&mut self)"),
+    "behind": ("crates/one/src/behind.rt", "    let rest_" + "behind = 1;"),
 }
 CLEAN = {
-    "crates/one/src/clean.rt": "/// The number of lists.\npub struct Clean {}",
+    "crates/one/src/clean.rt": "ghost use " + "a" * COLUMNS + ";\n/// The number of lists.\n"
+                               "pub struct Clean {}\nfn give_turns()\n    ensures found { x }",
     "docs/CLEAN.md": "| " + "a" * 120 + " |\n\n    " + "b" * 120 + "\n\nA call returns a number.",
 }
 
