@@ -1,3 +1,4 @@
 pub mod Faults
+pub mod Ledgered
 pub mod Options
 pub mod Printed

@@ -31,6 +31,7 @@ pub(crate) struct CampaignPlan {
     pub(crate) workers: u8,
     pub(crate) limits: TcpLimits,
     pub(crate) is_shown: bool,
+    pub(crate) ledger: Option<String>,
     ghost sized: { IsPassword password },
     ghost some: { 1 ≤ workers },
     ghost within_max: { workers ≤ 16 },
@@ -141,6 +142,17 @@ fn password(rt: &HostRuntime, matches: &ArgMatches<'_>, is_verbose: bool) -> Res
     check_password(rt, text.as_str(), is_verbose)
 }
 
+// Returns the path of the option `--ledger`, if it is given.
+fn ledger_path(alloc: Global, matches: &ArgMatches<'_>) -> Result<Option<String>, Fault> {
+    match matches.get_str("ledger") {
+        Some(path) => match String::from_str(alloc, path) {
+            Ok(path) => Ok(Some(path)),
+            Err(_) => Err(Fault::Memory),
+        },
+        None => Ok(None),
+    }
+}
+
 // Validates the options and reads the jobs on standard input. If `--verbose` is given, a line on
 // standard error describes the fault.
 pub(crate) fn plan_campaign(
@@ -159,6 +171,7 @@ pub(crate) fn plan_campaign(
 {
     let is_verbose = matches.get_flag("verbose");
     let password = password(rt, matches, is_verbose)?;
+    let ledger = ledger_path(rt.alloc(), matches)?;
     let jobs = jobs_of(rt, rt.stdin(), is_verbose)?;
     Ok(CampaignPlan {
         jobs,
@@ -166,6 +179,7 @@ pub(crate) fn plan_campaign(
         workers: workers(matches),
         limits: limits_of(matches),
         is_shown: matches.get_flag("progress") || rt.stderr().is_terminal(),
+        ledger,
     })
 }
 

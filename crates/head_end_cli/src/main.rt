@@ -7,6 +7,7 @@
 
 mod arguments;
 mod campaign;
+mod ledgered;
 mod progress;
 mod telling;
 mod text_filter;
@@ -14,16 +15,20 @@ mod warnings;
 
 use crate::arguments::command_line;
 use crate::campaign::{CampaignPlan, PASSWORD_VARIABLE};
+use crate::ledgered::run_on_ledger;
 use crate::telling::{ListFault, input_fault, jobs_fault};
 use crate::warnings::warn;
 use clap::ArgMatches;
 use counted_io::{Counted, read_to_end_within};
-use head_end::{Jobs, JobsFault, TcpConnector, count_jobs, read_jobs};
+use head_end::{Connector, Jobs, JobsFault, TcpConnector, count_jobs, read_jobs};
 use program::{Fault, exit_code, has_option, print_text, without_work, words};
+use sqlite::Unknown;
 use std::env;
 use std::env::VarError;
 use std::io::Read;
 use std::process::ExitCode;
+use std::sync::Wait;
+use std::thread::Threads;
 
 // The maximum number of bytes of a list of jobs.
 const MAX_INPUT: usize = 1_048_576;
@@ -124,13 +129,28 @@ fn begin(rt: &HostRuntime) -> Result<HeadEndCommand, Fault> {
     }
 }
 
+// Runs a campaign, on its ledger if it has one.
+fn run_plan<R: Threads + Wait + Sync, C: Connector>(
+    rt: &HostRuntime,
+    threads: &R,
+    connector: &C,
+    plan: &CampaignPlan,
+) -> Result<(), Fault> {
+    match &plan.ledger {
+        Some(path) => {
+            let output = &mut rt.stdout();
+            run_on_ledger(rt, threads, connector, plan, path.as_str(), Unknown, output)
+        }
+        None => campaign::run(rt, threads, connector, plan, &mut rt.stdout()),
+    }
+}
+
 fn main(rt: HostRuntime) -> ExitCode {
     match begin(&rt) {
         Ok(HeadEndCommand::Ended(status)) => ExitCode::from(status),
         Ok(HeadEndCommand::Campaign(plan)) => {
             let connector = TcpConnector::new(rt, plan.limits);
-            let done = campaign::run(&rt, &rt, &connector, &plan, &mut rt.stdout()).map(|_| 0);
-            exit_code(&rt, done)
+            exit_code(&rt, run_plan(&rt, &rt, &connector, &plan).map(|_| 0))
         }
         Err(fault) => exit_code(&rt, Err(fault)),
     }
