@@ -1,8 +1,7 @@
 //! Journals that are renewed: the new file, and what a crash leaves.
 use crate::texts::{BEGUN, DISCONNECTED, EVENTS, joined};
 use durable_lines::{
-    FileFault, MemoryPlace, PlacePaths, StoredFile, StoredPlace, append_and_renew,
-    is_text,
+    FileFault, MemoryPlace, PlacePaths, StoredFile, StoredPlace, append_and_renew, is_text,
 };
 use journal_files::{RenewalTerms, RenewedFile, StartFault, renew_journal};
 use std::alloc::{AllocError, Global};

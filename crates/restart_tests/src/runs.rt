@@ -2,7 +2,9 @@
 use crate::texts::BEGUN;
 use cosem_axdr::Octets;
 use disconnect_control::ControlState;
-use durable_lines::{ByteFate, FileFault, MemoryFile, MemoryPlace, append_and_renew, is_text, recover};
+use durable_lines::{
+    ByteFate, FileFault, MemoryFile, MemoryPlace, append_and_renew, is_text, recover,
+};
 use journal_files::{RenewalTerms, RenewedFile, Resumed, StartFault, resume_journal};
 use std::alloc::{AllocError, Global};
 use std::test::Fail;
