@@ -41,7 +41,7 @@ pub use placing::{JobPlace, places_for};
 pub use printed::{count_jobs, report_jobs};
 pub use report_lines::Report;
 pub use reporting::{add_report, report};
-pub use rounds::{Rounds, jobs_of_a_meter_run_in_order, rounds_of};
+pub use rounds::{JobRounds, jobs_of_a_meter_run_in_order, rounds_of};
 pub use row::{ReportLine, Row};
 pub use running::run_job;
 pub use tcp::{TcpConnector, TcpLimits};

@@ -9,7 +9,7 @@ use wire_bytes::Listed;
 
 /// The rounds of jobs. A round begins when the one before it has ended.
 #[derive(Debug, Drop)]
-pub struct Rounds {
+pub struct JobRounds {
     /// The round of each job, counted from 0: the number of earlier jobs with its address.
     pub of_jobs: Listed<usize>,
     /// The number of rounds.
@@ -17,7 +17,7 @@ pub struct Rounds {
 }
 
 /// Returns the rounds of jobs. Jobs of different addresses have one round.
-pub fn rounds_of(alloc: Global, jobs: &[Job]) -> Result<Rounds, AllocError>
+pub fn rounds_of(alloc: Global, jobs: &[Job]) -> Result<JobRounds, AllocError>
     requires { length jobs.now ≤ 1000 }
     ensures { IfOk result (λ rounds. AreRounds jobs.now rounds.of_jobs rounds.count) }
 {
@@ -31,7 +31,7 @@ pub fn rounds_of(alloc: Global, jobs: &[Job]) -> Result<Rounds, AllocError>
             Err(_) => return Err(AllocError),
         }
     }
-    Ok(Rounds { of_jobs, count })
+    Ok(JobRounds { of_jobs, count })
 }
 
 // Returns the number of jobs with this address.

@@ -10,7 +10,7 @@ const MARK: &[u8] = b"\xEF\xBB\xBF";
 
 // What begins at a byte of a line and is not part of a job.
 #[derive(Clone, Copy, Debug, PartialEq, Eq, Error)]
-enum Finding {
+enum ByteFinding {
     #[error("byte order mark (EF BB BF)")]
     Mark,
     #[error("carriage return (0D): lines end with 0A alone")]
@@ -70,15 +70,15 @@ fn report_words(rt: &HostRuntime, number: u64, line: &[u8]) -> u64 {
 }
 
 // Returns the finding that begins at a place of a line, if there is one.
-fn finding_at(line: &[u8], place: usize) -> Option<Finding> {
+fn finding_at(line: &[u8], place: usize) -> Option<ByteFinding> {
     let rest = line.get(place..)?;
     match rest {
-        [b'\r', ..] => Some(Finding::CarriageReturn),
-        [b'\t', ..] => Some(Finding::Tab),
-        [b' '] => Some(Finding::LastBlank),
-        [b' ', ..] if place == 0 => Some(Finding::FirstBlank),
-        [b' ', b' ', ..] => Some(Finding::DoubledBlank),
-        _ if rest.starts_with(MARK) => Some(Finding::Mark),
+        [b'\r', ..] => Some(ByteFinding::CarriageReturn),
+        [b'\t', ..] => Some(ByteFinding::Tab),
+        [b' '] => Some(ByteFinding::LastBlank),
+        [b' ', ..] if place == 0 => Some(ByteFinding::FirstBlank),
+        [b' ', b' ', ..] => Some(ByteFinding::DoubledBlank),
+        _ if rest.starts_with(MARK) => Some(ByteFinding::Mark),
         _ => None,
     }
 }
