@@ -564,7 +564,7 @@ def drain(silent):
         while True:
             silent.accept()[0].close()
     except BlockingIOError:
-        silent.settimeout(PATIENCE)
+        silent.settimeout(LONG_PATIENCE)
 
 
 def a_campaign_is_stopped(name, folder):
@@ -573,7 +573,7 @@ def a_campaign_is_stopped(name, folder):
     shutil.copy(HEAD_END, program)
     path = folder / "silent"
     with socket.create_server(("0.0.0.0", 0)) as silent:
-        silent.settimeout(PATIENCE)
+        silent.settimeout(LONG_PATIENCE)
         port = silent.getsockname()[1]
         path.write_text("".join(f"job{number} {address_of(number, port)} disconnect\n" for number in range(2_500)))
         for signal_sent, wanted in (signal.SIGTERM, 143), (signal.SIGINT, 130):
@@ -600,7 +600,7 @@ def what_is_known_is_printed(name, crowd, folder):
     jobs, wanted, expected = crowd_jobs(crowd, 1000)
     path, joblog, log = folder / "known", folder / "joblog", folder / "errors"
     with socket.create_server(("127.0.0.1", 0)) as silent:
-        silent.settimeout(PATIENCE)
+        silent.settimeout(LONG_PATIENCE)
         path.write_text(f"silent 127.0.0.1:{silent.getsockname()[1]} disconnect\n" + "\n" * 999 + jobs)
         with log.open("w") as errors:
             made = start_campaign(path, "--program", str(HEAD_END), "--workers", "8", "--jobs", "2", "--joblog", str(joblog), errors=errors)

@@ -206,6 +206,8 @@ def a_ledger_changes_no_row(name, folder):
               first_differences(plain.stdout, ran.report))
         found = entries(ledger)
         check(f"{name}: its jobs", found.jobs == campaign.jobs, found.jobs[:3])
+        mode = ledger.stat().st_mode & 0o777
+        check(f"{name}: its owner alone may read it", mode == 0o600, oct(mode))
         check(f"{name}: its marks", found.begun >= set(campaign.commands),
               sorted(set(campaign.commands) - found.begun)[:9])
         check(f"{name}: its outcomes", sorted(found.outcomes) == list(range(JOBS)),
@@ -337,6 +339,7 @@ def a_meter_that_was_down_is_commanded_later(name, folder):
         ran = run(ledger, job + campaign.text)
         check(f"{name}: its row", ran.report.startswith("down unknown\n") and ran.status == 0, ran)
         check(f"{name}: no mark", 0 not in entries(ledger).begun, entries(ledger).begun)
+        check(f"{name}: its note", "down not reached" in ran.errors.splitlines(), ran.errors[-300:])
         first = campaign.take_commands()
         down.listen()
         down.settimeout(PATIENCE)
@@ -348,10 +351,12 @@ def a_meter_that_was_down_is_commanded_later(name, folder):
             client, _ = down.accept()
             client.close()
             process.stdin = None
-            process.communicate(timeout=LONGEST)
+            _, errors = process.communicate(timeout=LONGEST)
         finally:
             process.kill()
         check(f"{name}: it is called", 0 in entries(ledger).begun, entries(ledger).begun)
+        check(f"{name}: its note then", "down sent, no answer" in errors.splitlines(),
+              errors[-300:])
         later = campaign.take_commands()
         check(f"{name}: nobody else", not any(later) and max(first) == 1, later)
 

@@ -1,6 +1,7 @@
 """Meters that follow a script, for tests of the head end. Each records what its clients sent."""
 
 import multiprocessing
+import os
 import random
 import select
 import socket
@@ -153,10 +154,8 @@ def answers_the_release(talk):
     time.sleep(0.1)
     talk.send("6303800100")
     time.sleep(0.1)
-    try:
-        talk.ending = "end" if talk.stream.recv(1) == b"" else "more"
-    except OSError as error:
-        talk.ending = str(error)
+    fault = talk.stream.getsockopt(socket.SOL_SOCKET, socket.SO_ERROR)  # of a reset, also after the end
+    talk.ending = os.strerror(fault) if fault else "end" if talk.stream.recv(1) == b"" else "more"
     return True
 
 

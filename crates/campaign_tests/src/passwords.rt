@@ -49,7 +49,15 @@ fn each_job_has_the_password_of_its_name(rt: HostRuntime) -> Result<(), Fail> {
     let alloc = rt.alloc();
     let all = b"m2 22222222\n\nm9 9\nm1 1\nm1 later\n";
     assert!(rt; have_both(alloc, all, None, b"1", b"22222222")?);
-    assert!(rt; have_both(alloc, b"m2 22222222", Some(b"12345678"), b"12345678", b"22222222")?);
+    assert!(rt;
+        have_both(
+            alloc,
+            b"m2 22222222",
+            Some(b"12345678"),
+            b"12345678",
+            b"22222222"
+        )?
+    );
     assert!(rt; have_both(alloc, b"", Some(b"12345678"), b"12345678", b"12345678")?);
     Ok(())
 }

@@ -1,7 +1,9 @@
 pub mod AppendLemmas
+pub mod HoldingLemmas
 pub mod LineLemmas
 pub mod Moments
 pub mod PastLemmas
+pub mod PlaceLemmas
 pub mod RecoveryLemmas
 pub mod StateLemmas
 pub mod SyncLemmas

@@ -25,3 +25,35 @@ module _ {F : Type 0} (moment : F → ℕ) (left_since : F → ℕ → List ℕ 
     before = λ t c le left. ⊎_elim (so_far.before t c le) (λ now. inr (here c now))
         (time.nothing_else t c (omega (arith, le, so_far.later)) left);
   }
+
+  -- what a crash leaves has a weaker property too
+  pub leaves_as : (old new : F) (P Q : List ℕ → Type 0) → ((c : List ℕ) → P c → Q c)
+      → LeavesOnly moment left_since old new P → LeavesOnly moment left_since old new Q
+  leaves_as old new P Q weaker leaves = record {
+    later = leaves.later;
+    each = λ c left. weaker c (leaves.each c left);
+    before = λ t c le left.
+        ⊎_elim (λ was. inl was) (λ now. inr (weaker c now)) (leaves.before t c le left);
+  }
+
+  -- one run of calls after another
+  pub leaves_then : (old mid new : F) (P : List ℕ → Type 0)
+      → LeavesOnly moment left_since old mid P → LeavesOnly moment left_since mid new P
+      → LeavesOnly moment left_since old new P
+  leaves_then old mid new P one two = record {
+    later = omega (arith, one.later, two.later);
+    each = λ c left. ⊎_elim (one.each c) (λ now. now) (two.before (moment old) c one.later left);
+    before = λ t c le left.
+        ⊎_elim
+        (λ mid_left. ⊎_elim (λ was. inl was) (λ now. inr now) (one.before t c le mid_left))
+        (λ now. inr now) (two.before t c (omega (arith, le, one.later)) left);
+  }
+
+  -- no call
+  pub elapses_still : (file : F) (may_leave : List ℕ → Type 0)
+      → Elapses (moment file) (moment file) (left_since file) (left_since file) may_leave
+  elapses_still file may_leave = record {
+    later = omega arith;
+    nothing_else = λ t c le since. inl since;
+    keeps = λ t c le since. since;
+  }

@@ -68,7 +68,7 @@ append_follows bytes s c (inr torn) =
     )
 
 -- a cut may leave all bytes
-uncut : (len : ℕ) (c : List ℕ) → TornCut len c c
+pub uncut : (len : ℕ) (c : List ℕ) → TornCut len c c
 uncut len c = (len + length c, omega arith, sym (take_all (len + length c) c (omega arith)))
 
 pub unchanged_follows : (len : ℕ) (s : State) → Follows (TornCut len) (IsLeft s) (IsLeft s)

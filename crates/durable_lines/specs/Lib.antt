@@ -1,5 +1,6 @@
 pub mod CrashModel
 pub mod FileState
+pub mod Holding
 pub mod Lines
 pub mod MemoryFile
 pub mod MemoryPlace

@@ -2,7 +2,7 @@
 --     MayHave         what a crash may leave under the name
 --     file_after      the file that has the name after a crash
 --     name_of         the state of the file that has the name now
---     moment_of       the number of renames and syncs so far
+--     moment_of       the number of changes and syncs so far
 --     states_of       its state at each moment, the present one last
 --     LeftSince       what a crash since a moment may have left
 use Rattle.std.specs.Prelude.{◌⊎◌, ℕ, Bool, List, [], ◌∷◌, ◌++◌, IsSomeAnd, if◌then◌else◌, length}
@@ -26,7 +26,7 @@ file_after is_renamed s = if is_renamed then s.current else unwrap_or s.previous
 abbrev pub name_of : MemoryPlace → State
 name_of p = p.state.current
 
--- the number of renames and syncs so far
+-- the number of changes and syncs so far
 abbrev pub moment_of : MemoryPlace → ℕ
 moment_of p = length p.past.items
 

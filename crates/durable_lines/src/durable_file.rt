@@ -1,8 +1,10 @@
 //! `DurableFile`: a file that is appended to, cut and synced, with what a crash may leave of it.
-ghost use Rattle.std.specs.Prelude.{◌≡◌, ◌≤◌, ◌↔◌, ◌++◌, List, ℕ, length, take, IfOk, OnOk};
+ghost use Rattle.std.specs.Prelude.{◌≡◌, ◌≤◌, ◌↔◌, ◌++◌, List, ℕ, length, take, IfOk, OnOk, OnErr};
 ghost use Rattle.std.specs.Prelude.{IsErrOf};
-ghost use Rattle.durable_lines.specs.CrashModel.{Elapses, Follows, Narrows, Only, TornAppend};
-ghost use Rattle.durable_lines.specs.CrashModel.{TornCut};
+ghost use Rattle.durable_lines.specs.CrashModel.{Elapses, Follows, LeavesOnly, Narrows, Only};
+ghost use Rattle.durable_lines.specs.CrashModel.{TornAppend, TornCut};
+ghost use Rattle.durable_lines.specs.Holding.{IsSameOrRenewed};
+ghost use Rattle.durable_lines.specs.Lines.{IsSettled};
 
 use crate::fault::FileFault;
 use std::alloc::Global;
@@ -35,6 +37,10 @@ pub trait DurableFile: Drop {
     // code gets it only from `sync`; once known, it holds for good.
     ghost stored: { List ℕ → Type 0 };
 
+    // Ghost relation: the second bytes renew the first. They tell in another way what the first do.
+    // A file that is never renewed keeps the default.
+    ghost renews: { List ℕ → List ℕ → Type 0 } = { λ _ _. ⊥ };
+
     // Ghost predicate: the file has failed.
     ghost has_failed: { Self → Type 0 };
 
@@ -42,6 +48,7 @@ pub trait DurableFile: Drop {
     fn read(&mut self, alloc: Global) -> Result<Vec<u8>, FileFault>
         ensures bytes { IfOk result (λ bytes. acts_as_file → bytes.items ≡ seen self.old) }
         ensures unchanged { OnOk result (seen self.new ≡ seen self.old) }
+        ensures unread { OnErr result (seen self.new ≡ seen self.old) }
         ensures crash { Narrows (may_leave self.old) (may_leave self.new) }
         ensures time { Elapses (moment self.old) (moment self.new) (left_since self.old)
             (left_since self.new) (may_leave self.new) }
@@ -77,6 +84,25 @@ pub trait DurableFile: Drop {
             (left_since self.new) (may_leave self.new) }
         ensures failed { IsErrOf result FileFault.Failed ↔ has_failed self.new }
         ensures remains_failed { has_failed self.old → has_failed self.new };
+
+    /// Replaces the file by one that holds the same lines, if it is to be renewed. A file that is
+    /// never renewed keeps the default, which does nothing. A crash leaves the old file or the new
+    /// one.
+    ///
+    /// After an error nothing more may be appended.
+    fn renew(&mut self) -> Result<(), FileFault>
+        requires settled { acts_as_file → IsSettled seen may_leave stored self.old }
+        ensures settled { OnOk result (acts_as_file → IsSettled seen may_leave stored self.new) }
+        ensures renewed { OnOk result
+            (acts_as_file → IsSameOrRenewed renews (seen self.old) (seen self.new)) }
+        // A crash at any moment of the call leaves the old file or the new one.
+        ensures any_moment { acts_as_file → LeavesOnly moment left_since self.old self.new
+            (IsSameOrRenewed renews (seen self.old)) }
+        ensures failed { IsErrOf result FileFault.Failed → has_failed self.new }
+        ensures remains_failed { has_failed self.old → has_failed self.new }
+    {
+        Ok(())
+    }
 
     // Ghost law: this moment is one of those since an earlier one.
     ghost counts_now: { (file : Self) (t : ℕ) (c : List ℕ) → t ≤ moment file → may_leave file c

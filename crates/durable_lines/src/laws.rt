@@ -2,6 +2,7 @@
 //! makes it known to the prover.
 ghost use Rattle.std.specs.Prelude.{◌≡◌, ◌++◌, ◌∷◌, [], ℕ, List, codes};
 ghost use Rattle.std.specs.List.{AllByRecursion};
+ghost use Rattle.durable_lines.specs.Holding.{Holds};
 ghost use Rattle.durable_lines.specs.Lines.{lines_in, text_of, IsPlain, IsText};
 
 /// Proves that lines without the bytes 0 and 0A are read back from their text, whatever bytes
@@ -35,4 +36,17 @@ pub fn examples_of_lines()
     ensures zero_first { lines_in (codes "\0\nab\n") ≡ [] }
     ensures empty { lines_in [] ≡ [] }
     ensures text { text_of (codes "ab" ∷ [] ∷ []) ≡ codes "ab\n\n" }
+{}
+
+/// Proves what it means that a file holds lines. A file of a type that is never renewed has them,
+/// after those that it had first, and a file that has them holds them. A file that had the line `a`
+/// first, got `b`, was renewed as `c`, and then got `d` holds `b` and `d`.
+#[tactic(auto, using(crate::proofs::HoldingLemmas::holding_laws))]
+pub fn files_hold_their_lines()
+    ensures plain { (first lines : List (List ℕ)) (bytes : List ℕ)
+        → Holds (λ _ _. ⊥) first lines bytes → lines_in bytes ≡ first ++ lines }
+    ensures whole { (first lines : List (List ℕ)) (bytes : List ℕ)
+        → lines_in bytes ≡ first ++ lines → Holds (λ _ _. ⊥) first lines bytes }
+    ensures example { Holds (λ old new. (old ≡ codes "a\nb\n") × (new ≡ codes "c\n"))
+        (codes "a" ∷ []) (codes "b" ∷ codes "d" ∷ []) (codes "c\nd\n") }
 {}

@@ -2,7 +2,8 @@
 //!
 //! [`append_lines`] appends whole lines to a [`DurableFile`] and returns once they are on the disk.
 //! [`recover`] reads the lines that a crash has left and cuts what follows them. [`replace`]
-//! replaces the file of a [`Place`] as a whole.
+//! replaces the file of a [`Place`] as a whole. [`append_and_renew`] appends lines to a file that
+//! is replaced while it grows.
 #![tactic(auto)]
 
 mod append;
@@ -22,11 +23,13 @@ mod scan;
 mod stored_file;
 mod stored_place;
 
-pub use append::append_lines;
+pub use append::{append_and_renew, append_lines};
 pub use byte_fate::ByteFate;
 pub use durable_file::DurableFile;
 pub use fault::{FileFault, LockFault};
-pub use laws::{examples_of_lines, text_of_lines_is_read, texts_are_appended};
+pub use laws::{
+    examples_of_lines, files_hold_their_lines, text_of_lines_is_read, texts_are_appended,
+};
 pub use lock_file::LockFile;
 pub use memory_file::MemoryFile;
 pub use memory_place::MemoryPlace;

@@ -1,13 +1,15 @@
 //! `MemoryPlace`: a name in memory whose file can be replaced, with crashes that a test can choose.
 ghost use Rattle.std.specs.Prelude.{◌≡◌, ◌≤◌, ◌++◌, ◌∷◌, [], IfOk, OnErr, OnOk, IsSomeAnd, List};
-ghost use Rattle.std.specs.Prelude.{None, Some, slice_get, ℕ};
+ghost use Rattle.std.specs.Prelude.{None, Some, length, slice_get, ℕ, ⊤};
 ghost use Rattle.std.proofs.Common.{inl};
-ghost use Rattle.durable_lines.specs.FileState.{text_left_by, synced_with, IsLeft};
+ghost use Rattle.durable_lines.specs.FileState.{after_append, after_cut, text_left_by, seen_of};
+ghost use Rattle.durable_lines.specs.FileState.{synced_with, IsLeft};
 ghost use Rattle.durable_lines.specs.MemoryPlace.{file_after, moment_of, name_of, states_of};
 ghost use Rattle.durable_lines.specs.MemoryPlace.{LeftSince, MayHave};
 ghost use Rattle.durable_lines.specs.Moments.{only_present};
 
 use crate::byte_fate::ByteFate;
+use crate::durable_file::DurableFile;
 use crate::fault::FileFault;
 use crate::file_state::FileState;
 use crate::memory_file::MemoryFile;
@@ -22,11 +24,11 @@ pub(crate) struct PlaceState {
 }
 
 impl PlaceState {
-    // Returns a copy.
-    fn copy(&self, alloc: Global) -> Result<PlaceState, AllocError>
-        ensures { IfOk result (λ copy. copy ≡ self.now) }
+    // Returns a state with this file and a copy of the one that had the name before.
+    fn with_current(&self, alloc: Global, current: FileState) -> Result<PlaceState, AllocError>
+        ensures { IfOk result (λ next. next
+            ≡ record { current = current; previous = self.now.previous }) }
     {
-        let current = self.current.copy(alloc)?;
         match &self.previous {
             Some(file) => Ok(PlaceState {
                 current,
@@ -37,6 +39,47 @@ impl PlaceState {
                 previous: None,
             }),
         }
+    }
+
+    // Returns a copy.
+    fn copy(&self, alloc: Global) -> Result<PlaceState, AllocError>
+        ensures { IfOk result (λ copy. copy ≡ self.now) }
+    {
+        let current = self.current.copy(alloc)?;
+        self.with_current(alloc, current)
+    }
+
+    // Returns the state after an append to the file that has the name.
+    fn with_added(&self, alloc: Global, bytes: &[u8]) -> Result<PlaceState, AllocError>
+        ensures { IfOk result (λ next. next ≡ record {
+          current = after_append bytes.now self.now.current;
+          previous = self.now.previous;
+        }) }
+    {
+        let current = self.current.with_added(alloc, bytes)?;
+        self.with_current(alloc, current)
+    }
+
+    // Returns the state after a cut of the file that has the name.
+    fn with_cut(&self, alloc: Global, len: usize) -> Result<PlaceState, AllocError>
+        ensures state { IfOk result (λ next. next ≡ record {
+          current = after_cut len self.now.current;
+          previous = self.now.previous;
+        }) }
+        ensures within { OnOk result (self.now.current.kept ≤ length self.now.current.synced) }
+    {
+        let current = self.current.with_cut(alloc, len)?;
+        self.with_current(alloc, current)
+    }
+
+    // Returns the state after a rename that is not on the disk.
+    fn renamed(&self, alloc: Global, draft: &FileState) -> Result<PlaceState, AllocError>
+        ensures { IfOk result (λ next. next
+            ≡ record { current = draft.now; previous = Some self.now.current }) }
+    {
+        let current = draft.copy(alloc)?;
+        let previous = Some(self.current.copy(alloc)?);
+        Ok(PlaceState { current, previous })
     }
 
     // Returns the file that has the name after a crash.
@@ -52,8 +95,8 @@ impl PlaceState {
 }
 
 /// A name in memory, for tests. It keeps its state at each moment, so that a test can see what a
-/// crash at any of them leaves under the name. A moment passes with each rename and each sync of
-/// the folder that returns `Ok`; they are counted from 0.
+/// crash at any of them leaves under the name. A moment passes with each append, cut, rename and
+/// sync, of the file or of the folder, that returns `Ok`; they are counted from 0.
 #[derive(Drop)]
 pub struct MemoryPlace {
     alloc: Global,
@@ -77,7 +120,14 @@ impl MemoryPlace {
         }
     }
 
-    /// Returns the number of the present moment: that of the renames and syncs so far.
+    /// Returns the bytes of the file that has the name.
+    pub fn bytes(&self) -> Result<Vec<u8>, AllocError>
+        ensures { IfOk result (λ bytes. bytes.items ≡ seen_of (name_of self.now)) }
+    {
+        self.state.current.bytes(self.alloc)
+    }
+
+    /// Returns the number of the present moment: that of the changes and syncs so far.
     pub fn moment(&self) -> usize
         ensures { result ≡ moment_of self.now }
     {
@@ -133,16 +183,18 @@ fn change(
     Ok(())
 }
 
-impl Place for MemoryPlace {
-    type Draft = MemoryFile;
+impl DurableFile for MemoryPlace {
+    ghost acts_as_file = { ⊤ };
+
+    ghost seen = { λ p. seen_of (name_of p) };
 
     ghost may_leave = { λ p c. MayHave p.state c };
-
-    ghost named = { λ p c. IsLeft (name_of p) c };
 
     ghost moment = { moment_of };
 
     ghost left_since = { LeftSince };
+
+    ghost stored = { λ _. ⊤ };
 
     ghost has_failed = { λ _. ⊥ };
 
@@ -150,15 +202,47 @@ impl Place for MemoryPlace {
 
     ghost only_now = { λ p c left. only_present MayHave p.past.items p.state c left };
 
+    fn read(&mut self, alloc: Global) -> Result<Vec<u8>, FileFault> {
+        Ok(self.state.current.bytes(alloc)?)
+    }
+
+    fn append(&mut self, bytes: &[u8]) -> Result<(), FileFault> {
+        let next = self.state.with_added(self.alloc, bytes)?;
+        Ok(change(self.alloc, &mut self.state, &mut self.past, next)?)
+    }
+
+    fn cut(&mut self, len: usize) -> Result<(), FileFault> {
+        let next = self.state.with_cut(self.alloc, len)?;
+        Ok(change(self.alloc, &mut self.state, &mut self.past, next)?)
+    }
+
+    fn sync(&mut self) -> Result<(), FileFault> {
+        let bytes = self.state.current.bytes(self.alloc)?;
+        let next = PlaceState {
+            current: FileState::synced_with(self.alloc, bytes),
+            previous: None,
+        };
+        Ok(change(self.alloc, &mut self.state, &mut self.past, next)?)
+    }
+}
+
+impl Place for MemoryPlace {
+    type Draft = MemoryFile;
+
+    ghost named = { λ p c. IsLeft (name_of p) c };
+
+    ghost drafts_act = { λ acts. acts };
+
+    ghost stores = { λ bytes stored. stored };
+
     fn create_draft(&mut self) -> Result<MemoryFile, FileFault> {
         Ok(MemoryFile::new(self.alloc, Vec::new(self.alloc)))
     }
 
-    fn rename(&mut self, draft: &MemoryFile) -> Result<(), FileFault> {
-        let next = PlaceState {
-            current: draft.state().copy(self.alloc)?,
-            previous: Some(self.state.current.copy(self.alloc)?),
-        };
+    fn rename(&mut self, draft: MemoryFile) -> Result<(), FileFault> {
+        let renamed = self.state.renamed(self.alloc, draft.state());
+        drop(draft);
+        let next = renamed?;
         Ok(change(self.alloc, &mut self.state, &mut self.past, next)?)
     }
 

@@ -1,5 +1,5 @@
 //! `replace`: replaces the file of a name as a whole.
-ghost use Rattle.std.specs.Prelude.{◌≡◌, ◌⊎◌, IfOk, OnOk};
+ghost use Rattle.std.specs.Prelude.{◌≡◌, ◌⊎◌, OnOk};
 ghost use Rattle.durable_lines.specs.CrashModel.{LeavesOnly, Only};
 ghost use Rattle.durable_lines.specs.Lines.{IsSettled, IsText};
 
@@ -7,20 +7,18 @@ use crate::durable_file::DurableFile;
 use crate::fault::FileFault;
 use crate::place::Place;
 
-/// Replaces the file that has a name by one with these bytes, and returns the new file. After `Ok`
-/// every crash leaves the bytes under the name. A crash during the call leaves the old file or the
-/// new one. If the bytes are a text of lines, the new file is ready for
-/// [`append_lines`](crate::append_lines); what is appended to the old one is lost.
+/// Replaces the file that has a name by one with these bytes. After `Ok` every crash leaves the
+/// bytes under the name. A crash during the call leaves the old file or the new one. If the bytes
+/// are a text of lines, the name is ready for [`append_lines`](crate::append_lines).
 ///
-/// After an error the name has the old file or the new one.
-pub fn replace<P: Place>(place: &mut P, bytes: &[u8]) -> Result<P::Draft, FileFault>
-    ensures bytes { IfOk result (λ file. P.Draft.acts_as_file
-        → P.Draft.seen file ≡ bytes.now) }
-    ensures settled { IfOk result (λ file. P.Draft.acts_as_file → IsText bytes.now
-        → IsSettled P.Draft.seen P.Draft.may_leave P.Draft.stored file) }
-    ensures replaced { OnOk result (P.Draft.acts_as_file → Only bytes.now (P.may_leave place.new)) }
+/// After an error the name has the old file or the new one, and nothing more may be appended.
+pub fn replace<P: Place>(place: &mut P, bytes: &[u8]) -> Result<(), FileFault>
+    ensures bytes { OnOk result (P.acts_as_file → P.seen place.new ≡ bytes.now) }
+    ensures replaced { OnOk result (P.acts_as_file → Only bytes.now (P.may_leave place.new)) }
+    ensures settled { OnOk result (P.acts_as_file → IsText bytes.now
+        → IsSettled P.seen P.may_leave P.stored place.new) }
     // A crash at any moment of the call leaves what could be left before, or the new bytes.
-    ensures any_moment { P.Draft.acts_as_file
+    ensures any_moment { P.acts_as_file
         → LeavesOnly P.moment P.left_since place.old place.new
         (λ c. P.may_leave place.old c ⊎ (c ≡ bytes.now)) }
     ensures remains_failed { P.has_failed place.old → P.has_failed place.new }
@@ -28,7 +26,6 @@ pub fn replace<P: Place>(place: &mut P, bytes: &[u8]) -> Result<P::Draft, FileFa
     let mut draft = place.create_draft()?;
     draft.append(bytes)?;
     draft.sync()?;
-    place.rename(&draft)?;
-    place.sync_folder()?;
-    Ok(draft)
+    place.rename(draft)?;
+    place.sync_folder()
 }

@@ -1,5 +1,5 @@
 //! `StoredPlace`: a name in a folder of the operating system.
-ghost use Rattle.std.specs.Prelude.{◌≡◌, ◌↔◌, false, IsErrOf};
+ghost use Rattle.std.specs.Prelude.{◌≡◌, ◌↔◌, [], false, IsErrOf};
 ghost use Rattle.durable_lines.specs.StoredPlace.{HasFailed};
 
 use crate::durable_file::DurableFile;
@@ -7,6 +7,7 @@ use crate::fault::FileFault;
 use crate::older_files::keep_older;
 use crate::place::Place;
 use crate::stored_file::StoredFile;
+use std::alloc::Global;
 use std::fs::{File, Files};
 use std::{fs, io};
 
@@ -22,7 +23,8 @@ pub struct PlacePaths {
     pub older: Vec<String>,
 }
 
-/// A name in a folder of the operating system, and a second name there for drafts. After a call
+/// A name in a folder of the operating system, and a second name there for drafts. It has no file
+/// until it is given one or its file is replaced; until then, reads and writes fail. After a call
 /// failed, every later call fails, too.
 ///
 /// As for a [`StoredFile`], nothing is claimed of the bytes: that such a name acts as the crash
@@ -34,12 +36,15 @@ pub struct StoredPlace<R: Files<File = File> + Drop> {
     folder: File,
     paths: PlacePaths,
     limit: usize,
+    file: Option<StoredFile>,
+    // The file got the name by a rename that is not on the disk.
+    is_renamed: bool,
     has_failed: bool,
 }
 
 impl<R: Files<File = File> + Drop> StoredPlace<R> {
-    /// Returns the place of a file. `folder` is the open folder of its paths, on whose disk the
-    /// draft becomes the file. `limit` is the maximum length of a draft in bytes.
+    /// Returns the place of a file, without the file. `folder` is the open folder of its paths, on
+    /// whose disk the draft becomes the file. `limit` is the maximum length of a draft in bytes.
     pub fn new(files: R, folder: File, paths: PlacePaths, limit: usize) -> StoredPlace<R>
         ensures { ¬ HasFailed result }
     {
@@ -48,8 +53,17 @@ impl<R: Files<File = File> + Drop> StoredPlace<R> {
             folder,
             paths,
             limit,
+            file: None,
+            is_renamed: false,
             has_failed: false,
         }
+    }
+
+    /// Gives the place its file, which was opened under its path.
+    pub fn set_file(&mut self, file: StoredFile)
+        ensures { HasFailed self.new → HasFailed self.old }
+    {
+        self.file = Some(file);
     }
 
     // Returns the result of a call, and records whether it failed.
@@ -88,22 +102,97 @@ fn replace_file<R: Files<File = File>>(files: &R, paths: &PlacePaths) -> io::Res
     fs::rename(files, paths.draft.as_str(), paths.path.as_str())
 }
 
-impl<R: Files<File = File> + Drop> Place for StoredPlace<R> {
-    type Draft = StoredFile;
+// Returns the file of a place, or `Failed` if there is none.
+fn file_of(file: &mut Option<StoredFile>) -> Result<&mut StoredFile, FileFault> {
+    match file {
+        Some(file) => Ok(file),
+        None => Err(FileFault::Failed),
+    }
+}
+
+// Syncs the file of a place, and its folder if a rename is not on the disk.
+fn sync_both(
+    file: &mut Option<StoredFile>,
+    folder: &File,
+    is_renamed: bool,
+) -> Result<(), FileFault> {
+    file_of(file)?.sync()?;
+    if is_renamed {
+        return folder.sync_all().map_err(|_| FileFault::Failed);
+    }
+    Ok(())
+}
+
+impl<R: Files<File = File> + Drop> DurableFile for StoredPlace<R> {
+    ghost acts_as_file = { ⊥ };
+
+    ghost seen = { λ _. [] };
 
     ghost may_leave = { λ _ _. ⊥ };
-
-    ghost named = { λ _ _. ⊥ };
 
     ghost moment = { λ _. 0 };
 
     ghost left_since = { λ _ _ _. ⊥ };
+
+    ghost stored = { λ _. ⊥ };
 
     ghost has_failed = { HasFailed };
 
     ghost counts_now = { λ place t c le now. now };
 
     ghost only_now = { λ place c left. left };
+
+    fn read(&mut self, alloc: Global) -> Result<Vec<u8>, FileFault> {
+        if self.has_failed {
+            return Err(FileFault::Failed);
+        }
+        let call = match file_of(&mut self.file) {
+            Ok(file) => file.read(alloc),
+            Err(fault) => Err(fault),
+        };
+        self.record(call)
+    }
+
+    fn append(&mut self, bytes: &[u8]) -> Result<(), FileFault> {
+        if self.has_failed {
+            return Err(FileFault::Failed);
+        }
+        let call = match file_of(&mut self.file) {
+            Ok(file) => file.append(bytes),
+            Err(fault) => Err(fault),
+        };
+        self.record(call)
+    }
+
+    fn cut(&mut self, len: usize) -> Result<(), FileFault> {
+        if self.has_failed {
+            return Err(FileFault::Failed);
+        }
+        let call = match file_of(&mut self.file) {
+            Ok(file) => file.cut(len),
+            Err(fault) => Err(fault),
+        };
+        self.record(call)
+    }
+
+    fn sync(&mut self) -> Result<(), FileFault> {
+        if self.has_failed {
+            return Err(FileFault::Failed);
+        }
+        let call = sync_both(&mut self.file, &self.folder, self.is_renamed);
+        self.is_renamed = self.is_renamed && call.is_err();
+        self.record(call)
+    }
+}
+
+impl<R: Files<File = File> + Drop> Place for StoredPlace<R> {
+    type Draft = StoredFile;
+
+    ghost named = { λ _ _. ⊥ };
+
+    ghost drafts_act = { λ acts. acts };
+
+    ghost stores = { λ bytes stored. stored };
 
     fn create_draft(&mut self) -> Result<StoredFile, FileFault> {
         if self.has_failed {
@@ -113,11 +202,13 @@ impl<R: Files<File = File> + Drop> Place for StoredPlace<R> {
         self.record(call)
     }
 
-    fn rename(&mut self, _draft: &StoredFile) -> Result<(), FileFault> {
+    fn rename(&mut self, draft: StoredFile) -> Result<(), FileFault> {
         if self.has_failed {
             return Err(FileFault::Failed);
         }
         let call = replace_file(&self.files, &self.paths);
+        self.file = Some(draft);
+        self.is_renamed = true;
         self.record(call.map_err(|_| FileFault::Failed))
     }
 
@@ -126,6 +217,7 @@ impl<R: Files<File = File> + Drop> Place for StoredPlace<R> {
             return Err(FileFault::Failed);
         }
         let call = self.folder.sync_all();
+        self.is_renamed = self.is_renamed && call.is_err();
         self.record(call.map_err(|_| FileFault::Failed))
     }
 }

@@ -1,4 +1,5 @@
 pub mod Faults
+pub mod Ledgered
 pub mod Options
 pub mod Passwords
 pub mod Printed

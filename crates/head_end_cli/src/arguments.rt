@@ -97,6 +97,15 @@ fn progress<'a>(alloc: Global) -> Arg<'a> {
         .action(ArgAction::SetTrue)
 }
 
+// Returns the option `--ledger`.
+fn ledger<'a>(alloc: Global) -> Arg<'a> {
+    Arg::new(alloc, "ledger")
+        .long("ledger")
+        .value_name("FILE")
+        .help("Ledger of the campaign; run the list again with it, and no command is sent twice")
+        .action(ArgAction::Set)
+}
+
 // Returns the command `run`. Its option `--password` is required unless `has_password`.
 fn run_command<'a>(alloc: Global, has_password: bool) -> Result<Command<'a>, AllocError> {
     let made = Ok(
@@ -112,6 +121,7 @@ fn run_command<'a>(alloc: Global, has_password: bool) -> Result<Command<'a>, All
     let made = with_argument(made, workers(alloc));
     let made = with_argument(made, timeout(alloc));
     let made = with_argument(made, connect_timeout(alloc));
+    let made = with_argument(made, ledger(alloc));
     let made = with_argument(made, progress(alloc));
     with_argument(made, verbose(alloc))
 }

@@ -8,6 +8,7 @@
 mod arguments;
 mod campaign;
 mod findings;
+mod ledgered;
 mod passwords;
 mod progress;
 mod telling;
@@ -17,12 +18,14 @@ mod warnings;
 use crate::arguments::command_line;
 use crate::campaign::{CampaignPlan, PASSWORD_VARIABLE};
 use crate::findings::report_findings;
+use crate::ledgered::{LedgeredCampaign, plan_ledgered, run_on_ledger};
 use crate::telling::{ListFault, input_fault, jobs_fault};
 use crate::warnings::warn;
 use clap::ArgMatches;
 use counted_io::{Counted, read_to_end_within};
 use head_end::{Jobs, JobsFault, TcpConnector, count_jobs, read_jobs};
 use program::{Fault, exit_code, has_option, print_help_or_error, print_text, read_arguments};
+use sqlite::Unknown;
 use std::env;
 use std::env::VarError;
 use std::io::Read;
@@ -106,6 +109,16 @@ enum HeadEndCommand {
     Ended(u8),
     // Run a campaign.
     Campaign(CampaignPlan),
+    // Run a campaign on its ledger.
+    Ledgered(LedgeredCampaign),
+}
+
+// Prepares the campaign of `run`, on its ledger if the option `--ledger` names one.
+fn begin_run(rt: &HostRuntime, matches: &ArgMatches<'_>) -> Result<HeadEndCommand, Fault> {
+    match matches.get_str("ledger") {
+        Some(path) => Ok(HeadEndCommand::Ledgered(plan_ledgered(rt, matches, path)?)),
+        None => Ok(HeadEndCommand::Campaign(campaign::plan_campaign(rt, matches)?)),
+    }
 }
 
 // Runs `check`, or prepares the campaign of `run`.
@@ -115,9 +128,7 @@ fn begin_command(rt: &HostRuntime, matches: &ArgMatches<'_>) -> Result<HeadEndCo
             check(rt, matches.get_flag("verbose"))?;
             Ok(HeadEndCommand::Ended(0))
         }
-        Some(("run", matches)) => Ok(HeadEndCommand::Campaign(campaign::plan_campaign(
-            rt, matches,
-        )?)),
+        Some(("run", matches)) => begin_run(rt, matches),
         _ => Err(Fault::Input),
     }
 }
@@ -145,6 +156,12 @@ fn main(rt: HostRuntime) -> ExitCode {
             let connector = TcpConnector::new(rt, plan.limits);
             let done = campaign::run(&rt, &rt, &connector, &plan, &mut rt.stdout()).map(|_| 0);
             exit_code(&rt, done)
+        }
+        Ok(HeadEndCommand::Ledgered(plan)) => {
+            let connector = TcpConnector::new(rt, plan.limits);
+            let output = &mut rt.stdout();
+            let done = run_on_ledger(&rt, &rt, &connector, &plan, Unknown, output);
+            exit_code(&rt, done.map(|_| 0))
         }
         Err(fault) => exit_code(&rt, Err(fault)),
     }

@@ -1,2 +1,4 @@
 pub mod RenewalLemmas
 pub mod Restarts
+pub mod RunLemmas
+pub mod WholeTexts

@@ -1,7 +1,13 @@
 -- A trace that begins later in the same run ends in the same meter.
-use Rattle.std.proofs.Common.{◌≡◌, ℕ, ◌-◌, List, [], ◌∷◌, Result, Ok, length, refl, ap, sym}
-use Rattle.std.proofs.Common.{◌∙◌, subst}
+use Rattle.std.proofs.Common.{◌≡◌, ◌⊎◌, inl, inr, ⊎_elim, ℕ, ◌-◌, List, [], ◌∷◌, Result, Ok, length}
+use Rattle.std.proofs.Common.{refl, ap, sym, ◌∙◌, subst}
 use Rattle.std.proofs.lemmas.List.{take-append-drop}
+use Rattle.durable_lines.specs.CrashModel.{Elapses, LeavesOnly, Narrows}
+use Rattle.durable_lines.specs.Holding.{IsSameOrRenewed}
+use Rattle.durable_lines.specs.Lines.{IsSettled, IsText}
+use Rattle.durable_lines.proofs.Moments.{begin, elapses_still, leaves_as, leaves_then}
+use Rattle.durable_lines.proofs.Moments.{then_call}
+use Rattle.durable_lines.proofs.PlaceLemmas.{same_appends, same_cuts}
 use Rattle.relay_core.proofs.AgreeingEvents.{event_alike}
 use Rattle.relay_core.proofs.RunLemmas.{world_after-append}
 use Rattle.relay_core.specs.Agreeing.{Agree, IsWorld}
@@ -19,8 +25,8 @@ use Rattle.trace_player.specs.Resuming.{world_of}
 use Rattle.trace_player.specs.Traces.{trace_of}
 use Rattle.trace_words.specs.declared.fault.TraceFault.{TraceFault}
 use Rattle.journal_files.specs.Journals.{Continues}
-use Rattle.journal_files.specs.Renewals.{AnswerAlike, IsLaterTrace, IsRenewalOf, before_last}
-use Rattle.journal_files.specs.Renewals.{last_of}
+use Rattle.journal_files.specs.Renewals.{AnswerAlike, IsLaterTrace, IsRenewalOf, IsRenewedAs}
+use Rattle.journal_files.specs.Renewals.{before_last, last_of}
 
 -- worlds that agree, the first of them in range
 record AgreeInRange (v w : World) : Type 0 where
@@ -100,7 +106,7 @@ renewal_of depth old new earlier later told begins device written again journal 
   journal = journal;
 }
 
-same_trace : (told : Result Trace TraceFault) (a b : Trace) → told ≡ Ok a → told ≡ Ok b → a ≡ b
+pub same_trace : (told : Result Trace TraceFault) (a b : Trace) → told ≡ Ok a → told ≡ Ok b → a ≡ b
 same_trace told a b is_a is_b = cc
 
 -- the meters that are resumed from both journals answer alike
@@ -116,3 +122,119 @@ renewed_answers depth old new device before after renewal from_old from_new =
     subst (λ (trace : Trace). AnswerAlike (world_of trace) (world_of from_old.trace)) later
     (subst (λ (trace : Trace). AnswerAlike (world_of renewal.later) (world_of trace)) earlier
     renewal.begins_later.answers)
+
+-- ---- the file of a journal that is renewed
+
+module _ {F : Type 0} (seen : F → List ℕ) (may_leave : F → List ℕ → Type 0)
+    (stored : List ℕ → Type 0) (moment : F → ℕ) (left_since : F → ℕ → List ℕ → Type 0) where
+  abbrev Renewed : List ℕ → List ℕ → Type 0
+  Renewed = IsSameOrRenewed IsRenewedAs
+
+  -- a call that changes nothing
+  abbrev pub IsReading : F → F → Type 0
+  IsReading old new = Elapses (moment old) (moment new) (left_since old) (left_since new)
+      (may_leave new)
+
+  -- the file was read, and stays
+  pub read_leaves : (old new : F) → IsSettled seen may_leave stored old
+      → ((c : List ℕ) → left_since old (moment old) c → may_leave old c) → IsReading old new
+      → Narrows (may_leave old) (may_leave new)
+      → LeavesOnly moment left_since old new (Renewed (seen old))
+  read_leaves old new settled only_now time narrows =
+      then_call moment left_since old old new (Renewed (seen old)) (may_leave new)
+      (begin moment left_since old (Renewed (seen old)) (may_leave old) only_now
+      (λ c now. inl (settled.durable c now)))
+      time (λ c now. inl (settled.durable c (narrows c now)))
+
+  -- a file that was read is settled
+  pub read_settled : (old new : F) → IsSettled seen may_leave stored old → seen new ≡ seen old
+      → Narrows (may_leave old) (may_leave new) → IsSettled seen may_leave stored new
+  read_settled old new settled same narrows = record {
+    text = subst IsText (sym same) settled.text;
+    durable = λ c now. settled.durable c (narrows c now) ∙ sym same;
+    kept = subst stored (sym same) settled.kept;
+  }
+
+  -- the bytes that replace a journal
+  pub renewed_as : (depth : ℕ) (old new : List ℕ) → IsText old → IsRenewalOf depth old new
+      → IsText new → IsRenewedAs old new
+  renewed_as depth old new old_text renewal new_text =
+      record { depth = depth; renewal = renewal; old_text = old_text; new_text = new_text }
+
+  -- the file was replaced
+  pub replaced_as : (depth : ℕ) (old new : F) (text : List ℕ)
+      → IsSettled seen may_leave stored old → IsRenewalOf depth (seen old) text → IsText text
+      → seen new ≡ text → Renewed (seen old) (seen new)
+  replaced_as depth old new text settled renewal is_text is =
+      inr (subst (λ (bytes : List ℕ). IsRenewedAs (seen old) bytes) (sym is)
+      (renewed_as depth (seen old) text settled.text renewal is_text))
+
+  -- the file was read and then replaced
+  pub replaced_leaves : (old mid new : F) (depth : ℕ) (text : List ℕ)
+      → IsSettled seen may_leave stored old
+      → ((c : List ℕ) → left_since old (moment old) c → may_leave old c) → IsReading old mid
+      → Narrows (may_leave old) (may_leave mid) → IsRenewalOf depth (seen old) text → IsText text
+      → LeavesOnly moment left_since mid new (λ c. may_leave mid c ⊎ (c ≡ text))
+      → LeavesOnly moment left_since old new (Renewed (seen old))
+  replaced_leaves old mid new depth text settled only_now time narrows renewal is_text replaces =
+      leaves_then moment left_since old mid new (Renewed (seen old))
+      (read_leaves old mid settled only_now time narrows)
+      (leaves_as moment left_since mid new (λ c. may_leave mid c ⊎ (c ≡ text))
+      (Renewed (seen old))
+      (λ c left. ⊎_elim (λ was. inl (settled.durable c (narrows c was)))
+      (λ is. inr (subst (λ (bytes : List ℕ). IsRenewedAs (seen old) bytes) (sym is)
+      (renewed_as depth (seen old) text settled.text renewal is_text))) left)
+      replaces)
+
+  -- the file was read
+  pub read_stays : (old new : F) (Q : List ℕ → Type 0)
+      → ((c : List ℕ) → left_since old (moment old) c → may_leave old c) → IsReading old new
+      → Narrows (may_leave old) (may_leave new)
+      → LeavesOnly moment left_since old new (λ c. may_leave old c ⊎ Q c)
+  read_stays old new Q only_now time narrows =
+      then_call moment left_since old old new (λ c. may_leave old c ⊎ Q c) (may_leave new)
+      (begin moment left_since old (λ c. may_leave old c ⊎ Q c) (may_leave old) only_now
+      (λ c now. inl now))
+      time (λ c now. inl (narrows c now))
+
+  -- the file was read, and then more was done
+  read_then : (old mid new : F) (P Q : List ℕ → Type 0)
+      → ((c : List ℕ) → left_since old (moment old) c → may_leave old c) → IsReading old mid
+      → Narrows (may_leave old) (may_leave mid) → ((c : List ℕ) → P c → Q c)
+      → LeavesOnly moment left_since mid new (λ c. may_leave mid c ⊎ P c)
+      → LeavesOnly moment left_since old new (λ c. may_leave old c ⊎ Q c)
+  read_then old mid new P Q only_now time narrows weaker leaves =
+      leaves_then moment left_since old mid new (λ c. may_leave old c ⊎ Q c)
+      (read_stays old mid Q only_now time narrows)
+      (leaves_as moment left_since mid new (λ c. may_leave mid c ⊎ P c)
+      (λ c. may_leave old c ⊎ Q c)
+      (λ c left. ⊎_elim (λ was. inl (narrows c was)) (λ now. inr (weaker c now)) left) leaves)
+
+  -- the file was read and then replaced by the text of its renewal
+  pub replaced_any : (depth : ℕ) (old mid new : F) (text : List ℕ)
+      → ((c : List ℕ) → left_since old (moment old) c → may_leave old c) → IsReading old mid
+      → Narrows (may_leave old) (may_leave mid) → IsRenewalOf depth (seen old) text
+      → LeavesOnly moment left_since mid new (λ c. may_leave mid c ⊎ (c ≡ text))
+      → LeavesOnly moment left_since old new
+      (λ c. may_leave old c ⊎ IsRenewalOf depth (seen old) c)
+  replaced_any depth old mid new text only_now time narrows renewal leaves =
+      read_then old mid new (λ c. c ≡ text) (IsRenewalOf depth (seen old)) only_now time narrows
+      (λ c is. subst (IsRenewalOf depth (seen old)) (sym is) renewal) leaves
+
+  -- the file was read and then renewed
+  pub renewed_any : (depth : ℕ) (old mid new : F)
+      → ((c : List ℕ) → left_since old (moment old) c → may_leave old c) → IsReading old mid
+      → Narrows (may_leave old) (may_leave mid) → seen mid ≡ seen old
+      → LeavesOnly moment left_since mid new
+      (λ c. may_leave mid c ⊎ IsRenewalOf depth (seen mid) c)
+      → LeavesOnly moment left_since old new
+      (λ c. may_leave old c ⊎ IsRenewalOf depth (seen old) c)
+  renewed_any depth old mid new only_now time narrows same leaves =
+      read_then old mid new (IsRenewalOf depth (seen mid)) (IsRenewalOf depth (seen old)) only_now
+      time narrows (λ c is. subst (λ (bytes : List ℕ). IsRenewalOf depth bytes c) same is) leaves
+
+pub ruleset file_renewals = (read_leaves, read_settled, replaced_as, replaced_leaves)
+
+pub ruleset renewals = (read_settled, read_stays)
+
+pub ruleset same_files = (elapses_still, same_appends, same_cuts)

@@ -27,7 +27,7 @@ changing_on Button events w rest = rest _
 changing_on (Samples block) events w rest = rest _
 changing_on (Moment now) events w rest = rest _
 
-changing_world : (events : List Event) (w : World)
+pub changing_world : (events : List Event) (w : World)
     → world_after (changing events) w ≡ world_after events w
 changing_world [] w = refl
 changing_world (event ∷ events) w = changing_on event events w (λ v. changing_world events v)

@@ -2,3 +2,4 @@ pub mod Faults
 pub mod Journals
 pub mod Renewals
 pub mod RenewedFile
+pub mod Running

@@ -4,7 +4,9 @@
 --     IsLaterTrace    a trace that begins later in the same run
 --     IsRenewalOf     the text of a journal after its renewal
 --     IsRenewedOver   the text of a journal that is renewed if it is long
+--     IsRenewedAs     the text of a journal that is renewed while its meter runs
 use Rattle.std.specs.Prelude.{◌≡◌, ◌⊎◌, ℕ, ◌-◌, ◌<◌, ◌≤◌, List, Ok, length, take, drop}
+use Rattle.durable_lines.specs.Lines.{IsText}
 use Rattle.relay_core.specs.Agreeing.{Agree}
 use Rattle.relay_core.specs.Opening.{IsFitOpening, world_of_opening}
 use Rattle.relay_core.specs.Runs.{world_after}
@@ -55,3 +57,10 @@ pub record IsRenewalOf (depth : ℕ) (old new : List ℕ) : Type 0 where
 abbrev pub IsRenewedOver : (limit depth : ℕ) → List ℕ → List ℕ → Type 0
 IsRenewedOver limit depth old new = ((length old ≤ limit) × (new ≡ old))
     ⊎ ((limit < length old) × IsRenewalOf depth old new)
+
+-- A journal of whole lines was renewed as one of whole lines, with some number of events.
+pub record IsRenewedAs (old new : List ℕ) : Type 0 where
+  pub depth : ℕ
+  pub renewal : IsRenewalOf depth old new
+  pub old_text : IsText old
+  pub new_text : IsText new

@@ -22,7 +22,7 @@ fn journal_of(alloc: Global, recorder: &Recorder) -> Result<Octets, StartFault>
 }
 
 /// Writes the journal of a recorder under the name of a place: the state of its meter before the
-/// events that it keeps, and these events. Returns the file, ready for
+/// events that it keeps, and these events. The place is then ready for
 /// [`append_lines`](durable_lines::append_lines).
 ///
 /// After `Ok` every crash leaves that journal under the name; a crash during the call leaves it, or
@@ -33,13 +33,13 @@ pub fn begin_journal<P: Place>(
     alloc: Global,
     place: &mut P,
     recorder: &Recorder,
-) -> Result<P::Draft, StartFault>
-    ensures journal { IfOk result (λ file. P.Draft.acts_as_file
-        → IsBegun recorder.now (P.Draft.seen file) (P.may_leave place.new)) }
-    ensures settled { IfOk result (λ file. P.Draft.acts_as_file
-        → IsSettled P.Draft.seen P.Draft.may_leave P.Draft.stored file) }
+) -> Result<(), StartFault>
+    ensures journal { OnOk result (P.acts_as_file
+        → IsBegun recorder.now (P.seen place.new) (P.may_leave place.new)) }
+    ensures settled { OnOk result (P.acts_as_file
+        → IsSettled P.seen P.may_leave P.stored place.new) }
     // A crash at any moment of the call leaves what could be left before, or the new journal.
-    ensures any_moment { P.Draft.acts_as_file
+    ensures any_moment { P.acts_as_file
         → LeavesOnly P.moment P.left_since place.old place.new
         (λ c. P.may_leave place.old c ⊎ IsJournalOf recorder.now c) }
 {

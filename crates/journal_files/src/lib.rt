@@ -17,7 +17,10 @@ mod resuming;
 
 pub use beginning::begin_journal;
 pub use fault::StartFault;
-pub use laws::{renewed_meter_stands_where_it_stood, restarted_meter_stands_where_it_stood};
+pub use laws::{
+    renewed_meter_stands_where_it_stood, renewed_run_is_resumed,
+    restarted_meter_stands_where_it_stood,
+};
 pub use renewed_file::{RenewalTerms, RenewedFile};
 pub use renewing::{renew_journal, renew_long_journal};
 pub use resuming::{Resumed, resume_journal};

@@ -1,12 +1,11 @@
 //! `RenewedFile`: the file of a journal that is renewed each time it has grown by a limit.
-ghost use Rattle.std.specs.Prelude.{◌≡◌, ◌↔◌, [], false, IsErrOf};
-ghost use Rattle.journal_files.specs.RenewedFile.{HasFailed};
+ghost use Rattle.std.specs.Prelude.{◌≡◌, ◌↔◌, false, true, IsErrOf};
+ghost use Rattle.journal_files.specs.RenewedFile.{HasFailed, place_of};
+ghost use Rattle.journal_files.specs.Renewals.{IsRenewedAs};
 
-use crate::fault::StartFault;
-use crate::renewing::renew_journal;
-use durable_lines::{DurableFile, FileFault, StoredFile, StoredPlace};
+use crate::renewing::renew_file;
+use durable_lines::{DurableFile, FileFault, Place};
 use std::alloc::Global;
-use std::fs::{File, Files};
 
 /// When a journal is renewed, and what then stays in it.
 #[derive(Clone, Copy, Debug)]
@@ -17,141 +16,128 @@ pub struct RenewalTerms {
     pub depth: usize,
 }
 
-/// The file of a journal, which is renewed by [`renew_journal`] after the first sync since it has
-/// grown by more than a limit. Lines are then appended to the new file.
+/// The file of a journal, which [`renew`](DurableFile::renew) replaces as
+/// [`renew_journal`](crate::renew_journal) does if it has grown by more than a limit since the last
+/// time. Lines are then appended to the new file.
 ///
-/// As of a [`StoredFile`], nothing is claimed of the bytes; what a renewal keeps is the contract of
-/// `renew_journal`. If a renewal runs out of memory, or the text is not that of a journal, the old
-/// file stays, and the next renewal is tried once it has grown again. After a call failed, every
-/// later call fails, too.
+/// It acts as the crash model says if its place does. If a renewal runs out of memory before the
+/// new file is written, or the text is not that of a journal, the old file stays, and the next
+/// renewal is tried once it has grown again. After a call failed, every later call fails, too.
 #[derive(Drop)]
-pub struct RenewedFile<R: Files<File = File> + Drop> {
+pub struct RenewedFile<P: Place> {
     alloc: Global,
-    place: StoredPlace<R>,
-    file: StoredFile,
+    place: P,
     terms: RenewalTerms,
     // The number of bytes that were appended since the last renewal.
     grown: usize,
     has_failed: bool,
 }
 
-impl<R: Files<File = File> + Drop> RenewedFile<R> {
-    /// Returns the file of a place as one that is renewed. Nothing else may replace the file of the
-    /// place.
-    pub fn new(
-        alloc: Global,
-        place: StoredPlace<R>,
-        file: StoredFile,
-        terms: RenewalTerms,
-    ) -> RenewedFile<R>
-        ensures { ¬ HasFailed result }
+impl<P: Place> RenewedFile<P> {
+    /// Returns the file of a place as one that is renewed.
+    pub fn new(alloc: Global, place: P, terms: RenewalTerms) -> RenewedFile<P>
+        ensures place { place_of result ≡ place }
+        ensures whole { ¬ HasFailed result }
     {
         RenewedFile {
             alloc,
             place,
-            file,
             terms,
             grown: 0,
             has_failed: false,
         }
     }
 
-    // Returns the result of a call, and records whether it failed.
-    fn record<T: Drop>(&mut self, call: Result<T, FileFault>) -> Result<T, FileFault>
-        requires { self.now.has_failed ≡ false }
-        ensures call { result ≡ call }
-        ensures failed { IsErrOf call FileFault.Failed ↔ HasFailed self.new }
+    /// Returns the place of the file.
+    pub fn place(&self) -> &P
+        ensures { result.now ≡ place_of self.now }
     {
-        match call {
-            Err(FileFault::Failed) => {
-                self.has_failed = true;
-                Err(FileFault::Failed)
-            }
-            call => call,
-        }
-    }
-
-    // Renews the file. If that fails without a failed call, the name still has the old file.
-    fn renew(&mut self) -> Result<(), FileFault>
-        ensures { self.new.has_failed ≡ self.old.has_failed }
-    {
-        self.grown = 0;
-        match renew_journal(
-            self.alloc,
-            &mut self.place,
-            &mut self.file,
-            self.terms.depth,
-        ) {
-            Ok(file) => {
-                self.file = file;
-                Ok(())
-            }
-            Err(StartFault::File) => Err(FileFault::Failed),
-            Err(_) => Ok(()),
-        }
-    }
-
-    // Syncs the file, and renews it if it has grown by more than the limit.
-    fn sync_and_renew(&mut self) -> Result<(), FileFault>
-        ensures { self.new.has_failed ≡ self.old.has_failed }
-    {
-        self.file.sync()?;
-        if self.grown > self.terms.limit {
-            return self.renew();
-        }
-        Ok(())
+        &self.place
     }
 }
 
-impl<R: Files<File = File> + Drop> DurableFile for RenewedFile<R> {
-    ghost acts_as_file = { ⊥ };
+// Returns the result of a call, and records whether it failed.
+fn record<T: Drop>(has_failed: &mut bool, call: Result<T, FileFault>) -> Result<T, FileFault>
+    requires { has_failed.old ≡ false }
+    ensures call { result ≡ call }
+    ensures failed { IsErrOf call FileFault.Failed ↔ (has_failed.new ≡ true) }
+{
+    match call {
+        Err(FileFault::Failed) => {
+            *has_failed = true;
+            Err(FileFault::Failed)
+        }
+        call => call,
+    }
+}
 
-    ghost seen = { λ _. [] };
+impl<P: Place> DurableFile for RenewedFile<P> {
+    ghost acts_as_file = { P.acts_as_file };
 
-    ghost may_leave = { λ _ _. ⊥ };
+    ghost seen = { λ file. P.seen file.place };
 
-    ghost moment = { λ _. 0 };
+    ghost may_leave = { λ file c. P.may_leave file.place c };
 
-    ghost left_since = { λ _ _ _. ⊥ };
+    ghost moment = { λ file. P.moment file.place };
 
-    ghost stored = { λ _. ⊥ };
+    ghost left_since = { λ file t c. P.left_since file.place t c };
+
+    ghost stored = { P.stored };
+
+    ghost renews = { IsRenewedAs };
 
     ghost has_failed = { HasFailed };
 
-    ghost counts_now = { λ file t c le now. now };
+    ghost counts_now = { λ file t c le now. P.counts_now file.place t c le now };
 
-    ghost only_now = { λ file c left. left };
+    ghost only_now = { λ file c left. P.only_now file.place c left };
 
+    #[tactic(auto, using(crate::proofs::RenewalLemmas::same_files))]
     fn read(&mut self, alloc: Global) -> Result<Vec<u8>, FileFault> {
         if self.has_failed {
             return Err(FileFault::Failed);
         }
-        let call = self.file.read(alloc);
-        self.record(call)
+        let call = self.place.read(alloc);
+        record(&mut self.has_failed, call)
     }
 
+    #[tactic(auto, using(crate::proofs::RenewalLemmas::same_files))]
     fn append(&mut self, bytes: &[u8]) -> Result<(), FileFault> {
         if self.has_failed {
             return Err(FileFault::Failed);
         }
-        let call = self.file.append(bytes);
+        let call = self.place.append(bytes);
         self.grown = self.grown.saturating_add(bytes.len());
-        self.record(call)
+        record(&mut self.has_failed, call)
     }
 
+    #[tactic(auto, using(crate::proofs::RenewalLemmas::same_files))]
     fn cut(&mut self, len: usize) -> Result<(), FileFault> {
         if self.has_failed {
             return Err(FileFault::Failed);
         }
-        let call = self.file.cut(len);
-        self.record(call)
+        let call = self.place.cut(len);
+        record(&mut self.has_failed, call)
     }
 
+    #[tactic(auto, using(crate::proofs::RenewalLemmas::same_files))]
     fn sync(&mut self) -> Result<(), FileFault> {
         if self.has_failed {
             return Err(FileFault::Failed);
         }
-        let call = self.sync_and_renew();
-        self.record(call)
+        let call = self.place.sync();
+        record(&mut self.has_failed, call)
+    }
+
+    fn renew(&mut self) -> Result<(), FileFault> {
+        if self.has_failed {
+            return Err(FileFault::Failed);
+        }
+        if self.grown <= self.terms.limit {
+            return Ok(());
+        }
+        self.grown = 0;
+        let call = renew_file(self.alloc, &mut self.place, self.terms.depth);
+        record(&mut self.has_failed, call)
     }
 }

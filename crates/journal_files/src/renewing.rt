@@ -1,9 +1,11 @@
 //! Renews a journal: replaces its file by one that begins later and has its last events.
 ghost use Rattle.std.specs.Prelude.{◌≡◌, ◌⊎◌, ℕ, List, Ok, IfOk, IsTrue, OnOk};
 ghost use Rattle.std.specs.List.{All};
-ghost use Rattle.durable_lines.specs.CrashModel.{LeavesOnly, Only};
+ghost use Rattle.durable_lines.specs.CrashModel.{Elapses, LeavesOnly, Narrows, Only};
+ghost use Rattle.durable_lines.specs.Holding.{IsSameOrRenewed};
 ghost use Rattle.durable_lines.specs.Lines.{IsSettled, IsText};
-ghost use Rattle.journal_files.specs.Renewals.{IsLaterTrace, IsRenewalOf, IsRenewedOver};
+ghost use Rattle.journal_files.specs.Renewals.{IsLaterTrace, IsRenewalOf, IsRenewedAs};
+ghost use Rattle.journal_files.specs.Renewals.{IsRenewedOver};
 ghost use Rattle.relay_core.specs.Agreeing.{Agree, IsWorld};
 ghost use Rattle.relay_core.specs.Opening.{IsFitOpening, world_of_opening};
 ghost use Rattle.relay_core.specs.Runs.{world_after};
@@ -15,7 +17,7 @@ ghost use Rattle.trace_player.specs.Traces.{trace_of};
 
 use crate::fault::StartFault;
 use cosem_axdr::Octets;
-use durable_lines::{DurableFile, Place, is_text, replace};
+use durable_lines::{DurableFile, FileFault, Place, is_text, replace};
 use relay_core::{Opening, RelayCore};
 use relay_events::{Event, Events};
 use relay_recorder::Trace;
@@ -173,7 +175,10 @@ fn renew_text_of<F: DurableFile>(
     ensures renewed { IfOk result (λ text. F.acts_as_file
         → IsRenewalOf depth (F.seen file.old) text) }
     ensures is_text { IfOk result IsText }
-    ensures same { OnOk result (F.seen file.new ≡ F.seen file.old) }
+    ensures unchanged { F.seen file.new ≡ F.seen file.old }
+    ensures crash { Narrows (F.may_leave file.old) (F.may_leave file.new) }
+    ensures time { Elapses (F.moment file.old) (F.moment file.new) (F.left_since file.old)
+        (F.left_since file.new) (F.may_leave file.new) }
 {
     let bytes = file.read(alloc)?;
     let text = renew_text(alloc, bytes.as_slice(), depth);
@@ -181,63 +186,81 @@ fn renew_text_of<F: DurableFile>(
     text
 }
 
-/// Renews a journal, so that it does not grow for ever: replaces the file under the name of a place
-/// by one with a later opening and the last events of this file, at most `depth`. Returns the new
-/// file, ready for [`append_lines`](durable_lines::append_lines); what is appended to the old one
-/// is lost. A meter that is resumed from the new file answers as one that is resumed from the old.
+/// Renews a journal, so that it does not grow for ever: replaces the file of a place by one with a
+/// later opening and the last events of the file, at most `depth`. The place is then ready for
+/// [`append_lines`](durable_lines::append_lines). A meter that is resumed from the new file answers
+/// as one that is resumed from the old.
 ///
 /// After `Ok` every crash leaves the new journal under the name; a crash during the call leaves it,
-/// or what could be left before. Errors: `File` if a call on the file, the place or the new file
-/// failed; `TooLong` or `Line` if the old text is not read as a journal, or the new one would not
-/// be; `OtherMeter` if the new one had another device name, which no contract excludes; `Memory`.
-/// After an error the name has the old file or the new one.
-pub fn renew_journal<P: Place, F: DurableFile>(
-    alloc: Global,
-    place: &mut P,
-    file: &mut F,
-    depth: usize,
-) -> Result<P::Draft, StartFault>
-    ensures renewed { IfOk result (λ draft. F.acts_as_file → P.Draft.acts_as_file
-        → IsRenewalOf depth (F.seen file.old) (P.Draft.seen draft)) }
-    ensures durable { IfOk result (λ draft. P.Draft.acts_as_file
-        → Only (P.Draft.seen draft) (P.may_leave place.new)) }
-    ensures settled { IfOk result (λ draft. P.Draft.acts_as_file
-        → IsSettled P.Draft.seen P.Draft.may_leave P.Draft.stored draft) }
+/// or what could be left before. Errors: `File` if a call on the place or the new file failed;
+/// `TooLong` or `Line` if the old text is not read as a journal, or the new one would not be;
+/// `OtherMeter` if the new one had another device name, which no contract excludes; `Memory`. After
+/// an error the name has the old file or the new one.
+#[tactic(auto, using(crate::proofs::RenewalLemmas::read_stays))]
+pub fn renew_journal<P: Place>(alloc: Global, place: &mut P, depth: usize) -> Result<(), StartFault>
+    ensures renewed { OnOk result (P.acts_as_file
+        → IsRenewalOf depth (P.seen place.old) (P.seen place.new)) }
+    ensures durable { OnOk result (P.acts_as_file
+        → Only (P.seen place.new) (P.may_leave place.new)) }
+    ensures settled { OnOk result (P.acts_as_file
+        → IsSettled P.seen P.may_leave P.stored place.new) }
     // A crash at any moment of the call leaves what could be left before, or the new journal.
-    ensures any_moment { F.acts_as_file → P.Draft.acts_as_file
+    ensures any_moment { P.acts_as_file
         → LeavesOnly P.moment P.left_since place.old place.new
-        (λ c. P.may_leave place.old c ⊎ IsRenewalOf depth (F.seen file.old) c) }
-    ensures same { OnOk result (F.seen file.new ≡ F.seen file.old) }
+        (λ c. P.may_leave place.old c ⊎ IsRenewalOf depth (P.seen place.old) c) }
 {
-    let text = renew_text_of(alloc, file, depth)?;
+    let text = renew_text_of(alloc, place, depth)?;
     Ok(replace(place, text.as_slice())?)
 }
 
 /// Renews a journal as [`renew_journal`] does if its file has more than `limit` bytes. Otherwise
-/// returns its file, and nothing changes.
+/// nothing changes.
+#[tactic(auto, using(crate::proofs::RenewalLemmas::renewals))]
 pub fn renew_long_journal<P: Place>(
     alloc: Global,
     place: &mut P,
-    mut file: P::Draft,
     depth: usize,
     limit: usize,
-) -> Result<P::Draft, StartFault>
-    requires { P.Draft.acts_as_file
-        → IsSettled P.Draft.seen P.Draft.may_leave P.Draft.stored file }
-    ensures renewed { IfOk result (λ left. P.Draft.acts_as_file
-        → IsRenewedOver limit depth (P.Draft.seen file) (P.Draft.seen left)) }
-    ensures settled { IfOk result (λ left. P.Draft.acts_as_file
-        → IsSettled P.Draft.seen P.Draft.may_leave P.Draft.stored left) }
+) -> Result<(), StartFault>
+    requires { P.acts_as_file → IsSettled P.seen P.may_leave P.stored place.old }
+    ensures renewed { OnOk result (P.acts_as_file
+        → IsRenewedOver limit depth (P.seen place.old) (P.seen place.new)) }
+    ensures settled { OnOk result (P.acts_as_file
+        → IsSettled P.seen P.may_leave P.stored place.new) }
     // A crash at any moment of the call leaves what could be left before, or the new journal.
-    ensures any_moment { P.Draft.acts_as_file
+    ensures any_moment { P.acts_as_file
         → LeavesOnly P.moment P.left_since place.old place.new
-        (λ c. P.may_leave place.old c ⊎ IsRenewalOf depth (P.Draft.seen file) c) }
+        (λ c. P.may_leave place.old c ⊎ IsRenewalOf depth (P.seen place.old) c) }
 {
-    let bytes = file.read(alloc)?;
+    let bytes = place.read(alloc)?;
     let len = bytes.len();
     drop(bytes);
     if len <= limit {
-        return Ok(file);
+        return Ok(());
     }
-    renew_journal(alloc, place, &mut file, depth)
+    renew_journal(alloc, place, depth)
+}
+
+// Renews a journal as `renew_journal` does, with the file of its place as one that lines are
+// appended to while the journal's meter runs. If the text is not renewed, its file stays.
+#[tactic(auto, using(crate::proofs::RenewalLemmas::file_renewals))]
+pub(crate) fn renew_file<P: Place>(
+    alloc: Global,
+    place: &mut P,
+    depth: usize,
+) -> Result<(), FileFault>
+    requires { P.acts_as_file → IsSettled P.seen P.may_leave P.stored place.old }
+    ensures settled { OnOk result (P.acts_as_file
+        → IsSettled P.seen P.may_leave P.stored place.new) }
+    ensures renewed { OnOk result (P.acts_as_file
+        → IsSameOrRenewed IsRenewedAs (P.seen place.old) (P.seen place.new)) }
+    // A crash at any moment of the call leaves the old journal or the new one.
+    ensures any_moment { P.acts_as_file → LeavesOnly P.moment P.left_since place.old place.new
+        (IsSameOrRenewed IsRenewedAs (P.seen place.old)) }
+{
+    match renew_text_of(alloc, place, depth) {
+        Ok(text) => Ok(replace(place, text.as_slice())?),
+        Err(StartFault::File) => Err(FileFault::Failed),
+        Err(_) => Ok(()),
+    }
 }

@@ -18,6 +18,8 @@ use client_core::Job;
 pub use laws::the_next_run_finds_what_was_left;
 use sqlite::{Connection, FileFrom, FileStore, Start, Unknown};
 use sqlite_ledger::{LedgerOpenFault, SqliteBook, open_book};
+use std::fs::OpenOptions;
+use std::os::unix::fs::OpenOptionsExt;
 use std::rt::HostRuntime;
 
 /// A book over the files at a path, where `S` stands for what they hold.
@@ -27,7 +29,8 @@ pub type BookFrom<S> = SqliteBook<FileStore<FileFrom<S>>>;
 pub type FileBook = BookFrom<Unknown>;
 
 /// Opens the ledger of a campaign with these jobs at a path, where `S` stands for what the files
-/// hold. A file that is missing or empty is made, with the tables and the jobs.
+/// hold. A file that is missing or empty is made, with the tables and the jobs; only its owner may
+/// access a new one.
 ///
 /// Errors: `NotALedger` for a file that holds something else, `OtherList` for the ledger of another
 /// list of jobs, `Busy` if another process has it open, `File` and `Memory`.
@@ -43,6 +46,7 @@ pub fn open_ledger_from<S: Start>(
     ensures found { IfOk result (λ ledger. HasCleanDisk (file_state ledger.book)
         → IsOpenedFrom (image_at S.Start) ledger.book) }
 {
+    make_private(rt, path);
     let conn = match Connection::open_from(rt, path, false, start) {
         Ok(conn) => conn,
         Err((error, left)) => {
@@ -57,6 +61,17 @@ pub fn open_ledger_from<S: Start>(
             Err(fault)
         }
     }
+}
+
+// Makes an empty file that only its owner may access, if the path has none. An error is left to the
+// open that follows.
+fn make_private(rt: &HostRuntime, path: &str) {
+    let made = OpenOptions::new()
+        .write(true)
+        .create_new(true)
+        .mode(0o600)
+        .open(rt, path);
+    drop(made);
 }
 
 /// Opens the ledger of a campaign with these jobs at a path, as [`open_ledger_from`] does, whatever

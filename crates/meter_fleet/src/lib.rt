@@ -4,6 +4,8 @@
 //! It owns the fleet, and reaches the network through the trait [`Network`].
 #![tactic(auto)]
 
+mod clients;
+mod connections;
 mod network;
 mod rounds;
 mod serving;

@@ -1,4 +1,7 @@
 //! `Network`: where clients come from, and which connections are ready.
+ghost use Rattle.std.specs.Prelude.{List, Option};
+ghost use Rattle.meter_fleet.specs.Networks.{NetworkEvent, WaitsBy, AcceptsBy};
+
 use fleet_links::Stream;
 use thiserror::Error;
 
@@ -23,11 +26,17 @@ pub enum NextClient<S> {
 pub trait Network {
     type Stream: Stream + Drop;
 
+    // Ghost value: what the network has reported so far, if that is known.
+    ghost log: { Self → Option (List NetworkEvent) };
+
     /// Waits until a connection is ready or clients are waiting; returns at once if `may_wait` is
     /// false. Appends the keys of connections that are ready, and returns whether clients may be
     /// waiting.
-    fn wait(&mut self, may_wait: bool, ready: &mut Vec<usize>) -> Result<bool, NetworkFault>;
+    fn wait(&mut self, may_wait: bool, ready: &mut Vec<usize>) -> Result<bool, NetworkFault>
+        ensures { WaitsBy (log self.old) may_wait ready.old.items result ready.new.items
+            (log self.new) };
 
     /// Accepts a connection, whose events are then reported under this key.
-    fn accept(&mut self, key: usize) -> NextClient<Self::Stream>;
+    fn accept(&mut self, key: usize) -> NextClient<Self::Stream>
+        ensures { AcceptsBy Self.Stream.state (log self.old) key result (log self.new) };
 }

@@ -1,9 +1,12 @@
-//! `Rounds`: one round after the other of admitting clients and running connections.
-ghost use Rattle.std.specs.Prelude.{◌<◌, length};
+//! `Rounds`: one round after the other of meeting clients and serving connections.
+ghost use Rattle.std.specs.Prelude.{◌≡◌, ◌==◌, ◌&&◌, [], false, not, IfOk, length};
+ghost use Rattle.meter_fleet.specs.Rounds.{frame_bytes};
 
-use crate::network::{Network, NextClient};
+use crate::clients::meet_clients;
+use crate::connections::serve_ready;
+use crate::network::Network;
 use crate::serving::FleetFault;
-use fleet_links::{Stream, Turn, meter_at};
+use fleet_links::Stream;
 use fleet_meters::Fleet;
 use std::alloc::{AllocError, Global};
 use std::mem::swap;
@@ -13,9 +16,6 @@ const INPUT_BYTES: usize = 4_096;
 
 // The size of the buffer for frames: a header of 8 bytes and a payload of at most 65,535 bytes.
 const FRAME_BYTES: usize = 65_543;
-
-// The maximum number of connections that are accepted in a round.
-const MAX_ACCEPTED: u16 = 4_096;
 
 // What the loop keeps between two rounds.
 #[derive(Drop)]
@@ -31,8 +31,14 @@ pub(crate) struct Rounds {
 }
 
 impl Rounds {
+    ghost use Rattle.meter_fleet.specs.Rounds.{RoundBy, ServesAll};
+
     // Returns the buffers of a loop that has not begun.
-    pub(crate) fn new(alloc: Global) -> Result<Rounds, AllocError> {
+    pub(crate) fn new(alloc: Global) -> Result<Rounds, AllocError>
+        ensures empty { IfOk result (λ r. r.next.items ≡ []) }
+        ensures room { IfOk result (λ r. length r.frame.items ≡ frame_bytes) }
+        ensures idle { IfOk result (λ r. (r.ready.items ≡ []) × (r.has_clients ≡ false)) }
+    {
         Ok(Rounds {
             ready: Vec::new(alloc),
             next: Vec::new(alloc),
@@ -48,26 +54,58 @@ impl Rounds {
         alloc: Global,
         network: &mut N,
         fleet: &mut Fleet<N::Stream>,
-    ) -> Result<(), FleetFault> {
-        let may_wait = self.ready.is_empty() && !self.has_clients;
-        match network.wait(may_wait, &mut self.ready) {
-            Ok(has_clients) => self.has_clients |= has_clients,
-            Err(_) => return Err(FleetFault::Network),
+    ) -> Result<(), FleetFault>
+        requires empty { self.now.next.items ≡ [] }
+        requires room { length self.now.frame.items ≡ frame_bytes }
+        ensures empty { IfOk result (λ _. self.new.next.items ≡ []) }
+        ensures room { IfOk result (λ _. length self.new.frame.items ≡ frame_bytes) }
+        ensures round { RoundBy
+            (record {
+              log = N.log network.old;
+              fleet = fleet.old;
+              ready = self.old.ready.items;
+              has_clients = self.old.has_clients;
+            }) result
+            (record {
+              log = N.log network.new;
+              fleet = fleet.new;
+              ready = self.new.ready.items;
+              has_clients = self.new.has_clients;
+            }) }
+    {
+        match network.wait(self.may_wait(), &mut self.ready) {
+            Ok(has_clients) => {
+                let is_due = self.has_clients | has_clients;
+                self.has_clients = meet_clients(alloc, network, fleet, is_due);
+                self.serve(alloc, fleet)
+            }
+            Err(_) => Err(FleetFault::Network),
         }
-        if self.has_clients {
-            self.has_clients = admit_clients(alloc, network, fleet);
-        }
-        self.give_turns(alloc, fleet)
     }
 
-    // Runs the connections that are ready, and closes those that are over.
-    fn give_turns<S: Stream + Drop>(
+    // Returns whether nothing is left to do.
+    fn may_wait(&self) -> bool
+        ensures { result ≡ (length self.now.ready.items == 0) && not self.now.has_clients }
+    {
+        self.ready.is_empty() && !self.has_clients
+    }
+
+    // Serves the connections that are ready.
+    fn serve<S: Stream + Drop>(
         &mut self,
         alloc: Global,
         fleet: &mut Fleet<S>,
-    ) -> Result<(), FleetFault> {
+    ) -> Result<(), FleetFault>
+        requires empty { self.now.next.items ≡ [] }
+        requires room { length self.now.frame.items ≡ frame_bytes }
+        ensures empty { IfOk result (λ _. self.new.next.items ≡ []) }
+        ensures room { IfOk result (λ _. length self.new.frame.items ≡ frame_bytes) }
+        ensures clients { self.new.has_clients ≡ self.old.has_clients }
+        ensures serves { ServesAll fleet.old self.old.ready.items result self.new.ready.items
+            fleet.new }
+    {
         let ready = self.ready.as_slice();
-        run_ready(
+        serve_ready(
             alloc,
             fleet,
             ready,
@@ -78,55 +116,5 @@ impl Rounds {
         self.ready.clear();
         swap(&mut self.ready, &mut self.next);
         Ok(())
-    }
-}
-
-// Runs the connections with these keys, and closes those that are over. Appends the keys of those
-// that may go on at once to `next`.
-fn run_ready<S: Stream + Drop>(
-    alloc: Global,
-    fleet: &mut Fleet<S>,
-    ready: &[usize],
-    next: &mut Vec<usize>,
-    input: &mut [u8],
-    frame: &mut [u8],
-) -> Result<(), FleetFault>
-    requires { 0 < length input.now }
-{
-    'keys: for key in ready {
-        match fleet.turn(alloc, *key, input, frame) {
-            Some(Turn::Again) => {
-                if next.push(*key).is_err() {
-                    return Err(FleetFault::Memory);
-                }
-            }
-            Some(Turn::Over(_)) => {
-                let stream = fleet.close(*key);
-                drop(stream);
-            }
-            Some(Turn::Waits) | None => {}
-        }
-    }
-    Ok(())
-}
-
-// Admits the clients that are waiting. Returns whether more may be waiting.
-fn admit_clients<N: Network>(alloc: Global, network: &mut N, fleet: &mut Fleet<N::Stream>) -> bool {
-    'clients: for _ in 0..MAX_ACCEPTED {
-        match network.accept(fleet.next_key()) {
-            NextClient::Client(stream, address) => admit(alloc, fleet, stream, address),
-            NextClient::Closed => {}
-            NextClient::None => return false,
-        }
-    }
-    true
-}
-
-// Admits a client to the meter at the address that it named. Otherwise closes its connection, on
-// which no byte was sent.
-fn admit<S: Stream + Drop>(alloc: Global, fleet: &mut Fleet<S>, stream: S, address: [u8; 4]) {
-    match meter_at(address) {
-        Some(number) => drop(fleet.admit(alloc, number, stream)),
-        None => drop(stream),
     }
 }

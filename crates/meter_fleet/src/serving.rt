@@ -1,4 +1,6 @@
 //! `serve_fleet`: the whole run of a fleet.
+ghost use Rattle.meter_fleet.specs.Rounds.{ServesUntil, ServesBy};
+
 use crate::network::Network;
 use crate::rounds::Rounds;
 use fleet_meters::{Fleet, MeterTerms};
@@ -23,12 +25,15 @@ fn serve<R: Wait, N: Network>(
     alloc: Global,
     network: &mut N,
     fleet: &mut Fleet<N::Stream>,
-) -> FleetFault {
+) -> FleetFault
+    ensures { ServesUntil (N.log network.old) fleet.old result (N.log network.new) fleet.new }
+{
     match Rounds::new(alloc) {
         Ok(mut rounds) => {
-            for _ in rt.forever() {
-                if let Err(fault) = rounds.run(alloc, network, fleet) {
-                    return fault;
+            'rounds: for _ in rt.forever() {
+                match rounds.run(alloc, network, fleet) {
+                    Ok(()) => {}
+                    Err(fault) => return fault,
                 }
             }
             unreachable!()
@@ -45,7 +50,9 @@ pub fn serve_fleet<R: Wait, N: Network>(
     network: &mut N,
     terms: MeterTerms,
     count: usize,
-) -> FleetFault {
+) -> FleetFault
+    ensures { ServesBy terms count (N.log network.old) result (N.log network.new) }
+{
     match Fleet::new(alloc, terms, count) {
         Ok(mut fleet) => {
             let fault = serve(rt, alloc, network, &mut fleet);

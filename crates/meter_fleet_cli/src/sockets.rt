@@ -119,13 +119,15 @@ impl FleetSockets {
 impl Network for FleetSockets {
     type Stream = Socket;
 
+    ghost log = { λ _. None };
+
     fn wait(&mut self, may_wait: bool, ready: &mut Vec<usize>) -> Result<bool, NetworkFault> {
         let timeout = if may_wait { None } else { Some(Duration::ZERO) };
         if self.poll.poll(&mut self.events, timeout).is_err() {
             return Err(NetworkFault);
         }
         let mut has_clients = false;
-        for event in self.events.iter() {
+        'events: for event in self.events.iter() {
             if event.token() == LISTENER {
                 has_clients = true;
             } else if ready.push(event.token().0).is_err() {

@@ -1,14 +1,15 @@
 -- Lines that are appended to what a file has of a history.
-use Rattle.std.proofs.Common.{◌≡◌, inl, inr, ⊎_elim, ℕ, zero, suc, ◌+◌, ◌≤◌, List, [], ◌∷◌, ◌++◌}
+use Rattle.std.proofs.Common.{◌≡◌, ℕ, zero, suc, ◌+◌, ◌≤◌, List, [], ◌∷◌, ◌++◌}
 use Rattle.std.proofs.Common.{length, take, drop, refl, sym, ap, ◌∙◌, subst, arith, append_assoc}
 use Rattle.std.proofs.Common.{append-nil, length-append, length-drop}
 use Rattle.std.proofs.lemmas.List.{take-append-le, take_all}
 use Rattle.std.specs.List.{AllByRecursion}
 use Rattle.text_lines.specs.Lines.{text_of, IsPlain}
 use Rattle.durable_lines.specs.CrashModel.{LeavesOnly}
-use Rattle.durable_lines.specs.Lines.{lines_in, IsBetween, IsSettled, IsText}
+use Rattle.durable_lines.specs.Holding.{Holds}
+use Rattle.durable_lines.specs.Lines.{lines_in, IsSettled, IsText}
 use Rattle.durable_lines.proofs.LineLemmas.{lines_in-text_of}
-use Rattle.durable_lines.proofs.Moments.{begin}
+use Rattle.durable_lines.proofs.Moments.{begin, leaves_as}
 use Rattle.durable_lines.proofs.TextLaws.{text_is_text}
 use Rattle.turn_lock.specs.History.{StartsWith}
 use Rattle.shared_meter.specs.Calls.{Calls}
@@ -68,115 +69,100 @@ pub is_text_taken : (lines : Lines) (taken count : ℕ) (text : List ℕ)
 is_text_taken lines taken count text rest = subst IsText (sym rest.text_is)
     (text_is_text (drop taken lines) (plain_drop taken lines rest.plain))
 
--- ---- what a file has of them
+-- ---- what a file holds of them
 
--- what a file has of a history, it has of a longer one
-pub saved_later : (first : Lines) (n : ℕ) (p q : Calls) (file : List ℕ) → StartsWith q p
-    → IsSaved first n p file → IsSaved first n q file
-saved_later first n p q file starts saved =
-    let before = lines_of_calls p in
-    let more = lines_of_calls starts.0 in
-    let all : lines_of_calls q ≡ before ++ more = ap lines_of_calls starts.1
-    ∙ lines_append p starts.0 in
-    record {
-      within = omega (arith, saved.within, ap length all, length-append before more);
-      lines = saved.lines ∙ ap (λ (ls : Lines). first ++ ls)
-          (sym (ap (take n) all ∙ take-append-le n before more saved.within));
-    }
+module _ (Renews : List ℕ → List ℕ → Type 0) where
+  -- what a file holds of a history, it holds of a longer one
+  pub saved_later : (first : Lines) (n : ℕ) (p q : Calls) (file : List ℕ) → StartsWith q p
+      → IsSaved Renews first n p file → IsSaved Renews first n q file
+  saved_later first n p q file starts saved =
+      let before = lines_of_calls p in
+      let more = lines_of_calls starts.0 in
+      let all : lines_of_calls q ≡ before ++ more = ap lines_of_calls starts.1
+      ∙ lines_append p starts.0 in
+      record {
+        within = omega (arith, saved.within, ap length all, length-append before more);
+        lines = subst (λ (ls : Lines). Holds Renews first ls file)
+            (sym (ap (take n) all ∙ take-append-le n before more saved.within)) saved.lines;
+      }
 
--- a front of the further lines was appended
-pub saved_front : (first : Lines) (taken k : ℕ) (q : Calls) (file new : List ℕ)
-    → IsSaved first taken q file → k ≤ length (drop taken (lines_of_calls q))
-    → lines_in new ≡ lines_in file ++ take k (drop taken (lines_of_calls q))
-    → IsSaved first (taken + k) q new
-saved_front first taken k q file new saved few is =
-    let all = lines_of_calls q in
-    let size = length-drop taken all in
-    record {
-      within = omega (arith, saved.within, few, size);
-      lines = is ∙ ap (λ (ls : Lines). ls ++ take k (drop taken all)) saved.lines
-          ∙ append_assoc first (take taken all) (take k (drop taken all))
-          ∙ ap (λ (ls : Lines). first ++ ls) (take_plus taken k all);
-    }
+  -- a front of the further lines was appended
+  pub saved_front : (first : Lines) (taken k : ℕ) (q : Calls) (file new : List ℕ)
+      → IsSaved Renews first taken q file → k ≤ length (drop taken (lines_of_calls q))
+      → Holds Renews first (take taken (lines_of_calls q) ++ take k (drop taken (lines_of_calls q)))
+      new → IsSaved Renews first (taken + k) q new
+  saved_front first taken k q file new saved few held =
+      let all = lines_of_calls q in
+      let size = length-drop taken all in
+      record {
+        within = omega (arith, saved.within, few, size);
+        lines = subst (λ (ls : Lines). Holds Renews first ls new) (take_plus taken k all) held;
+      }
 
--- all further lines were appended
-pub saved_all : (first : Lines) (taken count : ℕ) (text : List ℕ) (p q : Calls)
-    (file new : List ℕ) → StartsWith q p → IsRest (lines_of_calls q) taken text count
-    → IsSaved first taken p file → lines_in new ≡ lines_in file ++ lines_in text
-    → IsSaved first count q new
-saved_all first taken count text p q file new starts rest saved is =
-    let all = lines_of_calls q in
-    let others = drop taken all in
-    let size = length-drop taken all in
-    let read = lines_taken all taken count text rest in
-    let whole : take (length others) others ≡ others = take_all (length others) others (omega arith)
-    in
-    let few : length others ≤ length others = omega arith in
-    let now = saved_front first taken (length others) q file new
-    (saved_later first taken p q file starts saved) few
-    (is ∙ ap (λ (ls : Lines). lines_in file ++ ls) (read ∙ sym whole)) in
-    let same : taken + length others ≡ count = omega (arith, rest.count_is, rest.within, size) in
-    subst (λ n. IsSaved first n q new) same now
+  -- all further lines were appended
+  pub saved_all : (first : Lines) (taken count : ℕ) (text : List ℕ) (p q : Calls)
+      (file new : List ℕ) → StartsWith q p → IsRest (lines_of_calls q) taken text count
+      → IsSaved Renews first taken p file
+      → ((lines : Lines) → Holds Renews first lines file
+      → Holds Renews first (lines ++ lines_in text) new)
+      → IsSaved Renews first count q new
+  saved_all first taken count text p q file new starts rest saved appends =
+      let all = lines_of_calls q in
+      let others = drop taken all in
+      let size = length-drop taken all in
+      let read = lines_taken all taken count text rest in
+      let whole : take (length others) others ≡ others =
+      take_all (length others) others (omega arith) in
+      let few : length others ≤ length others = omega arith in
+      let before = saved_later first taken p q file starts saved in
+      let now = saved_front first taken (length others) q file new before few
+      (subst (λ (ls : Lines). Holds Renews first (take taken all ++ ls) new) (read ∙ sym whole)
+      (appends (take taken all) before.lines)) in
+      let same : taken + length others ≡ count = omega (arith, rest.count_is, rest.within, size) in
+      subst (λ n. IsSaved Renews first n q new) same now
 
--- ---- what a crash leaves
+  -- ---- what a crash leaves
 
-module _ {F : Type 0} (seen : F → List ℕ) (may_leave : F → List ℕ → Type 0)
-    (stored : List ℕ → Type 0) (moment : F → ℕ) (left_since : F → ℕ → List ℕ → Type 0) where
-  pub leaves_as : (old new : F) (P Q : List ℕ → Type 0) → ((c : List ℕ) → P c → Q c)
-      → LeavesOnly moment left_since old new P → LeavesOnly moment left_since old new Q
-  leaves_as old new P Q weaker leaves = record {
-    later = leaves.later;
-    each = λ c left. weaker c (leaves.each c left);
-    before = λ t c le left.
-        ⊎_elim (λ was. inl was) (λ now. inr (weaker c now)) (leaves.before t c le left);
-  }
+  module _ {F : Type 0} (seen : F → List ℕ) (may_leave : F → List ℕ → Type 0)
+      (stored : List ℕ → Type 0) (moment : F → ℕ) (left_since : F → ℕ → List ℕ → Type 0) where
+    -- a front of the lines of a text, after those that a file holds
+    abbrev pub HoldsMore : Lines → Lines → List ℕ → List ℕ → Type 0
+    HoldsMore first lines text c = (k : ℕ) × (k ≤ length (lines_in text))
+        × Holds Renews first (lines ++ take k (lines_in text)) c
 
-  -- one run after another
-  pub leaves_then : (old mid new : F) (P Q : List ℕ → Type 0) → ((c : List ℕ) → P c → Q c)
-      → LeavesOnly moment left_since old mid P → LeavesOnly moment left_since mid new Q
-      → LeavesOnly moment left_since old new Q
-  leaves_then old mid new P Q weaker one two = record {
-    later = omega (arith, one.later, two.later);
-    each = λ c left. ⊎_elim (λ was. weaker c (one.each c was)) (λ now. now)
-        (two.before (moment old) c one.later left);
-    before = λ t c le left.
-        ⊎_elim
-        (λ mid_left. ⊎_elim (λ was. inl was) (λ now. inr (weaker c now))
-        (one.before t c le mid_left))
-        (λ now. inr now) (two.before t c (omega (arith, le, one.later)) left);
-  }
+    -- a crash during the append of the further lines leaves a front of them
+    pub appended_leaves : (old new : F) (first : Lines) (taken count : ℕ) (text : List ℕ)
+        (p q : Calls) → StartsWith q p → IsRest (lines_of_calls q) taken text count
+        → IsSaved Renews first taken p (seen old)
+        → ((lines : Lines) → Holds Renews first lines (seen old)
+        → LeavesOnly moment left_since old new (HoldsMore first lines text))
+        → LeavesOnly moment left_since old new (IsSavedFrom Renews taken first q)
+    appended_leaves old new first taken count text p q starts rest saved leaves =
+        let all = lines_of_calls q in
+        let read = lines_taken all taken count text rest in
+        let now = saved_later first taken p q (seen old) starts saved in
+        leaves_as moment left_since old new (HoldsMore first (take taken all) text)
+        (IsSavedFrom Renews taken first q)
+        (λ c held. (
+          taken + held.0,
+          omega arith,
+          saved_front first taken held.0 q (seen old) c now
+              (subst (λ (ls : Lines). held.0 ≤ length ls) read held.1)
+              (subst (λ (ls : Lines). Holds Renews first (take taken all ++ take held.0 ls) c) read
+              held.2),
+        )) (leaves (take taken all) now.lines)
 
-  -- a crash during the append of the further lines leaves a front of them
-  pub appended_leaves : (old new : F) (first : Lines) (taken count : ℕ) (text : List ℕ)
-      (p q : Calls) → StartsWith q p → IsRest (lines_of_calls q) taken text count
-      → IsSaved first taken p (seen old)
-      → LeavesOnly moment left_since old new
-      (λ c. IsBetween (lines_in (seen old)) (lines_in text) (lines_in c))
-      → LeavesOnly moment left_since old new (IsSavedFrom taken first q)
-  appended_leaves old new first taken count text p q starts rest saved leaves =
-      let read = lines_taken (lines_of_calls q) taken count text rest in
-      let now = saved_later first taken p q (seen old) starts saved in
-      leaves_as old new (λ c. IsBetween (lines_in (seen old)) (lines_in text) (lines_in c))
-      (IsSavedFrom taken first q)
-      (λ c between. (
-        taken + between.0,
-        omega arith,
-        saved_front first taken between.0 q (seen old) c now
-            (subst (λ (ls : Lines). between.0 ≤ length ls) read between.1)
-            (between.2 ∙ ap (λ (ls : Lines). lines_in (seen old) ++ take between.0 ls) read),
-      )) leaves
-
-  -- a file to which nothing was appended has as many lines as before
-  pub unchanged_leaves : (old : F) (first : Lines) (taken : ℕ) (p q : Calls) → StartsWith q p
-      → IsSettled seen may_leave stored old
-      → ((c : List ℕ) → left_since old (moment old) c → may_leave old c)
-      → IsSaved first taken p (seen old)
-      → LeavesOnly moment left_since old old (IsSavedFrom taken first q)
-  unchanged_leaves old first taken p q starts settled only_now saved =
-      begin moment left_since old (IsSavedFrom taken first q) (may_leave old) only_now
-      (λ c now. (
-        taken,
-        omega arith,
-        subst (IsSaved first taken q) (sym (settled.durable c now))
-            (saved_later first taken p q (seen old) starts saved),
-      ))
+    -- a file to which nothing was appended holds as many lines as before
+    pub unchanged_leaves : (old : F) (first : Lines) (taken : ℕ) (p q : Calls) → StartsWith q p
+        → IsSettled seen may_leave stored old
+        → ((c : List ℕ) → left_since old (moment old) c → may_leave old c)
+        → IsSaved Renews first taken p (seen old)
+        → LeavesOnly moment left_since old old (IsSavedFrom Renews taken first q)
+    unchanged_leaves old first taken p q starts settled only_now saved =
+        begin moment left_since old (IsSavedFrom Renews taken first q) (may_leave old) only_now
+        (λ c now. (
+          taken,
+          omega arith,
+          subst (IsSaved Renews first taken q) (sym (settled.durable c now))
+              (saved_later first taken p q (seen old) starts saved),
+        ))

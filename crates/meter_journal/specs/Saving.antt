@@ -1,11 +1,12 @@
--- What a file has of the lines of a history.
+-- What a file holds of the lines of a history, also if it was renewed since.
 --     IsSaved        the lines that it had first, followed by a front of the lines of the history
 --     IsSavedFrom    the same, for a front of at least a number of lines
 --     IsStored       a sync returned while a file had at least a number of lines of a history
 --     Leaves         what the worker of a journal leaves of its file
 --     Keeps          what the worker of a journal does
-use Rattle.std.specs.Prelude.{◌≡◌, ℕ, ◌≤◌, List, ◌++◌, length, take, IfErr, OnOk, Result}
+use Rattle.std.specs.Prelude.{◌≡◌, ℕ, ◌≤◌, List, length, take, IfErr, OnOk, Result}
 use Rattle.durable_lines.specs.CrashModel.{LeavesOnly}
+use Rattle.durable_lines.specs.Holding.{Holds}
 use Rattle.durable_lines.specs.Lines.{lines_in}
 use Rattle.relay_core.specs.declared.opening.Opening.{Opening}
 use Rattle.turn_lock.specs.Calls.{Watches}
@@ -16,49 +17,54 @@ use Rattle.shared_meter.specs.Calls.{Calls, IsLegal}
 use Rattle.shared_meter.specs.Handed.{MeterPort}
 use Rattle.shared_meter.specs.Pending.{lines_of_calls}
 
--- The file has the lines that it had first, followed by the first n lines of the history.
-pub record IsSaved (first : List (List ℕ)) (n : ℕ) (calls : Calls) (file : List ℕ) : Type 0 where
+-- The file holds the lines that it had first, followed by the first n lines of the history.
+pub record IsSaved (Renews : List ℕ → List ℕ → Type 0) (first : List (List ℕ)) (n : ℕ)
+    (calls : Calls) (file : List ℕ) : Type 0 where
   pub within : n ≤ length (lines_of_calls calls)
-  pub lines : lines_in file ≡ first ++ take n (lines_of_calls calls)
+  pub lines : Holds Renews first (take n (lines_of_calls calls)) file
 
 -- the same, for at least this number of lines
-abbrev pub IsSavedFrom : ℕ → List (List ℕ) → Calls → List ℕ → Type 0
-IsSavedFrom from first calls file = (n : ℕ) × (from ≤ n) × IsSaved first n calls file
+abbrev pub IsSavedFrom : (List ℕ → List ℕ → Type 0) → ℕ → List (List ℕ) → Calls → List ℕ → Type 0
+IsSavedFrom Renews from first calls file = (n : ℕ) × (from ≤ n) × IsSaved Renews first n calls file
 
 -- all lines of the history
-abbrev pub IsAllSaved : List (List ℕ) → Calls → List ℕ → Type 0
-IsAllSaved first calls file = IsSaved first (length (lines_of_calls calls)) calls file
+abbrev pub IsAllSaved : (List ℕ → List ℕ → Type 0) → List (List ℕ) → Calls → List ℕ → Type 0
+IsAllSaved Renews first calls file =
+    IsSaved Renews first (length (lines_of_calls calls)) calls file
 
--- A sync returned while a file had the first lines of a legal history, at least n of them, after
+-- A sync returned while a file held the first lines of a legal history, at least n of them, after
 -- lines that it had before.
-pub record IsStored (stored : List ℕ → Type 0) (n : ℕ) : Type 0 where
-  pub file : List ℕ
-  pub kept : stored file
-  pub first : List (List ℕ)
-  pub origin : Opening
-  pub calls : Calls
-  pub lawful : IsLegal origin calls
-  pub count : ℕ
-  pub enough : n ≤ count
-  pub saved : IsSaved first count calls file
+pub record IsStored (Renews : List ℕ → List ℕ → Type 0) (stored : List ℕ → Type 0) (n : ℕ) : Type 0
+  where
+    pub file : List ℕ
+    pub kept : stored file
+    pub first : List (List ℕ)
+    pub origin : Opening
+    pub calls : Calls
+    pub lawful : IsLegal origin calls
+    pub count : ℕ
+    pub enough : n ≤ count
+    pub saved : IsSaved Renews first count calls file
 
--- A crash at any moment of the worker's run leaves the lines that the file had first, followed by a
--- front of the lines of the history. If the worker ended as it was asked to, every later crash
--- leaves all lines.
+-- A crash at any moment of the worker's run leaves a file that holds the lines that it had first,
+-- followed by a front of the lines of the history. If the worker ended as it was asked to, every
+-- later crash leaves all lines.
 pub record Leaves {F : Type 0} (seen : F → List ℕ) (may_leave : F → List ℕ → Type 0)
-    (moment : F → ℕ) (left_since : F → ℕ → List ℕ → Type 0) (began ended : F) (calls : Calls)
-    (end : Result (Unit {0}) CallFault) : Type 0 where
+    (moment : F → ℕ) (left_since : F → ℕ → List ℕ → Type 0) (Renews : List ℕ → List ℕ → Type 0)
+    (began ended : F) (calls : Calls) (end : Result (Unit {0}) CallFault) : Type 0 where
   pub any_moment : LeavesOnly moment left_since began ended
-      (IsSavedFrom 0 (lines_in (seen began)) calls)
-  pub all : OnOk end ((c : List ℕ) → may_leave ended c → IsAllSaved (lines_in (seen began)) calls c)
+      (IsSavedFrom Renews 0 (lines_in (seen began)) calls)
+  pub all : OnOk end
+      ((c : List ℕ) → may_leave ended c → IsAllSaved Renews (lines_in (seen began)) calls c)
 
 -- The worker's port was p and is q, and made no call. The only fault is that of the journal. The
 -- file was `began`, and is left as `Leaves` says if files of its type act as the crash model says.
 pub record Keeps {F : Type 0} (acts : Type 0) (seen : F → List ℕ)
     (may_leave : F → List ℕ → Type 0) (moment : F → ℕ) (left_since : F → ℕ → List ℕ → Type 0)
-    (began : F) (p q : MeterPort) (end : Result (Unit {0}) CallFault) : Type 0 where
+    (Renews : List ℕ → List ℕ → Type 0) (began : F) (p q : MeterPort)
+    (end : Result (Unit {0}) CallFault) : Type 0 where
   pub same : IsSame p q
   pub watches : Watches IsLegal p.known q.known
   pub fault : IfErr end (λ fault. fault ≡ Journal)
   pub leaves : acts → (ended : F)
-      × Leaves seen may_leave moment left_since began ended q.known.seen end
+      × Leaves seen may_leave moment left_since Renews began ended q.known.seen end

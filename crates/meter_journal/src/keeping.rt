@@ -34,9 +34,9 @@ pub(crate) fn keep_lines<F: DurableFile, W: Wait>(
     ensures settled { OnOk result (F.acts_as_file
         → IsSettled F.seen F.may_leave F.stored file.new) }
     ensures all_saved { OnOk result (F.acts_as_file
-        → IsAllSaved (lines_in (F.seen file.old)) port.new.known.seen (F.seen file.new)) }
+        → IsAllSaved F.renews (lines_in (F.seen file.old)) port.new.known.seen (F.seen file.new)) }
     ensures any_moment { F.acts_as_file → LeavesOnly F.moment F.left_since file.old file.new
-        (IsSavedFrom 0 (lines_in (F.seen file.old)) port.new.known.seen) }
+        (IsSavedFrom F.renews 0 (lines_in (F.seen file.old)) port.new.known.seen) }
 {
     port.has_a_legal_history();
     let mut saved = Saved { count: 0, room };

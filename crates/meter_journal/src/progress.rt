@@ -25,7 +25,7 @@ const PATIENCE: u64 = 1_000;
 struct StoredLines<F>(PhantomData<F>);
 
 impl<F: DurableFile> Rule for StoredLines<F> {
-    ghost invariant = { λ n. F.acts_as_file → IsStored F.stored n };
+    ghost invariant = { λ n. F.acts_as_file → IsStored F.renews F.stored n };
 }
 
 // What the handles of a journal share. Of the two conditions one is changed for sessions that wait
@@ -43,14 +43,14 @@ struct ProgressState<F: DurableFile> {
 impl<F: DurableFile> ProgressState<F> {
     // Returns whether this number of lines is on the disk.
     fn has(&self, lines: u64) -> bool
-        ensures { IsTrue result → F.acts_as_file → IsStored F.stored lines }
+        ensures { IsTrue result → F.acts_as_file → IsStored F.renews F.stored lines }
     {
         self.lines.load(Ordering::SeqCst) >= lines
     }
 
     // Waits until this number of lines is on the disk, or the journal has ended.
     fn wait<W: Wait>(&self, rt: &W, lines: u64) -> bool
-        ensures { IsTrue result → F.acts_as_file → IsStored F.stored lines }
+        ensures { IsTrue result → F.acts_as_file → IsStored F.renews F.stored lines }
     {
         for _ in rt.forever() {
             let seen = self.saved.notifications();
@@ -83,7 +83,7 @@ impl<F: DurableFile> JournalProgress<F> {
     /// port of this lock: a wait for 0 lines returns true. Errors: `AllocError`.
     pub fn new(alloc: Global, port: &Port<Kept>, file: &F) -> Result<JournalProgress<F>, AllocError>
         requires { F.acts_as_file → IsSettled F.seen F.may_leave F.stored file.now }
-        ensures { OnOk result (F.acts_as_file → IsStored F.stored 0) }
+        ensures { OnOk result (F.acts_as_file → IsStored F.renews F.stored 0) }
     {
         port.has_a_legal_history();
         let _file = file;
@@ -102,7 +102,7 @@ impl<F: DurableFile> JournalProgress<F> {
 
     /// Returns the number of lines that are on the disk.
     pub fn lines(&self) -> u64
-        ensures { F.acts_as_file → IsStored F.stored result }
+        ensures { F.acts_as_file → IsStored F.renews F.stored result }
     {
         self.state.lines.load(Ordering::SeqCst)
     }
@@ -110,7 +110,7 @@ impl<F: DurableFile> JournalProgress<F> {
     // Records that this number of lines is on the disk, and wakes the sessions that wait. Only the
     // worker calls it.
     pub(crate) fn announce(&self, lines: u64)
-        requires { F.acts_as_file → IsStored F.stored lines }
+        requires { F.acts_as_file → IsStored F.renews F.stored lines }
     {
         self.state.lines.store(lines, Ordering::SeqCst);
         self.state.saved.notify_all();
@@ -155,7 +155,7 @@ impl<F: DurableFile> JournalProgress<F> {
 }
 
 impl<F: DurableFile> Durability for JournalProgress<F> {
-    ghost is_durable = { λ lines. F.acts_as_file → IsStored F.stored lines };
+    ghost is_durable = { λ lines. F.acts_as_file → IsStored F.renews F.stored lines };
 
     fn wait<W: Wait>(&self, rt: &W, lines: u64) -> bool {
         if self.state.has(lines) {

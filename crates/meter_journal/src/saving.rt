@@ -9,7 +9,7 @@ ghost use Rattle.shared_meter.specs.Pending.{lines_of_calls, IsRest};
 ghost use Rattle.meter_journal.specs.Saving.{IsSaved, IsSavedFrom};
 
 use crate::fault::JournalFault;
-use durable_lines::{DurableFile, FileFault, append_lines};
+use durable_lines::{DurableFile, FileFault, append_and_renew};
 use shared_meter::{Finding, Kept, Question};
 use std::alloc::Global;
 use std::sync::Wait;
@@ -47,10 +47,11 @@ fn take_lines<W: Wait>(
 }
 
 /// Appends the lines of the port's history after the first `taken`, which were taken before, to the
-/// file, and waits until they are on the disk. The lines that are noted meanwhile are written into
-/// `room`, so that its memory is used again. If there are no further lines, nothing is synced.
+/// file, waits until they are on the disk, and renews the file if it is to be renewed. The lines
+/// that are noted meanwhile are written into `room`, so that its memory is used again. If there are
+/// no further lines, nothing is synced.
 ///
-/// After `Ok` the file has all lines of the history that the port has seen, each once, in order,
+/// After `Ok` the file holds all lines of the history that the port has seen, each once, in order,
 /// and every crash leaves them. A crash during the call leaves a front of them, with at least the
 /// first `taken`. Errors: `Lines` if a line was lost, another number of lines was taken before, or
 /// the meter has no journal; `Turns` if all turns of the lock were drawn; `File` if the file failed
@@ -72,18 +73,18 @@ pub fn save<F: DurableFile, W: Wait>(
     ensures settled { OnOk result (F.acts_as_file
         → IsSettled F.seen F.may_leave F.stored file.new) }
     ensures saved { IfOk result (λ saved. F.acts_as_file → (first : List (List ℕ))
-        → IsSaved first taken port.old.known.seen (F.seen file.old)
-        → IsSaved first saved.count port.new.known.seen (F.seen file.new)) }
+        → IsSaved F.renews first taken port.old.known.seen (F.seen file.old)
+        → IsSaved F.renews first saved.count port.new.known.seen (F.seen file.new)) }
     // A crash at any moment of the call leaves a front of the lines.
     ensures any_moment { F.acts_as_file → (first : List (List ℕ))
-        → IsSaved first taken port.old.known.seen (F.seen file.old)
+        → IsSaved F.renews first taken port.old.known.seen (F.seen file.old)
         → LeavesOnly F.moment F.left_since file.old file.new
-        (IsSavedFrom taken first port.new.known.seen) }
+        (IsSavedFrom F.renews taken first port.new.known.seen) }
     ensures turns { IsErrOf result JournalFault.Turns → port.old.bound ≤ port.new.known.drawn }
     ensures failed { IsErrOf result (JournalFault.File FileFault.Failed) → F.has_failed file.new }
 {
     let (text, count) = take_lines(rt, alloc, port, taken, room)?;
-    match append_lines(file, text.as_slice()) {
+    match append_and_renew(file, text.as_slice()) {
         Ok(()) => Ok(Saved { count, room: text }),
         Err(fault) => Err(JournalFault::File(fault)),
     }

@@ -57,7 +57,7 @@ pub fn stop_journal<F: DurableFile + Send, A: FailureAction, R: Threads>(
     requires { running.promise.port.value.lock ≡ port.old.lock }
     ensures { let task = running.promise
         in ComesBack (Keeps F.acts_as_file F.seen F.may_leave F.moment F.left_since
-        task.worker.value) task.port.value result port.old port.new }
+        F.renews task.worker.value) task.port.value result port.old port.new }
 {
     progress.stop();
     join_worker(rt, running, port)

@@ -68,7 +68,7 @@ impl<F: DurableFile + Send, A: FailureAction> Worker<Port<Kept>> for JournalWork
     ghost use Rattle.meter_journal.specs.Saving.{Keeps};
 
     ghost did = { λ worker p q end. Keeps F.acts_as_file F.seen F.may_leave F.moment F.left_since
-        worker p q end };
+        F.renews worker p q end };
 
     /// Saves lines until the journal is stopped. The only error is `Journal`.
     fn work<W: Wait>(

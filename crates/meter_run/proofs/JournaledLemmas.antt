@@ -116,12 +116,14 @@ silent_first did quiet lent before after end back number fresh i below =
 
 -- a crash that leaves the lines of a history leaves those of a longer one
 leaves_later : {F : Type 0} (moment : F → ℕ) (left_since : F → ℕ → List ℕ → Type 0)
-    (began ended : F) (first : List (List ℕ)) (before after : Calls) → StartsWith after before
-    → LeavesOnly moment left_since began ended (IsSavedFrom 0 first before)
-    → LeavesOnly moment left_since began ended (IsSavedFrom 0 first after)
-leaves_later moment left_since began ended first before after longer leaves =
-    let on : (c : List ℕ) → IsSavedFrom 0 first before c → IsSavedFrom 0 first after c =
-    λ c (n, from, saved). (n, from, saved_later first n before after c longer saved) in
+    (Renews : List ℕ → List ℕ → Type 0) (began ended : F) (first : List (List ℕ))
+    (before after : Calls) → StartsWith after before
+    → LeavesOnly moment left_since began ended (IsSavedFrom Renews 0 first before)
+    → LeavesOnly moment left_since began ended (IsSavedFrom Renews 0 first after)
+leaves_later moment left_since Renews began ended first before after longer leaves =
+    let on : (c : List ℕ) → IsSavedFrom Renews 0 first before c
+    → IsSavedFrom Renews 0 first after c =
+    λ c (n, from, saved). (n, from, saved_later Renews first n before after c longer saved) in
     record {
       later = leaves.later;
       each = λ c left. on c (leaves.each c left);
@@ -134,13 +136,13 @@ leaves_later moment left_since began ended first before after longer leaves =
 -- what the worker of a journal did: it made no call, and its file has a front of the lines
 module _ {F : Type 0} (acts : Type 0) (seen : F → List ℕ) (may_leave : F → List ℕ → Type 0)
     (moment : F → ℕ) (left_since : F → ℕ → List ℕ → Type 0) (stored : List ℕ → Type 0)
-    (file : F) where
+    (Renews : List ℕ → List ℕ → Type 0) (file : F) where
   abbrev JournalDid : Did
-  JournalDid = Keeps acts seen may_leave moment left_since file
+  JournalDid = Keeps acts seen may_leave moment left_since Renews file
 
   -- this number of lines is on the disk
   abbrev OnDisk : ℕ → Type 0
-  OnDisk n = acts → IsStored stored n
+  OnDisk n = acts → IsStored Renews stored n
 
   quiet : (p q : MeterPort) (end : Result (Unit {0}) CallFault) → JournalDid p q end
       → Watches IsLegal p.known q.known
@@ -149,10 +151,10 @@ module _ {F : Type 0} (acts : Type 0) (seen : F → List ℕ) (may_leave : F →
   -- the file of a worker that was not started has the lines that it had
   kept_by : (lent back : MeterPort) (end : Option (Result (Unit {0}) CallFault))
       → (acts → (calls : Calls)
-      → LeavesOnly moment left_since file file (IsSavedFrom 0 (lines_in (seen file)) calls))
+      → LeavesOnly moment left_since file file (IsSavedFrom Renews 0 (lines_in (seen file)) calls))
       → Ended JournalDid lent back end → acts
       → (ended : F) × LeavesOnly moment left_since file ended
-      (IsSavedFrom 0 (lines_in (seen file)) back.known.seen)
+      (IsSavedFrom Renews 0 (lines_in (seen file)) back.known.seen)
   kept_by lent back None idle same a = (file, idle a back.known.seen)
   kept_by lent back (Some end) idle worked a =
       let kept = worked.leaves a in (kept.0, kept.1.any_moment)
@@ -160,10 +162,11 @@ module _ {F : Type 0} (acts : Type 0) (seen : F → List ℕ) (may_leave : F →
   journaled_run : (recorder : Recording) (given : Given) (served : Result Served ServeFault)
       (trace : Result (List ℕ) Fault) (lent p q : MeterPort)
       → (acts → (calls : Calls)
-      → LeavesOnly moment left_since file file (IsSavedFrom 0 (lines_in (seen file)) calls))
+      → LeavesOnly moment left_since file file (IsSavedFrom Renews 0 (lines_in (seen file)) calls))
       → IsStarted (opening_of recorder.core) lent p → ServesAll given p q served
       → AreJournaled OnDisk (p.known.splits + 3) q → IsFinished JournalDid lent q trace
-      → IfOk trace (IsJournaledRun acts seen moment left_since stored file recorder given served)
+      → IfOk trace
+      (IsJournaledRun acts seen moment left_since stored Renews file recorder given served)
   journaled_run recorder given served (Err fault) lent p q idle started serves waited finished = tt
   journaled_run recorder given served (Ok text) lent p q idle started serves waited finished =
       let after = finished.after in
@@ -187,7 +190,7 @@ module _ {F : Type 0} (acts : Type 0) (seen : F → List ℕ) (may_leave : F →
         kept = λ a.
             let kept = kept_by lent back.back finished.end idle back.ended a in (
               kept.0,
-              leaves_later moment left_since file kept.0 (lines_in (seen file))
+              leaves_later moment left_since Renews file kept.0 (lines_in (seen file))
                   back.back.known.seen run.calls longer kept.1,
             );
       }
@@ -195,26 +198,28 @@ module _ {F : Type 0} (acts : Type 0) (seen : F → List ℕ) (may_leave : F →
   -- the file of a worker that has not begun has the lines that it had
   pub idle_file : ((c : List ℕ) → left_since file (moment file) c → may_leave file c)
       → (acts → IsSettled seen may_leave stored file) → acts → (calls : Calls)
-      → LeavesOnly moment left_since file file (IsSavedFrom 0 (lines_in (seen file)) calls)
+      → LeavesOnly moment left_since file file (IsSavedFrom Renews 0 (lines_in (seen file)) calls)
   idle_file only_now settled a calls =
-      begin moment left_since file (IsSavedFrom 0 (lines_in (seen file)) calls) (may_leave file)
-      only_now (λ c left.
+      begin moment left_since file (IsSavedFrom Renews 0 (lines_in (seen file)) calls)
+      (may_leave file) only_now (λ c left.
       let same : c ≡ seen file = (settled a).durable c left in
-      let saved : IsSaved (lines_in (seen file)) 0 calls c =
-      subst (λ (bytes : List ℕ). IsSaved (lines_in (seen file)) 0 calls bytes) (sym same)
-      (saved_none calls (seen file)) in
+      let saved : IsSaved Renews (lines_in (seen file)) 0 calls c =
+      subst (λ (bytes : List ℕ). IsSaved Renews (lines_in (seen file)) 0 calls bytes) (sym same)
+      (saved_none Renews calls (seen file)) in
       (0, omega arith, saved))
 
   -- the same for the file of the worker
   pub journaled_by : (recorder : Recording) (given : Given) (served : Result Served ServeFault)
       (trace : Result (List ℕ) Fault) (lent p q : MeterPort) (its : F) → its ≡ file
       → (acts → (calls : Calls)
-      → LeavesOnly moment left_since file file (IsSavedFrom 0 (lines_in (seen file)) calls))
+      → LeavesOnly moment left_since file file (IsSavedFrom Renews 0 (lines_in (seen file)) calls))
       → IsStarted (opening_of recorder.core) lent p → ServesAll given p q served
       → AreJournaled OnDisk (p.known.splits + 3) q
-      → IsFinished (Keeps acts seen may_leave moment left_since its) lent q trace
-      → IfOk trace (IsJournaledRun acts seen moment left_since stored file recorder given served)
+      → IsFinished (Keeps acts seen may_leave moment left_since Renews its) lent q trace
+      → IfOk trace
+      (IsJournaledRun acts seen moment left_since stored Renews file recorder given served)
   journaled_by recorder given served trace lent p q its is idle started serves waited finished =
       journaled_run recorder given served trace lent p q idle started serves waited
-      (subst (λ (f : F). IsFinished (Keeps acts seen may_leave moment left_since f) lent q trace) is
+      (subst
+      (λ (f : F). IsFinished (Keeps acts seen may_leave moment left_since Renews f) lent q trace) is
       finished)

@@ -152,7 +152,7 @@ fn file_is_idle<F: DurableFile>(file: &F)
     requires { F.acts_as_file → IsSettled F.seen F.may_leave F.stored file.now }
     ensures { F.acts_as_file → (calls : Calls)
         → LeavesOnly F.moment F.left_since file.now file.now
-        (IsSavedFrom 0 (lines_in (F.seen file.now)) calls) }
+        (IsSavedFrom F.renews 0 (lines_in (F.seen file.now)) calls) }
 {
     let _file = file;
 }
@@ -170,7 +170,7 @@ fn finish<F: DurableFile + Send, A: FailureAction, R: Threads>(
     requires lent { running.promise.port.value.lock ≡ port.lock }
     ensures finished { let task = running.promise
         in IsFinished (Keeps F.acts_as_file F.seen F.may_leave F.moment F.left_since
-        task.worker.value) task.port.value port result.0 }
+        F.renews task.worker.value) task.port.value port result.0 }
     ensures err { IfErr result.0 (λ fault. (fault ≡ Turns) ⊎ (fault ≡ Memory)) }
 {
     let end = stop_journal(rt, running, &progress, &mut port);
@@ -212,7 +212,7 @@ pub fn run_journaled_meter<
     requires settled { F.acts_as_file → IsSettled F.seen F.may_leave F.stored journal.file }
     requires password { IsPassword terms.now.password.now }
     ensures run { IfOk result.trace (IsJournaledRun F.acts_as_file F.seen F.moment F.left_since
-        F.stored journal.file recorder
+        F.stored F.renews journal.file recorder
         (record {
           blocks = B.forecast sources.blocks;
           moments = M.forecast sources.moments;

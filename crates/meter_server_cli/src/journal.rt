@@ -1,6 +1,7 @@
 //! The journal of `serve`: its lock file, its file, the recorder that resumes where it ends, and
 //! the relay that is given what the journal has.
 ghost use Rattle.std.specs.Prelude.{◌≡◌, [], None, IfOk, IfSome, OnOk, length};
+ghost use Rattle.journal_files.specs.Renewals.{IsRenewedAs};
 ghost use Rattle.meter_run.specs.Journaled.{IsJournaledRun};
 ghost use Rattle.meter_server_cli.specs.Endings.{PrintsText};
 
@@ -36,7 +37,7 @@ const DRAFT_SUFFIX: &str = ".new";
 #[derive(Drop)]
 pub(crate) struct OpenJournal {
     path: String,
-    file: RenewedFile<HostRuntime>,
+    file: RenewedFile<StoredPlace<HostRuntime>>,
     lock: LockFile,
 }
 
@@ -138,42 +139,39 @@ fn terms_of(bounds: &Bounds) -> RenewalTerms {
     }
 }
 
-// Resumes the journal of an open file, for the meter with the name of this recorder.
+// Resumes the journal of an open file of a place, for the meter with the name of this recorder.
 fn resume_file(
     rt: &HostRuntime,
+    place: &mut StoredPlace<HostRuntime>,
     file: File,
     recorder: &Recorder,
     depth: u16,
-) -> Result<(StoredFile, Resumed), StartFault>
-    ensures { IfOk result (λ r. length r.1.recorder.events ≡ 0) }
+) -> Result<Resumed, StartFault>
+    ensures { IfOk result (λ resumed. length resumed.recorder.events ≡ 0) }
 {
     let opening = recorder.core().to_opening(rt.alloc())?;
-    let Ok(mut file) = StoredFile::try_lock(file, MAX_BYTES) else {
+    let Ok(file) = StoredFile::try_lock(file, MAX_BYTES) else {
         drop(opening);
         return Err(StartFault::File);
     };
-    let resumed = resume_journal(rt.alloc(), &mut file, &opening.device, depth.clamp(1, 1024));
+    place.set_file(file);
+    let resumed = resume_journal(rt.alloc(), place, &opening.device, depth.clamp(1, 1024));
     drop(opening);
-    match resumed {
-        Ok(resumed) => Ok((file, resumed)),
-        Err(fault) => Err(fault),
-    }
+    resumed
 }
 
-// Renews the journal of a file that was resumed, if it is long. Returns the file that lines are
-// appended to, and the recorder.
+// Renews the journal of a place that was resumed, if it is long. Returns the recorder.
 fn renew_resumed(
     rt: &HostRuntime,
     place: &mut StoredPlace<HostRuntime>,
-    file: StoredFile,
     recorder: Recorder,
     terms: RenewalTerms,
-) -> Result<(StoredFile, Option<Recorder>), StartFault>
+) -> Result<Option<Recorder>, StartFault>
     requires { length recorder.events ≡ 0 }
-    ensures { IfOk result (λ r. IfSome r.1 (λ resumed. length resumed.events ≡ 0)) }
+    ensures { IfOk result (λ r. IfSome r (λ resumed. length resumed.events ≡ 0)) }
 {
-    match renew_long_journal(rt.alloc(), place, file, terms.depth, terms.limit) {
-        Ok(file) => Ok((file, Some(recorder))),
+    match renew_long_journal(rt.alloc(), place, terms.depth, terms.limit) {
+        Ok(()) => Ok(Some(recorder)),
         Err(fault) => {
             drop(recorder);
             Err(fault)
@@ -181,29 +179,30 @@ fn renew_resumed(
     }
 }
 
-// Opens the journal of a path, or begins it with this recorder if there is no file. Returns its
-// file, and the recorder that resumes where it ends, or `None` if it was begun.
+// Opens the journal of a path in its place, or begins it with this recorder if there is no file.
+// Returns the recorder that resumes where it ends, or `None` if it was begun.
 fn open_file(
     rt: &HostRuntime,
     path: &str,
     place: &mut StoredPlace<HostRuntime>,
     recorder: &Recorder,
     bounds: &Bounds,
-) -> Result<(StoredFile, Option<Recorder>), StartFault>
-    ensures { IfOk result (λ r. IfSome r.1 (λ resumed. length resumed.events ≡ 0)) }
+) -> Result<Option<Recorder>, StartFault>
+    ensures { IfOk result (λ r. IfSome r (λ resumed. length resumed.events ≡ 0)) }
 {
     let mut options = File::options();
     options.read(true).write(true);
     match options.open(rt, path) {
         Ok(file) => {
-            let (file, Resumed { recorder, cut }) = resume_file(rt, file, recorder, bounds.depth)?;
+            let Resumed { recorder, cut } = resume_file(rt, place, file, recorder, bounds.depth)?;
             if cut > 0 {
                 let _ = eprintln!(rt; "{path}: cut {cut} bytes of an interrupted write");
             }
-            renew_resumed(rt, place, file, recorder, terms_of(bounds))
+            renew_resumed(rt, place, recorder, terms_of(bounds))
         }
         Err(error) if error.kind() == ErrorKind::NotFound => {
-            Ok((begin_journal(rt.alloc(), place, recorder)?, None))
+            begin_journal(rt.alloc(), place, recorder)?;
+            Ok(None)
         }
         Err(_) => Err(StartFault::File),
     }
@@ -215,16 +214,19 @@ fn open_renewed(
     path: &str,
     recorder: &Recorder,
     bounds: &Bounds,
-) -> Result<(RenewedFile<HostRuntime>, Option<Recorder>), StartFault>
+) -> Result<(RenewedFile<StoredPlace<HostRuntime>>, Option<Recorder>), StartFault>
     ensures { IfOk result (λ r. IfSome r.1 (λ resumed. length resumed.events ≡ 0)) }
 {
     let mut place = place_of(rt, path, bounds.kept_journals)?;
     match open_file(rt, path, &mut place, recorder, bounds) {
-        Ok((file, resumed)) => {
-            let file = RenewedFile::new(rt.alloc(), place, file, terms_of(bounds));
+        Ok(resumed) => {
+            let file = RenewedFile::new(rt.alloc(), place, terms_of(bounds));
             Ok((file, resumed))
         }
-        Err(fault) => Err(fault),
+        Err(fault) => {
+            drop(place);
+            Err(fault)
+        }
     }
 }
 
@@ -258,7 +260,7 @@ fn fault_of(fault: StartFault) -> Fault {
 fn journal_with(
     rt: &HostRuntime,
     path: &str,
-    file: RenewedFile<HostRuntime>,
+    file: RenewedFile<StoredPlace<HostRuntime>>,
     lock: LockFile,
 ) -> Result<OpenJournal, Fault> {
     match with_suffix(rt, path, "") {
@@ -420,7 +422,7 @@ pub(crate) fn run_journaled<R: Threads + Wait + Copy + Drop + Send + 'static, W:
     requires unused { length recorder.events ≡ 0 }
     ensures { OnOk result.2
         (PrintsText (IsJournaledRun ⊥ (λ _. []) (λ _. 0) (λ _ _ _. ⊥) (λ _. ⊥)
-        parts.journal.file recorder
+        IsRenewedAs parts.journal.file recorder
         (record { blocks = None; moments = None; presses = None; password = meter.now.password })
         result.0)
         (W.contents output.old) (W.contents output.new)) }

@@ -16,7 +16,7 @@ fn leaves_old_or_new(alloc: Global) -> Result<bool, FileFault> {
     let old = b"a\n".as_slice();
     let new = b"b\nc\n".as_slice();
     let mut place = MemoryPlace::new(alloc, old.to_vec(alloc)?);
-    let file = replace(&mut place, new)?;
+    replace(&mut place, new)?;
     for moment in 0..=place.moment() {
         for is_renamed in [false, true] {
             for fates in [
@@ -32,7 +32,7 @@ fn leaves_old_or_new(alloc: Global) -> Result<bool, FileFault> {
         }
     }
     let left = place.after_crash(place.moment(), false, &[])?;
-    Ok(left.as_slice() == new && file.bytes()?.as_slice() == new)
+    Ok(left.as_slice() == new && place.bytes()?.as_slice() == new)
 }
 
 #[test]
@@ -67,11 +67,11 @@ fn only_the_sync_of_the_folder_makes_a_rename_durable(rt: HostRuntime) -> Result
 }
 
 // Appends a line to a file that was just made.
-fn append_line(file: &mut StoredFile, text: &[u8]) -> Result<(), FileFault> {
+fn append_line(place: &mut StoredPlace<HostRuntime>, text: &[u8]) -> Result<(), FileFault> {
     if !is_text(text) {
         return Err(FileFault::Failed);
     }
-    append_lines(file, text)
+    append_lines(place, text)
 }
 
 #[test]
@@ -81,8 +81,8 @@ fn a_stored_file_is_replaced_and_appended_to(rt: HostRuntime) -> Result<(), Fail
     fs::write(&rt, draft, b"left by a crash\n".as_slice())?;
     let paths = paths_of(rt.alloc(), path, draft, &[])?;
     let mut place = StoredPlace::new(rt, File::open(&rt, ".")?, paths, 64);
-    let mut file = replace(&mut place, b"b\n")?;
-    append_line(&mut file, b"c\n")?;
+    replace(&mut place, b"b\n")?;
+    append_line(&mut place, b"c\n")?;
     assert!(rt; fs::read(&rt, path)?.as_slice() == b"b\nc\n".as_slice());
     assert!(rt;
         fs::metadata(&rt, draft).err().map(|error| error.kind()) == Some(ErrorKind::NotFound)

@@ -1,4 +1,5 @@
-//! Tests of the files of journals: begun, left by a killed server, resumed, and renewed.
+//! Tests of the files of journals: begun, left by a killed server, resumed, and renewed, also while
+//! their meter runs.
 //!
 //! Tests are in a crate of their own because a check of tests proves their whole crate again.
 #![tactic(auto)]
@@ -7,5 +8,7 @@
 mod renewals;
 #[cfg(test)]
 mod restarts;
+#[cfg(test)]
+mod runs;
 #[cfg(test)]
 mod texts;

@@ -1,7 +1,7 @@
 //! Journals that are renewed: the new file, and what a crash leaves.
 use crate::texts::{BEGUN, DISCONNECTED, EVENTS, joined};
 use durable_lines::{
-    DurableFile, FileFault, MemoryFile, MemoryPlace, PlacePaths, StoredFile, StoredPlace,
+    FileFault, MemoryPlace, PlacePaths, StoredFile, StoredPlace, append_and_renew, is_text,
 };
 use journal_files::{RenewalTerms, RenewedFile, StartFault, renew_journal};
 use std::alloc::{AllocError, Global};
@@ -31,9 +31,8 @@ fn leaves_either(place: &MemoryPlace, old: &[u8], new: &[u8]) -> Result<bool, St
 // leaves one of both.
 fn is_renewed_as(alloc: Global, old: &[u8], depth: usize, new: &[u8]) -> Result<bool, StartFault> {
     let mut place = MemoryPlace::new(alloc, old.to_vec(alloc)?);
-    let mut file = MemoryFile::new(alloc, old.to_vec(alloc)?);
-    let renewed = renew_journal(alloc, &mut place, &mut file, depth)?;
-    let bytes = renewed.bytes()?;
+    renew_journal(alloc, &mut place, depth)?;
+    let bytes = place.bytes()?;
     Ok(bytes.as_slice() == new && leaves_either(&place, old, new)?)
 }
 
@@ -91,10 +90,15 @@ fn place_of(
     Ok(StoredPlace::new(rt, File::open(&rt, ".")?, paths, MAX_LEN))
 }
 
-// Appends a line to a file, and syncs it.
-fn append_line(file: &mut RenewedFile<HostRuntime>, line: &[u8]) -> Result<(), FileFault> {
-    file.append(line)?;
-    file.sync()
+// Appends a line to a file, syncs it, and renews it if it has grown.
+fn append_line(
+    file: &mut RenewedFile<StoredPlace<HostRuntime>>,
+    line: &[u8],
+) -> Result<(), FileFault> {
+    if !is_text(line) {
+        return Err(FileFault::TooLong);
+    }
+    append_and_renew(file, line)
 }
 
 // Appends three lines to the journal of a path, which is renewed once it has grown by more than 16
@@ -102,12 +106,13 @@ fn append_line(file: &mut RenewedFile<HostRuntime>, line: &[u8]) -> Result<(), F
 fn append_three(rt: HostRuntime, path: &str) -> Result<bool, Fail> {
     let opened = File::options().read(true).write(true).open(&rt, path)?;
     let file = StoredFile::try_lock(opened, MAX_LEN)?;
-    let place = place_of(rt, path, "renewed_journal.new", "renewed_journal.1")?;
+    let mut place = place_of(rt, path, "renewed_journal.new", "renewed_journal.1")?;
+    place.set_file(file);
     let terms = RenewalTerms {
         limit: 16,
         depth: 1,
     };
-    let mut file = RenewedFile::new(rt.alloc(), place, file, terms);
+    let mut file = RenewedFile::new(rt.alloc(), place, terms);
     let first = append_line(&mut file, b"moment 5\n");
     let second = append_line(&mut file, b"moment 6\n");
     let third = append_line(&mut file, b"button\n");

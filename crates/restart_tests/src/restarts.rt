@@ -50,22 +50,22 @@ fn refusal(alloc: Global, texts: &[&[u8]], name: &[u8]) -> Result<Option<StartFa
 }
 
 // Begins the journal of a new meter with the name METER7.
-fn begin(alloc: Global, place: &mut MemoryPlace) -> Result<MemoryFile, StartFault> {
+fn begin(alloc: Global, place: &mut MemoryPlace) -> Result<(), StartFault> {
     let device = Octets::from_slice(alloc, b"METER7")?;
     let recorder = Recorder::new(alloc, &device, 16);
     drop(device);
     let recorder = recorder?;
-    let file = begin_journal(alloc, place, &recorder);
+    let begun = begin_journal(alloc, place, &recorder);
     drop(recorder);
-    file
+    begun
 }
 
 #[test]
 fn a_new_meter_begins_its_journal(rt: HostRuntime) -> Result<(), Fail> {
     let alloc = rt.alloc();
     let mut place = MemoryPlace::new(alloc, Vec::new(alloc));
-    let file = begin(alloc, &mut place)?;
-    assert!(rt; file.bytes()?.as_slice() == BEGUN);
+    begin(alloc, &mut place)?;
+    assert!(rt; place.bytes()?.as_slice() == BEGUN);
     assert!(rt; place.after_crash(place.moment(), false, &[])?.as_slice() == BEGUN);
     Ok(())
 }

@@ -10,5 +10,6 @@ complete -c head_end -f -n '__fish_seen_subcommand_from run' -l passwords -r -d 
 complete -c head_end -f -n '__fish_seen_subcommand_from run' -l workers -r -d 'Number of meters to contact in parallel, 1 to 16'
 complete -c head_end -f -n '__fish_seen_subcommand_from run' -l timeout -r -d 'Time limit for an open connection; 0 means no limit'
 complete -c head_end -f -n '__fish_seen_subcommand_from run' -l connect-timeout -r -d 'Time limit for connecting to a meter; 0 means no limit'
+complete -c head_end -f -n '__fish_seen_subcommand_from run' -l ledger -r -d 'Ledger of the campaign; run the list again with it, and no command is sent twice'
 complete -c head_end -f -n '__fish_seen_subcommand_from run' -l progress -d 'Report progress on standard error; default if that is a terminal'
 complete -c head_end -f -n '__fish_seen_subcommand_from run' -l verbose -d 'On a fault, report what was expected and what was found on standard error'

@@ -1,24 +1,29 @@
-use Rattle.meter_journal.proofs.KeepingLemmas.{crashes_on, run_begins, run_on}
+use Rattle.std.proofs.Common.{ℕ, subst}
+use Rattle.durable_lines.specs.Lines.{lines_in}
+use Rattle.meter_journal.specs.Saving.{IsSaved}
+use Rattle.meter_journal.proofs.KeepingLemmas.{crashes_on, run_begins, run_on, stored_lines}
 use Rattle.meter_journal.proofs.keeping.keep_lines.Goals as goal
 
 pub saving-init : goal.saving-init
 saving-init g c =
     let D = g.F.DurableFile in
-    run_begins D.acts_as_file D.seen D.may_leave D.stored D.moment D.left_since c.args.file.now
-    c.args.port.now c.has_a_legal_history.ensures (g.met.F.DurableFile.only_now c.args.file.now)
+    run_begins D.acts_as_file D.seen D.may_leave D.stored D.moment D.left_since D.renews
+    c.args.file.now c.args.port.now c.has_a_legal_history.ensures
+    (g.met.F.DurableFile.only_now c.args.file.now)
     c.requires.settled
 
 pub returns-in_err-saved-clause-any_moment : goal.returns-in_err-saved-clause-any_moment
 returns-in_err-saved-clause-any_moment g c =
     let D = g.F.DurableFile in
-    crashes_on D.acts_as_file D.seen D.may_leave D.stored D.moment D.left_since c.args.file.now
+    crashes_on D.acts_as_file D.seen D.may_leave D.stored D.moment D.left_since D.renews
+    c.args.file.now
     c.saving.file c.save.new.file c.args.port.now c.saving.port c.save.new.port
     c.saving.saved.count c.saving.invariant c.save.ensures.watches c.save.ensures.any_moment
 
 pub saving-preserved-then-saved-before : goal.saving-preserved-then-saved-before
 saving-preserved-then-saved-before g c =
     let D = g.F.DurableFile in
-    run_on D.acts_as_file D.seen D.may_leave D.stored D.moment D.left_since c.args.file.now
+    run_on D.acts_as_file D.seen D.may_leave D.stored D.moment D.left_since D.renews c.args.file.now
     c.saving.file c.save.new.file c.args.port.now c.saving.port c.save.new.port
     c.saving.saved.count c.in_ok-saved.saved.count c.saving.invariant c.save.ensures.same
     c.save.ensures.watches c.in_ok-saved.ensures.settled c.in_ok-saved.ensures.saved
@@ -27,7 +32,7 @@ saving-preserved-then-saved-before g c =
 pub saving-preserved : goal.saving-preserved
 saving-preserved g c =
     let D = g.F.DurableFile in
-    run_on D.acts_as_file D.seen D.may_leave D.stored D.moment D.left_since c.args.file.now
+    run_on D.acts_as_file D.seen D.may_leave D.stored D.moment D.left_since D.renews c.args.file.now
     c.saving.file c.save.new.file c.args.port.now c.saving.port c.save.new.port
     c.saving.saved.count c.in_ok-saved.saved.count c.saving.invariant c.save.ensures.same
     c.save.ensures.watches c.in_ok-saved.ensures.settled c.in_ok-saved.ensures.saved
@@ -36,7 +41,7 @@ saving-preserved g c =
 pub returns-then-is_last-clause-watches : goal.returns-then-is_last-clause-watches
 returns-then-is_last-clause-watches g c =
     let D = g.F.DurableFile in
-    let run = run_on D.acts_as_file D.seen D.may_leave D.stored D.moment D.left_since
+    let run = run_on D.acts_as_file D.seen D.may_leave D.stored D.moment D.left_since D.renews
     c.args.file.now c.saving.file c.save.new.file c.args.port.now c.saving.port c.save.new.port
     c.saving.saved.count c.in_ok-saved.saved.count c.saving.invariant c.save.ensures.same
     c.save.ensures.watches c.in_ok-saved.ensures.settled c.in_ok-saved.ensures.saved
@@ -46,9 +51,32 @@ returns-then-is_last-clause-watches g c =
 pub returns-then-is_last-clause-any_moment : goal.returns-then-is_last-clause-any_moment
 returns-then-is_last-clause-any_moment g c =
     let D = g.F.DurableFile in
-    let run = run_on D.acts_as_file D.seen D.may_leave D.stored D.moment D.left_since
+    let run = run_on D.acts_as_file D.seen D.may_leave D.stored D.moment D.left_since D.renews
     c.args.file.now c.saving.file c.save.new.file c.args.port.now c.saving.port c.save.new.port
     c.saving.saved.count c.in_ok-saved.saved.count c.saving.invariant c.save.ensures.same
     c.save.ensures.watches c.in_ok-saved.ensures.settled c.in_ok-saved.ensures.saved
     c.save.ensures.any_moment in
     run.any_moment
+
+pub announce-requires : goal.announce-requires
+announce-requires g c =
+    let D = g.F.DurableFile in
+    stored_lines D.acts_as_file D.seen D.may_leave D.stored D.moment D.left_since D.renews
+    c.args.file.now c.save.new.file c.args.port.now c.save.new.port c.in_ok-saved.saved.count
+    (run_on D.acts_as_file D.seen D.may_leave D.stored D.moment D.left_since D.renews
+    c.args.file.now c.saving.file c.save.new.file c.args.port.now c.saving.port c.save.new.port
+    c.saving.saved.count c.in_ok-saved.saved.count c.saving.invariant c.save.ensures.same
+    c.save.ensures.watches c.in_ok-saved.ensures.settled c.in_ok-saved.ensures.saved
+    c.save.ensures.any_moment)
+
+pub returns-then-is_last-clause-all_saved : goal.returns-then-is_last-clause-all_saved
+returns-then-is_last-clause-all_saved g c = λ acts.
+    let D = g.F.DurableFile in
+    let run = run_on D.acts_as_file D.seen D.may_leave D.stored D.moment D.left_since D.renews
+    c.args.file.now c.saving.file c.save.new.file c.args.port.now c.saving.port c.save.new.port
+    c.saving.saved.count c.in_ok-saved.saved.count c.saving.invariant c.save.ensures.same
+    c.save.ensures.watches c.in_ok-saved.ensures.settled c.in_ok-saved.ensures.saved
+    c.save.ensures.any_moment in
+    subst (λ (n : ℕ). IsSaved D.renews (lines_in (D.seen c.args.file.now)) n
+    c.save.new.port.known.seen (D.seen c.save.new.file)) c.in_ok-saved.ensures.count
+    (run.saved acts)

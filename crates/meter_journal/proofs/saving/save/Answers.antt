@@ -7,8 +7,8 @@ use Rattle.meter_journal.proofs.saving.save.Goals as goal
 pub returns-in_err-text-clause-any_moment : goal.returns-in_err-text-clause-any_moment
 returns-in_err-text-clause-any_moment g c = λ acts first saved.
     let D = g.F.DurableFile in
-    unchanged_leaves D.seen D.may_leave D.stored D.moment D.left_since c.args.file.now first
-    c.args.taken c.args.port.now.known.seen c.take_lines.new.port.known.seen
+    unchanged_leaves D.renews D.seen D.may_leave D.stored D.moment D.left_since c.args.file.now
+    first c.args.taken c.args.port.now.known.seen c.take_lines.new.port.known.seen
     c.take_lines.ensures.watches.sees.seen (c.requires.settled acts)
     (g.met.F.DurableFile.only_now c.args.file.now) saved
 
@@ -18,8 +18,8 @@ rest_of : (lines : List (List ℕ)) (taken count : ℕ) (text slice : List ℕ) 
 rest_of lines taken count text slice is rest =
     subst (λ bytes. IsRest lines taken bytes count) (sym is) rest
 
-pub append_lines-requires-clause-text : goal.append_lines-requires-clause-text
-append_lines-requires-clause-text g c =
+pub append_and_renew-requires-clause-text : goal.append_and_renew-requires-clause-text
+append_and_renew-requires-clause-text g c =
     let lines = lines_of_calls c.take_lines.new.port.known.seen in
     is_text_taken lines c.args.taken c.in_ok-text.count c.as_slice.result.now
     (rest_of lines c.args.taken c.in_ok-text.count c.in_ok-text.text.items c.as_slice.result.now
@@ -31,9 +31,9 @@ returns-in-Ok-clause-saved g c = λ acts first saved.
     let q = c.take_lines.new.port.known.seen in
     let rest = rest_of (lines_of_calls q) c.args.taken c.in_ok-text.count c.in_ok-text.text.items
     c.as_slice.result.now c.as_slice.ensures.value c.in_ok-text.ensures.lines in
-    saved_all first c.args.taken c.in_ok-text.count c.as_slice.result.now
-    c.args.port.now.known.seen q (D.seen c.args.file.now) (D.seen c.append_lines.new.file)
-    c.take_lines.ensures.watches.sees.seen rest saved (c.in-Ok.ensures.lines acts)
+    saved_all D.renews first c.args.taken c.in_ok-text.count c.as_slice.result.now
+    c.args.port.now.known.seen q (D.seen c.args.file.now) (D.seen c.append_and_renew.new.file)
+    c.take_lines.ensures.watches.sees.seen rest saved (c.in-Ok.ensures.lines acts first)
 
 pub returns-in-Ok-clause-any_moment : goal.returns-in-Ok-clause-any_moment
 returns-in-Ok-clause-any_moment g c = λ acts first saved.
@@ -41,10 +41,10 @@ returns-in-Ok-clause-any_moment g c = λ acts first saved.
     let q = c.take_lines.new.port.known.seen in
     let rest = rest_of (lines_of_calls q) c.args.taken c.in_ok-text.count c.in_ok-text.text.items
     c.as_slice.result.now c.as_slice.ensures.value c.in_ok-text.ensures.lines in
-    appended_leaves D.seen D.may_leave D.stored D.moment D.left_since c.args.file.now
-    c.append_lines.new.file first c.args.taken c.in_ok-text.count c.as_slice.result.now
+    appended_leaves D.renews D.seen D.may_leave D.stored D.moment D.left_since c.args.file.now
+    c.append_and_renew.new.file first c.args.taken c.in_ok-text.count c.as_slice.result.now
     c.args.port.now.known.seen q c.take_lines.ensures.watches.sees.seen rest saved
-    (c.append_lines.ensures.any_moment acts)
+    (c.append_and_renew.ensures.any_moment acts first)
 
 pub returns-in-Err-clause-any_moment : goal.returns-in-Err-clause-any_moment
 returns-in-Err-clause-any_moment g c = λ acts first saved.
@@ -52,7 +52,7 @@ returns-in-Err-clause-any_moment g c = λ acts first saved.
     let q = c.take_lines.new.port.known.seen in
     let rest = rest_of (lines_of_calls q) c.args.taken c.in_ok-text.count c.in_ok-text.text.items
     c.as_slice.result.now c.as_slice.ensures.value c.in_ok-text.ensures.lines in
-    appended_leaves D.seen D.may_leave D.stored D.moment D.left_since c.args.file.now
-    c.append_lines.new.file first c.args.taken c.in_ok-text.count c.as_slice.result.now
+    appended_leaves D.renews D.seen D.may_leave D.stored D.moment D.left_since c.args.file.now
+    c.append_and_renew.new.file first c.args.taken c.in_ok-text.count c.as_slice.result.now
     c.args.port.now.known.seen q c.take_lines.ensures.watches.sees.seen rest saved
-    (c.append_lines.ensures.any_moment acts)
+    (c.append_and_renew.ensures.any_moment acts first)

@@ -13,7 +13,7 @@ returns-clause-run g c =
     let D = g.F.DurableFile in
     let started = c.in-Some.started in
     journaled_by D.acts_as_file D.seen D.may_leave D.moment D.left_since D.stored
-    c.args.journal.file c.args.recorder (record {
+    D.renews c.args.journal.file c.args.recorder (record {
       blocks = g.B.BlockSource.forecast c.args.sources.blocks;
       moments = g.M.MomentSource.forecast c.args.sources.moments;
       presses = g.U.ButtonSource.forecast c.args.sources.buttons;

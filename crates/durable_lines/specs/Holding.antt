@@ -1,0 +1,37 @@
+-- The lines that a file holds, also if it was renewed while they were appended: replaced by another
+-- file, in whose text the earlier lines need not be.
+--     IsSameOrRenewed   bytes that are the old ones or renew them
+--     IsRebased         lines, the first of which a file held before it was renewed
+--     HoldsAfter        the lines that a file holds after a number of renewals
+--     Holds             the same, after any number
+use Rattle.std.specs.Prelude.{◌≡◌, ◌⊎◌, ℕ, zero, suc, List, ◌++◌}
+use Rattle.durable_lines.specs.Lines.{lines_in}
+
+-- the same bytes, or bytes that renew them
+abbrev pub IsSameOrRenewed : (Renews : List ℕ → List ℕ → Type 0) → List ℕ → List ℕ → Type 0
+IsSameOrRenewed Renews old new = (new ≡ old) ⊎ Renews old new
+
+-- The file held the lines up to a base. It was then renewed, and the lines from the base on were
+-- appended to the renewed bytes.
+pub record IsRebased (Held : List (List ℕ) → List ℕ → Type 0)
+    (Renews : List ℕ → List ℕ → Type 0) (lines : List (List ℕ)) (bytes : List ℕ) : Type 0 where
+  pub base : List (List ℕ)
+  pub rest : List (List ℕ)
+  pub all : lines ≡ base ++ rest
+  pub old : List ℕ
+  pub held : Held base old
+  pub renewed : List ℕ
+  pub renewal : Renews old renewed
+  pub appended : lines_in bytes ≡ lines_in renewed ++ rest
+
+-- The bytes hold these lines, which follow the lines that the file had first. A file that was never
+-- renewed has all of them. After a renewal it has those from the last base on.
+abbrev pub HoldsAfter : (Renews : List ℕ → List ℕ → Type 0) → (first : List (List ℕ))
+    → (renewals : ℕ) → (lines : List (List ℕ)) → (bytes : List ℕ) → Type 0
+HoldsAfter Renews first zero lines bytes = lines_in bytes ≡ first ++ lines
+HoldsAfter Renews first (suc n) lines bytes =
+    IsRebased (HoldsAfter Renews first n) Renews lines bytes
+
+abbrev pub Holds : (Renews : List ℕ → List ℕ → Type 0) → (first : List (List ℕ))
+    → (lines : List (List ℕ)) → (bytes : List ℕ) → Type 0
+Holds Renews first lines bytes = (n : ℕ) × HoldsAfter Renews first n lines bytes

@@ -1,0 +1,81 @@
+-- Calls of a fleet, one after the other.
+--     FleetCall         a call, with its result
+--     CallsBy           the effect of a call
+--     Calls             the effect of several calls
+--     told_by           the events of the connection with a key
+--     told_at           the events of the meter at a place
+--     StaysOpen         no call ends the connection with a key
+use Rattle.std.specs.Prelude.{◌≡◌, ℕ, ◌==◌, if◌then◌else◌, List, [], ◌∷◌, ◌++◌, None, Result, ⊤}
+use Rattle.slab.specs.Slab.{get}
+use Rattle.relay_recorder.specs.Histories.{Exchange}
+use Rattle.fleet_links.specs.Streams.{StreamState}
+use Rattle.fleet_links.specs.declared.link.LinkEnd.TheVariants.{Memory}
+use Rattle.fleet_links.specs.declared.link.Turn.{Turn}
+use Rattle.fleet_links.specs.declared.link.Turn.TheVariants.{Over}
+use Rattle.fleet_meters.specs.Fleets.{FleetState, AdmitsBy, Runs, Releases}
+use Rattle.fleet_meters.specs.declared.place.Refusal.{Refusal}
+
+-- A call of a fleet: a client came to the meter with a number, with this stream and result; the
+-- connection with a key ran at the place of its meter, which applied these events; it was closed;
+-- or there was no connection with this key.
+pub data FleetCall : Type 0 where
+  admitted : ℕ → StreamState → Result ℕ Refusal → FleetCall
+  ran : ℕ → ℕ → Turn → List Exchange → FleetCall
+  closed : ℕ → FleetCall
+  missed : ℕ → FleetCall
+
+-- the connection with a key ran at a place, and its meter applied these events
+pub record RunsAt (room : ℕ) (old : FleetState) (key place : ℕ) (turn : Turn)
+    (told : List Exchange) (new : FleetState) : Type 0 where
+  pub runs : Runs room old key turn new
+  pub at : runs.before.place ≡ place
+  pub applied : runs.turns.turns.turns.serves.went.told ≡ told
+
+-- the effect of a call; `room` is the size of the buffer for frames
+abbrev pub CallsBy : ℕ → FleetState → FleetCall → FleetState → Type 0
+CallsBy room old (admitted number stream result) new = AdmitsBy old number stream result new
+CallsBy room old (ran key place turn told) new = RunsAt room old key place turn told new
+CallsBy room old (closed key) new = (stream : StreamState) × Releases old key stream new
+CallsBy room old (missed key) new = (get old.clients key ≡ None) × (new ≡ old)
+
+-- the effect of several calls, in order
+abbrev pub Calls : ℕ → FleetState → List FleetCall → FleetState → Type 0
+Calls room old [] new = new ≡ old
+Calls room old (call ∷ calls) new = (between : FleetState) × CallsBy room old call between
+    × Calls room between calls new
+
+-- the events of a call of the connection with a key
+abbrev pub told_in : ℕ → FleetCall → List Exchange
+told_in key (ran k place turn told) = if k == key then told else []
+told_in key (admitted number stream result) = []
+told_in key (closed k) = []
+told_in key (missed k) = []
+
+-- the events of the connection with a key
+abbrev pub told_by : ℕ → List FleetCall → List Exchange
+told_by key [] = []
+told_by key (call ∷ calls) = told_in key call ++ told_by key calls
+
+-- the events of a call at a place
+abbrev pub told_there : ℕ → FleetCall → List Exchange
+told_there place (ran key p turn told) = if p == place then told else []
+told_there place (admitted number stream result) = []
+told_there place (closed key) = []
+told_there place (missed key) = []
+
+-- the events of the meter at a place
+abbrev pub told_at : ℕ → List FleetCall → List Exchange
+told_at place [] = []
+told_at place (call ∷ calls) = told_there place call ++ told_at place calls
+
+-- the connection with a key was closed, or memory ran out in its turn
+abbrev pub IsEnd : ℕ → FleetCall → Type 0
+IsEnd key (ran k place turn told) = (k ≡ key) × (turn ≡ Over Memory)
+IsEnd key (closed k) = k ≡ key
+IsEnd key (admitted number stream result) = ⊥
+IsEnd key (missed k) = ⊥
+
+-- no call ends the connection with a key
+abbrev pub StaysOpen : ℕ → List FleetCall → Type 0
+StaysOpen key [] = ⊤
+StaysOpen key (call ∷ calls) = (¬ (IsEnd key call)) × StaysOpen key calls

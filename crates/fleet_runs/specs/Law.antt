@@ -1,0 +1,56 @@
+-- What holds of a fleet after any calls.
+--     Admitted               a fleet that is new, some calls, an admission, and further calls
+--     HaveTheirFrames        each connection gets the frames of its session, in order
+--     HaveTheirAnswers       a connection that waits has all answers
+--     HaveTheirHistories     each meter's history is that of its own connections
+use Rattle.std.specs.Prelude.{◌≡◌, ◌++◌, ℕ, List, [], Some, Ok}
+use Rattle.relay_recorder.specs.Histories.{Exchange}
+use Rattle.slab.specs.Slab.{get}
+use Rattle.embedded_meter.specs.MeterStates.{MeterState}
+use Rattle.fleet_links.specs.Streams.{StreamState}
+use Rattle.fleet_links.specs.declared.link.Turn.TheVariants.{Waits}
+use Rattle.fleet_meters.specs.Clients.{ClientState}
+use Rattle.fleet_meters.specs.Fleets.{FleetState, IsNewFleet}
+use Rattle.fleet_meters.specs.Places.{meter_in}
+use Rattle.fleet_meters.specs.declared.terms.MeterTerms.{MeterTerms}
+use Rattle.fleet_runs.specs.Calls.{FleetCall, admitted, ran, CallsBy, Calls, StaysOpen, told_by}
+use Rattle.fleet_runs.specs.Calls.{told_at}
+use Rattle.fleet_runs.specs.Lives.{IsServed, HasAnswered, ExtendsHistory}
+
+-- A fleet of meters with these terms was new. After some calls it admitted a connection with this
+-- stream under a key, and after further calls, which did not end the connection, it is `now`.
+pub record Admitted (terms : MeterTerms) (room key : ℕ) (origin : StreamState)
+    (calls : List FleetCall) (now : FleetState) : Type 0 where
+  pub count : ℕ
+  pub number : ℕ
+  pub earlier : List FleetCall
+  pub first : FleetState
+  pub before : FleetState
+  pub after : FleetState
+  pub new : IsNewFleet terms count first
+  pub leads : Calls room first earlier before
+  pub admission : CallsBy room before (admitted number origin (Ok key)) after
+  pub further : Calls room after calls now
+  pub open_since : StaysOpen key calls
+
+-- each connection is written the first frames that its session owes, in order
+abbrev pub HaveTheirFrames : Type 0
+HaveTheirFrames = (terms : MeterTerms) (room key : ℕ) (origin : StreamState)
+    (calls : List FleetCall) (now : FleetState) → Admitted terms room key origin calls now
+    → IsServed terms.password origin (told_by key calls) now key
+
+-- a connection that waits, and has nothing pending, has the answers to all that was read
+abbrev pub HaveTheirAnswers : Type 0
+HaveTheirAnswers = (terms : MeterTerms) (room key place : ℕ) (origin : StreamState)
+    (calls : List FleetCall) (told : List Exchange) (before now : FleetState) (c : ClientState)
+    → Admitted terms room key origin calls before
+    → CallsBy room before (ran key place Waits told) now
+    → get now.clients key ≡ Some c → c.pending ≡ []
+    → HasAnswered terms.password origin (told_by key calls ++ told) c.stream
+
+-- the history of the meter at a place is extended by the events of the connections there, in order
+abbrev pub HaveTheirHistories : Type 0
+HaveTheirHistories = (room place : ℕ) (calls : List FleetCall) (old new : FleetState)
+    (m : MeterState) → Calls room old calls new → meter_in old.places place ≡ Some m
+    → (m' : MeterState) × (meter_in new.places place ≡ Some m')
+    × ExtendsHistory (told_at place calls) m m'

@@ -1,0 +1,7 @@
+//! Theorems about a fleet over any number of calls: each connection gets the frames of its session,
+//! and each meter's history is that of its own connections.
+#![tactic(auto)]
+
+mod law;
+
+pub use law::{answered_connections, separate_histories};

@@ -1,0 +1,3 @@
+pub mod ServedKeys
+pub mod Meeting
+pub mod Rounding

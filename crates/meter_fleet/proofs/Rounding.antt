@@ -1,0 +1,145 @@
+-- Rounds, one after the other.
+use Rattle.std.proofs.Common.{◌≡◌, inl, inr, ℕ, Bool, ◌||◌, List, [], ◌∷◌, ◌++◌, Option, Result, Ok}
+use Rattle.std.proofs.Common.{Err, refl, sym, ◌∙◌, ap, subst, append-nil}
+use Rattle.std.specs.List.{flat_map}
+use Rattle.fleet_meters.specs.Fleets.{FleetState, IsNewFleet}
+use Rattle.fleet_meters.specs.declared.terms.MeterTerms.{MeterTerms}
+use Rattle.fleet_runs.proofs.Steps.{calls_on}
+use Rattle.meter_fleet.specs.Networks.{NetworkEvent, woke, Tells}
+use Rattle.meter_fleet.specs.Rounds.{service_calls, arrival_calls, client_events, MeetsClients}
+use Rattle.meter_fleet.specs.Rounds.{ServesKeys, ServesAll, Round, LoopState, may_wait, Works}
+use Rattle.meter_fleet.specs.Rounds.{DoesRound, FailsBy, RoundBy, DoesRounds, ServesUntil, ServesBy}
+use Rattle.meter_fleet.specs.Rounds.{start_of, frame_bytes}
+use Rattle.meter_fleet.specs.declared.serving.FleetFault.{FleetFault}
+use Rattle.meter_fleet.specs.declared.serving.FleetFault.TheVariants.{Network, Memory}
+use Rattle.meter_fleet.proofs.Meeting.{tells_on}
+
+-- ---- one round
+
+works : (old : LoopState) (keys : List ℕ) (has_clients has_more : Bool) (left done again : List ℕ)
+    (log log' : Option (List NetworkEvent)) (f f' : FleetState)
+    → Tells old.log (woke (may_wait old) keys has_clients ∷ []) log
+    → (meets : MeetsClients (old.has_clients || has_clients) log old.fleet has_more log' f)
+    → done ++ left ≡ old.ready ++ keys → (serves : ServesKeys f done again f')
+    → Works old (record {
+      keys = keys;
+      has_clients = has_clients;
+      arrivals = meets.arrivals;
+      has_more = has_more;
+      services = serves.services;
+    }) left log' f'
+works old keys has_clients has_more left done again log log' f f' tells meets split serves =
+    record {
+      told = tells_on old.log log log' (woke (may_wait old) keys has_clients ∷ [])
+          (client_events (old.has_clients || has_clients) meets.arrivals has_more) tells meets.told;
+      met = meets.met;
+      served = ap (λ (ks : List ℕ). ks ++ left) serves.keys_are ∙ split;
+      calls = calls_on frame_bytes (flat_map arrival_calls meets.arrivals)
+          (flat_map service_calls serves.services) old.fleet f f' meets.calls serves.calls;
+    }
+
+round_by : (old new : LoopState) (keys all : List ℕ) (has_clients : Bool)
+    (log : Option (List NetworkEvent)) (f : FleetState) (result : Result Unit FleetFault)
+    → Tells old.log (woke (may_wait old) keys has_clients ∷ []) log
+    → MeetsClients (old.has_clients || has_clients) log old.fleet new.has_clients new.log f
+    → all ≡ old.ready ++ keys → ServesAll f all result new.ready new.fleet
+    → RoundBy old result new
+round_by old new keys all has_clients log f (Ok done) tells meets is serves = (
+  record {
+    keys = keys;
+    has_clients = has_clients;
+    arrivals = meets.arrivals;
+    has_more = new.has_clients;
+    services = serves.services;
+  },
+  record {
+    works = works old keys has_clients new.has_clients [] all new.ready log new.log f new.fleet
+        tells meets (append-nil all ∙ is) serves;
+    goes_on = serves.again_are;
+    has_more = refl;
+  },
+)
+round_by old new keys all has_clients log f (Err Network) tells meets is serves = absurd serves
+round_by old new keys all has_clients log f (Err Memory) tells meets is serves = inr (
+  record {
+    keys = keys;
+    has_clients = has_clients;
+    arrivals = meets.arrivals;
+    has_more = new.has_clients;
+    services = serves.serves.services;
+  },
+  serves.left,
+  works old keys has_clients new.has_clients serves.left serves.done serves.again log new.log f
+      new.fleet tells meets (serves.split ∙ is) serves.serves,
+)
+
+-- the parts of a round
+pub round_next : (log log' log'' : Option (List NetworkEvent)) (f f' f'' : FleetState)
+    (ready ready' again keys : List ℕ) (waits had has has_more had' : Bool)
+    (result : Result Unit FleetFault)
+    → waits ≡ may_wait (record { log = log; fleet = f; ready = ready; has_clients = had })
+    → Tells log (woke waits keys has ∷ []) log'
+    → MeetsClients (had || has) log' f has_more log'' f' → had' ≡ has_more
+    → ready' ≡ ready ++ keys → ServesAll f' ready' result again f''
+    → RoundBy (record { log = log; fleet = f; ready = ready; has_clients = had }) result
+    (record { log = log''; fleet = f''; ready = again; has_clients = had' })
+round_next log log' log'' f f' f'' ready ready' again keys waits had has has_more had' result is
+    tells meets same grown serves =
+    round_by (record { log = log; fleet = f; ready = ready; has_clients = had })
+    (record { log = log''; fleet = f''; ready = again; has_clients = had' }) keys ready' has log'
+    f' result (subst (λ (w : Bool). Tells log (woke w keys has ∷ []) log') is tells)
+    (subst (λ (m : Bool). MeetsClients (had || has) log' f m log'' f') (sym same) meets) grown
+    serves
+
+-- ---- several rounds
+
+-- these rounds were done
+pub record DoneRounds (old new : LoopState) : Type 0 where
+  pub rounds : List Round
+  pub does : DoesRounds old rounds new
+
+pub done_none : (s : LoopState) → DoneRounds s s
+done_none s = record { rounds = []; does = refl }
+
+rounds_on : (a b c : LoopState) (rounds : List Round) (round : Round) → DoesRounds a rounds b
+    → DoesRound b round c → DoesRounds a (rounds ++ round ∷ []) c
+rounds_on a b c [] round first then_ =
+    (c, subst (λ (x : LoopState). DoesRound x round c) first then_, refl)
+rounds_on a b c (r ∷ rounds) round first then_ = (
+  first.0,
+  first.1,
+  rounds_on first.0 b c rounds round first.2 then_,
+)
+
+pub done_on : (a b c : LoopState) → DoneRounds a b → RoundBy b (Ok tt) c → DoneRounds a c
+done_on a b c first then_ = record {
+  rounds = first.rounds ++ then_.0 ∷ [];
+  does = rounds_on a b c first.rounds then_.0 first.does then_.1;
+}
+
+pub until : (log log' : Option (List NetworkEvent)) (f f' : FleetState) (last : LoopState)
+    (fault : FleetFault) → DoneRounds (start_of log f) last → FailsBy last fault log' f'
+    → ServesUntil log f fault log' f'
+until log log' f f' last fault done fails = record {
+  rounds = done.rounds;
+  last = last;
+  does = done.does;
+  fails = fails;
+}
+
+pub no_buffers : (log : Option (List NetworkEvent)) (f : FleetState)
+    → ServesUntil log f Memory log f
+no_buffers log f = record {
+  rounds = [];
+  last = start_of log f;
+  does = refl;
+  fails = inl (refl, refl);
+}
+
+pub serves_by : (terms : MeterTerms) (count : ℕ) (log log' : Option (List NetworkEvent))
+    (first final : FleetState) (fault : FleetFault) → IsNewFleet terms count first
+    → ServesUntil log first fault log' final → ServesBy terms count log fault log'
+serves_by terms count log log' first final Network new serves =
+    record { first = first; final = final; new = new; serves = serves }
+serves_by terms count log log' first final Memory new serves =
+    inr (record { first = first; final = final; new = new; serves = serves })

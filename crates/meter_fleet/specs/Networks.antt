@@ -1,0 +1,47 @@
+-- What a network reports.
+--     NetworkEvent     a report
+--     Tells            a network reported these events
+--     WaitsBy          it was waited for
+--     AcceptsBy        it was asked for a client
+use Rattle.std.specs.Prelude.{◌≡◌, ◌++◌, ℕ, Bool, List, [], ◌∷◌, Option, Some, None, Result, Ok}
+use Rattle.std.specs.Prelude.{Err, ⊤}
+use Rattle.fleet_links.specs.Streams.{StreamState}
+use Rattle.meter_fleet.specs.declared.network.NextClient.{NextClient}
+use Rattle.meter_fleet.specs.declared.network.NextClient.TheVariants as next
+
+-- A report of a network: `woke` with the keys of connections that are ready, and whether clients
+-- may be waiting, after a call that might wait or not; such a call failed; a client was accepted,
+-- whose connection has this key, with the address that it named and its stream; a client was
+-- closed at once; no client was waiting.
+pub data NetworkEvent : Type 0 where
+  woke : Bool → List ℕ → Bool → NetworkEvent
+  failed : Bool → NetworkEvent
+  accepted : ℕ → List ℕ → StreamState → NetworkEvent
+  rejected : NetworkEvent
+  nobody : NetworkEvent
+
+-- the network reported these events, if what it reports is known
+abbrev pub Tells : Option (List NetworkEvent) → List NetworkEvent → Option (List NetworkEvent)
+    → Type 0
+Tells None events new = ⊤
+Tells (Some log) events None = ⊥
+Tells (Some log) events (Some log') = log' ≡ log ++ events
+
+-- the network was waited for, and appended the keys that it reported
+abbrev pub WaitsBy : {E : Type 0} → Option (List NetworkEvent) → Bool → List ℕ → Result Bool E
+    → List ℕ → Option (List NetworkEvent) → Type 0
+WaitsBy old may_wait ready (Ok has_clients) ready' new = (keys : List ℕ) × (ready' ≡ ready ++ keys)
+    × Tells old (woke may_wait keys has_clients ∷ []) new
+WaitsBy old may_wait ready (Err fault) ready' new = Tells old (failed may_wait ∷ []) new
+
+module _ {S : Type 0} (state : S → StreamState) where
+  -- the report of a client whose connection is to have this key
+  abbrev pub event_of : ℕ → NextClient S → NetworkEvent
+  event_of key (next.Client stream address) = accepted key address (state stream)
+  event_of key next.Closed = rejected
+  event_of key next.None = nobody
+
+  -- the network was asked for a client
+  abbrev pub AcceptsBy : Option (List NetworkEvent) → ℕ → NextClient S
+      → Option (List NetworkEvent) → Type 0
+  AcceptsBy old key client new = Tells old (event_of key client ∷ []) new
