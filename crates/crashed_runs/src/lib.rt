@@ -1,4 +1,4 @@
-//! Runs of a meter with a journal that a crash ends: which meter is resumed from what is left.
+//! Runs of a meter with a journal that a crash ends: which meter is resumed from the journal.
 //!
 //! `meter_run::run_journaled_meter` says which lines a file holds after a crash at any moment, and
 //! `journal_files::resume_journal` what a meter continues that is resumed from a file. The law of

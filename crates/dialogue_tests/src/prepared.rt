@@ -27,7 +27,7 @@ const ANSWERS: [(&str, Reply, &str); 5] = [
 ];
 
 /// Returns the prepared answer to a request, completed by the reply.
-fn prepared(alloc: Global, request: &[u8], reply: &Reply) -> Result<Octets, AllocError> {
+fn prepare_answer(alloc: Global, request: &[u8], reply: &Reply) -> Result<Octets, AllocError> {
     match ask_unframed(alloc, request)? {
         Unframed::Ask(event, asked) => {
             drop(event);
@@ -48,7 +48,7 @@ fn is_text(alloc: Global, text: &str, bytes: &[u8]) -> Result<bool, Fail> {
 /// Returns whether the prepared answer to a request is this answer, both in hexadecimal.
 fn is_answered(alloc: Global, request: &str, reply: &Reply, answer: &str) -> Result<bool, Fail> {
     let request = hex::decode(alloc, request)?;
-    let text = prepared(alloc, request.as_slice(), reply);
+    let text = prepare_answer(alloc, request.as_slice(), reply);
     drop(request);
     let text = text?;
     let is_so = is_text(alloc, answer, text.as_slice());

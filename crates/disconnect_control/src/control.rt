@@ -128,7 +128,8 @@ impl DisconnectControl {
     /// Connected.
     pub fn of(state: ControlState, mode: ControlMode) -> Option<DisconnectControl>
         ensures none { IsNone result ↔ ((mode ≡ Mode0) × (state ≢ Connected)) }
-        ensures control { IfSome result (λ control. control ≡ record { state = state; mode = mode }) }
+        ensures control { IfSome result
+            (λ control. control ≡ record { state = state; mode = mode }) }
     {
         if mode == ControlMode::Mode0 && state != ControlState::Connected {
             return None;

@@ -27,7 +27,7 @@ use Rattle.fleet_meters.specs.Fleets.{FleetState, IsNewFleet, Isolated, Admits}
 use Rattle.fleet_meters.specs.Places.{meter_in, session_of, session_in}
 use Rattle.fleet_meters.specs.declared.terms.MeterTerms.{MeterTerms}
 use Rattle.fleet_runs.specs.Calls.{FleetCall, admitted, ran, closed, missed, RunsAt, CallsBy, Calls}
-use Rattle.fleet_runs.specs.Calls.{IsEnd, StaysOpen, told_in, told_by}
+use Rattle.fleet_runs.specs.Calls.{IsEnd, StaysOpen, told_in, exchanges_at}
 use Rattle.fleet_runs.specs.Law.{HaveTheirFrames, HaveTheirAnswers}
 use Rattle.fleet_runs.specs.Lives.{Remains, Lives, IsServed, HasAnswered}
 use Rattle.fleet_runs.proofs.Steps.{by_number, refused, IsGuarded, made_guarded, guarded_calls}
@@ -281,7 +281,7 @@ served_call password origin told room key (missed k) f f' never by served =
 served_calls : (password : List ℕ) (origin : StreamState) (told : List Exchange) (room key : ℕ)
     (calls : List FleetCall) (f f' : FleetState) → StaysOpen key calls → Calls room f calls f'
     → IsServed password origin told f key
-    → IsServed password origin (told ++ told_by key calls) f' key
+    → IsServed password origin (told ++ exchanges_at key calls) f' key
 served_calls password origin told room key [] f f' open_ by served =
     told_nothing password origin told f' key
     (served_same password origin told f f' key
@@ -289,7 +289,7 @@ served_calls password origin told room key [] f f' open_ by served =
     (ap (λ (x : FleetState). get x.clients key) by) served)
 served_calls password origin told room key (call ∷ calls) f f' open_ by served =
     subst (λ (t : List Exchange). IsServed password origin t f' key)
-    (append_assoc told (told_in key call) (told_by key calls))
+    (append_assoc told (told_in key call) (exchanges_at key calls))
     (served_calls password origin (told ++ told_in key call) room key calls by.0 f' open_.1 by.2
     (served_call password origin told room key call f by.0 open_.0 by.1 served))
 
@@ -305,7 +305,7 @@ have_frames terms room key origin calls now a =
     (guarded_new terms a.count a.first a.new) a.leads in
     let same : a.before.terms ≡ terms =
     terms_kept room a.first a.before a.earlier a.leads ∙ a.new.terms_are in
-    subst (λ (t : MeterTerms). IsServed t.password origin (told_by key calls) now key) same
+    subst (λ (t : MeterTerms). IsServed t.password origin (exchanges_at key calls) now key) same
     (served_calls a.before.terms.password origin [] room key calls a.after now a.open_since
     a.further (served_new a.before a.after a.admission.0 key origin guarded a.admission.2))
 
@@ -354,13 +354,14 @@ waits_not_over e = subst waiting e tt
 pub have_answers : HaveTheirAnswers
 have_answers terms room key place origin calls told before now c a by is none =
     let turns = by.runs.turns in
-    let lives = ran_lives terms.password origin (told_by key calls) told room before now key place
+    let lives = ran_lives terms.password origin (exchanges_at key calls)
+    told room before now key place
     Waits waits_not_over by (have_frames terms room key origin calls before a) in
     let same : by.runs.after ≡ c = same_Some by.runs.after c (sym by.runs.is ∙ is) in
     let idle = if_some (dialogue_at turns.after by.runs.before.number) IsIdle
     turns.turns.turns.serves.after turns.turns.turns.serves.is
     (turns.turns.turns.stops.1 (ap (λ (x : ClientState). x.pending) same ∙ none)) in
-    idle_answers terms.password origin (told_by key calls ++ told) c
+    idle_answers terms.password origin (exchanges_at key calls ++ told) c
     turns.turns.turns.serves.after
-    (subst (λ (x : ClientState). Lives terms.password origin (told_by key calls ++ told) x
+    (subst (λ (x : ClientState). Lives terms.password origin (exchanges_at key calls ++ told) x
     turns.turns.turns.serves.after) same lives) idle none

@@ -2,7 +2,7 @@
 --     FleetCall         a call, with its result
 --     CallsBy           the effect of a call
 --     Calls             the effect of several calls
---     told_by           the events of the connection with a key
+--     exchanges_at           the events of the connection with a key
 --     told_at           the events of the meter at a place
 --     StaysOpen         no call ends the connection with a key
 use Rattle.std.specs.Prelude.{◌≡◌, ℕ, ◌==◌, if◌then◌else◌, List, [], ◌∷◌, ◌++◌, None, Result, ⊤}
@@ -52,9 +52,9 @@ told_in key (closed k) = []
 told_in key (missed k) = []
 
 -- the events of the connection with a key
-abbrev pub told_by : ℕ → List FleetCall → List Exchange
-told_by key [] = []
-told_by key (call ∷ calls) = told_in key call ++ told_by key calls
+abbrev pub exchanges_at : ℕ → List FleetCall → List Exchange
+exchanges_at key [] = []
+exchanges_at key (call ∷ calls) = told_in key call ++ exchanges_at key calls
 
 -- the events of a call at a place
 abbrev pub told_there : ℕ → FleetCall → List Exchange

@@ -13,7 +13,7 @@ use Rattle.fleet_meters.specs.Clients.{ClientState}
 use Rattle.fleet_meters.specs.Fleets.{FleetState, IsNewFleet}
 use Rattle.fleet_meters.specs.Places.{meter_in}
 use Rattle.fleet_meters.specs.declared.terms.MeterTerms.{MeterTerms}
-use Rattle.fleet_runs.specs.Calls.{FleetCall, admitted, ran, CallsBy, Calls, StaysOpen, told_by}
+use Rattle.fleet_runs.specs.Calls.{FleetCall, admitted, ran, CallsBy, Calls, StaysOpen, exchanges_at}
 use Rattle.fleet_runs.specs.Calls.{told_at}
 use Rattle.fleet_runs.specs.Lives.{IsServed, HasAnswered, ExtendsHistory}
 
@@ -37,7 +37,7 @@ pub record Admitted (terms : MeterTerms) (room key : ℕ) (origin : StreamState)
 abbrev pub HaveTheirFrames : Type 0
 HaveTheirFrames = (terms : MeterTerms) (room key : ℕ) (origin : StreamState)
     (calls : List FleetCall) (now : FleetState) → Admitted terms room key origin calls now
-    → IsServed terms.password origin (told_by key calls) now key
+    → IsServed terms.password origin (exchanges_at key calls) now key
 
 -- a connection that waits, and has nothing pending, has the answers to all that was read
 abbrev pub HaveTheirAnswers : Type 0
@@ -46,7 +46,7 @@ HaveTheirAnswers = (terms : MeterTerms) (room key place : ℕ) (origin : StreamS
     → Admitted terms room key origin calls before
     → CallsBy room before (ran key place Waits told) now
     → get now.clients key ≡ Some c → c.pending ≡ []
-    → HasAnswered terms.password origin (told_by key calls ++ told) c.stream
+    → HasAnswered terms.password origin (exchanges_at key calls ++ told) c.stream
 
 -- the history of the meter at a place is extended by the events of the connections there, in order
 abbrev pub HaveTheirHistories : Type 0

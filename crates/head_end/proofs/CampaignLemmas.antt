@@ -170,8 +170,8 @@ unused_at old new tells_of stage_of row_of turns workers jobs passwords count sa
 -- the use of their attempts by all jobs
 pub are_tried : {X : Type 0} (old new : List X) (tells_of : X → List ℕ
     → Option Forecast) (stage_of : X → State) (row_of : X → Row)
-    (turns workers : ℕ) (jobs : List Job) (passwords : List (List ℕ)) (blank lines : List ReportLine)
-    → 0 < workers → length jobs < turns * workers
+    (turns workers : ℕ) (jobs : List Job) (passwords : List (List ℕ))
+    (blank lines : List ReportLine) → 0 < workers → length jobs < turns * workers
     → map (λ (l : ReportLine). l.id) blank ≡ map (λ (j : Job). j.id) jobs
     → length old ≡ turns * workers → length new ≡ length old
     → EachChange (λ slot o n. IsRun turns workers jobs passwords slot (tells_of o) (stage_of n)

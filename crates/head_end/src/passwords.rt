@@ -101,12 +101,12 @@ fn find_wrong_line(text: &[u8]) -> Option<u64>
 {
     let mut rest = text;
     let mut number: u64 = 1;
-    'lines: while let Some((line, behind)) = split_line(rest) {
+    'lines: while let Some((line, next_rest)) = split_line(rest) {
         if !is_password_line(line) {
             return Some(number);
         }
         number += 1;
-        rest = behind;
+        rest = next_rest;
     }
     if is_password_line(rest) {
         None
@@ -151,11 +151,11 @@ fn find_password<'a>(text: &'a [u8], name: &[u8]) -> Option<&'a [u8]>
     ensures { option_copied result ≡ password_of (job_lines text.now) name.now }
 {
     let mut rest = text;
-    'lines: while let Some((line, behind)) = split_line(rest) {
+    'lines: while let Some((line, next_rest)) = split_line(rest) {
         if let Some(password) = password_in(line, name) {
             return Some(password);
         }
-        rest = behind;
+        rest = next_rest;
     }
     password_in(rest, name)
 }

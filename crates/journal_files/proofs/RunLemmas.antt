@@ -1,4 +1,4 @@
--- A journal that was renewed while its meter ran tells the run.
+-- A journal that was renewed while its meter ran has the events of the run.
 use Rattle.std.proofs.Common.{◌≡◌, ℕ, zero, suc, ◌≤◌, Bool, true, false, List, [], ◌∷◌, ◌++◌}
 use Rattle.std.proofs.Common.{Result, Ok, Err, length}
 use Rattle.std.specs.Prelude.{if◌then◌else◌}
@@ -134,8 +134,8 @@ grown text first events c trace is_text journal told are lines read =
     subst (λ (bytes : List ℕ). length bytes ≤ max_bytes) is
     (short_text (text_of (lines_in c)) trace read) in
     same_trace (trace_of (text_of (lines_in c))) (with_events first events) trace
-    (ap trace_of is ∙ appended_again text first events [] journal told (whole_text-text text is_text)
-    are no_tail short)
+    (ap trace_of is ∙ appended_again text first events [] journal told
+    (whole_text-text text is_text) are no_tail short)
     read
 
 -- ---- a journal that was renewed meanwhile

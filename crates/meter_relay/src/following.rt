@@ -55,12 +55,12 @@ pub fn follow_text<W: Write + Drop, L: ChangeReport>(
     ensures { OnOk result (FollowsOn W.contents (lines_of text.now) relay.old relay.new) }
 {
     let mut rest = text;
-    'lines: while let Some((line, behind)) = split_line(rest) {
+    'lines: while let Some((line, next_rest)) = split_line(rest) {
         match follow_line(alloc, relay, line) {
             Ok(()) => {}
             Err(fault) => return Err(fault),
         }
-        rest = behind;
+        rest = next_rest;
     }
     Ok(())
 }

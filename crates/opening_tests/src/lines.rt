@@ -155,7 +155,11 @@ fn are_wrong(alloc: Global, version: Version, text: &[u8]) -> bool {
 }
 
 // Appends `count` samples of 5 to a line, and returns whether it is read.
-fn is_read_behind(alloc: Global, line: &mut Vec<u8>, count: usize) -> Result<bool, AllocError> {
+fn is_read_with_samples(
+    alloc: Global,
+    line: &mut Vec<u8>,
+    count: usize,
+) -> Result<bool, AllocError> {
     for _ in 0..count {
         line.extend_from_slice(b" 5")?;
     }
@@ -165,7 +169,7 @@ fn is_read_behind(alloc: Global, line: &mut Vec<u8>, count: usize) -> Result<boo
 // Returns whether a line of `count` samples is read.
 fn is_read_with(alloc: Global, count: usize) -> Result<bool, AllocError> {
     let mut line = Vec::from_slice(alloc, b"samples")?;
-    let read = is_read_behind(alloc, &mut line, count);
+    let read = is_read_with_samples(alloc, &mut line, count);
     drop(line);
     read
 }

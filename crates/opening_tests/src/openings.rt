@@ -408,7 +408,8 @@ fn a_line_that_is_missing_is_told(rt: HostRuntime) -> Result<(), Fail> {
 const VERSIONS: &[Other] = &[
     Other::Wrong(
         1,
-        b"\nRELAYTRACE\nRELAYTRACE 0\nRELAYTRACE 3\nRELAYTRACE 01\nRELAYTRACE 1 1\nRELAYTRACE  1\nrelaytrace 1\nRELAYTRACE 1 \nRELAYTRACE\t1\nRELAYTRACE 1\r\n",
+        b"\nRELAYTRACE\nRELAYTRACE 0\nRELAYTRACE 3\nRELAYTRACE 01\nRELAYTRACE 1 1\nRELAYTRACE  1\n\
+            relaytrace 1\nRELAYTRACE 1 \nRELAYTRACE\t1\nRELAYTRACE 1\r\n",
     ),
     Other::WrongAt(16, 1, b"RELAYTRACE 2\n"),
 ];
@@ -459,7 +460,8 @@ fn mode_0_goes_with_state_1_alone(rt: HostRuntime) {
 const VALUES: &[Other] = &[
     Other::Wrong(
         5,
-        b"value\nvalue 4294967296\nvalue 00\nvalue 0 0\nvalue  0\nvalue -\nvalue\t0\nvalue 0\r\nxvalue 0\n",
+        b"value\nvalue 4294967296\nvalue 00\nvalue 0 0\nvalue  0\nvalue -\nvalue\t0\nvalue 0\r\n\
+            xvalue 0\n",
     ),
     Other::Wrong(6, b"now\nnow --\nnow - -\nnow 4294967296\nnow 05\n"),
     Other::Wrong(7, b"normal\nnormal 4294967296\nxnormal 1\nnormal 1 1\n"),
@@ -527,7 +529,8 @@ fn a_limiter_has_up_to_32_groups(rt: HostRuntime) {
 const NEW_RUNS: &[Other] = &[
     Other::Wrong(
         14,
-        b"over\nover 0\nover 0 1\nover 1 0\nover 0 2\nover 0 0 0\nover 42949672950 0\nover 42949672951 1\nxover 0 0\n",
+        b"over\nover 0\nover 0 1\nover 1 0\nover 0 2\nover 0 0 0\nover 42949672950 0\n\
+            over 42949672951 1\nxover 0 0\n",
     ),
     Other::Wrong(
         15,

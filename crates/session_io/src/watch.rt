@@ -31,7 +31,8 @@ pub trait SessionWatch {
         ensures uncounted { OnErr result (R.reads reader.new ≡ R.reads reader.old) }
         ensures failures_unchanged { OnOk result (R.failures reader.new ≡ R.failures reader.old) }
         ensures cause { OnErr result (R.failures reader.old < R.failures reader.new) }
-        ensures passes { Passes (passed self.old) (read_entry result buffer.new) (passed self.new) };
+        ensures passes { Passes (passed self.old) (read_entry result buffer.new)
+            (passed self.new) };
 
     /// Writes all the bytes to the writer, and returns the writer's result.
     fn write_all<W: Writer>(&mut self, writer: &mut W, bytes: &[u8]) -> Result<(), StreamFault>
@@ -41,7 +42,8 @@ pub trait SessionWatch {
         ensures ready { OnOk result (W.can_write writer.new) }
         ensures failures_unchanged { OnOk result (W.failures writer.new ≡ W.failures writer.old) }
         ensures cause { OnErr result (W.failures writer.old < W.failures writer.new) }
-        ensures passes { Passes (passed self.old) (write_entry result bytes.now) (passed self.new) };
+        ensures passes { Passes (passed self.old) (write_entry result bytes.now)
+            (passed self.new) };
 
     /// Calls the meter, and returns its result.
     fn call<M: Meter>(

@@ -4,13 +4,13 @@ use Rattle.head_end.proofs.passwords.find_password.Goals as goal
 
 pub returns-in-Some-password_in : goal.returns-in-Some-password_in
 returns-in-Some-password_in c =
-    found_here c.args.text.now c.lines.rest.now c.in-Some.line.now c.in-Some.behind.now
+    found_here c.args.text.now c.lines.rest.now c.in-Some.line.now c.in-Some.next_rest.now
     c.args.name.now c.in-Some-password_in.password.now c.lines.invariant c.in-Some.ensures.lines
     c.in-Some.ensures.unended (search rules)
 
 pub lines-preserved : goal.lines-preserved
 lines-preserved c =
-    found_later c.args.text.now c.lines.rest.now c.in-Some.line.now c.in-Some.behind.now
+    found_later c.args.text.now c.lines.rest.now c.in-Some.line.now c.in-Some.next_rest.now
     c.args.name.now c.lines.invariant c.in-Some.ensures.lines c.in-Some.ensures.unended
     (search rules)
 

@@ -5,7 +5,7 @@ use Rattle.head_end.proofs.passwords.find_wrong_line.Goals as goal
 
 pub returns-then-not-is_password_line : goal.returns-then-not-is_password_line
 returns-then-not-is_password_line c =
-    wrong_here c.args.text.now c.lines.rest.now c.in-Some.line.now c.in-Some.behind.now
+    wrong_here c.args.text.now c.lines.rest.now c.in-Some.line.now c.in-Some.next_rest.now
     c.lines.number c.lines.invariant c.in-Some.ensures.lines c.in-Some.ensures.unended
     (search rules)
 
@@ -14,7 +14,7 @@ overflow_add-number c = omega (arith, c.lines.invariant.count, lines_few c.args.
 
 pub lines-preserved : goal.lines-preserved
 lines-preserved c =
-    right_here c.args.text.now c.lines.rest.now c.in-Some.line.now c.in-Some.behind.now
+    right_here c.args.text.now c.lines.rest.now c.in-Some.line.now c.in-Some.next_rest.now
     c.lines.number c.lines.invariant c.in-Some.ensures.lines c.in-Some.ensures.unended
     (search rules)
 
