@@ -121,8 +121,9 @@ def entries(ledger):
         with contextlib.closing(sqlite3.connect(copy)) as database:
             try:
                 found = {name: database.execute(query).fetchall() for name, query in TABLES.items()}
-            except sqlite3.OperationalError as error:
-                assert "no such table" in str(error), error
+            except sqlite3.DatabaseError as error:
+                # (a sync that fails while the tables are made leaves such files until the next run)
+                assert "no such table" in str(error) or "not a database" in str(error), error
                 return None
             whole = database.execute("PRAGMA integrity_check").fetchall()
     outcomes = {place: kind if number is None else f"{kind} {number}"
