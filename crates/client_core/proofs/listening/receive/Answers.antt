@@ -8,7 +8,7 @@ frames-smaller c = fewer c.frames.deframer c.in-Ok-Some.frame c.take.new.self
 pub frames-preserved : goal.frames-preserved
 frames-preserved c =
     let goes_on = rw c.in-Ok-Some.field-0-is at c.in-Ok-Some.ensures.keeps_frames in
-    rw c.after_frame-progress.ensures
+    rw c.progress_after_frame-progress.ensures
     (moves_twice c.args.verb c.args.progress c.args.deframer.now c.frames.progress c.frames.deframer
     _ c.take.new.self c.frames.invariant
     (moves_frame c.args.verb c.frames.progress c.frames.deframer c.in-Ok-Some.frame c.take.new.self
