@@ -23,7 +23,9 @@ fn a_reader_goes_from_left_to_right(rt: HostRuntime) {
 #[test]
 fn a_reader_answers_the_fault_that_it_is_given(rt: HostRuntime) {
     assert!(rt; Cursor::new(&[]).read_byte(ApduFault::UnknownTag) == Err(ApduFault::UnknownTag));
-    assert!(rt; Cursor::new(&GOT).read_bytes(7, ApduFault::UnknownForm) == Err(ApduFault::UnknownForm));
+    assert!(rt;
+        Cursor::new(&GOT).read_bytes(7, ApduFault::UnknownForm) == Err(ApduFault::UnknownForm)
+    );
     let array: Result<[u8; 7], ApduFault> = Cursor::new(&GOT).read_array(ApduFault::Unreadable);
     assert!(rt; array == Err(ApduFault::Unreadable));
 }
