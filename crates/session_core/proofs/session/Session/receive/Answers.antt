@@ -17,4 +17,4 @@ returns-clause-works c =
     c.requires.listening c.requires.whole c.ports-src.ensures.src c.ports-src.ensures.dst
     c.if-dst-ne-SERVER_PORT.false c.payload-payload.ensures
     c.pass-2.ensures.new_state c.pass-2.ensures.keeps_frames c.in_ok-step.ensures.outcome
-    c.in_ok-step.ensures.after c.take.ensures.next c.take.ensures.new_state
+    c.in_ok-step.ensures.new_state c.take.ensures.next c.take.ensures.new_state
