@@ -5,8 +5,8 @@ ghost use Rattle.meter_relay.specs.OptionalFile.{HasFailed};
 use durable_lines::{DurableFile, FileFault};
 use std::alloc::Global;
 
-/// The file of a journal, or none: then each call succeeds, and nothing is written. Nothing is
-/// claimed of the bytes. A cut is refused and fails the file.
+/// A file, or none: then each call succeeds, and nothing is written. Nothing is claimed of the
+/// bytes. It is never renewed, and a cut is refused and fails it.
 #[derive(Drop)]
 pub struct OptionalFile<F: DurableFile> {
     file: Option<F>,

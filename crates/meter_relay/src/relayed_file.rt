@@ -115,6 +115,8 @@ impl<F: DurableFile, W: Write + Drop, L: ChangeReport> DurableFile for RelayedFi
 
     ghost stored = { F.stored };
 
+    ghost renews = { F.renews };
+
     ghost has_failed = { HasFailed };
 
     ghost counts_now = { λ r t c le now. F.counts_now r.file t c le now };
@@ -158,6 +160,19 @@ impl<F: DurableFile, W: Write + Drop, L: ChangeReport> DurableFile for RelayedFi
             return Err(FileFault::Failed);
         }
         match self.sync_and_give() {
+            Ok(()) => Ok(()),
+            Err(_) => {
+                self.has_failed = true;
+                Err(FileFault::Failed)
+            }
+        }
+    }
+
+    fn renew(&mut self) -> Result<(), FileFault> {
+        if self.has_failed {
+            return Err(FileFault::Failed);
+        }
+        match self.file.renew() {
             Ok(()) => Ok(()),
             Err(_) => {
                 self.has_failed = true;

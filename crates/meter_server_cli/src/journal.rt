@@ -1,13 +1,13 @@
 //! The journal of `serve`: its lock file, its file, the recorder that resumes where it ends, and
 //! the relay that is given what the journal has.
-ghost use Rattle.std.specs.Prelude.{◌≡◌, [], None, IfOk, IfSome, OnOk, length};
-ghost use Rattle.journal_files.specs.Renewals.{IsRenewedAs};
+ghost use Rattle.std.specs.Prelude.{◌≡◌, None, IfOk, IfSome, OnOk, length};
+ghost use Rattle.durable_lines.specs.Lines.{IsSettled};
 ghost use Rattle.meter_run.specs.Journaled.{IsJournaledRun};
 ghost use Rattle.meter_server_cli.specs.Endings.{PrintsText};
 
 use crate::ending::print_trace;
 use crate::serving::{ClientParameters, meter_sources};
-use durable_lines::{LockFault, LockFile, PlacePaths, StoredFile, StoredPlace};
+use durable_lines::{DurableFile, LockFault, LockFile, PlacePaths, StoredFile, StoredPlace};
 use journal_files::{
     RenewalTerms, RenewedFile, Resumed, StartFault, begin_journal, renew_long_journal,
     resume_journal,
@@ -41,14 +41,34 @@ pub(crate) struct OpenJournal {
     lock: LockFile,
 }
 
-// A journal with the relay of the meter, or either of them.
+// The file of a journal, with the relay of the meter if it has one.
+type JournalFile = RelayedFile<RenewedFile<StoredPlace<HostRuntime>>, File, RelayLog<HostRuntime>>;
+
+// The file of a meter that has a relay, but no journal.
+type RelayFile = RelayedFile<
+    OptionalFile<RenewedFile<StoredPlace<HostRuntime>>>,
+    File,
+    RelayLog<HostRuntime>,
+>;
+
+// A file that is given the lines of a meter's events.
 #[derive(Drop)]
-pub(crate) struct RelayedJournal {
+pub(crate) struct EventFile<F: DurableFile> {
     // The path of the journal, or of the relay if there is no journal.
     path: String,
-    file: RelayedFile<OptionalFile<RenewedFile<HostRuntime>>, File, RelayLog<HostRuntime>>,
+    file: F,
     // The lock of the journal, if there is one.
     lock: Option<LockFile>,
+}
+
+// What is given the lines of a meter's events.
+#[derive(Drop)]
+pub(crate) enum EventOutput {
+    None,
+    // A journal, with the relay of the meter if it has one.
+    Journal(EventFile<JournalFile>),
+    // A relay alone.
+    Relay(EventFile<RelayFile>),
 }
 
 // What ends a server whose journal has failed: its listening, and the sources of its own events.
@@ -58,11 +78,11 @@ pub(crate) struct ServerEnd<R> {
     pub(crate) sources: SourcesEnd<R>,
 }
 
-// What a server with a journal has besides its sockets.
+// What a server with a journal or a relay has besides its sockets.
 #[derive(Drop)]
-pub(crate) struct JournaledParts<R> {
+pub(crate) struct JournaledParts<R, F: DurableFile> {
     pub(crate) sources: ConsoleSources<R>,
-    pub(crate) journal: RelayedJournal,
+    pub(crate) journal: EventFile<F>,
     pub(crate) end: ServerEnd<R>,
 }
 
@@ -356,19 +376,19 @@ fn start_relay(
     }
 }
 
-// Returns a meter's relay as a journal without a file.
-fn without_file(
+// Returns a meter's relay as the file of its events.
+fn relay_alone(
     rt: &HostRuntime,
     options: &ServeOptions,
     relay: Relay<File, RelayLog<HostRuntime>>,
-) -> Result<RelayedJournal, Fault> {
+) -> Result<EventOutput, Fault> {
     let path = options.relay.as_deref().unwrap_or("");
     match with_suffix(rt, path, "") {
-        Ok(path) => Ok(RelayedJournal {
+        Ok(path) => Ok(EventOutput::Relay(EventFile {
             path,
             file: RelayedFile::new(rt.alloc(), OptionalFile::new(None), Some(relay)),
             lock: None,
-        }),
+        })),
         Err(_) => {
             drop(relay);
             Err(Fault::Memory)
@@ -376,14 +396,13 @@ fn without_file(
     }
 }
 
-// Opens the relay of the options, if they name one, and connects it to the journal. Returns `None`
-// if there is neither.
+// Opens the relay of the options, if they name one, and connects it to the journal.
 pub(crate) fn with_relay(
     rt: &HostRuntime,
     options: &ServeOptions,
     recorder: &Recorder,
     journal: Option<OpenJournal>,
-) -> Result<Option<RelayedJournal>, Fault> {
+) -> Result<EventOutput, Fault> {
     let relay = match start_relay(rt, options, recorder) {
         Ok(relay) => relay,
         Err(fault) => {
@@ -392,27 +411,31 @@ pub(crate) fn with_relay(
         }
     };
     match journal {
-        Some(OpenJournal { path, file, lock }) => Ok(Some(RelayedJournal {
+        Some(OpenJournal { path, file, lock }) => Ok(EventOutput::Journal(EventFile {
             path,
-            file: RelayedFile::new(rt.alloc(), OptionalFile::new(Some(file)), relay),
+            file: RelayedFile::new(rt.alloc(), file, relay),
             lock: Some(lock),
         })),
         None => match relay {
-            Some(relay) => Ok(Some(without_file(rt, options, relay)?)),
-            None => Ok(None),
+            Some(relay) => relay_alone(rt, options, relay),
+            None => Ok(EventOutput::None),
         },
     }
 }
 
 // Runs a meter with its journal or its relay, and prints its trace. Returns the result of its
 // connections, that of the journal or the relay, and whether the trace was printed.
-pub(crate) fn run_journaled<R: Threads + Wait + Copy + Drop + Send + 'static, W: Write>(
+pub(crate) fn run_journaled<
+    R: Threads + Wait + Copy + Drop + Send + 'static,
+    F: DurableFile + Send + 'static,
+    W: Write,
+>(
     rt: &HostRuntime,
     threads: &R,
     output: &mut W,
     sockets: &mut Sockets<HostRuntime>,
     recorder: Recorder,
-    parts: JournaledParts<R>,
+    parts: JournaledParts<R, F>,
     meter: &ClientParameters,
 ) -> (
     Result<Served, ServeFault>,
@@ -420,9 +443,11 @@ pub(crate) fn run_journaled<R: Threads + Wait + Copy + Drop + Send + 'static, W:
     Result<(), Fault>,
 )
     requires unused { length recorder.events ≡ 0 }
+    requires settled { F.acts_as_file
+        → IsSettled F.seen F.may_leave F.stored parts.journal.file }
     ensures { OnOk result.2
-        (PrintsText (IsJournaledRun ⊥ (λ _. []) (λ _. 0) (λ _ _ _. ⊥) (λ _. ⊥)
-        IsRenewedAs parts.journal.file recorder
+        (PrintsText (IsJournaledRun F.acts_as_file F.seen F.moment F.left_since F.stored F.renews
+        parts.journal.file recorder
         (record { blocks = None; moments = None; presses = None; password = meter.now.password })
         result.0)
         (W.contents output.old) (W.contents output.new)) }
@@ -432,7 +457,7 @@ pub(crate) fn run_journaled<R: Threads + Wait + Copy + Drop + Send + 'static, W:
         journal,
         end,
     } = parts;
-    let RelayedJournal { path, file, lock } = journal;
+    let EventFile { path, file, lock } = journal;
     let on_failure = JournalEnd {
         rt: *rt,
         path,

@@ -6,7 +6,7 @@ ghost use Rattle.meter_server_cli.specs.Endings.{PrintsText};
 
 use crate::ending::{Ends, print_trace, run_fault};
 use crate::journal::{
-    JournaledParts, OpenJournal, RelayedJournal, ServerEnd, open_journal, run_journaled, with_relay,
+    EventOutput, JournaledParts, OpenJournal, ServerEnd, open_journal, run_journaled, with_relay,
 };
 use crate::messages::{why_not_listening, why_wrong_input};
 use cosem_axdr::Octets;
@@ -197,7 +197,7 @@ fn start_server<R: Threads + Wait + Copy + Drop + Send + 'static>(
 #[derive(Drop)]
 pub(crate) struct Server {
     plan: ServePlan<Stdin>,
-    journal: Option<RelayedJournal>,
+    events: EventOutput,
     listener: TcpListener,
     address: SocketAddr,
 }
@@ -281,9 +281,9 @@ fn ready(
 ) -> Result<Server, Fault> {
     let (listener, address) = listening;
     match with_relay(rt, options, &plan.recorder, journal) {
-        Ok(journal) => Ok(Server {
+        Ok(events) => Ok(Server {
             plan,
-            journal,
+            events,
             listener,
             address,
         }),
@@ -316,28 +316,47 @@ fn serve_and_print<R: Threads + Wait + Copy + Drop + Send + 'static>(
     threads: &R,
     server: (Sockets<HostRuntime>, ConsoleSources<R>, ServerEnd<R>),
     recorder: Recorder,
-    journal: Option<RelayedJournal>,
+    events: EventOutput,
     meter: &ClientParameters,
 ) -> (Result<(), Fault>, Result<(), Fault>, Result<(), Fault>)
     requires { length recorder.events ≡ 0 }
 {
     let (mut sockets, sources, end) = server;
     let mut output = rt.stdout();
-    let (served, kept, printed) = match journal {
-        Some(journal) => run_journaled(
-            rt,
-            threads,
-            &mut output,
-            &mut sockets,
-            recorder,
-            JournaledParts {
+    let (served, kept, printed) = match events {
+        EventOutput::Journal(journal) => {
+            let parts = JournaledParts {
                 sources,
                 journal,
                 end,
-            },
-            meter,
-        ),
-        None => {
+            };
+            run_journaled(
+                rt,
+                threads,
+                &mut output,
+                &mut sockets,
+                recorder,
+                parts,
+                meter,
+            )
+        }
+        EventOutput::Relay(journal) => {
+            let parts = JournaledParts {
+                sources,
+                journal,
+                end,
+            };
+            run_journaled(
+                rt,
+                threads,
+                &mut output,
+                &mut sockets,
+                recorder,
+                parts,
+                meter,
+            )
+        }
+        EventOutput::None => {
             drop(end);
             let (served, printed) = run_and_print(
                 threads,
@@ -363,7 +382,7 @@ pub(crate) fn run<R: Threads + Wait + Copy + Drop + Send + 'static>(
 ) -> Result<(), Fault> {
     let Server {
         plan,
-        journal,
+        events,
         listener,
         address,
     } = server;
@@ -387,7 +406,7 @@ pub(crate) fn run<R: Threads + Wait + Copy + Drop + Send + 'static>(
             };
             let server = (sockets, sources, end);
             let (served, kept, printed) = serve_and_print(
-                rt, threads, server, recorder, journal, &meter,
+                rt, threads, server, recorder, events, &meter,
             );
             // (if there was no fault, the sources have ended, and so has the console)
             let console = if served.is_ok() && kept.is_ok() {
@@ -405,7 +424,7 @@ pub(crate) fn run<R: Threads + Wait + Copy + Drop + Send + 'static>(
         }
         Err(fault) => {
             drop(recorder);
-            drop(journal);
+            drop(events);
             Err(fault)
         }
     }
