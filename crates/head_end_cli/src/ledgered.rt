@@ -1,5 +1,5 @@
 //! The command `head_end run --ledger FILE`: a campaign that is resumed by its ledger.
-ghost use Rattle.std.specs.Prelude.{◌≡◌, ◌≤◌, IfOk, OnOk, Some};
+ghost use Rattle.std.specs.Prelude.{◌≡◌, ◌≤◌, string_bytes, IfOk, OnOk, Some};
 ghost use Rattle.std.specs.Io.KnownBytes.{Appends};
 ghost use Rattle.sqlite.specs.WalFiles.{image_at};
 ghost use Rattle.acse_ber.specs.Password.{IsPassword};
@@ -69,7 +69,7 @@ pub(crate) fn plan_ledgered(
     ensures workers { IfOk result (λ plan. AreWorkers (found_of matches.now) plan.workers) }
     ensures password { IfOk result (λ plan. IsCommonPassword (found_of matches.now)
         (Some plan.password)) }
-    ensures path { IfOk result (λ plan. plan.path ≡ path.now) }
+    ensures path { IfOk result (λ plan. string_bytes plan.path ≡ path.now) }
 {
     let is_verbose = matches.get_flag("verbose");
     let password = required_password(rt, matches, is_verbose)?;
