@@ -42,14 +42,10 @@ pub(crate) struct OpenJournal {
 }
 
 // The file of a journal, with the relay of the meter if it has one.
-type JournalFile = RelayedFile<RenewedFile<StoredPlace<HostRuntime>>, File, RelayLog<HostRuntime>>;
+pub(crate) type JournalFile<F> = RelayedFile<F, File, RelayLog<HostRuntime>>;
 
 // The file of a meter that has a relay, but no journal.
-type RelayFile = RelayedFile<
-    OptionalFile<RenewedFile<StoredPlace<HostRuntime>>>,
-    File,
-    RelayLog<HostRuntime>,
->;
+pub(crate) type RelayFile<F> = RelayedFile<OptionalFile<F>, File, RelayLog<HostRuntime>>;
 
 // A file that is given the lines of a meter's events.
 #[derive(Drop)]
@@ -61,14 +57,14 @@ pub(crate) struct EventFile<F: DurableFile> {
     lock: Option<LockFile>,
 }
 
-// What is given the lines of a meter's events.
+// The outputs of a meter's events: a journal, a relay, both or none.
 #[derive(Drop)]
 pub(crate) enum EventOutput {
     None,
     // A journal, with the relay of the meter if it has one.
-    Journal(EventFile<JournalFile>),
+    Journal(EventFile<JournalFile<RenewedFile<StoredPlace<HostRuntime>>>>),
     // A relay alone.
-    Relay(EventFile<RelayFile>),
+    Relay(EventFile<RelayFile<RenewedFile<StoredPlace<HostRuntime>>>>),
 }
 
 // What ends a server whose journal has failed: its listening, and the sources of its own events.

@@ -6,11 +6,13 @@ ghost use Rattle.meter_server_cli.specs.Endings.{PrintsText};
 
 use crate::ending::{Ends, print_trace, run_fault};
 use crate::journal::{
-    EventOutput, JournaledParts, OpenJournal, ServerEnd, open_journal, run_journaled, with_relay,
+    EventOutput, JournalFile, JournaledParts, OpenJournal, RelayFile, ServerEnd, open_journal,
+    run_journaled, with_relay,
 };
 use crate::messages::{why_not_listening, why_wrong_input};
 use cosem_axdr::Octets;
 use counted_io::Monitored;
+use durable_lines::DurableFile;
 use meter_run::{MeterRun, Sources, run_meter};
 use meter_server::{ServeFault, Served};
 use program::Fault;
@@ -22,7 +24,7 @@ use server_io::{
 };
 use session_log::LogTime;
 use std::alloc::{AllocError, Global};
-use std::io::{BufReader, Stdin, Write};
+use std::io::{BufReader, Stdin, Stdout, Write};
 use std::net::{SocketAddr, TcpListener};
 use std::sync::atomic::AtomicBool;
 use std::sync::{Arc, Wait};
@@ -309,6 +311,49 @@ pub(crate) fn begin(rt: &HostRuntime, options: &ServeOptions) -> Result<Server, 
     }
 }
 
+// Runs the meter with its journal as `run_journaled` does. It is generic, so that no proof reads
+// how files are stored.
+fn run_on_journal<
+    F: DurableFile + Send + 'static,
+    R: Threads + Wait + Copy + Drop + Send + 'static,
+>(
+    rt: &HostRuntime,
+    threads: &R,
+    output: &mut Stdout,
+    sockets: &mut Sockets<HostRuntime>,
+    recorder: Recorder,
+    parts: JournaledParts<R, JournalFile<F>>,
+    meter: &ClientParameters,
+) -> (
+    Result<Served, ServeFault>,
+    Result<(), Fault>,
+    Result<(), Fault>,
+)
+    requires unused { length recorder.events ≡ 0 }
+    requires unclaimed { F.acts_as_file → ⊥ }
+{
+    run_journaled(rt, threads, output, sockets, recorder, parts, meter)
+}
+
+// Runs the meter with its relay alone as `run_journaled` does.
+fn run_on_relay<F: DurableFile + Send + 'static, R: Threads + Wait + Copy + Drop + Send + 'static>(
+    rt: &HostRuntime,
+    threads: &R,
+    output: &mut Stdout,
+    sockets: &mut Sockets<HostRuntime>,
+    recorder: Recorder,
+    parts: JournaledParts<R, RelayFile<F>>,
+    meter: &ClientParameters,
+) -> (
+    Result<Served, ServeFault>,
+    Result<(), Fault>,
+    Result<(), Fault>,
+)
+    requires unused { length recorder.events ≡ 0 }
+{
+    run_journaled(rt, threads, output, sockets, recorder, parts, meter)
+}
+
 // Runs the meter, with its journal and its relay if it has one, and prints its trace. Returns the
 // results of serving, of the journal or the relay, and of printing.
 fn serve_and_print<R: Threads + Wait + Copy + Drop + Send + 'static>(
@@ -330,7 +375,7 @@ fn serve_and_print<R: Threads + Wait + Copy + Drop + Send + 'static>(
                 journal,
                 end,
             };
-            run_journaled(
+            run_on_journal(
                 rt,
                 threads,
                 &mut output,
@@ -346,7 +391,7 @@ fn serve_and_print<R: Threads + Wait + Copy + Drop + Send + 'static>(
                 journal,
                 end,
             };
-            run_journaled(
+            run_on_relay(
                 rt,
                 threads,
                 &mut output,
