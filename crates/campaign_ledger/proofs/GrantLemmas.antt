@@ -16,9 +16,9 @@ on_both P xs ys first second place is = of_one (in_either place xs ys is)
     of_one (inl here) = first place here
     of_one (inr there) = second place there
 
-module _ {B : Type 0} (is_honest : B → Type 0) (is_down : B → ℕ → Type 0) where
+module _ {B : Type 0} (is_honest : B → Type 0) (is_marked : B → ℕ → Type 0) where
   -- a ledger that was not asked gave no permit
-  pub none : (ledger : LedgerState B) → Grants is_honest is_down ledger ledger []
+  pub none : (ledger : LedgerState B) → Grants is_honest is_marked ledger ledger []
   none ledger = record {
     apart = tt;
     not_sent = λ place is. absurd is;
@@ -27,14 +27,14 @@ module _ {B : Type 0} (is_honest : B → Type 0) (is_down : B → ℕ → Type 0
     honest = λ honest. honest;
     fresh = λ honest place is. absurd is;
     durable = λ honest place is. absurd is;
-    kept = λ honest place down. down;
+    remains_marked = λ honest place down. down;
   }
 
   -- the permits of two successive spans are those of the whole
   pub both : (before between after : LedgerState B) (permits more : List ℕ)
-      → Grants is_honest is_down before between permits
-      → Grants is_honest is_down between after more
-      → Grants is_honest is_down before after (permits ++ more)
+      → Grants is_honest is_marked before between permits
+      → Grants is_honest is_marked between after more
+      → Grants is_honest is_marked before after (permits ++ more)
   both before between after permits more first second = record {
     apart = apart_both permits more first.apart second.apart
         (λ place here there. gone_not_new (entry_at between.entries place) (first.gone place here)
@@ -48,25 +48,27 @@ module _ {B : Type 0} (is_honest : B → Type 0) (is_down : B → ℕ → Type 0
         (λ place here. second.remains_gone place (first.gone place here)) second.gone;
     remains_gone = λ place gone. second.remains_gone place (first.remains_gone place gone);
     honest = λ honest. first.honest (second.honest honest);
-    fresh = λ honest. on_both (λ place. ¬ is_down before.book place) permits more
+    fresh = λ honest. on_both (λ place. ¬ is_marked before.book place) permits more
         (first.fresh (second.honest honest))
         (λ place there down. second.fresh honest place there
-        (first.kept (second.honest honest) place down));
-    durable = λ honest. on_both (λ place. is_down after.book place) permits more
-        (λ place here. second.kept honest place (first.durable (second.honest honest) place here))
+        (first.remains_marked (second.honest honest) place down));
+    durable = λ honest. on_both (λ place. is_marked after.book place) permits more
+        (λ place here. second.remains_marked honest place (first.durable
+            (second.honest honest) place here))
         (second.durable honest);
-    kept = λ honest place down. second.kept honest place
-        (first.kept (second.honest honest) place down);
+    remains_marked = λ honest place down. second.remains_marked honest place
+        (first.remains_marked (second.honest honest) place down);
   }
 
   -- commands that are sent with permits, each once, make a run safe
   pub safe_run : (may_leave : B → (ℕ → LedgerEntry) → Type 0)
-      → ((book : B) (place : ℕ) (left : ℕ → LedgerEntry) → is_down book place → may_leave book left
+      → ((book : B) (place : ℕ) (left : ℕ → LedgerEntry) → is_marked book place
+          → may_leave book left
       → HasGone (left place))
       → (start now : LedgerState B) (permits sent : List ℕ)
-      → Grants is_honest is_down start now permits → AreApart sent
+      → Grants is_honest is_marked start now permits → AreApart sent
       → ((place : ℕ) → IsIn place sent → IsIn place permits) → is_honest now.book
-      → (found left : ℕ → LedgerEntry) → IsFoundBy is_honest is_down found start.book
+      → (found left : ℕ → LedgerEntry) → IsFoundBy is_honest is_marked found start.book
       → may_leave now.book left
       → IsSafeRun record { found = found; sent = sent; left = left }
   safe_run may_leave stays start now permits sent grants apart with_permits honest found left
@@ -74,8 +76,8 @@ module _ {B : Type 0} (is_honest : B → Type 0) (is_down : B → ℕ → Type 0
         apart = apart;
         fresh = λ place is. not_gone (found place)
             (λ gone. grants.fresh honest place (with_permits place is) (found_by place gone));
-        down = λ place is. stays now.book place left
+        marks_sent = λ place is. stays now.book place left
             (grants.durable honest place (with_permits place is)) leaves;
-        kept = λ place gone. stays now.book place left
-            (grants.kept honest place (found_by place gone)) leaves;
+        keeps_marks = λ place gone. stays now.book place left
+            (grants.remains_marked honest place (found_by place gone)) leaves;
       }

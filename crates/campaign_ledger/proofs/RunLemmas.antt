@@ -46,8 +46,8 @@ down_after : (run : Run) (earlier : List ℕ) → IsSafeRun run
 down_after run earlier safe found place is = of_one (in_either place run.sent earlier is)
   where
     of_one : IsIn place run.sent ⊎ IsIn place earlier → HasGone (run.left place)
-    of_one (inl sent) = safe.down place sent
-    of_one (inr before) = safe.kept place (found place before)
+    of_one (inl sent) = safe.marks_sent place sent
+    of_one (inr before) = safe.keeps_marks place (found place before)
 
 -- the last of the runs left all places marked whose commands were sent by any of them
 all_down : (run : Run) (runs : List Run) → Follow (run ∷ runs) → (place : ℕ)

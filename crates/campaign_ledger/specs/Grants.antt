@@ -22,7 +22,7 @@ permits_in (Ok (Some place)) = place ∷ []
 permits_in (Ok None) = []
 permits_in (Err fault) = []
 
-module _ {B : Type 0} (is_honest : B → Type 0) (is_down : B → ℕ → Type 0) where
+module _ {B : Type 0} (is_honest : B → Type 0) (is_marked : B → ℕ → Type 0) where
   -- Between the two states the ledger gave permits for these places, each at most once, and only
   -- for places whose entry said that no command was sent. If the book is honest, none of them was
   -- marked before, and all of them are now. What had gone and what was marked remains so.
@@ -34,15 +34,15 @@ module _ {B : Type 0} (is_honest : B → Type 0) (is_down : B → ℕ → Type 0
         → HasGone (entry_at after.entries place)
     pub honest : is_honest after.book → is_honest before.book
     pub fresh : is_honest after.book → (place : ℕ) → IsIn place permits
-        → ¬ is_down before.book place
+        → ¬ is_marked before.book place
     pub durable : is_honest after.book → (place : ℕ) → IsIn place permits
-        → is_down after.book place
-    pub kept : is_honest after.book → (place : ℕ) → is_down before.book place
-        → is_down after.book place
+        → is_marked after.book place
+    pub remains_marked : is_honest after.book → (place : ℕ) → is_marked before.book place
+        → is_marked after.book place
 
   -- each place whose command may have been sent, by the entries found, is marked on the disk
   abbrev pub IsFoundBy : (ℕ → LedgerEntry) → B → Type 0
-  IsFoundBy found book = (place : ℕ) → HasGone (found place) → is_down book place
+  IsFoundBy found book = (place : ℕ) → HasGone (found place) → is_marked book place
 
   -- If the commands of these places were sent with permits that the ledger gave since the start of
   -- the run, each once, then the run is safe, whatever the run found at its start and a crash in

@@ -32,8 +32,8 @@ pub record Run : Type 0 where
 pub record IsSafeRun (run : Run) : Type 0 where
   pub apart : AreApart run.sent
   pub fresh : (place : ℕ) → IsIn place run.sent → run.found place ≡ NotSent
-  pub down : (place : ℕ) → IsIn place run.sent → HasGone (run.left place)
-  pub kept : (place : ℕ) → HasGone (run.found place) → HasGone (run.left place)
+  pub marks_sent : (place : ℕ) → IsIn place run.sent → HasGone (run.left place)
+  pub keeps_marks : (place : ℕ) → HasGone (run.found place) → HasGone (run.left place)
 
 -- each run is safe and found what the one before it left; the last run is first in the list
 abbrev pub Follow : List Run → Type 0

@@ -21,26 +21,26 @@ pub trait Book: Drop {
     ghost may_leave: { Self → (ℕ → LedgerEntry) → Type 0 };
 
     // Ghost predicate: whatever a crash leaves, the command of the place may have been sent.
-    ghost is_down: { Self → ℕ → Type 0 };
+    ghost is_marked: { Self → ℕ → Type 0 };
 
     /// Marks a place: its command may be sent from now on. Returns false if the place was marked
     /// before, or can't be marked.
     fn mark(&mut self, place: u32) -> Result<bool, LedgerFault>
         ensures honest { is_honest self.new → is_honest self.old }
         ensures fresh { is_honest self.new
-            → IfOk result (λ is_new. IsTrue is_new → ¬ is_down self.old place) }
+            → IfOk result (λ is_new. IsTrue is_new → ¬ is_marked self.old place) }
         ensures durable { is_honest self.new
-            → IfOk result (λ is_new. IsTrue is_new → is_down self.new place) }
-        ensures kept { is_honest self.new → (other : ℕ) → is_down self.old other
-            → is_down self.new other };
+            → IfOk result (λ is_new. IsTrue is_new → is_marked self.new place) }
+        ensures remains_marked { is_honest self.new → (other : ℕ) → is_marked self.old other
+            → is_marked self.new other };
 
     /// Stores the outcome of a place.
     fn record(&mut self, place: u32, outcome: Outcome) -> Result<(), LedgerFault>
         ensures honest { is_honest self.new → is_honest self.old }
-        ensures kept { is_honest self.new → (other : ℕ) → is_down self.old other
-            → is_down self.new other };
+        ensures remains_marked { is_honest self.new → (other : ℕ) → is_marked self.old other
+            → is_marked self.new other };
 
-    // Ghost law: a crash leaves a place marked that is down.
-    ghost stays_down: { (book : Self) (place : ℕ) (left : ℕ → LedgerEntry) → is_down book place
+    // Ghost law: a place that is marked is marked after a crash.
+    ghost stays_marked: { (book : Self) (place : ℕ) (left : ℕ → LedgerEntry) → is_marked book place
         → may_leave book left → HasGone (left place) };
 }

@@ -17,11 +17,11 @@ pub fn each_command_goes_out_at_most_once()
 /// commands that are sent with permits, each once, make a run safe.
 pub fn grants_add_up<B: Book>()
     ensures total { (before between after : LedgerState B) (permits more : List ℕ)
-        → Grants B.is_honest B.is_down before between permits
-        → Grants B.is_honest B.is_down between after more
-        → Grants B.is_honest B.is_down before after (permits ++ more) }
+        → Grants B.is_honest B.is_marked before between permits
+        → Grants B.is_honest B.is_marked between after more
+        → Grants B.is_honest B.is_marked before after (permits ++ more) }
     ensures runs { (start now : LedgerState B) (permits sent : List ℕ)
-        → Grants B.is_honest B.is_down start now permits
+        → Grants B.is_honest B.is_marked start now permits
         → AreApart sent → ((place : ℕ) → IsIn place sent → IsIn place permits)
-        → MakesSafeRuns B.is_honest B.is_down B.may_leave start now sent }
+        → MakesSafeRuns B.is_honest B.is_marked B.may_leave start now sent }
 {}

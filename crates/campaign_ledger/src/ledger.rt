@@ -96,7 +96,7 @@ impl<B: Book> Ledger<B> {
     /// may have been sent before, or the campaign has no such place. After an error no entry is
     /// changed, but the place may be marked in the book.
     pub fn begin(&mut self, place: u32) -> Result<Option<Permit>, LedgerFault>
-        ensures grants { Grants B.is_honest B.is_down self.old self.new (permits_in result) }
+        ensures grants { Grants B.is_honest B.is_marked self.old self.new (permits_in result) }
         ensures permit { IfOk result (λ given. IfSome given (λ permit. permit ≡ place)) }
         ensures refused { IfOk result (λ given. IfNone given
             (HasGone (entry_at self.new.entries place))) }
@@ -133,7 +133,7 @@ impl<B: Book> Ledger<B> {
     /// in the book.
     pub fn record(&mut self, place: u32, outcome: Outcome) -> Result<(), LedgerFault>
         requires { place < length self.old.entries }
-        ensures grants { Grants B.is_honest B.is_down self.old self.new [] }
+        ensures grants { Grants B.is_honest B.is_marked self.old self.new [] }
         ensures entry { OnOk result (entry_at self.new.entries place ≡ Came outcome) }
         ensures others { (other : ℕ) → other ≢ place
             → entry_at self.new.entries other ≡ entry_at self.old.entries other }

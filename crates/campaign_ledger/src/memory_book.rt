@@ -82,9 +82,9 @@ impl Book for MemoryBook {
 
     ghost may_leave = { λ book left. Leaves book.entries left };
 
-    ghost is_down = { λ book place. IsMarked book.entries place };
+    ghost is_marked = { λ book place. IsMarked book.entries place };
 
-    ghost stays_down = { λ book place left marked leaves.
+    ghost stays_marked = { λ book place left marked leaves.
         left_marked book.entries place left marked leaves };
 
     fn mark(&mut self, place: u32) -> Result<bool, LedgerFault> {

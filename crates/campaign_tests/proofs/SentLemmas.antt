@@ -9,7 +9,7 @@ use Rattle.client_core.specs.Outcomes.{progress_of, is_served}
 use Rattle.client_core.specs.Standing.{Stands}
 use Rattle.client_core.specs.Texts.{aarq_frame, request_frame, release_frame}
 use Rattle.head_end.specs.Conversations.{Speaks, outcome_in}
-use Rattle.head_end.specs.Logs.{Happening, heard, heard_nothing, sent, cut_off, heard_in, sent_in, IsFront}
+use Rattle.head_end.specs.Logs.{Happening, heard, heard_nothing, sent, cut_off, bytes_received, bytes_sent, IsFront}
 use Rattle.head_end.specs.Wires.{due_text, IsDueNext, Permits, HasConversed}
 
 -- the AARQ, the request and the release
@@ -49,60 +49,61 @@ front_trans a b c one two = record {
       ∙ append_assoc a one.rest two.rest;
 }
 
-sent_append : (log next : List Happening) → sent_in (log ++ next) ≡ sent_in log ++ sent_in next
-unfolding sent_in
+sent_append : (log next : List Happening) → bytes_sent (log ++ next) ≡ bytes_sent log ++ bytes_sent
+    next
+unfolding bytes_sent
 sent_append [] next = refl
 sent_append (heard bytes ∷ log) next = sent_append log next
 sent_append (heard_nothing ∷ log) next = sent_append log next
 sent_append (sent bytes ∷ log) next =
     ap (λ (t : List ℕ). bytes ++ t) (sent_append log next)
-    ∙ sym (append_assoc bytes (sent_in log) (sent_in next))
+    ∙ sym (append_assoc bytes (bytes_sent log) (bytes_sent next))
 sent_append (cut_off bytes ∷ log) next =
     ap (λ (t : List ℕ). bytes ++ t) (sent_append log next)
-    ∙ sym (append_assoc bytes (sent_in log) (sent_in next))
+    ∙ sym (append_assoc bytes (bytes_sent log) (bytes_sent next))
 
-one_heard : (bytes : List ℕ) → sent_in (heard bytes ∷ []) ≡ []
-unfolding sent_in
+one_heard : (bytes : List ℕ) → bytes_sent (heard bytes ∷ []) ≡ []
+unfolding bytes_sent
 one_heard bytes = refl
 
-none_heard : sent_in (heard_nothing ∷ []) ≡ []
-unfolding sent_in
+none_heard : bytes_sent (heard_nothing ∷ []) ≡ []
+unfolding bytes_sent
 none_heard = refl
 
-one_sent : (bytes : List ℕ) → sent_in (sent bytes ∷ []) ≡ bytes
-unfolding sent_in
+one_sent : (bytes : List ℕ) → bytes_sent (sent bytes ∷ []) ≡ bytes
+unfolding bytes_sent
 one_sent bytes = append-nil bytes
 
-one_cut : (bytes : List ℕ) → sent_in (cut_off bytes ∷ []) ≡ bytes
-unfolding sent_in
+one_cut : (bytes : List ℕ) → bytes_sent (cut_off bytes ∷ []) ≡ bytes
+unfolding bytes_sent
 one_cut bytes = append-nil bytes
 
-none_sent : sent_in [] ≡ []
-unfolding sent_in
+none_sent : bytes_sent [] ≡ []
+unfolding bytes_sent
 none_sent = refl
 
 module _ (verb : Verb) (password : List ℕ) where
   abbrev IsInOrder : List Happening → Type 0
-  IsInOrder log = IsFront (sent_in log) (all_texts verb password)
+  IsInOrder log = IsFront (bytes_sent log) (all_texts verb password)
 
   -- nothing more was sent
-  none_more : (log : List Happening) (one : Happening) → sent_in (one ∷ []) ≡ []
+  none_more : (log : List Happening) (one : Happening) → bytes_sent (one ∷ []) ≡ []
       → IsInOrder log → IsInOrder (log ++ one ∷ [])
   none_more log one none front =
       subst (λ (t : List ℕ). IsFront t (all_texts verb password))
-      (sym (sent_append log (one ∷ []) ∙ ap (λ (t : List ℕ). sent_in log ++ t) none
-      ∙ append-nil (sent_in log))) front
+      (sym (sent_append log (one ∷ []) ∙ ap (λ (t : List ℕ). bytes_sent log ++ t) none
+      ∙ append-nil (bytes_sent log))) front
 
   -- the next bytes were sent
   one_more : (log : List Happening) (one : Happening) (bytes : List ℕ)
-      → sent_in (one ∷ []) ≡ bytes → IsDueNext verb password log bytes
+      → bytes_sent (one ∷ []) ≡ bytes → IsDueNext verb password log bytes
       → IsInOrder (log ++ one ∷ [])
   one_more log one bytes is due =
       subst (λ (t : List ℕ). IsFront t (all_texts verb password))
-      (sym (sent_append log (one ∷ []) ∙ ap (λ (t : List ℕ). sent_in log ++ t) is))
-      (front_trans (sent_in log ++ bytes) (due_text verb password (heard_in log))
+      (sym (sent_append log (one ∷ []) ∙ ap (λ (t : List ℕ). bytes_sent log ++ t) is))
+      (front_trans (bytes_sent log ++ bytes) (due_text verb password (bytes_received log))
       (all_texts verb password)
-      due (due_front verb password (heard_in log)))
+      due (due_front verb password (bytes_received log)))
 
   -- nothing follows
   at_end : (log : List Happening) (one : Happening) (later : List Happening) → later ≡ []
@@ -130,10 +131,11 @@ module _ (verb : Verb) (password : List ℕ) where
 
   -- nothing was sent
   pub nothing_sent : (log : List Happening) → log ≡ []
-      → IsFront (sent_in log) (aarq_frame password ++ (request_frame verb ++ release_frame))
+      → IsFront (bytes_sent log) (aarq_frame password ++ (request_frame verb ++ release_frame))
   nothing_sent log none = record {
     rest = all_texts verb password;
-    parts = ap (λ (t : List ℕ). t ++ all_texts verb password) (sym (ap sent_in none ∙ none_sent));
+    parts = ap (λ (t : List ℕ). t ++ all_texts verb password) (sym
+        (ap bytes_sent none ∙ none_sent));
   }
 
   conversed_in_order : (outcome : Option Outcome) (log : List Happening)
@@ -148,7 +150,7 @@ module _ (verb : Verb) (password : List ℕ) where
   pub sent_in_order : {E : Type 0} (client : Client) (before after : List Happening)
       (result : Result Outcome E) → Stands verb password [] 0 false client → before ≡ []
       → Speaks client (Some before) result (Some after)
-      → IsFront (sent_in after) (aarq_frame password ++ (request_frame verb ++ release_frame))
+      → IsFront (bytes_sent after) (aarq_frame password ++ (request_frame verb ++ release_frame))
   sent_in_order client before after result stands none speaks =
       conversed_in_order (outcome_in result) after (speaks.on verb password stands (ap Some none))
 

@@ -4,7 +4,7 @@ ghost use Rattle.std.specs.Prelude.{IfOk, IsTrue};
 ghost use Rattle.acse_ber.specs.Password.{IsPassword};
 ghost use Rattle.head_end.specs.Attempts.{unused, IsTried};
 ghost use Rattle.client_core.specs.Texts.{aarq_frame, request_frame, release_frame};
-ghost use Rattle.head_end.specs.Logs.{heard, heard_nothing, sent, sent_in, IsFront};
+ghost use Rattle.head_end.specs.Logs.{heard, heard_nothing, sent, bytes_sent, IsFront};
 ghost use Rattle.head_end.specs.Wires.{HasConversed};
 
 use crate::meters::{DONE, OPENED, REJECTED, SENT, job, password};
@@ -101,7 +101,7 @@ fn talk<R: Abort>(
     ensures order { let log = map (λ e. if e.is_read then
         (if length e.bytes == 0 then heard_nothing else heard e.bytes) else sent e.bytes)
         connection.new.entries.items in
-        IsFront (sent_in log)
+        IsFront (bytes_sent log)
         (aarq_frame password.now ++ (request_frame job.now.verb ++ release_frame)) }
     ensures outcome { let log = map (λ e. if e.is_read then
         (if length e.bytes == 0 then heard_nothing else heard e.bytes) else sent e.bytes)

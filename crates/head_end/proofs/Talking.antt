@@ -15,7 +15,7 @@ use Rattle.client_core.specs.Standing.{Stands, GivesNextMessage, Feeds, Tells}
 use Rattle.client_core.proofs.Accepting.{accepted_stays}
 use Rattle.client_core.proofs.Lookups.{nothing_said}
 use Rattle.head_end.specs.Connections.{ended}
-use Rattle.head_end.specs.Logs.{Happening, heard, heard_nothing, sent, cut_off, heard_in, sent_in, reads_in, ReadLogs, WriteLogs, IsFront, IsCutOff}
+use Rattle.head_end.specs.Logs.{Happening, heard, heard_nothing, sent, cut_off, bytes_received, bytes_sent, reads_made, ReadLogs, WriteLogs, IsFront, IsCutOff}
 use Rattle.head_end.specs.Wires.{due_text, given_text, IsDueNext, Permits, HasConversed}
 use Rattle.head_end.specs.Conversations.{GivesUp, Talks, HasSent, Waits, IsCut, Sends, TurnAfter, TakesTurn, Speaks}
 use Rattle.head_end.proofs.Texts.{due_by, given_by, given_within, all_given, three_given, given_front, front_more, due_grows}
@@ -23,18 +23,18 @@ use Rattle.head_end.proofs.Texts.{due_by, given_by, given_within, all_given, thr
 -- ---- one more happening
 
 heard_more : (log : List Happening) (bytes : List ℕ)
-    → heard_in (log ++ heard bytes ∷ []) ≡ heard_in log ++ bytes
-unfolding heard_in
+    → bytes_received (log ++ heard bytes ∷ []) ≡ bytes_received log ++ bytes
+unfolding bytes_received
 heard_more [] bytes = append-nil bytes
 heard_more (heard front ∷ later) bytes = ap (λ (t : List ℕ). front ++ t)
-    (heard_more later bytes) ∙ sym (append_assoc front (heard_in later) bytes)
+    (heard_more later bytes) ∙ sym (append_assoc front (bytes_received later) bytes)
 heard_more (heard_nothing ∷ later) bytes = heard_more later bytes
 heard_more (sent front ∷ later) bytes = heard_more later bytes
 heard_more (cut_off front ∷ later) bytes = heard_more later bytes
 
-heard_as : (log : List Happening) (next : Happening) → heard_in (next ∷ []) ≡ []
-    → heard_in (log ++ next ∷ []) ≡ heard_in log
-unfolding heard_in
+heard_as : (log : List Happening) (next : Happening) → bytes_received (next ∷ []) ≡ []
+    → bytes_received (log ++ next ∷ []) ≡ bytes_received log
+unfolding bytes_received
 heard_as [] next none = none
 heard_as (heard front ∷ later) next none = ap (λ (t : List ℕ). front ++ t)
     (heard_as later next none)
@@ -43,33 +43,34 @@ heard_as (sent front ∷ later) next none = heard_as later next none
 heard_as (cut_off front ∷ later) next none = heard_as later next none
 
 heard_sent : (log : List Happening) (bytes : List ℕ)
-    → heard_in (log ++ sent bytes ∷ []) ≡ heard_in log
-unfolding heard_in
+    → bytes_received (log ++ sent bytes ∷ []) ≡ bytes_received log
+unfolding bytes_received
 heard_sent log bytes = heard_as log (sent bytes) refl
 
 heard_cut : (log : List Happening) (bytes : List ℕ)
-    → heard_in (log ++ cut_off bytes ∷ []) ≡ heard_in log
-unfolding heard_in
+    → bytes_received (log ++ cut_off bytes ∷ []) ≡ bytes_received log
+unfolding bytes_received
 heard_cut log bytes = heard_as log (cut_off bytes) refl
 
-heard_over : (log : List Happening) → heard_in (log ++ heard_nothing ∷ []) ≡ heard_in log
-unfolding heard_in
+heard_over : (log : List Happening) → bytes_received (log ++ heard_nothing ∷ []) ≡ bytes_received
+    log
+unfolding bytes_received
 heard_over log = heard_as log heard_nothing refl
 
 sent_more : (log : List Happening) (bytes : List ℕ)
-    → sent_in (log ++ sent bytes ∷ []) ≡ sent_in log ++ bytes
-unfolding sent_in
+    → bytes_sent (log ++ sent bytes ∷ []) ≡ bytes_sent log ++ bytes
+unfolding bytes_sent
 sent_more [] bytes = append-nil bytes
 sent_more (heard front ∷ later) bytes = sent_more later bytes
 sent_more (heard_nothing ∷ later) bytes = sent_more later bytes
 sent_more (sent front ∷ later) bytes = ap (λ (t : List ℕ). front ++ t) (sent_more later bytes)
-    ∙ sym (append_assoc front (sent_in later) bytes)
+    ∙ sym (append_assoc front (bytes_sent later) bytes)
 sent_more (cut_off front ∷ later) bytes = ap (λ (t : List ℕ). front ++ t)
-    (sent_more later bytes) ∙ sym (append_assoc front (sent_in later) bytes)
+    (sent_more later bytes) ∙ sym (append_assoc front (bytes_sent later) bytes)
 
 sent_heard : (log : List Happening) (bytes : List ℕ)
-    → sent_in (log ++ heard bytes ∷ []) ≡ sent_in log
-unfolding sent_in
+    → bytes_sent (log ++ heard bytes ∷ []) ≡ bytes_sent log
+unfolding bytes_sent
 sent_heard [] bytes = refl
 sent_heard (heard front ∷ later) bytes = sent_heard later bytes
 sent_heard (heard_nothing ∷ later) bytes = sent_heard later bytes
@@ -77,8 +78,8 @@ sent_heard (sent front ∷ later) bytes = ap (λ (t : List ℕ). front ++ t) (se
 sent_heard (cut_off front ∷ later) bytes = ap (λ (t : List ℕ). front ++ t) (sent_heard later bytes)
 
 reads_sent : (log : List Happening) (bytes : List ℕ)
-    → reads_in (log ++ sent bytes ∷ []) ≡ reads_in log
-unfolding reads_in
+    → reads_made (log ++ sent bytes ∷ []) ≡ reads_made log
+unfolding reads_made
 reads_sent [] bytes = refl
 reads_sent (heard front ∷ later) bytes = ap suc (reads_sent later bytes)
 reads_sent (heard_nothing ∷ later) bytes = reads_sent later bytes
@@ -86,8 +87,8 @@ reads_sent (sent front ∷ later) bytes = reads_sent later bytes
 reads_sent (cut_off front ∷ later) bytes = reads_sent later bytes
 
 reads_heard : (log : List Happening) (bytes : List ℕ)
-    → reads_in (log ++ heard bytes ∷ []) ≡ suc (reads_in log)
-unfolding reads_in
+    → reads_made (log ++ heard bytes ∷ []) ≡ suc (reads_made log)
+unfolding reads_made
 reads_heard [] bytes = refl
 reads_heard (heard front ∷ later) bytes = ap suc (reads_heard later bytes)
 reads_heard (heard_nothing ∷ later) bytes = reads_heard later bytes
@@ -95,8 +96,8 @@ reads_heard (sent front ∷ later) bytes = reads_heard later bytes
 reads_heard (cut_off front ∷ later) bytes = reads_heard later bytes
 
 -- without a read no bytes were received
-heard_none : (log : List Happening) → reads_in log ≡ 0 → heard_in log ≡ []
-unfolding reads_in heard_in
+heard_none : (log : List Happening) → reads_made log ≡ 0 → bytes_received log ≡ []
+unfolding reads_made bytes_received
 heard_none [] none = refl
 heard_none (heard front ∷ later) none = absurd cc
 heard_none (heard_nothing ∷ later) none = heard_none later none
@@ -130,24 +131,24 @@ next_due verb password text fed given is =
     }
 
 due_in : (verb : Verb) (password text : List ℕ) (log : List Happening) (given : ℕ)
-    → sent_in log ≡ given_text verb password given
-    → Some text ≡ text_at (due_frames verb password (progress_of verb (heard_in log))) given
+    → bytes_sent log ≡ given_text verb password given
+    → Some text ≡ text_at (due_frames verb password (progress_of verb (bytes_received log))) given
     → IsDueNext verb password log text
 due_in verb password text log given sent_is is =
-    subst (λ (t : List ℕ). IsFront (t ++ text) (due_text verb password (heard_in log)))
-    (sym sent_is) (next_due verb password text (heard_in log) given is)
+    subst (λ (t : List ℕ). IsFront (t ++ text) (due_text verb password (bytes_received log)))
+    (sym sent_is) (next_due verb password text (bytes_received log) given is)
 
 -- all messages that may be sent were returned
 all_sent : (verb : Verb) (password : List ℕ) (log : List Happening) (given : ℕ)
-    → sent_in log ≡ given_text verb password given
-    → given ≤ length (due_frames verb password (progress_of verb (heard_in log)))
-    → None ≡ text_at (due_frames verb password (progress_of verb (heard_in log))) given
-    → sent_in log ≡ due_text verb password (heard_in log)
+    → bytes_sent log ≡ given_text verb password given
+    → given ≤ length (due_frames verb password (progress_of verb (bytes_received log)))
+    → None ≡ text_at (due_frames verb password (progress_of verb (bytes_received log))) given
+    → bytes_sent log ≡ due_text verb password (bytes_received log)
 all_sent verb password log given sent_is within none =
     sent_is
-    ∙ all_given verb password (progress_of verb (heard_in log)).accepted (is_served
-    (progress_of verb (heard_in log)).outcome) given within none
-    ∙ sym (due_is verb password (heard_in log))
+    ∙ all_given verb password (progress_of verb (bytes_received log)).accepted (is_served
+    (progress_of verb (bytes_received log)).outcome) given within none
+    ∙ sym (due_is verb password (bytes_received log))
 
 -- after a read no fewer messages may be sent
 still_within : (verb : Verb) (password : List ℕ) (given : ℕ) (old now : Progress)
@@ -207,14 +208,16 @@ talks_sent : (verb : Verb) (password text : List ℕ) (reads : ℕ) (old new : C
     → (t : Talks verb password reads old before) → TalksFrom
     (suc t.given) verb password reads new after
 talks_sent verb password text reads old new before after gives writes t =
-    let is = gives.text verb password (heard_in t.log) t.given false t.stands in
-    let same : heard_in (t.log ++ sent text ∷ []) ≡ heard_in t.log = heard_sent t.log text in
-    let now : Stands verb password (heard_in t.log)
+    let is = gives.text verb password (bytes_received t.log) t.given false t.stands in
+    let same : bytes_received (t.log ++ sent text ∷ []) ≡ bytes_received t.log = heard_sent t.log
+        text in
+    let now : Stands verb password (bytes_received t.log)
     (suc t.given) false new = gives.stands verb password
-    (heard_in t.log) t.given false t.stands in
-    let few : suc t.given ≤ length (due_frames verb password (progress_of verb (heard_in t.log))) =
-    given_within verb password text (progress_of verb (heard_in t.log)).accepted (is_served
-    (progress_of verb (heard_in t.log)).outcome) t.given is in
+    (bytes_received t.log) t.given false t.stands in
+    let few : suc t.given ≤ length (due_frames verb password (progress_of verb
+        (bytes_received t.log))) =
+    given_within verb password text (progress_of verb (bytes_received t.log)).accepted (is_served
+    (progress_of verb (bytes_received t.log)).outcome) t.given is in
     record {
       talks = record {
         log = t.log ++ sent text ∷ [];
@@ -224,8 +227,9 @@ talks_sent verb password text reads old new before after gives writes t =
             (sym same) now;
         sent_is =
             sent_more t.log text ∙ ap (λ (s : List ℕ). s ++ text) t.sent_is
-            ∙ given_by verb password text (progress_of verb (heard_in t.log)).accepted (is_served
-            (progress_of verb (heard_in t.log)).outcome) t.given is;
+            ∙ given_by verb password text (progress_of verb (bytes_received t.log)).accepted
+                (is_served
+            (progress_of verb (bytes_received t.log)).outcome) t.given is;
         within = subst (λ (fed : List ℕ). suc t.given ≤ length (due_frames verb password
             (progress_of verb fed))) (sym same) few;
         reads_are = reads_sent t.log text ∙ t.reads_are;
@@ -260,14 +264,14 @@ talks_quiet verb password reads old new now gives t = record {
     log = t.log;
     log_is = t.log_is;
     given = t.given;
-    stands = gives.stands verb password (heard_in t.log) t.given false t.stands;
+    stands = gives.stands verb password (bytes_received t.log) t.given false t.stands;
     sent_is = t.sent_is;
     within = t.within;
     reads_are = t.reads_are;
     more = t.more;
   };
   all_is = all_sent verb password t.log t.given t.sent_is t.within (gives.text verb password
-      (heard_in t.log) t.given false t.stands);
+      (bytes_received t.log) t.given false t.stands);
 }
 
 pub sends_none : (count : ℕ) (old mid new : Client) (first before : Option (List Happening))
@@ -291,8 +295,8 @@ sends_three count old new first before many keeps = record {
       record {
         talks = t;
         all_is = all_sent verb password t.log t.given t.sent_is t.within
-            (three_given verb password (progress_of verb (heard_in t.log)).accepted (is_served
-            (progress_of verb (heard_in t.log)).outcome) t.given three t.within);
+            (three_given verb password (progress_of verb (bytes_received t.log)).accepted (is_served
+            (progress_of verb (bytes_received t.log)).outcome) t.given three t.within);
       };
   unknown = keeps.unknown;
 }
@@ -304,11 +308,11 @@ talks_cut : (verb : Verb) (password text : List ℕ) (reads : ℕ) (old new : Cl
     → Talks verb password reads old before
     → IsCut verb password new after
 talks_cut verb password text reads old new before after fault gives writes t =
-    let is = gives.text verb password (heard_in t.log) t.given false t.stands in
+    let is = gives.text verb password (bytes_received t.log) t.given false t.stands in
     let cut = cut_log t.log text before after fault t.log_is writes in
     let next : IsDueNext verb password t.log cut.front =
-    front_more (due_text verb password (heard_in t.log))
-    (sent_in t.log) text cut.front cut.is_front
+    front_more (due_text verb password (bytes_received t.log))
+    (bytes_sent t.log) text cut.front cut.is_front
     (due_in verb password text t.log t.given t.sent_is is) in
     record {
       log = t.log ++ cut_off cut.front ∷ [];
@@ -316,7 +320,7 @@ talks_cut verb password text reads old new before after fault gives writes t =
       given = suc t.given;
       stands = subst (λ (fed : List ℕ). Stands verb password fed (suc t.given) false new) (sym
           (heard_cut t.log cut.front))
-          (gives.stands verb password (heard_in t.log) t.given false t.stands);
+          (gives.stands verb password (bytes_received t.log) t.given false t.stands);
       conversation = t.more true (cut_off cut.front ∷ []) (next, refl);
     }
 
@@ -370,7 +374,7 @@ over_by verb password reads old before after outcome gives w is = record {
   conversation = w.talks.more true (heard_nothing ∷ []) (w.listens, refl);
   outcome_is =
       gives_at verb password
-      (heard_in w.talks.log) w.talks.given old outcome gives w.talks.stands
+      (bytes_received w.talks.log) w.talks.given old outcome gives w.talks.stands
       ∙ ap (outcome_of verb) (sym (heard_over w.talks.log));
 }
 
@@ -425,16 +429,17 @@ talks_heard : (verb : Verb) (password bytes : List ℕ) (reads : ℕ) (old new :
     → Talks verb password (suc reads) new after
 talks_heard verb password bytes reads old new before after w feeds is =
     let t = w.talks in
-    let same : heard_in (t.log ++ heard bytes ∷ [])
-    ≡ heard_in t.log ++ bytes = heard_more t.log bytes in
+    let same : bytes_received (t.log ++ heard bytes ∷ [])
+    ≡ bytes_received t.log ++ bytes = heard_more t.log bytes in
     let now : Stands verb password
-    (heard_in t.log ++ bytes) t.given false new = feeds.stands verb password
-    (heard_in t.log) t.given false t.stands in
+    (bytes_received t.log ++ bytes) t.given false new = feeds.stands verb password
+    (bytes_received t.log) t.given false t.stands in
     let few : t.given ≤ length (due_frames verb password
-    (progress_of verb (heard_in t.log ++ bytes))) =
-    still_within verb password t.given (progress_of verb (heard_in t.log)) (progress_of verb
-    (heard_in t.log ++ bytes)) w.listens.unsettled
-    (accepted_stays verb password (heard_in t.log) bytes t.given false old t.stands) t.within in
+    (progress_of verb (bytes_received t.log ++ bytes))) =
+    still_within verb password t.given (progress_of verb (bytes_received t.log)) (progress_of verb
+    (bytes_received t.log ++ bytes)) w.listens.unsettled
+    (accepted_stays verb password (bytes_received t.log) bytes t.given false old t.stands) t.within
+        in
     record {
       log = t.log ++ heard bytes ∷ [];
       log_is = is;
@@ -469,7 +474,8 @@ cut_by verb password client now outcome gives cut = record {
   log = cut.log;
   log_is = cut.log_is;
   conversation = cut.conversation;
-  outcome_is = gives_at verb password (heard_in cut.log) cut.given client outcome gives cut.stands;
+  outcome_is = gives_at verb password (bytes_received cut.log) cut.given client outcome gives
+      cut.stands;
 }
 
 pub turn_unsent : {E : Type 0} (old mid last new : Client) (before between after : Option
@@ -493,14 +499,15 @@ settled_by E verb password reads client now None tells s = record {
   listens = record {
     sent_is = s.all_is;
     unsettled = sym (tells.told verb password
-        (heard_in s.talks.log) s.talks.given false s.talks.stands);
+        (bytes_received s.talks.log) s.talks.given false s.talks.stands);
   };
 }
 settled_by E verb password reads client now (Some outcome) tells s =
     let t = s.talks in
-    let settled : outcome_after verb (heard_in t.log) ≡ Some outcome = sym (tells.told verb password
-    (heard_in t.log) t.given false t.stands) in
-    let some : IsSome (outcome_after verb (heard_in t.log)) = rw settled refl in
+    let settled : outcome_after verb (bytes_received t.log) ≡ Some outcome = sym
+        (tells.told verb password
+    (bytes_received t.log) t.given false t.stands) in
+    let some : IsSome (outcome_after verb (bytes_received t.log)) = rw settled refl in
     let all = t.more true [] (s.all_is, inl some) in
     record {
       log = t.log;
@@ -508,8 +515,9 @@ settled_by E verb password reads client now (Some outcome) tells s =
       conversation = subst (λ (log : List Happening). Permits true verb password [] log)
           (append-nil t.log) all;
       outcome_is =
-          sym (tells.stays verb password (heard_in t.log) t.given false t.stands outcome settled [])
-          ∙ ap (outcome_of verb) (append-nil (heard_in t.log));
+          sym (tells.stays verb password (bytes_received t.log) t.given false t.stands outcome
+              settled [])
+          ∙ ap (outcome_of verb) (append-nil (bytes_received t.log));
     }
 
 pub turn_settled : {E : Type 0} (old mid new : Client) (before between after : Option
@@ -529,7 +537,7 @@ turn_settled {E} old mid new before between after result fed sends tells = recor
 talks_new : (verb : Verb) (password : List ℕ) (client : Client) (now : Option (List Happening))
     → Stands verb password [] 0 false client → now ≡ Some []
     → Talks verb password 0 client now
-unfolding heard_in sent_in reads_in
+unfolding bytes_received bytes_sent reads_made
 talks_new verb password client now stands is = record {
   log = [];
   log_is = is;
@@ -541,8 +549,8 @@ talks_new verb password client now stands is = record {
   more = λ whole next goes. goes;
 }
 
-unsettled_new : (verb : Verb) (log : List Happening) → reads_in log ≡ 0
-    → outcome_after verb (heard_in log) ≡ None
+unsettled_new : (verb : Verb) (log : List Happening) → reads_made log ≡ 0
+    → outcome_after verb (bytes_received log) ≡ None
 unsettled_new verb log none = ap (outcome_after verb) (heard_none log none)
     ∙ ap (λ (p : Progress). p.outcome) (nothing_said verb)
 
@@ -621,7 +629,8 @@ speaks_last old client begun now reads outcome all reaches gives = record {
         log_is = t.log_is;
         conversation = subst (λ (log : List Happening). Permits true verb password [] log)
             (append-nil t.log) whole;
-        outcome_is = gives_at verb password (heard_in t.log) t.given client outcome gives t.stands;
+        outcome_is = gives_at verb password (bytes_received t.log) t.given client outcome gives
+            t.stands;
       };
   unknown = reaches.unknown;
 }

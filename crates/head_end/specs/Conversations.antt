@@ -10,7 +10,7 @@ use Rattle.client_core.specs.declared.job.Verb.{Verb}
 use Rattle.client_core.specs.Outcomes.{progress_of, due_frames, outcome_of}
 use Rattle.client_core.specs.Standing.{Stands}
 use Rattle.head_end.specs.Connections.{Forecast}
-use Rattle.head_end.specs.Logs.{Happening, heard_in, sent_in, reads_in}
+use Rattle.head_end.specs.Logs.{Happening, bytes_received, bytes_sent, reads_made}
 use Rattle.head_end.specs.Wires.{due_text, given_text, Listens, Permits, Conversation, HasConversed}
 
 -- of the initially predicted bytes these were read, and this number of reads is left
@@ -77,10 +77,10 @@ pub record Talks (verb : Verb) (password : List ℕ) (reads : ℕ) (client : Cli
   pub log : List Happening
   pub log_is : now ≡ Some log
   pub given : ℕ
-  pub stands : Stands verb password (heard_in log) given false client
-  pub sent_is : sent_in log ≡ given_text verb password given
-  pub within : given ≤ length (due_frames verb password (progress_of verb (heard_in log)))
-  pub reads_are : reads_in log ≡ reads
+  pub stands : Stands verb password (bytes_received log) given false client
+  pub sent_is : bytes_sent log ≡ given_text verb password given
+  pub within : given ≤ length (due_frames verb password (progress_of verb (bytes_received log)))
+  pub reads_are : reads_made log ≡ reads
   pub more : (whole : Bool) (next : List Happening) → Permits whole verb password log next
       → Permits whole verb password [] (log ++ next)
 
@@ -88,7 +88,7 @@ pub record Talks (verb : Verb) (password : List ℕ) (reads : ℕ) (client : Cli
 pub record HasSent (verb : Verb) (password : List ℕ) (reads : ℕ) (client : Client) (now : Option
     (List Happening)) : Type 0 where
   pub talks : Talks verb password reads client now
-  pub all_is : sent_in talks.log ≡ due_text verb password (heard_in talks.log)
+  pub all_is : bytes_sent talks.log ≡ due_text verb password (bytes_received talks.log)
 
 -- the outcome is not settled either, so a read follows
 pub record Waits (verb : Verb) (password : List ℕ) (reads : ℕ) (client : Client) (now : Option
@@ -102,7 +102,7 @@ pub record IsCut (verb : Verb) (password : List ℕ) (client : Client) (now : Op
   pub log : List Happening
   pub log_is : now ≡ Some log
   pub given : ℕ
-  pub stands : Stands verb password (heard_in log) given false client
+  pub stands : Stands verb password (bytes_received log) given false client
   pub conversation : Conversation true verb password log
 
 -- the messages that may be sent are sent, or a write fails

@@ -1,6 +1,7 @@
 -- The log of a connection.
 --     Happening             one read or one write
---     heard_in, sent_in     the bytes that were received, and the bytes that were sent
+--     bytes_received        the bytes that were received
+--     bytes_sent            the bytes that were sent
 --     ReadLogs, WriteLogs   what a read and a write add to the log of a connection
 use Rattle.std.specs.Prelude.{◌≡◌, ℕ, zero, suc, List, [], ◌∷◌, ◌++◌, take, Option, Some, None, Result, Ok, Err, ⊤}
 use Rattle.counted_io.specs.declared.fault.StreamFault.{StreamFault}
@@ -14,28 +15,28 @@ pub data Happening : Type 0 where
   cut_off : List ℕ → Happening
 
 -- all bytes that were received
-unfoldable pub heard_in : List Happening → List ℕ
-heard_in [] = []
-heard_in (heard bytes ∷ later) = bytes ++ heard_in later
-heard_in (heard_nothing ∷ later) = heard_in later
-heard_in (sent bytes ∷ later) = heard_in later
-heard_in (cut_off bytes ∷ later) = heard_in later
+unfoldable pub bytes_received : List Happening → List ℕ
+bytes_received [] = []
+bytes_received (heard bytes ∷ later) = bytes ++ bytes_received later
+bytes_received (heard_nothing ∷ later) = bytes_received later
+bytes_received (sent bytes ∷ later) = bytes_received later
+bytes_received (cut_off bytes ∷ later) = bytes_received later
 
 -- all bytes that were sent
-unfoldable pub sent_in : List Happening → List ℕ
-sent_in [] = []
-sent_in (heard bytes ∷ later) = sent_in later
-sent_in (heard_nothing ∷ later) = sent_in later
-sent_in (sent bytes ∷ later) = bytes ++ sent_in later
-sent_in (cut_off bytes ∷ later) = bytes ++ sent_in later
+unfoldable pub bytes_sent : List Happening → List ℕ
+bytes_sent [] = []
+bytes_sent (heard bytes ∷ later) = bytes_sent later
+bytes_sent (heard_nothing ∷ later) = bytes_sent later
+bytes_sent (sent bytes ∷ later) = bytes ++ bytes_sent later
+bytes_sent (cut_off bytes ∷ later) = bytes ++ bytes_sent later
 
 -- the number of reads that returned bytes
-unfoldable pub reads_in : List Happening → ℕ
-reads_in [] = 0
-reads_in (heard bytes ∷ later) = suc (reads_in later)
-reads_in (heard_nothing ∷ later) = reads_in later
-reads_in (sent bytes ∷ later) = reads_in later
-reads_in (cut_off bytes ∷ later) = reads_in later
+unfoldable pub reads_made : List Happening → ℕ
+reads_made [] = 0
+reads_made (heard bytes ∷ later) = suc (reads_made later)
+reads_made (heard_nothing ∷ later) = reads_made later
+reads_made (sent bytes ∷ later) = reads_made later
+reads_made (cut_off bytes ∷ later) = reads_made later
 
 -- ---- the effect of calls on a log; an unknown log remains unknown
 

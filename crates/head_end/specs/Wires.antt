@@ -11,7 +11,7 @@ use Rattle.client_core.specs.declared.job.Outcome.{Outcome}
 use Rattle.client_core.specs.declared.job.Verb.{Verb}
 use Rattle.client_core.specs.Texts.{aarq_frame, request_frame, release_frame}
 use Rattle.client_core.specs.Outcomes.{progress_of, outcome_after, outcome_of, due_frames}
-use Rattle.head_end.specs.Logs.{Happening, heard, heard_nothing, sent, cut_off, heard_in, sent_in, reads_in, IsFront}
+use Rattle.head_end.specs.Logs.{Happening, heard, heard_nothing, sent, cut_off, bytes_received, bytes_sent, reads_made, IsFront}
 
 -- the messages that may be sent after the bytes received, concatenated: the AARQ, then the request,
 -- then the release
@@ -20,23 +20,23 @@ due_text verb password bytes = concat (due_frames verb password (progress_of ver
 
 -- exactly the messages that may be sent were sent, and the outcome is not settled
 pub record Listens (verb : Verb) (password : List ℕ) (log : List Happening) : Type 0 where
-  pub sent_is : sent_in log ≡ due_text verb password (heard_in log)
-  pub unsettled : outcome_after verb (heard_in log) ≡ None
+  pub sent_is : bytes_sent log ≡ due_text verb password (bytes_received log)
+  pub unsettled : outcome_after verb (bytes_received log) ≡ None
 
 -- with these bytes, at most the messages that may be sent are sent
 abbrev pub IsDueNext : Verb → List ℕ → List Happening → List ℕ → Type 0
 IsDueNext verb password log bytes =
-    IsFront (sent_in log ++ bytes) (due_text verb password (heard_in log))
+    IsFront (bytes_sent log ++ bytes) (due_text verb password (bytes_received log))
 
 -- why no read follows: the outcome is settled, or 65,536 reads have not settled it
 abbrev pub IsOver : Verb → List Happening → Type 0
-IsOver verb log = IsSome (outcome_after verb (heard_in log)) ⊎ (reads_in log ≡ 65536)
+IsOver verb log = IsSome (outcome_after verb (bytes_received log)) ⊎ (reads_made log ≡ 65536)
 
 -- the end of a conversation: exactly the messages that may be sent were sent. If out of memory, it
 -- may end anywhere
 abbrev pub EndsAt : Bool → Verb → List ℕ → List Happening → Type 0
 EndsAt false verb password log = ⊤
-EndsAt true verb password log = (sent_in log ≡ due_text verb password (heard_in log))
+EndsAt true verb password log = (bytes_sent log ≡ due_text verb password (bytes_received log))
     × IsOver verb log
 
 -- what may follow a log: bytes that may be sent next, or, if all were sent, a read. Nothing follows
@@ -62,7 +62,7 @@ pub record HasConversed (verb : Verb) (password : List ℕ) (outcome : Option Ou
   pub log : List Happening
   pub log_is : now ≡ Some log
   pub conversation : Conversation (is_some outcome) verb password log
-  pub outcome_is : IfSome outcome (λ o. o ≡ outcome_of verb (heard_in log))
+  pub outcome_is : IfSome outcome (λ o. o ≡ outcome_of verb (bytes_received log))
 
 -- the first of the three messages, up to this number, concatenated
 abbrev pub given_text : Verb → List ℕ → ℕ → List ℕ

@@ -54,13 +54,13 @@ seen_here xs old seen_of note after n d x same below is starts =
     rw (← same, get_or_default xs n x d below, ← is) starts
 
 -- a ledger that was shared
-pub closes : {B : Type 0} (is_honest : B → Type 0) (is_down : B → ℕ → Type 0)
+pub closes : {B : Type 0} (is_honest : B → Type 0) (is_marked : B → ℕ → Type 0)
     (known : Known LedgerRequest (LedgerAnswer B) (LedgerState B)) (desk : DeskState B)
     (ledger : LedgerState B) → ledger ≡ desk.ledger
-    → Yields (λ (d : DeskState B). d.start) (Stands is_honest is_down)
-    (IsLegalHistory is_honest is_down) known desk
-    → Closes is_honest is_down known ledger
-closes is_honest is_down known desk ledger same yields = record {
+    → Yields (λ (d : DeskState B). d.start) (Stands is_honest is_marked)
+    (IsLegalHistory is_honest is_marked) known desk
+    → Closes is_honest is_marked known ledger
+closes is_honest is_marked known desk ledger same yields = record {
   start = desk.start;
   origin_is = yields.origin_is;
   calls = yields.history;

@@ -45,10 +45,10 @@ module _ {B : Type 0} where
   given_more calls by request answer = given_both calls (entry by request answer ∷ [])
       ∙ search rules
 
-module _ {B : Type 0} (is_honest : B → Type 0) (is_down : B → ℕ → Type 0) where
+module _ {B : Type 0} (is_honest : B → Type 0) (is_marked : B → ℕ → Type 0) where
   answered_more : (calls : LedgerCalls B) (call : LedgerCall B)
-      → AreAnswered is_honest is_down calls → IsAnswer is_honest is_down call.event call.reply
-      → AreAnswered is_honest is_down (calls ++ call ∷ [])
+      → AreAnswered is_honest is_marked calls → IsAnswer is_honest is_marked call.event call.reply
+      → AreAnswered is_honest is_marked (calls ++ call ∷ [])
   answered_more [] call all is = (is, tt)
   answered_more (first ∷ calls) call (head, tail) is =
       (head, answered_more calls call tail is)
@@ -56,26 +56,26 @@ module _ {B : Type 0} (is_honest : B → Type 0) (is_down : B → ℕ → Type 0
   -- a ledger that results from calls, and then answers one more
   pub stands_more : (old new : DeskState B) (calls : LedgerCalls B)
       (by : List ℕ) (request : LedgerRequest) (answer : LedgerAnswer B)
-      → new.start ≡ old.start → IsAnswer is_honest is_down request answer
-      → Grants is_honest is_down old.ledger new.ledger (permits_of answer)
-      → Stands is_honest is_down old calls
-      → Stands is_honest is_down new (calls ++ entry by request answer ∷ [])
+      → new.start ≡ old.start → IsAnswer is_honest is_marked request answer
+      → Grants is_honest is_marked old.ledger new.ledger (permits_of answer)
+      → Stands is_honest is_marked old calls
+      → Stands is_honest is_marked new (calls ++ entry by request answer ∷ [])
   stands_more old new calls by request answer same is grants stands = record {
     answers = answered_more calls (entry by request answer) stands.answers is;
     grants = rw (same, given_more calls by request answer)
-        (both is_honest is_down old.start old.ledger new.ledger (permits_given calls)
+        (both is_honest is_marked old.start old.ledger new.ledger (permits_given calls)
         (permits_of answer) stands.grants grants);
   }
 
   -- the last call of answered calls has an answer that its request may have
   answered_last : (before : LedgerCalls B) (call : LedgerCall B)
-      → AreAnswered is_honest is_down (before ++ call ∷ [])
-      → IsAnswer is_honest is_down call.event call.reply
+      → AreAnswered is_honest is_marked (before ++ call ∷ [])
+      → IsAnswer is_honest is_marked call.event call.reply
   answered_last [] call all = all.0
   answered_last (first ∷ before) call all = answered_last before call all.1
 
   place_given : (by : List ℕ) (before : LedgerCalls B) (place : ℕ)
-      (answer : LedgerAnswer B) → IsAnswer is_honest is_down (Begin place) answer
+      (answer : LedgerAnswer B) → IsAnswer is_honest is_marked (Begin place) answer
       → IfOk (permit_result answer) (λ given. OnSome given (IsIn place (permits_given (before
       ++ entry by (Begin place) answer ∷ []))))
   place_given by before place (Given permit book) is =
@@ -89,12 +89,12 @@ module _ {B : Type 0} (is_honest : B → Type 0) (is_down : B → ℕ → Type 0
   pub asked : (before after : Known LedgerRequest (LedgerAnswer B) (LedgerState B)) (place : ℕ)
       (answer : LedgerAnswer B) (result : Result (Option ℕ) LedgerFault)
       → result ≡ permit_result answer
-      → Called (IsLegalHistory is_honest is_down) before (Begin place) answer after
+      → Called (IsLegalHistory is_honest is_marked) before (Begin place) answer after
       → IfOk result (λ given. OnSome given (IsIn place (permits_given after.seen)))
   asked before after place answer result is called =
       let seen = called.seen.1 in
       let lawful = called.lawful in
-      let answers : AreAnswered is_honest is_down ((before.seen ++ called.seen.0)
+      let answers : AreAnswered is_honest is_marked ((before.seen ++ called.seen.0)
       ++ entry before.number (Begin place) answer ∷ []) =
       rw (← seen) lawful.legal_history.answers in
       rw (is, seen) (place_given before.number (before.seen ++ called.seen.0) place answer
@@ -114,7 +114,7 @@ module _ {B : Type 0} (is_honest : B → Type 0) (is_down : B → ℕ → Type 0
   pub reported : (before after : Known LedgerRequest (LedgerAnswer B) (LedgerState B)) (place : ℕ)
       (outcome : Outcome) (answer : LedgerAnswer B) (result : Result (Unit {0}) LedgerFault)
       → result ≡ stored_result answer
-      → Called (IsLegalHistory is_honest is_down) before (Record place outcome) answer after
+      → Called (IsLegalHistory is_honest is_marked) before (Record place outcome) answer after
       → OnOk result (EndsStored place outcome after.seen)
   reported before after place outcome answer result is called =
       rw (is, called.seen.1) (stored_by (before.seen ++ called.seen.0) before.number place outcome

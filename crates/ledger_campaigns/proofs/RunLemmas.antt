@@ -84,7 +84,7 @@ switched_given MaybeSent asked job password row stage is (switching, talked) =
 switched_given (Came outcome) asked job password row stage is (switching, talked) =
     absurd (rw is at talked)
 
-module _ {B : Type 0} (is_honest : B → Type 0) (is_down : B → ℕ → Type 0) where
+module _ {B : Type 0} (is_honest : B → Type 0) (is_marked : B → ℕ → Type 0) where
   -- the run, by what a port has seen that met all others
   pub run_by : (jobs : List Job) (password : List ℕ) (start : LedgerState B)
       (now : Option (LedgerState B)) (lines : List ReportLine) (stages : List State)
@@ -93,9 +93,9 @@ module _ {B : Type 0} (is_honest : B → Type 0) (is_down : B → ℕ → Type 0
       → AreUsesBy jobs start.entries password seen lines stages
       → ((i : ℕ) → i < length jobs → IsIn i (slice_index_or seen i [])
       → IsIn i (permits_given known.seen))
-      → IsLegal (IsLegalHistory is_honest is_down) known
-      → IfSome now (Closes is_honest is_down known)
-      → IsLedgeredRun is_honest is_down jobs password start now lines stages
+      → IsLegal (IsLegalHistory is_honest is_marked) known
+      → IfSome now (Closes is_honest is_marked known)
+      → IsLedgeredRun is_honest is_marked jobs password start now lines stages
   run_by jobs password start None lines stages seen known origin uses kept legal end =
       let same : legal.origin ≡ start = cc in
       record {
@@ -125,15 +125,15 @@ module _ {B : Type 0} (is_honest : B → Type 0) (is_down : B → ℕ → Type 0
   -- the commands of a run make it safe
   pub run_safe : (may_leave : B → (ℕ → LedgerEntry) → Type 0)
       → ((before after : LedgerState B) (permits sent : List ℕ)
-      → Grants is_honest is_down before after permits → AreApart sent
+      → Grants is_honest is_marked before after permits → AreApart sent
       → ((place : ℕ) → IsIn place sent → IsIn place permits)
-      → MakesSafeRuns is_honest is_down may_leave before after sent)
+      → MakesSafeRuns is_honest is_marked may_leave before after sent)
       → (jobs : List Job) (password : List ℕ) (start : LedgerState B)
       (now : Option (LedgerState B)) (lines : List ReportLine) (stages : List State)
       → length lines ≡ length jobs
-      → IsLedgeredRun is_honest is_down jobs password start now lines stages
+      → IsLedgeredRun is_honest is_marked jobs password start now lines stages
       → IfSome now (λ ledger. (sent : List ℕ) → AreApart sent → AreSwitched jobs stages sent
-      → MakesSafeRuns is_honest is_down may_leave start ledger sent)
+      → MakesSafeRuns is_honest is_marked may_leave start ledger sent)
   run_safe may_leave law jobs password start None lines stages long run = tt
   run_safe may_leave law jobs password start (Some ledger) lines stages long run =
       λ sent apart switched. law start ledger run.given sent
@@ -150,8 +150,8 @@ module _ {B : Type 0} (is_honest : B → Type 0) (is_down : B → ℕ → Type 0
   pub taken_run : {X : Type 0} (n : ℕ) (places rest : List X) (stage_of : X → State)
       (jobs : List Job) (password : List ℕ) (start : LedgerState B)
       (now : Option (LedgerState B)) (lines : List ReportLine) → n ≡ length places
-      → IsLedgeredRun is_honest is_down jobs password start now lines (map stage_of places)
-      → IsLedgeredRun is_honest is_down jobs password start now lines
+      → IsLedgeredRun is_honest is_marked jobs password start now lines (map stage_of places)
+      → IsLedgeredRun is_honest is_marked jobs password start now lines
       (map stage_of (take n (places ++ rest)))
   taken_run n places rest stage_of jobs password start now lines long run =
       rw (written n places rest long) run

@@ -70,7 +70,7 @@ AreSwitched jobs stages places = (place : ℕ) → IsIn place places → (place 
     × ((job : Job) → HasSwitched (slice_index_or jobs place job).verb
     (slice_index_or stages place unused))
 
-module _ {B : Type 0} (is_honest : B → Type 0) (is_down : B → ℕ → Type 0) where
+module _ {B : Type 0} (is_honest : B → Type 0) (is_marked : B → ℕ → Type 0) where
   -- The ledger was shared in the state `start`, and has given at least the permits that the port
   -- has seen.
   pub record Closes (known : Known LedgerRequest (LedgerAnswer B) (LedgerState B))
@@ -79,7 +79,7 @@ module _ {B : Type 0} (is_honest : B → Type 0) (is_down : B → ℕ → Type 0
     pub origin_is : known.origin ≡ Some start
     pub calls : LedgerCalls B
     pub seen : StartsWith calls known.seen
-    pub grants : Grants is_honest is_down start now (permits_given calls)
+    pub grants : Grants is_honest is_marked start now (permits_given calls)
 
   -- The permits that a run gave: each place at most one, and none to a place whose command may have
   -- been sent before. The attempts were used with these permits, and the ledger at the end has
@@ -93,4 +93,4 @@ module _ {B : Type 0} (is_honest : B → Type 0) (is_down : B → ℕ → Type 0
     pub not_sent : (place : ℕ) → IsIn place permits → entry_at start.entries place ≡ NotSent
     pub given : List ℕ
     pub all_given : (place : ℕ) → IsIn place permits → IsIn place given
-    pub grants : IfSome now (λ ledger. Grants is_honest is_down start ledger given)
+    pub grants : IfSome now (λ ledger. Grants is_honest is_marked start ledger given)

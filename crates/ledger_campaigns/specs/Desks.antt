@@ -84,12 +84,12 @@ module _ {B : Type 0} where
   permits_given [] = []
   permits_given (call ∷ calls) = permits_of call.reply ++ permits_given calls
 
-module _ {B : Type 0} (is_honest : B → Type 0) (is_down : B → ℕ → Type 0) where
+module _ {B : Type 0} (is_honest : B → Type 0) (is_marked : B → ℕ → Type 0) where
   -- an answer that a request may have. A permit is for the place that was asked for, which is
   -- marked in the book as it then was, if that was honest
   abbrev pub IsAnswer : LedgerRequest → LedgerAnswer B → Type 0
   IsAnswer (Begin place) (Given permit book) = (permit ≡ place)
-      × (is_honest book.value → is_down book.value place)
+      × (is_honest book.value → is_marked book.value place)
   IsAnswer (Record place outcome) (Given permit book) = ⊥
   IsAnswer request Refused = ⊤
   IsAnswer (Begin place) Recorded = ⊥
@@ -113,4 +113,4 @@ module _ {B : Type 0} (is_honest : B → Type 0) (is_down : B → ℕ → Type 0
   -- The ledger results from these calls.
   pub record Stands (desk : DeskState B) (calls : LedgerCalls B) : Type 0 where
     pub answers : AreAnswered calls
-    pub grants : Grants is_honest is_down desk.start desk.ledger (permits_given calls)
+    pub grants : Grants is_honest is_marked desk.start desk.ledger (permits_given calls)

@@ -34,7 +34,7 @@ impl<B: Book> Desk<B> {
     pub fn new(ledger: Ledger<B>) -> Desk<B>
         ensures ledger { result.ledger ≡ ledger }
         ensures start { result.start ≡ ledger }
-        ensures empty { Stands B.is_honest B.is_down result [] }
+        ensures empty { Stands B.is_honest B.is_marked result [] }
     {
         let start = Snapshot::of(&ledger);
         Desk { ledger, start }
@@ -50,8 +50,8 @@ impl<B: Book> Desk<B> {
     // Asks the ledger for the permit of a place.
     fn begin(&mut self, place: u32) -> LedgerAnswer<B>
         ensures start { self.new.start ≡ self.old.start }
-        ensures answer { IsAnswer B.is_honest B.is_down (Begin place) result }
-        ensures grants { Grants B.is_honest B.is_down self.old.ledger self.new.ledger
+        ensures answer { IsAnswer B.is_honest B.is_marked (Begin place) result }
+        ensures grants { Grants B.is_honest B.is_marked self.old.ledger self.new.ledger
             (permits_of result) }
     {
         match self.ledger.begin(place) {
@@ -64,8 +64,8 @@ impl<B: Book> Desk<B> {
     // Stores the outcome of a place.
     fn record(&mut self, place: u32, outcome: Outcome) -> LedgerAnswer<B>
         ensures start { self.new.start ≡ self.old.start }
-        ensures answer { IsAnswer B.is_honest B.is_down (Record place outcome) result }
-        ensures grants { Grants B.is_honest B.is_down self.old.ledger self.new.ledger
+        ensures answer { IsAnswer B.is_honest B.is_marked (Record place outcome) result }
+        ensures grants { Grants B.is_honest B.is_marked self.old.ledger self.new.ledger
             (permits_of result) }
     {
         if place as usize >= self.ledger.len() {
@@ -80,8 +80,8 @@ impl<B: Book> Desk<B> {
     // Answers a request.
     fn answer(&mut self, request: LedgerRequest) -> LedgerAnswer<B>
         ensures start { self.new.start ≡ self.old.start }
-        ensures answer { IsAnswer B.is_honest B.is_down request result }
-        ensures grants { Grants B.is_honest B.is_down self.old.ledger self.new.ledger
+        ensures answer { IsAnswer B.is_honest B.is_marked request result }
+        ensures grants { Grants B.is_honest B.is_marked self.old.ledger self.new.ledger
             (permits_of result) }
     {
         match request {
@@ -100,9 +100,9 @@ impl<B: Book> Turned for Desk<B> {
 
     ghost origin = { λ desk. desk.start };
 
-    ghost legal = { λ start calls. IsLegalHistory B.is_honest B.is_down start calls };
+    ghost legal = { λ start calls. IsLegalHistory B.is_honest B.is_marked start calls };
 
-    ghost stands = { λ desk calls. Stands B.is_honest B.is_down desk calls };
+    ghost stands = { λ desk calls. Stands B.is_honest B.is_marked desk calls };
 
     ghost sure = { λ _. ⊤ };
 

@@ -58,12 +58,12 @@ pub fn run_ledgered_campaign<
     requires { length ledger.entries ≡ length plan.now.jobs.now }
     ensures lines { IfOk result (λ run. AreLinesFor (C.tells connector.now) plan.now.jobs.now
         ledger.entries run.report) }
-    ensures run { IfOk result (λ run. IsLedgeredRun B.is_honest B.is_down plan.now.jobs.now
+    ensures run { IfOk result (λ run. IsLedgeredRun B.is_honest B.is_marked plan.now.jobs.now
         plan.now.password.now ledger run.ledger run.report
         (map (λ place. place.attempt.stage) run.places.items)) }
     ensures safe { IfOk result (λ run. IfSome run.ledger (λ now. (sent : List ℕ) → AreApart sent
         → AreSwitched plan.now.jobs.now (map (λ place. place.attempt.stage) run.places.items) sent
-        → MakesSafeRuns B.is_honest B.is_down B.may_leave ledger now sent)) }
+        → MakesSafeRuns B.is_honest B.is_marked B.may_leave ledger now sent)) }
 {
     let found = Vec::from_slice(alloc, ledger.entries())?;
     let mut lines = blank_lines(alloc, plan.jobs.as_slice())?;

@@ -10,14 +10,14 @@ use Rattle.sqlite.specs.State.{HasCleanDisk}
 use Rattle.client_core.specs.declared.job.Job.{Job}
 use Rattle.campaign_ledger.specs.Grants.{LedgerState}
 use Rattle.head_end.specs.Connections.{Forecast}
-use Rattle.sqlite_ledger.specs.Marks.{IsDown, LeavesEntries}
+use Rattle.sqlite_ledger.specs.Marks.{IsMarked, LeavesEntries}
 use Rattle.sqlite_ledger.specs.Schema.{ledger_schema}
 use Rattle.ledger_files.specs.Opened.{IsOpenedFrom}
 use Rattle.ledger_runs.specs.declared.running.LedgerTexts.{LedgerTexts}
 use Rattle.ledger_runs.specs.Texts.{IsRunOnLedger}
 
 -- The ledger was opened from what the files held, and the run was on this ledger: the disk is
--- honest if it returned what was written, and a place is down if whatever a crash leaves has its
+-- honest if it returned what was written, and a place is marked if whatever a crash leaves has its
 -- mark.
 pub record IsRunOnFile {D F : Type 0} (g : Ghosts D) (held : Image)
     (tells : List ℕ → Option Forecast) (jobs : List Job) (password : List ℕ)
@@ -27,6 +27,6 @@ pub record IsRunOnFile {D F : Type 0} (g : Ghosts D) (held : Image)
   pub schema_is : start.book.schema ≡ ledger_schema
   pub opened : HasCleanDisk (file_state start.book) → IsOpenedFrom held start.book
   pub run : IsRunOnLedger (λ book. HasCleanDisk (file_state book))
-      (λ book place. IsDown (file_state book).may_leave (pos place))
+      (λ book place. IsMarked (file_state book).may_leave (pos place))
       (λ book entries. LeavesEntries (file_state book).may_leave entries) tells jobs password
       start now texts

@@ -2,7 +2,7 @@
 ghost use Rattle.std.specs.Prelude.{◌≡◌, length, pos, IfOk};
 ghost use Rattle.sqlite.specs.State.{HasCleanDisk};
 ghost use Rattle.sqlite.specs.Held.{state};
-ghost use Rattle.sqlite_ledger.specs.Marks.{IsDown, LeavesEntries};
+ghost use Rattle.sqlite_ledger.specs.Marks.{IsMarked, LeavesEntries};
 ghost use Rattle.ledger_runs.specs.Texts.{IsRunOnLedger};
 
 use campaign_ledger::Ledger;
@@ -37,7 +37,7 @@ pub(crate) fn run_on_connection<
     requires { length ledger.entries ≡ length plan.now.jobs.now }
     ensures { IfOk result (λ ended. IsRunOnLedger
         (λ book. HasCleanDisk (state T.Store book))
-        (λ book place. IsDown (state T.Store book).may_leave (pos place))
+        (λ book place. IsMarked (state T.Store book).may_leave (pos place))
         (λ book entries. LeavesEntries (state T.Store book).may_leave entries)
         (C.tells connector.now) plan.now.jobs.now plan.now.password.now ledger ended.1 ended.0) }
 {

@@ -14,7 +14,7 @@ use Rattle.sqlite.proofs.Theorems.{next_run}
 use Rattle.campaign_ledger.specs.declared.entry.LedgerEntry.{LedgerEntry}
 use Rattle.campaign_ledger.specs.Entries.{HasGone}
 use Rattle.sqlite_ledger.specs.Schema.{ledger_schema}
-use Rattle.sqlite_ledger.specs.Marks.{IsBegun, IsDown, IsLeft, LeavesEntries}
+use Rattle.sqlite_ledger.specs.Marks.{IsBegun, IsMarked, IsLeft, LeavesEntries}
 use Rattle.ledger_files.specs.Opened.{IsOpenedFrom}
 
 module _ {D N : Type 0} {g : Ghosts D} {next : Ghosts N} (last : FileStore D g) (numbered : IsTrue
@@ -30,7 +30,7 @@ module _ {D N : Type 0} {g : Ghosts D} {next : Ghosts N} (last : FileStore D g) 
     is,
   )
 
-  pub finds_down : (place : ℕ) → HasGone (entries place) → IsDown (file_state now).may_leave (pos
+  pub finds_down : (place : ℕ) → HasGone (entries place) → IsMarked (file_state now).may_leave (pos
       place)
   finds_down place gone db left =
       let same = opened.unchanged ledger in

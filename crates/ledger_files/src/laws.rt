@@ -8,7 +8,7 @@ ghost use Rattle.sqlite.specs.Recovery.{Image};
 ghost use Rattle.campaign_ledger.specs.declared.entry.LedgerEntry.{LedgerEntry};
 ghost use Rattle.campaign_ledger.specs.Entries.{HasGone};
 ghost use Rattle.sqlite_ledger.specs.Schema.{ledger_schema};
-ghost use Rattle.sqlite_ledger.specs.Marks.{IsDown, IsLeft, LeavesEntries};
+ghost use Rattle.sqlite_ledger.specs.Marks.{IsMarked, IsLeft, LeavesEntries};
 ghost use Rattle.ledger_files.specs.Opened.{IsOpenedFrom};
 
 use sqlite_disk::Disk;
@@ -23,10 +23,10 @@ pub fn the_next_run_finds_what_was_left<L: Disk, N: Disk>()
         → opened.was.schema ≡ ledger_schema → (entries : ℕ → LedgerEntry)
         → IsLeft (file_state opened.was).committed.trees entries
         → LeavesEntries (recovers last) entries }
-    ensures down { (last : Trees L L.Disk) → IsTrue (view last).is_numbered
+    ensures marked { (last : Trees L L.Disk) → IsTrue (view last).is_numbered
         → AreDatabases (recovers last) → (held : Image) → (state last).may_leave held
         → (now : Held (Trees N N.Disk)) → (opened : IsOpenedFrom held now)
         → opened.was.schema ≡ ledger_schema → (entries : ℕ → LedgerEntry)
         → IsLeft (file_state opened.was).committed.trees entries
-        → (place : ℕ) → HasGone (entries place) → IsDown (file_state now).may_leave (pos place) }
+        → (place : ℕ) → HasGone (entries place) → IsMarked (file_state now).may_leave (pos place) }
 {}

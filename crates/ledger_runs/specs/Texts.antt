@@ -12,7 +12,7 @@ use Rattle.head_end.specs.Reports.{report_text}
 use Rattle.ledger_campaigns.specs.Campaigns.{AreLinesFor, AreSwitched, IsLedgeredRun}
 use Rattle.ledger_runs.specs.declared.running.LedgerTexts.{LedgerTexts}
 
-module _ {B : Type 0} (is_honest : B → Type 0) (is_down : B → ℕ → Type 0)
+module _ {B : Type 0} (is_honest : B → Type 0) (is_marked : B → ℕ → Type 0)
     (may_leave : B → (ℕ → LedgerEntry) → Type 0) where
   -- The run began with the ledger `start`, and sent switching commands with its permits alone. If
   -- the book is honest and the commands of some places, each once, went out by the logs of the
@@ -24,7 +24,7 @@ module _ {B : Type 0} (is_honest : B → Type 0) (is_down : B → ℕ → Type 0
     pub lines : List ReportLine
     pub stages : List State
     pub lines_are : AreLinesFor tells jobs start.entries lines
-    pub run : IsLedgeredRun is_honest is_down jobs password start now lines stages
+    pub run : IsLedgeredRun is_honest is_marked jobs password start now lines stages
     pub safe : IfSome now (λ ledger. (sent : List ℕ) → AreApart sent → AreSwitched jobs stages sent
-        → MakesSafeRuns is_honest is_down may_leave start ledger sent)
+        → MakesSafeRuns is_honest is_marked may_leave start ledger sent)
     pub text_is : IfOk texts (λ it. it.text ≡ report_text lines)

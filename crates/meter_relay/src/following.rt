@@ -17,7 +17,7 @@ use trace_lines::read_event;
 use trace_words::{RowFault, Version};
 
 // Reads the event of a line.
-fn event_in(alloc: Global, line: &[u8]) -> Result<Event, RelayFault>
+fn parse_event(alloc: Global, line: &[u8]) -> Result<Event, RelayFault>
     ensures { IfOk result (λ event. event_of Two (words_of line.now) ≡ Ok event) }
 {
     match read_event(alloc, Version::Two, line) {
@@ -36,7 +36,7 @@ fn follow_line<W: Write + Drop, L: ChangeReport>(
 ) -> Result<(), RelayFault>
     ensures { OnOk result (FollowsOn W.contents (line.now ∷ []) relay.old relay.new) }
 {
-    let event = event_in(alloc, line)?;
+    let event = parse_event(alloc, line)?;
     let followed = relay.follow_event(alloc, &event, line);
     drop(event);
     followed

@@ -1,5 +1,5 @@
 pub mod Counting
 pub mod Going
 pub mod Static
-pub mod Tending
+pub mod PortsKept
 pub mod Working

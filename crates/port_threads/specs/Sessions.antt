@@ -60,7 +60,7 @@ module _ {H E R O : Type 0} (lent : H → ShownPort E R O) (terms_of : H → Lis
       → IsEnded p (child p.known.number i) ⊎ IsOpen held (child p.known.number i)
 
   -- sessions were opened and closed, and no port was lost
-  pub record Tends (p : ShownPort E R O) (held : Slab H) (q : ShownPort E R O) (later : Slab H)
+  pub record KeepsPorts (p : ShownPort E R O) (held : Slab H) (q : ShownPort E R O) (later : Slab H)
       : Type 0 where
     pub goes : PortContinues p q
     pub holds : AreHeld lent p held → AreHeld lent q later

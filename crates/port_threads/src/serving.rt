@@ -2,7 +2,7 @@
 ghost use Rattle.std.specs.Prelude.{◌≡◌, ◌+◌, IsTrue, IfOk, IfSome, IfNone, OnOk, OnErr};
 ghost use Rattle.port_threads.specs.Listening.{RisesBy, IsCounted};
 ghost use Rattle.port_threads.specs.Ports.{PortContinues, AreJoined, AreServed};
-ghost use Rattle.port_threads.specs.Sessions.{port_of, terms_of, AreHeld, Tends, Takes, IsComplete, IsServed};
+ghost use Rattle.port_threads.specs.Sessions.{port_of, terms_of, AreHeld, KeepsPorts, Takes, IsComplete, IsServed};
 ghost use Rattle.turn_lock.specs.Calls.{IsLegal};
 ghost use Rattle.turn_lock.specs.Shown.{IsSame};
 
@@ -32,7 +32,7 @@ where
     T::Origin: 'static,
     requires held { AreHeld port_of port.old sessions.old.handles }
     requires hands_back { (t : _) (p : _) (q : _) → L.Connection.hands_back t p q → IsSame p q }
-    ensures tends { Tends port_of (terms_of L.Connection.terms) L.Connection.hands_back
+    ensures keeps_ports { KeepsPorts port_of (terms_of L.Connection.terms) L.Connection.hands_back
         (L.terms listener.old) port.old sessions.old.handles port.new sessions.new.handles }
     ensures splits { IfSome result
         (λ outcome. Takes outcome port.old.known.splits port.new.known.splits) }
@@ -72,7 +72,7 @@ where
     T::Origin: 'static,
     requires held { AreHeld port_of port.old sessions.old.handles }
     requires hands_back { (t : _) (p : _) (q : _) → L.Connection.hands_back t p q → IsSame p q }
-    ensures tends { Tends port_of (terms_of L.Connection.terms) L.Connection.hands_back
+    ensures keeps_ports { KeepsPorts port_of (terms_of L.Connection.terms) L.Connection.hands_back
         (L.terms listener.old) port.old sessions.old.handles port.new sessions.new.handles }
     ensures complete { IsComplete limit result }
     ensures served { IsServed port.old.known.splits port.new.known.splits result }

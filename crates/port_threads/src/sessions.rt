@@ -1,7 +1,7 @@
 //! The open sessions, each with a place, a thread and a port.
 ghost use Rattle.std.specs.Prelude.{◌≡◌, ◌≢◌, ℕ, ◌<◌, List, None, IfOk};
 ghost use Rattle.slab.specs.Slab.{get};
-ghost use Rattle.port_threads.specs.Sessions.{port_of, terms_of, AreHeld, IsEmpty, Tends};
+ghost use Rattle.port_threads.specs.Sessions.{port_of, terms_of, AreHeld, IsEmpty, KeepsPorts};
 ghost use Rattle.port_threads.specs.Sessions.{Takes, IsCrowd, IsClosedFor};
 ghost use Rattle.port_threads.specs.Listening.{IfReady};
 ghost use Rattle.turn_lock.specs.Calls.{Joins};
@@ -50,8 +50,9 @@ impl<T: Turned, C: PortConnection<Port<T>>> Sessions<T, C> {
     fn close<R: Threads>(&mut self, rt: &R, key: usize, port: &mut Port<T>)
         requires held { AreHeld port_of port.old self.old.handles }
         requires hands_back { (t : _) (p : _) (q : _) → C.hands_back t p q → IsSame p q }
-        ensures tends { (t : List ℕ)
-            → Tends port_of (terms_of C.terms) C.hands_back t port.old self.old.handles port.new
+        ensures keeps_ports { (t : List ℕ)
+            → KeepsPorts port_of (terms_of C.terms) C.hands_back t port.old self.old.handles
+            port.new
             self.new.handles }
         ensures splits { port.new.known.splits ≡ port.old.known.splits }
         ensures closed { get self.new.handles key ≡ None }
@@ -69,8 +70,9 @@ impl<T: Turned, C: PortConnection<Port<T>>> Sessions<T, C> {
         requires place { key < SESSIONS }
         requires held { AreHeld port_of port.old self.old.handles }
         requires hands_back { (t : _) (p : _) (q : _) → C.hands_back t p q → IsSame p q }
-        ensures tends { (t : List ℕ)
-            → Tends port_of (terms_of C.terms) C.hands_back t port.old self.old.handles port.new
+        ensures keeps_ports { (t : List ℕ)
+            → KeepsPorts port_of (terms_of C.terms) C.hands_back t port.old self.old.handles
+            port.new
             self.new.handles }
         ensures splits { port.new.known.splits ≡ port.old.known.splits }
     {
@@ -83,8 +85,9 @@ impl<T: Turned, C: PortConnection<Port<T>>> Sessions<T, C> {
     pub(crate) fn reap<R: Threads>(&mut self, rt: &R, port: &mut Port<T>)
         requires held { AreHeld port_of port.old self.old.handles }
         requires hands_back { (t : _) (p : _) (q : _) → C.hands_back t p q → IsSame p q }
-        ensures tends { (t : List ℕ)
-            → Tends port_of (terms_of C.terms) C.hands_back t port.old self.old.handles port.new
+        ensures keeps_ports { (t : List ℕ)
+            → KeepsPorts port_of (terms_of C.terms) C.hands_back t port.old self.old.handles
+            port.new
             self.new.handles }
         ensures splits { port.new.known.splits ≡ port.old.known.splits }
     {
@@ -97,8 +100,9 @@ impl<T: Turned, C: PortConnection<Port<T>>> Sessions<T, C> {
     pub(crate) fn close_all<R: Threads>(&mut self, rt: &R, port: &mut Port<T>)
         requires held { AreHeld port_of port.old self.old.handles }
         requires hands_back { (t : _) (p : _) (q : _) → C.hands_back t p q → IsSame p q }
-        ensures tends { (t : List ℕ)
-            → Tends port_of (terms_of C.terms) C.hands_back t port.old self.old.handles port.new
+        ensures keeps_ports { (t : List ℕ)
+            → KeepsPorts port_of (terms_of C.terms) C.hands_back t port.old self.old.handles
+            port.new
             self.new.handles }
         ensures splits { port.new.known.splits ≡ port.old.known.splits }
         ensures closed { (key : ℕ) → key < SESSIONS → get self.new.handles key ≡ None }
@@ -125,7 +129,8 @@ impl<T: Turned, C: PortConnection<Port<T>>> Sessions<T, C> {
         T::Origin: 'static,
         requires held { AreHeld port_of port.old self.old.handles }
         requires hands_back { (t : _) (p : _) (q : _) → C.hands_back t p q → IsSame p q }
-        ensures tends { Tends port_of (terms_of C.terms) C.hands_back (C.terms connection) port.old
+        ensures keeps_ports { KeepsPorts port_of (terms_of C.terms) C.hands_back
+            (C.terms connection) port.old
             self.old.handles port.new self.new.handles }
         ensures splits { Takes result port.old.known.splits port.new.known.splits }
         ensures crowded { IsCrowd result self.old.handles }
@@ -167,8 +172,8 @@ impl<T: Turned, C: PortConnection<Port<T>>> Sessions<T, C> {
         T::Origin: 'static,
         requires held { AreHeld port_of port.old self.old.handles }
         requires hands_back { (t : _) (p : _) (q : _) → C.hands_back t p q → IsSame p q }
-        ensures tends { (t : List ℕ) → IfReady (λ c. C.terms c ≡ t) incoming
-            → Tends port_of (terms_of C.terms) C.hands_back t port.old self.old.handles
+        ensures keeps_ports { (t : List ℕ) → IfReady (λ c. C.terms c ≡ t) incoming
+            → KeepsPorts port_of (terms_of C.terms) C.hands_back t port.old self.old.handles
             port.new self.new.handles }
         ensures splits { Takes result port.old.known.splits port.new.known.splits }
         ensures closed { IsClosedFor incoming result }

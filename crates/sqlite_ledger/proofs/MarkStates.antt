@@ -8,7 +8,7 @@ use Rattle.sqlite.specs.declared.error.Error.{Error}
 use Rattle.sqlite.specs.State.{State, HasCleanDisk, IsUnchanged, Survives, Executes, CommitsBy}
 use Rattle.sqlite_ledger.specs.Schema.{ledger_schema, begun_tree}
 use Rattle.sqlite_ledger.specs.Taken.{is_taken}
-use Rattle.sqlite_ledger.specs.Marks.{IsBegun, IsDown}
+use Rattle.sqlite_ledger.specs.Marks.{IsBegun, IsMarked}
 use Rattle.sqlite_ledger.proofs.MarkLemmas.{begun_text, begun_source, begun_is, begun_plain}
 use Rattle.sqlite_ledger.proofs.MarkLemmas.{begun_does, mark_row, begun_after, begun_kept}
 use Rattle.sqlite_ledger.proofs.MarkLemmas.{not_before}
@@ -25,7 +25,7 @@ mark place at = record { is = begun_is; plain = begun_plain; does = begun_does p
 module _ (old mid new : State) (place : ℤ) (at : Value) (has : old.now.schema ≡ ledger_schema) (rest
     : IsAtRest old) (same : IsUnchanged old mid) where
   pub durable : (r : Result ℕ Error) → Executes begun_text (mark_params place at) mid new r →
-      IsSettled new → OnOk r (IsDown new.may_leave place)
+      IsSettled new → OnOk r (IsMarked new.may_leave place)
   durable (Ok count) h settled = λ db left.
       subst (λ (d : Trees). IsBegun d place) (sym (insert.left_is _ _ _ _ _ _ (mark place at) old
       mid new has rest same count h settled db left))
@@ -34,7 +34,7 @@ module _ (old mid new : State) (place : ℤ) (at : Value) (has : old.now.schema 
   durable (Err e) h settled = tt
 
   pub fresh : (r : Result ℕ Error) → Executes begun_text (mark_params place at) mid new r →
-      IsSettled old → OnOk r (¬ IsDown old.may_leave place)
+      IsSettled old → OnOk r (¬ IsMarked old.may_leave place)
   fresh (Ok count) h settled = λ down.
       not_before mid.now new.now place at (insert.adds _ _ _ _ _ _ (mark place at) old mid new has
       rest same count h)
@@ -51,8 +51,9 @@ module _ (old mid new : State) (place : ℤ) (at : Value) (has : old.now.schema 
   taken = insert.taken _ _ _ _ _ _ (mark place at) old mid new has rest same
 
   pub kept : IsSettled old → HasCleanDisk new → Survives old mid (λ _. ⊥) → Survives mid new
-      (CommitsBy begun_text (mark_params place at) mid) → (other : ℤ) → IsDown old.may_leave other →
-      IsDown new.may_leave other
+      (CommitsBy begun_text (mark_params place at) mid) → (other : ℤ) → IsMarked old.may_leave other
+      →
+      IsMarked new.may_leave other
   kept start clean first second other =
       insert.kept _ _ _ _ _ _ (mark place at) old mid new has rest same start clean first second (λ
       d. IsBegun d other) (λ db after adds. begun_kept db after place at adds other)

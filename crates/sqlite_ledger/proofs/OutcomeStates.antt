@@ -6,7 +6,7 @@ use Rattle.sqlite.specs.declared.error.Error.{Error}
 use Rattle.sqlite.specs.State.{State, HasCleanDisk, IsUnchanged, Survives, Executes, CommitsBy}
 use Rattle.client_core.specs.declared.job.Outcome.{Outcome}
 use Rattle.sqlite_ledger.specs.Schema.{ledger_schema, outcome_tree}
-use Rattle.sqlite_ledger.specs.Marks.{IsBegun, IsDown}
+use Rattle.sqlite_ledger.specs.Marks.{IsBegun, IsMarked}
 use Rattle.sqlite_ledger.specs.Outcomes.{outcome_row, IsRecorded, IsSafe}
 use Rattle.sqlite_ledger.proofs.MarkLemmas.{begun_same}
 use Rattle.sqlite_ledger.proofs.OutcomeLemmas.{outcome_text, outcome_source, outcome_params}
@@ -42,8 +42,8 @@ module _ (old mid new : State) (place : ℤ) (outcome : Outcome) (at : Value) (h
   schema = insert.schema _ _ _ _ _ _ (ending place outcome at) old mid new has rest same
 
   pub kept : IsSettled old → HasCleanDisk new → Survives old mid (λ _. ⊥) → Survives mid new
-      (CommitsBy outcome_text (outcome_params place outcome at) mid) → (other : ℤ) → IsDown
-      old.may_leave other → IsDown new.may_leave other
+      (CommitsBy outcome_text (outcome_params place outcome at) mid) → (other : ℤ) → IsMarked
+      old.may_leave other → IsMarked new.may_leave other
   kept start clean first second other =
       insert.kept _ _ _ _ _ _ (ending place outcome at) old mid new has rest same start clean first
       second (λ d. IsBegun d other)

@@ -1,10 +1,10 @@
 -- The marks of a ledger's file: the places whose command may have been sent.
 --     IsBegun           the trees have the place's mark
---     IsDown            whatever a crash leaves has it
+--     IsMarked            whatever a crash leaves has it
 --     IsLeft            entries say of each place whether the trees have its mark
 --     LeavesEntries     entries that the next run may find after a crash
 --     LeavesCommit      while the connection is open, a crash leaves the last commit alone
---     left_marked       a crash leaves marked what is down
+--     left_marked       what is marked remains so after a crash
 use Rattle.std.specs.Prelude.{◌≡◌, ℕ, ℤ, pos, IsTrue}
 use Rattle.std.proofs.Math.Logic.{∥∥₁_elim}
 use mathlib.Core.Bool.{Bool-set}
@@ -19,8 +19,8 @@ use Rattle.sqlite_ledger.specs.Schema.{begun_tree}
 abbrev pub IsBegun : Trees → ℤ → Type 0
 IsBegun db place = IsTrue (list_any (has_rowid place) (db begun_tree))
 
-abbrev pub IsDown : (Trees → Type 0) → ℤ → Type 0
-IsDown may_leave place = (db : Trees) → may_leave db → IsBegun db place
+abbrev pub IsMarked : (Trees → Type 0) → ℤ → Type 0
+IsMarked may_leave place = (db : Trees) → may_leave db → IsBegun db place
 
 -- the command of a place may have been sent, by these entries, exactly if the trees have its mark
 pub record IsLeft (db : Trees) (entries : ℕ → LedgerEntry) : Type 0 where
@@ -34,6 +34,6 @@ abbrev pub LeavesCommit : State → Type 0
 LeavesCommit s = IsTrue s.is_open → (db : Trees) → s.may_leave db → db ≡ s.committed.trees
 
 pub left_marked : (may_leave : Trees → Type 0) (place : ℕ) (entries : ℕ → LedgerEntry)
-    → IsDown may_leave (pos place) → LeavesEntries may_leave entries → HasGone (entries place)
+    → IsMarked may_leave (pos place) → LeavesEntries may_leave entries → HasGone (entries place)
 left_marked may_leave place entries down left = left.2.gone place
     (∥∥₁_elim left.1 (Bool-set _ _) (λ may. down left.0 may))

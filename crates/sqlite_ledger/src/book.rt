@@ -2,7 +2,7 @@
 ghost use Rattle.std.specs.Prelude.{◌≡◌, ℕ, pos, IfOk, IfErr, OnOk};
 ghost use Rattle.sqlite.specs.State.{HasCleanDisk};
 ghost use Rattle.sqlite.specs.Held.{state};
-ghost use Rattle.sqlite_ledger.specs.Marks.{IsDown, LeavesEntries, left_marked};
+ghost use Rattle.sqlite_ledger.specs.Marks.{IsMarked, LeavesEntries, left_marked};
 ghost use Rattle.sqlite_ledger.specs.Outcomes.{IsSafe};
 ghost use Rattle.sqlite_ledger.specs.Schema.{ledger_schema};
 
@@ -73,9 +73,9 @@ impl<S: Alter + Drop> Book for SqliteBook<S> {
 
     ghost may_leave = { λ book entries. LeavesEntries (state S.Store book).may_leave entries };
 
-    ghost is_down = { λ book place. IsDown (state S.Store book).may_leave (pos place) };
+    ghost is_marked = { λ book place. IsMarked (state S.Store book).may_leave (pos place) };
 
-    ghost stays_down = { λ book place entries down left. left_marked _ place entries down left };
+    ghost stays_marked = { λ book place entries down left. left_marked _ place entries down left };
 
     fn mark(&mut self, place: u32) -> Result<bool, LedgerFault> {
         if self.has_failed {
@@ -99,9 +99,9 @@ impl<S: Alter + Drop> Book for SqliteBook<S> {
     fn record(&mut self, place: u32, outcome: Outcome) -> Result<(), LedgerFault>
         ensures honest { HasCleanDisk (state S.Store self.new)
             → HasCleanDisk (state S.Store self.old) }
-        ensures kept { HasCleanDisk (state S.Store self.new) → (other : ℕ)
-            → IsDown (state S.Store self.old).may_leave (pos other)
-            → IsDown (state S.Store self.new).may_leave (pos other) }
+        ensures remains_marked { HasCleanDisk (state S.Store self.new) → (other : ℕ)
+            → IsMarked (state S.Store self.old).may_leave (pos other)
+            → IsMarked (state S.Store self.new).may_leave (pos other) }
         ensures recorded { HasCleanDisk (state S.Store self.new)
             → OnOk result (IsSafe (state S.Store self.new).may_leave (pos place) outcome) }
     {

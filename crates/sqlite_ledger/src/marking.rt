@@ -3,7 +3,7 @@ ghost use Rattle.std.specs.Prelude.{◌≡◌, ℤ, pos, OnOk, IfErr, IsTrue};
 ghost use Rattle.sqlite.specs.State.{HasCleanDisk};
 ghost use Rattle.sqlite.specs.Held.{state};
 ghost use Rattle.sqlite_ledger.specs.Schema.{ledger_schema};
-ghost use Rattle.sqlite_ledger.specs.Marks.{IsDown};
+ghost use Rattle.sqlite_ledger.specs.Marks.{IsMarked};
 ghost use Rattle.sqlite_ledger.specs.Taken.{is_taken};
 
 use sqlite::{Alter, Connection, Error, ErrorCode, params};
@@ -19,12 +19,12 @@ pub(crate) fn insert_begun<S: Alter>(
 ) -> Result<usize, Error>
     ensures clean { HasCleanDisk (state S.Store conn.new) → HasCleanDisk (state S.Store conn.old) }
     ensures durable { HasCleanDisk (state S.Store conn.new) → conn.old.schema ≡ ledger_schema
-        → OnOk result (IsDown (state S.Store conn.new).may_leave (pos place)) }
+        → OnOk result (IsMarked (state S.Store conn.new).may_leave (pos place)) }
     ensures fresh { HasCleanDisk (state S.Store conn.new) → conn.old.schema ≡ ledger_schema
-        → OnOk result (¬ IsDown (state S.Store conn.old).may_leave (pos place)) }
-    ensures kept { HasCleanDisk (state S.Store conn.new) → conn.old.schema ≡ ledger_schema
-        → (other : ℤ) → IsDown (state S.Store conn.old).may_leave other
-        → IsDown (state S.Store conn.new).may_leave other }
+        → OnOk result (¬ IsMarked (state S.Store conn.old).may_leave (pos place)) }
+    ensures remains_marked { HasCleanDisk (state S.Store conn.new) → conn.old.schema ≡ ledger_schema
+        → (other : ℤ) → IsMarked (state S.Store conn.old).may_leave other
+        → IsMarked (state S.Store conn.new).may_leave other }
     ensures schema { HasCleanDisk (state S.Store conn.new) → conn.old.schema ≡ ledger_schema
         → OnOk result (conn.new.schema ≡ ledger_schema) }
     ensures taken { HasCleanDisk (state S.Store conn.new) → conn.old.schema ≡ ledger_schema

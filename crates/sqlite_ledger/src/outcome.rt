@@ -4,7 +4,7 @@ ghost use Rattle.sqlite.specs.State.{HasCleanDisk};
 ghost use Rattle.sqlite.specs.Held.{state};
 ghost use Rattle.sqlite.specs.declared.types.Value.{Value};
 ghost use Rattle.sqlite_ledger.specs.Schema.{ledger_schema};
-ghost use Rattle.sqlite_ledger.specs.Marks.{IsDown};
+ghost use Rattle.sqlite_ledger.specs.Marks.{IsMarked};
 ghost use Rattle.sqlite_ledger.specs.Outcomes.{kind_of, number_of, IsSafe};
 ghost use Rattle.sqlite.specs.Values.{or_null};
 ghost use Rattle.sqlite.specs.declared.types.Value.TheVariants.{Int};
@@ -49,9 +49,9 @@ pub(crate) fn insert_outcome<S: Alter>(
     ensures clean { HasCleanDisk (state S.Store conn.new) → HasCleanDisk (state S.Store conn.old) }
     ensures recorded { HasCleanDisk (state S.Store conn.new) → conn.old.schema ≡ ledger_schema
         → OnOk result (IsSafe (state S.Store conn.new).may_leave (pos place) outcome) }
-    ensures kept { HasCleanDisk (state S.Store conn.new) → conn.old.schema ≡ ledger_schema
-        → (other : ℤ) → IsDown (state S.Store conn.old).may_leave other
-        → IsDown (state S.Store conn.new).may_leave other }
+    ensures remains_marked { HasCleanDisk (state S.Store conn.new) → conn.old.schema ≡ ledger_schema
+        → (other : ℤ) → IsMarked (state S.Store conn.old).may_leave other
+        → IsMarked (state S.Store conn.new).may_leave other }
     ensures schema { HasCleanDisk (state S.Store conn.new) → conn.old.schema ≡ ledger_schema
         → OnOk result (conn.new.schema ≡ ledger_schema) }
 {

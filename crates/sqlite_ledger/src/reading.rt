@@ -49,7 +49,7 @@ fn enter_marks(entries: &mut [LedgerEntry], rows: &[Row]) -> Result<(), Error> {
 }
 
 // Returns the outcome that a row of the table `outcome` says: `Unknown` for a kind that is none.
-fn outcome_in(row: &Row) -> Result<Outcome, Error> {
+fn read_outcome(row: &Row) -> Result<Outcome, Error> {
     let kind: String = row.get(1)?;
     let number: Option<u32> = row.get(2)?;
     let number = u8::try_from(number.unwrap_or(0)).unwrap_or(u8::MAX);
@@ -65,7 +65,7 @@ fn outcome_in(row: &Row) -> Result<Outcome, Error> {
 fn enter_outcomes(entries: &mut [LedgerEntry], rows: &[Row]) -> Result<(), Error> {
     for row in rows {
         let place: u32 = row.get(0)?;
-        let outcome = outcome_in(row)?;
+        let outcome = read_outcome(row)?;
         if let Some(entry) = entries.get_mut(place as usize) {
             *entry = LedgerEntry::Came(outcome);
         }

@@ -11,7 +11,9 @@ ghost use Rattle.trace_lines.specs.OpenCount.{count_at, count_from, count_in, op
 
 use std::alloc::AllocError;
 use text_lines::Words;
-use trace_words::{RowFault, TraceFault, TraceLines, number_in, read_labelled, write_number_line};
+use trace_words::{
+    RowFault, TraceFault, TraceLines, parse_number, read_labelled, write_number_line,
+};
 
 /// The maximum number of events of a trace.
 pub const MAX_EVENTS: u32 = 65_536;
@@ -21,7 +23,7 @@ fn read_count(words: &mut Words) -> Result<u32, RowFault>
     ensures count { Gives Memory (λ count. count) result (events_from words.old) }
     ensures within_max { IfOk result (λ count. count ≤ 65536) }
 {
-    read_labelled(b"events", words, |word| number_in(word, MAX_EVENTS))
+    read_labelled(b"events", words, |word| parse_number(word, MAX_EVENTS))
 }
 
 /// Reads the line of the number of events, at most `MAX_EVENTS`. Errors: `Line` with the number of
@@ -34,20 +36,20 @@ pub fn read_event_count(lines: &mut TraceLines) -> Result<u32, TraceFault>
 }
 
 // Reads a number of events, or `-` for none.
-fn count_in(word: &[u8]) -> Result<Option<u32>, RowFault>
+fn parse_count(word: &[u8]) -> Result<Option<u32>, RowFault>
     ensures { Gives Memory (λ count. count) result (count_in word.now) }
 {
     if word == b"-".as_slice() {
         return Ok(None);
     }
-    Ok(Some(number_in(word, MAX_EVENTS)?))
+    Ok(Some(parse_number(word, MAX_EVENTS)?))
 }
 
 // Reads the words of the line of the number of events, or of the line `events -`.
 fn read_stated(words: &mut Words) -> Result<Option<u32>, RowFault>
     ensures { Gives Memory (λ count. count) result (count_from words.old) }
 {
-    read_labelled(b"events", words, count_in)
+    read_labelled(b"events", words, parse_count)
 }
 
 /// Reads the line of the number of events, at most `MAX_EVENTS`, or the line `events -`, for which

@@ -16,21 +16,21 @@ ghost use Rattle.trace_words.specs.declared.fault.RowFault.TheVariants.{Memory};
 
 use crate::items::{next_method, next_selection, read_selections};
 use crate::samples::{read_pairs, read_values};
-use crate::words::level_in;
+use crate::words::parse_level;
 use cosem_axdr::Data;
 use cosem_names::Level;
 use lane_sampler::{Block, BlockMade};
 use relay_events::Event;
 use std::alloc::{AllocError, Global};
 use text_lines::Words;
-use trace_words::{RowFault, Version, data_in, expect_end, next_word, number_in};
+use trace_words::{RowFault, Version, expect_end, next_word, parse_data, parse_number};
 use wire_bytes::Listed;
 
 // Reads the next word as the port of a client.
 fn next_level(words: &mut Words) -> Result<Level, RowFault>
     ensures { Reads (λ level. level) result words.new (level_part.read words.old) }
 {
-    level_in(next_word(words)?)
+    parse_level(next_word(words)?)
 }
 
 fn read_get(alloc: Global, words: &mut Words) -> Result<Event, RowFault>
@@ -67,7 +67,7 @@ fn read_set(alloc: Global, words: &mut Words) -> Result<Event, RowFault>
 {
     let level = next_level(words)?;
     let item = next_selection(alloc, words)?;
-    let value = data_in(alloc, next_word(words)?)?;
+    let value = parse_data(alloc, next_word(words)?)?;
     Ok(Event::Set {
         level,
         attr: item.attr,
@@ -77,13 +77,13 @@ fn read_set(alloc: Global, words: &mut Words) -> Result<Event, RowFault>
 }
 
 // Reads the parameter of a method, or `-` for none.
-fn parameter_in(alloc: Global, word: &[u8]) -> Result<Option<Data>, RowFault>
+fn parse_parameter(alloc: Global, word: &[u8]) -> Result<Option<Data>, RowFault>
     ensures { Gives Memory (λ parameter. parameter) result (parameter_in word.now) }
 {
     if word == b"-".as_slice() {
         return Ok(None);
     }
-    Ok(Some(data_in(alloc, word)?))
+    Ok(Some(parse_data(alloc, word)?))
 }
 
 fn read_execute(alloc: Global, words: &mut Words) -> Result<Event, RowFault>
@@ -93,7 +93,7 @@ fn read_execute(alloc: Global, words: &mut Words) -> Result<Event, RowFault>
 {
     let level = next_level(words)?;
     let method = next_method(alloc, words)?;
-    let parameter = parameter_in(alloc, next_word(words)?)?;
+    let parameter = parse_parameter(alloc, next_word(words)?)?;
     Ok(Event::Execute {
         level,
         method,
@@ -146,7 +146,7 @@ fn read_moment(words: &mut Words) -> Result<Event, RowFault>
     ensures { Reads (λ event. event) result words.new
         (read_as event.Moment ((number_part 4294967295).read words.old)) }
 {
-    Ok(Event::Moment(number_in(next_word(words)?, u32::MAX)?))
+    Ok(Event::Moment(parse_number(next_word(words)?, u32::MAX)?))
 }
 
 // Reads an event that version 1 does not have, by its first word.

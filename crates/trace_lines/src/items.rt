@@ -8,7 +8,7 @@ use crate::words::{next_byte, next_name};
 use cosem_names::{AttrRef, AttributeSelection, ClassId, MethodRef};
 use std::alloc::Global;
 use text_lines::Words;
-use trace_words::{RowFault, flag_in, next_long, next_word, number_in};
+use trace_words::{RowFault, next_long, next_word, parse_flag, parse_number};
 
 /// The maximum number of items of a GET with list.
 pub const MAX_ITEMS: usize = 102;
@@ -49,7 +49,7 @@ pub(crate) fn next_selection(
     ensures { Reads (λ item. item) result words.new (selection_part.read words.old) }
 {
     let attr = next_attribute(alloc, words)?;
-    let selected = flag_in(next_word(words)?)?;
+    let selected = parse_flag(next_word(words)?)?;
     Ok(AttributeSelection { attr, selected })
 }
 
@@ -61,7 +61,7 @@ pub(crate) fn read_selections(
     ensures { Reads (λ items. items.items) result words.new
         ((counted_items MAX_ITEMS selection_part).read words.old) }
 {
-    let count = number_in(next_word(words)?, MAX_ITEMS as u32)?;
+    let count = parse_number(next_word(words)?, MAX_ITEMS as u32)?;
     read_selection_items(alloc, count as usize, words)
 }
 

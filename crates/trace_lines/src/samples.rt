@@ -9,21 +9,21 @@ ghost use Rattle.trace_lines.specs.Parts.{sample_part, pair_part};
 use lane_sampler::MAX_VALUES;
 use std::alloc::Global;
 use text_lines::Words;
-use trace_words::{RowFault, next_word, number_in};
+use trace_words::{RowFault, next_word, parse_number};
 
 // Reads a sample, in watts.
-fn value_in(word: &[u8]) -> Result<u32, RowFault>
+fn parse_value(word: &[u8]) -> Result<u32, RowFault>
     ensures { result ≡ value_in word.now }
 {
-    number_in(word, u32::MAX)
+    parse_number(word, u32::MAX)
 }
 
 // Reads a pair of samples: the import value (the word given), then the export value.
 fn read_pair(word: &[u8], words: &mut Words) -> Result<(u32, u32), RowFault>
     ensures { Reads (λ pair. pair) result words.new (pair_part.read (word.now ∷ words.old)) }
 {
-    let import = value_in(word)?;
-    let export = value_in(next_word(words)?)?;
+    let import = parse_value(word)?;
+    let export = parse_value(next_word(words)?)?;
     Ok((import, export))
 }
 
@@ -37,7 +37,7 @@ pub(crate) fn read_values(alloc: Global, words: &mut Words) -> Result<Vec<u32>, 
         if values.len() == MAX_VALUES {
             return Err(RowFault::Wrong);
         }
-        values.push(value_in(word)?)?;
+        values.push(parse_value(word)?)?;
     }
     Ok(values)
 }

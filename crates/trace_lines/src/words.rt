@@ -9,13 +9,13 @@ ghost use Rattle.trace_lines.specs.Reading.{level_in, name_in};
 use cosem_names::{Level, Obis};
 use std::alloc::Global;
 use text_lines::Words;
-use trace_words::{RowFault, bytes_in, next_word, number_in};
+use trace_words::{RowFault, next_word, parse_bytes, parse_number};
 
 // Reads the access level of a client's port: 1 for the management client, 16 for the public one.
-pub(crate) fn level_in(word: &[u8]) -> Result<Level, RowFault>
+pub(crate) fn parse_level(word: &[u8]) -> Result<Level, RowFault>
     ensures { result ≡ level_in word.now }
 {
-    match number_in(word, 16)? {
+    match parse_number(word, 16)? {
         1 => Ok(Level::Management),
         16 => Ok(Level::Public),
         _ => Err(RowFault::Wrong),
@@ -24,10 +24,10 @@ pub(crate) fn level_in(word: &[u8]) -> Result<Level, RowFault>
 
 // Reads a logical name, six bytes in hexadecimal.
 #[tactic(auto, unfolding(crate::specs::Reading::name_in))]
-pub(crate) fn name_in(alloc: Global, word: &[u8]) -> Result<Obis, RowFault>
+pub(crate) fn parse_name(alloc: Global, word: &[u8]) -> Result<Obis, RowFault>
     ensures { Gives Memory (λ name. name) result (name_in word.now) }
 {
-    let bytes = bytes_in(alloc, word)?;
+    let bytes = parse_bytes(alloc, word)?;
     if bytes.len() != 6 {
         return Err(RowFault::Wrong);
     }
@@ -40,12 +40,12 @@ pub(crate) fn name_in(alloc: Global, word: &[u8]) -> Result<Obis, RowFault>
 pub(crate) fn next_byte(words: &mut Words) -> Result<u8, RowFault>
     ensures { Reads (λ number. number) result words.new (next_as (number_in 255) words.old) }
 {
-    Ok(number_in(next_word(words)?, 255)? as u8)
+    Ok(parse_number(next_word(words)?, 255)? as u8)
 }
 
 // Reads the next word as a logical name.
 pub(crate) fn next_name(alloc: Global, words: &mut Words) -> Result<Obis, RowFault>
     ensures { Reads (λ name. name) result words.new (next_as name_in words.old) }
 {
-    name_in(alloc, next_word(words)?)
+    parse_name(alloc, next_word(words)?)
 }

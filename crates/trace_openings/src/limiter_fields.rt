@@ -18,7 +18,8 @@ use limiter_core::{Actions, Count, MAX_GROUPS, Profile, RUN_LIMIT, are_fit};
 use std::alloc::Global;
 use text_lines::{Words, read_number};
 use trace_words::{
-    RowFault, bytes_in, expect_end, flag_in, last_word, long_in, next_long, next_word, number_in,
+    RowFault, expect_end, last_word, next_long, next_word, parse_bytes, parse_flag, parse_long,
+    parse_number,
 };
 use wire_bytes::Listed;
 
@@ -58,15 +59,15 @@ pub(crate) fn read_labelled_number(
         (labelled_value (label which name.now) value_in words.old) }
 {
     read_label_of(which, name, words)?;
-    number_in(last_word(words)?, u32::MAX)
+    parse_number(last_word(words)?, u32::MAX)
 }
 
 // Reads a date-time, twelve bytes in hexadecimal.
 #[tactic(auto, unfolding(crate::specs::OpeningFields::start_in))]
-fn start_in(alloc: Global, word: &[u8]) -> Result<DateTimeField, RowFault>
+fn parse_start(alloc: Global, word: &[u8]) -> Result<DateTimeField, RowFault>
     ensures { Gives Memory (λ start. start) result (start_in word.now) }
 {
-    let bytes = bytes_in(alloc, word)?;
+    let bytes = parse_bytes(alloc, word)?;
     match read_date_time(bytes.as_slice()) {
         Ok(start) => Ok(start),
         Err(_) => Err(RowFault::Wrong),
@@ -84,8 +85,8 @@ pub(crate) fn read_profile(
 {
     read_label_of(which, b"profile", words)?;
     let id = next_long(words)?;
-    let start = start_in(alloc, next_word(words)?)?;
-    let duration = number_in(next_word(words)?, u32::MAX)?;
+    let start = parse_start(alloc, next_word(words)?)?;
+    let duration = parse_number(next_word(words)?, u32::MAX)?;
     expect_end(words)?;
     Ok(Profile {
         id,
@@ -104,7 +105,7 @@ fn read_ids(alloc: Global, words: &mut Words) -> Result<Vec<u16>, RowFault>
         if ids.len() == MAX_GROUPS {
             return Err(RowFault::Wrong);
         }
-        ids.push(long_in(word)?)?;
+        ids.push(parse_long(word)?)?;
     }
     Ok(ids)
 }
@@ -137,7 +138,7 @@ pub(crate) fn read_actions(which: Which, words: &mut Words) -> Result<Actions, R
 }
 
 // Reads the length of a run, in samples.
-fn run_in(word: &[u8]) -> Result<u64, RowFault>
+fn parse_run(word: &[u8]) -> Result<u64, RowFault>
     ensures { result ≡ number_in cap word.now }
 {
     read_number(word, RUN_LIMIT).ok_or(RowFault::Wrong)
@@ -149,8 +150,8 @@ fn read_count(which: Which, name: &[u8], words: &mut Words) -> Result<Count, Row
     ensures { Gives Memory (λ count. count) result (count_from (label which name.now) words.old) }
 {
     read_label_of(which, name, words)?;
-    let run = run_in(next_word(words)?)?;
-    let fired = flag_in(next_word(words)?)?;
+    let run = parse_run(next_word(words)?)?;
+    let fired = parse_flag(next_word(words)?)?;
     expect_end(words)?;
     Ok(Count { run, fired })
 }

@@ -16,15 +16,15 @@ use script_steps::{ScriptFault, ScriptTable};
 use std::alloc::Global;
 use text_lines::Words;
 use trace_words::{
-    RowFault, Version, bytes_in, data_in, last_word, next_long, next_word, number_in, read_label,
-    read_labelled,
+    RowFault, Version, last_word, next_long, next_word, parse_bytes, parse_data, parse_number,
+    read_label, read_labelled,
 };
 
 // Reads the version of the format, 1 or 2.
-fn version_in(word: &[u8]) -> Result<Version, RowFault>
+fn parse_version(word: &[u8]) -> Result<Version, RowFault>
     ensures { result ≡ version_in word.now }
 {
-    match number_in(word, 2)? {
+    match parse_number(word, 2)? {
         1 => Ok(Version::One),
         2 => Ok(Version::Two),
         _ => Err(RowFault::Wrong),
@@ -35,17 +35,17 @@ fn version_in(word: &[u8]) -> Result<Version, RowFault>
 pub(crate) fn read_version(words: &mut Words) -> Result<Version, RowFault>
     ensures { Gives Memory (λ version. version) result (version_from words.old) }
 {
-    read_labelled(b"RELAYTRACE", words, version_in)
+    read_labelled(b"RELAYTRACE", words, parse_version)
 }
 
 // Reads a device name, 1 to 16 bytes in hexadecimal.
 #[tactic(auto, unfolding(crate::specs::OpeningFields::device_in), using(crate::proofs::OpeningLemmas::bytes_some))]
-fn device_in(alloc: Global, word: &[u8]) -> Result<Octets, RowFault>
+fn parse_device(alloc: Global, word: &[u8]) -> Result<Octets, RowFault>
     ensures device { Gives Memory (λ device. device) result (device_in word.now) }
     ensures non_empty { IfOk result (λ device. 1 ≤ length device) }
     ensures within_max { IfOk result (λ device. length device ≤ 16) }
 {
-    let device = bytes_in(alloc, word)?;
+    let device = parse_bytes(alloc, word)?;
     if device.len() > MAX_DEVICE_NAME {
         return Err(RowFault::Wrong);
     }
@@ -59,14 +59,14 @@ pub(crate) fn read_device(alloc: Global, words: &mut Words) -> Result<Octets, Ro
     ensures non_empty { IfOk result (λ device. 1 ≤ length device) }
     ensures within_max { IfOk result (λ device. length device ≤ 16) }
 {
-    read_labelled(b"device", words, |word| device_in(alloc, word))
+    read_labelled(b"device", words, |word| parse_device(alloc, word))
 }
 
 // Reads a control state (class 70, attribute 3) as a number, 0 to 2.
-fn state_in(word: &[u8]) -> Result<ControlState, RowFault>
+fn parse_state(word: &[u8]) -> Result<ControlState, RowFault>
     ensures { result ≡ state_in word.now }
 {
-    match number_in(word, 2)? {
+    match parse_number(word, 2)? {
         0 => Ok(ControlState::Disconnected),
         1 => Ok(ControlState::Connected),
         _ => Ok(ControlState::ReadyForReconnection),
@@ -78,17 +78,17 @@ pub(crate) fn read_state(words: &mut Words) -> Result<ControlState, RowFault>
     ensures { Gives Memory (λ state. state) result
         (labelled_value (codes "state") state_in words.old) }
 {
-    read_labelled(b"state", words, state_in)
+    read_labelled(b"state", words, parse_state)
 }
 
 // Reads a control mode (class 70, attribute 4) as a number, 0 to 6. Errors: `Wrong` also if the
 // mode does not fit `state`.
 #[tactic(auto, unfolding(crate::specs::OpeningFields::mode_in, disconnect_control::specs::Control::is_mode_fit))]
-fn mode_in(state: ControlState, word: &[u8]) -> Result<ControlMode, RowFault>
+fn parse_mode(state: ControlState, word: &[u8]) -> Result<ControlMode, RowFault>
     ensures mode { result ≡ mode_in state word.now }
     ensures fit { IfOk result (λ mode. mode ≡ Mode0 → state ≡ Connected) }
 {
-    let Ok(mode) = ControlMode::try_from(number_in(word, 6)? as u8) else {
+    let Ok(mode) = ControlMode::try_from(parse_number(word, 6)? as u8) else {
         return Err(RowFault::Wrong);
     };
     match (mode, state) {
@@ -104,17 +104,17 @@ pub(crate) fn read_mode(state: ControlState, words: &mut Words) -> Result<Contro
         (labelled_value (codes "mode") (mode_in state) words.old) }
     ensures fit { IfOk result (λ mode. mode ≡ Mode0 → state ≡ Connected) }
 {
-    read_labelled(b"mode", words, |word| mode_in(state, word))
+    read_labelled(b"mode", words, |word| parse_mode(state, word))
 }
 
 // Reads a moment, in seconds, or `-` for `None`.
-fn moment_in(word: &[u8]) -> Result<Option<u32>, RowFault>
+fn parse_moment(word: &[u8]) -> Result<Option<u32>, RowFault>
     ensures { result ≡ moment_in word.now }
 {
     if word == b"-".as_slice() {
         return Ok(None);
     }
-    Ok(Some(number_in(word, u32::MAX)?))
+    Ok(Some(parse_number(word, u32::MAX)?))
 }
 
 // Reads the line of the clock's last moment.
@@ -122,15 +122,15 @@ pub(crate) fn read_moment(words: &mut Words) -> Result<Option<u32>, RowFault>
     ensures { Gives Memory (λ moment. moment) result
         (labelled_value (codes "now") moment_in words.old) }
 {
-    read_labelled(b"now", words, moment_in)
+    read_labelled(b"now", words, parse_moment)
 }
 
 // Reads a script table, a Data in hexadecimal.
 #[tactic(auto, unfolding(crate::specs::OpeningFields::table_in))]
-fn table_in(alloc: Global, word: &[u8]) -> Result<ScriptTable, RowFault>
+fn parse_table(alloc: Global, word: &[u8]) -> Result<ScriptTable, RowFault>
     ensures { Gives Memory (λ table. table) result (table_in word.now) }
 {
-    let value = data_in(alloc, word)?;
+    let value = parse_data(alloc, word)?;
     let table = ScriptTable::from_data(alloc, &value);
     drop(value);
     match table {
@@ -146,14 +146,14 @@ pub(crate) fn read_table(alloc: Global, words: &mut Words) -> Result<ScriptTable
     ensures { Gives Memory (λ table. table) result
         (labelled_value (codes "scripts") table_in words.old) }
 {
-    read_labelled(b"scripts", words, |word| table_in(alloc, word))
+    read_labelled(b"scripts", words, |word| parse_table(alloc, word))
 }
 
 // Reads the type of a schedule.
-fn type_in(word: &[u8]) -> Result<ScheduleType, RowFault>
+fn parse_type(word: &[u8]) -> Result<ScheduleType, RowFault>
     ensures { result ≡ type_in word.now }
 {
-    match ScheduleType::try_from(number_in(word, 5)? as u8) {
+    match ScheduleType::try_from(parse_number(word, 5)? as u8) {
         Ok(kind) => Ok(kind),
         Err(_) => Err(RowFault::Wrong),
     }
@@ -171,7 +171,7 @@ fn with_entries(
     ensures selector { IfOk result (λ schedule. schedule.selector ≡ selector) }
     ensures kind { IfOk result (λ schedule. schedule.kind ≡ kind) }
 {
-    let value = data_in(alloc, word)?;
+    let value = parse_data(alloc, word)?;
     let mut schedule = ActionSchedule::without_entries(alloc, selector, kind);
     let set = schedule.set_entries(alloc, &value);
     drop(value);
@@ -198,10 +198,10 @@ pub(crate) fn read_schedule_words(
     ensures { Gives Memory (λ schedule. schedule) result (schedule_from which words.old) }
 {
     read_label(b"schedule", words)?;
-    if number_in(next_word(words)?, 3)? != which {
+    if parse_number(next_word(words)?, 3)? != which {
         return Err(RowFault::Wrong);
     }
     let selector = next_long(words)?;
-    let kind = type_in(next_word(words)?)?;
+    let kind = parse_type(next_word(words)?)?;
     with_entries(alloc, selector, kind, last_word(words)?)
 }

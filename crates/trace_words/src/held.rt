@@ -60,14 +60,14 @@ impl HeldLines {
         }
     }
 
-    /// Reads the next line, a value by `value_in`. Errors: `Line` with the number of the line if it
-    /// is missing, not ended or refused by `value_in`; `Memory`.
+    /// Reads the next line, a value by `parse`. Errors: `Line` with the number of the line if it
+    /// is missing, not ended or refused by `parse`; `Memory`.
     pub fn read<X: Drop, F: FnOnce(&[u8]) -> Result<X, RowFault>>(
         &mut self,
-        value_in: F,
+        parse: F,
     ) -> Result<X, TraceFault>
-        requires { F.IsAlwaysCallable value_in }
-        ensures { (value_from : Row → Result X RowFault) → IsLineReader F.FnOnce value_in value_from
+        requires { F.IsAlwaysCallable parse }
+        ensures { (value_from : Row → Result X RowFault) → IsLineReader F.FnOnce parse value_from
             → ReadsLines (λ x. x) result self.new (line_as value_from self.old) }
     {
         self.drop_read_text();
@@ -75,7 +75,7 @@ impl HeldLines {
         match split_line(&self.text.as_slice()[self.taken..]) {
             Some((line, rest)) => {
                 let left = rest.len();
-                let read = value_in(line);
+                let read = parse(line);
                 self.taken = self.text.len() - left;
                 self.number += 1;
                 at_line(number, read)

@@ -23,19 +23,19 @@ pub fn read_label(label: &[u8], words: &mut Words) -> Result<(), RowFault>
     }
 }
 
-/// Reads a line of two words: `label`, and a value that `value_in` reads. Errors: `Wrong` if the
-/// words are others, else the error of `value_in`.
+/// Reads a line of two words: `label`, and a value that `parse` reads. Errors: `Wrong` if the
+/// words are others, else the error of `parse`.
 pub fn read_labelled<X: Drop, F: FnOnce(&[u8]) -> Result<X, RowFault>>(
     label: &[u8],
     words: &mut Words,
-    value_in: F,
+    parse: F,
 ) -> Result<X, RowFault>
-    requires { F.IsAlwaysCallable value_in }
-    ensures reads { (of_word : Word → Result X RowFault) → IsWordReader F.FnOnce value_in of_word
+    requires { F.IsAlwaysCallable parse }
+    ensures reads { (of_word : Word → Result X RowFault) → IsWordReader F.FnOnce parse of_word
         → Gives Memory (λ x. x) result (labelled_value label.now of_word words.old) }
     ensures answered { IfOk result (λ x. (word : Word)
-        × FnOnceReturnsAt F.FnOnce value_in word (Ok x)) }
+        × FnOnceReturnsAt F.FnOnce parse word (Ok x)) }
 {
     read_label(label, words)?;
-    value_in(last_word(words)?)
+    parse(last_word(words)?)
 }

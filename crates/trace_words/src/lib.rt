@@ -4,9 +4,9 @@
 //!
 //! `TraceLines` holds the lines that are still to be read; its `read` reads the next line, a value
 //! from its words. `HeldLines` owns its text and drops what has been read. Readers of a line take
-//! its words with `next_word` and `last_word`, and the values of words with `number_in`, `flag_in`,
-//! `bytes_in` and `data_in`; `read_labelled` reads a line of a first word and one value.
-//! `add_flag`, `add_data` and `write_number_line` write.
+//! its words with `next_word` and `last_word`, and the values of words with `parse_number`,
+//! `parse_flag`, `parse_bytes` and `parse_data`; `read_labelled` reads a line of a first word and
+//! one value. `add_flag`, `add_data` and `write_number_line` write.
 #![tactic(auto)]
 
 mod fault;
@@ -23,9 +23,9 @@ pub use fault::{RowFault, TraceFault};
 pub use held::HeldLines;
 pub use labels::{read_label, read_labelled};
 pub use place::TraceLines;
-pub use spelling::data_in;
+pub use spelling::parse_data;
 pub use version::Version;
 pub use words::{
-    bytes_in, expect_end, flag_in, last_word, long_in, next_long, next_word, number_in,
+    expect_end, last_word, next_long, next_word, parse_bytes, parse_flag, parse_long, parse_number,
 };
 pub use writing::{add_data, add_flag, write_number_line};

@@ -9,7 +9,7 @@ ghost use Rattle.trace_words.specs.Reading.{canonical_data, data_in};
 ghost use Rattle.trace_words.specs.declared.fault.RowFault.TheVariants.{Memory};
 
 use crate::fault::RowFault;
-use crate::words::bytes_in;
+use crate::words::parse_bytes;
 use cosem_axdr::{Data, DataFault, Octets, read, write};
 use std::alloc::{AllocError, Global};
 
@@ -43,10 +43,10 @@ fn check_written(alloc: Global, value: Data, bytes: &[u8]) -> Result<Data, RowFa
 /// Reads a Data in A-XDR, written in hexadecimal. Errors: `Wrong` if the bytes are not the encoding
 /// that is written for a Data; `Memory`.
 #[tactic(auto, unfolding(crate::specs::Reading::data_in))]
-pub fn data_in(alloc: Global, word: &[u8]) -> Result<Data, RowFault>
+pub fn parse_data(alloc: Global, word: &[u8]) -> Result<Data, RowFault>
     ensures { Gives Memory (λ value. value) result (data_in word.now) }
 {
-    let bytes = bytes_in(alloc, word)?;
+    let bytes = parse_bytes(alloc, word)?;
     match read(alloc, bytes.as_slice()) {
         Ok((value, _)) => check_written(alloc, value, bytes.as_slice()),
         Err(DataFault::Memory) => Err(RowFault::Memory),

@@ -38,7 +38,7 @@ pub fn last_word<'a>(words: &mut Words<'a>) -> Result<&'a [u8], RowFault>
 }
 
 /// Returns the decimal number of a word, at most `limit`. Errors: `Wrong` for any other word.
-pub fn number_in(word: &[u8], limit: u32) -> Result<u32, RowFault>
+pub fn parse_number(word: &[u8], limit: u32) -> Result<u32, RowFault>
     ensures value { result ≡ number_in limit word.now }
     ensures within { IfOk result (λ number. number ≤ limit) }
 {
@@ -49,14 +49,14 @@ pub fn number_in(word: &[u8], limit: u32) -> Result<u32, RowFault>
 }
 
 /// Returns true for the word `1`, false for `0`. Errors: `Wrong` for any other word.
-pub fn flag_in(word: &[u8]) -> Result<bool, RowFault>
+pub fn parse_flag(word: &[u8]) -> Result<bool, RowFault>
     ensures { result ≡ flag_in word.now }
 {
-    Ok(number_in(word, 1)? == 1)
+    Ok(parse_number(word, 1)? == 1)
 }
 
 /// Returns the bytes of a word in hexadecimal. Errors: `Wrong` for any other word; `Memory`.
-pub fn bytes_in(alloc: Global, word: &[u8]) -> Result<Octets, RowFault>
+pub fn parse_bytes(alloc: Global, word: &[u8]) -> Result<Octets, RowFault>
     ensures { Gives Memory (λ bytes. bytes) result (bytes_in word.now) }
 {
     match read_hex(alloc, word)? {
@@ -66,10 +66,10 @@ pub fn bytes_in(alloc: Global, word: &[u8]) -> Result<Octets, RowFault>
 }
 
 /// Returns the decimal number of a word, at most 65,535. Errors: `Wrong` for any other word.
-pub fn long_in(word: &[u8]) -> Result<u16, RowFault>
+pub fn parse_long(word: &[u8]) -> Result<u16, RowFault>
     ensures { result ≡ number_in 65535 word.now }
 {
-    Ok(number_in(word, 65_535)? as u16)
+    Ok(parse_number(word, 65_535)? as u16)
 }
 
 /// Reads the next word as a decimal number of at most 65,535. Errors: `Wrong` if the word is
@@ -77,5 +77,5 @@ pub fn long_in(word: &[u8]) -> Result<u16, RowFault>
 pub fn next_long(words: &mut Words) -> Result<u16, RowFault>
     ensures { Reads (λ number. number) result words.new (next_as (number_in 65535) words.old) }
 {
-    long_in(next_word(words)?)
+    parse_long(next_word(words)?)
 }

@@ -36,10 +36,11 @@ returns-clause-run g c =
     let origin : c.meet_all.new.port.known.origin ≡ Some c.args.ledger =
     c.meet_all.ensures.origin ∙ (c.in_ok-places.ensures.origin
     ∙ ap (λ k. k.origin) c.in_ok-shared.ensures.known) in
-    taken_run g.B.Book.is_honest g.B.Book.is_down c.in_ok-places.places.len c.meet_all.new.places _
+    taken_run g.B.Book.is_honest g.B.Book.is_marked c.in_ok-places.places.len c.meet_all.new.places
+        _
     (λ p. p.attempt.stage) c.args.plan.now.jobs.now c.args.plan.now.password.now c.args.ledger
     c.close-ledger.result c.from_vec.result (omega (arith, count, ap length same))
-    (rw (whole, same) (run_by g.B.Book.is_honest g.B.Book.is_down c.args.plan.now.jobs.now
+    (rw (whole, same) (run_by g.B.Book.is_honest g.B.Book.is_marked c.args.plan.now.jobs.now
     c.args.plan.now.password.now c.args.ledger c.close-ledger.result c.run_places.new.lines
     (map (λ p. p.attempt.stage) c.run_places.new.places)
     (map (λ p. permits_given p.port.known.seen) c.run_places.new.places)
@@ -51,6 +52,6 @@ returns-clause-run g c =
 
 pub returns-clause-safe : goal.returns-clause-safe
 returns-clause-safe g c =
-    run_safe g.B.Book.is_honest g.B.Book.is_down g.B.Book.may_leave c.grants_add_up.ensures.runs
+    run_safe g.B.Book.is_honest g.B.Book.is_marked g.B.Book.may_leave c.grants_add_up.ensures.runs
     c.args.plan.now.jobs.now c.args.plan.now.password.now c.args.ledger c.close-ledger.result
     c.from_vec.result _ (returns-clause-lines g c).count (returns-clause-run g c)

@@ -5,6 +5,7 @@ pub returns-clause-left : goal.returns-clause-left
 returns-clause-left g c last numbered sound held may now opened ledger entries is = finds_left last
     numbered sound held may now opened ledger entries is
 
-pub returns-clause-down : goal.returns-clause-down
-returns-clause-down g c last numbered sound held may now opened ledger entries is = finds_down last
+pub returns-clause-marked : goal.returns-clause-marked
+returns-clause-marked g c last numbered sound held may now opened ledger entries is = finds_down
+    last
     numbered sound held may now opened ledger entries is

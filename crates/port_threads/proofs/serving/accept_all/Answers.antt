@@ -2,25 +2,27 @@ use Rattle.std.proofs.Common.{◌∙◌}
 use Rattle.std.proofs.lemmas.Bool.{false≢true}
 use Rattle.port_threads.specs.Sessions.{port_of, terms_of}
 use Rattle.port_threads.proofs.Counting.{count_on, counted_on, counted_still}
-use Rattle.port_threads.proofs.Tending.{tends_trans, tends_by}
+use Rattle.port_threads.proofs.PortsKept.{keeps_trans, keeps_by}
 use Rattle.port_threads.proofs.serving.accept_all.Goals as goal
 
-pub returns-in_default-clause-tends : goal.returns-in_default-clause-tends
-returns-in_default-clause-tends g c =
+pub returns-in_default-clause-keeps_ports : goal.returns-in_default-clause-keeps_ports
+returns-in_default-clause-keeps_ports g c =
     let conn = g.L.Connection.PortConnection in
-    tends_trans port_of (terms_of conn.terms) conn.hands_back _ _ _ _ _ _ _
-    c.connections.invariant.tends (tends_by port_of (terms_of conn.terms) conn.hands_back _ _ _
-    _ _ _ c.connections.invariant.terms c.take_next.ensures.tends)
+    keeps_trans port_of (terms_of conn.terms) conn.hands_back _ _ _ _ _ _ _
+    c.connections.invariant.keeps_ports (keeps_by port_of (terms_of conn.terms) conn.hands_back _ _
+    _
+    _ _ _ c.connections.invariant.terms c.take_next.ensures.keeps_ports)
 
 pub connections-preserved : goal.connections-preserved
 connections-preserved g c =
     record {
       can_next = tt;
       is_finite = tt;
-      tends = let conn = g.L.Connection.PortConnection in
-          tends_trans port_of (terms_of conn.terms) conn.hands_back _ _ _ _ _ _ _
-          c.connections.invariant.tends (tends_by port_of (terms_of conn.terms) conn.hands_back
-          _ _ _ _ _ _ c.connections.invariant.terms c.take_next.ensures.tends);
+      keeps_ports = let conn = g.L.Connection.PortConnection in
+          keeps_trans port_of (terms_of conn.terms) conn.hands_back _ _ _ _ _ _ _
+          c.connections.invariant.keeps_ports (keeps_by port_of
+          (terms_of conn.terms) conn.hands_back
+          _ _ _ _ _ _ c.connections.invariant.terms c.take_next.ensures.keeps_ports);
       terms = c.take_next.ensures.terms ∙ c.connections.invariant.terms;
       served = c.count.ensures.served _ _ _ c.connections.invariant.served
           c.in-Some-take_next.ensures.splits;

@@ -1,5 +1,5 @@
 use Rattle.std.proofs.Common.{◌≡◌, ◌+◌, ◌<◌, ◌≤◌, false}
-use Rattle.port_threads.specs.Sessions.{port_of, terms_of, Tends, IsServed}
+use Rattle.port_threads.specs.Sessions.{port_of, terms_of, KeepsPorts, IsServed}
 use Rattle.port_threads.specs.Listening.{IsCounted}
 use Rattle.port_threads.proofs.serving.accept_all.Given as goal
 
@@ -7,7 +7,7 @@ abbrev pub invariant-connections : goal.invariant-connections
 invariant-connections g l = record {
   can_next : (goal.iterator-connections g).can_next l.iterator';
   is_finite : (goal.iterator-connections g).is_finite l.iterator';
-  tends : Tends port_of (terms_of g.L.Connection.PortConnection.terms)
+  keeps_ports : KeepsPorts port_of (terms_of g.L.Connection.PortConnection.terms)
       g.L.Connection.PortConnection.hands_back (g.L.ConnectionSource.terms l.initial.listener)
       l.initial.port
       l.initial.sessions.handles l.port l.sessions.handles;

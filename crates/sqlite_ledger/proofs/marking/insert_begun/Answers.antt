@@ -52,8 +52,8 @@ returns-clause-fresh g c clean has =
     ) at (c.execute.ensures.runs clean))
     (settled c.args.conn.now)
 
-pub returns-clause-kept : goal.returns-clause-kept
-returns-clause-kept g c clean has other down =
+pub returns-clause-remains_marked : goal.returns-clause-remains_marked
+returns-clause-remains_marked g c clean has other down =
     let old = state g.S.Store c.args.conn.now in
     let mid = state g.S.Store c.prepare.new.self in
     let new = state g.S.Store c.execute.new.conn in

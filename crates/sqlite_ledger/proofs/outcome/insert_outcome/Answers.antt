@@ -36,8 +36,8 @@ returns-clause-recorded g c clean has =
     safe old mid new (pos c.args.place) c.args.outcome at has rest same.1 c.execute.result ran
     (settled c.execute.new.conn)
 
-pub returns-clause-kept : goal.returns-clause-kept
-returns-clause-kept g c clean has other down =
+pub returns-clause-remains_marked : goal.returns-clause-remains_marked
+returns-clause-remains_marked g c clean has other down =
     let old = state g.S.Store c.args.conn.now in
     let mid = state g.S.Store c.prepare.new.self in
     let new = state g.S.Store c.execute.new.conn in

@@ -15,16 +15,16 @@ returns-then-len-eq-MAX_VALUES c =
     items_too_many sample_part MAX_VALUES c.items.values.items c.items.words c.in-Some.word.now
     c.next.new.self c.args.words.now is full c.items.invariant.so_far
 
-pub returns-in_err-value_in : goal.returns-in_err-value_in
-returns-in_err-value_in c =
+pub returns-in_err-parse_value : goal.returns-in_err-parse_value
+returns-in_err-parse_value c =
     let is : c.items.words ≡ c.in-Some.word.now ∷ c.next.new.self = search rules in
     let more : length c.items.values.items ≢ MAX_VALUES = omega arith in
-    let p = err_from_is_err_and c.from_residual-in_err-value_in.result
-    c.from_residual-in_err-value_in.ensures.1 in
-    rw (p.1, p.2) (items_refused sample_part MAX_VALUES c.in_err-value_in.field-0.0
+    let p = err_from_is_err_and c.from_residual-in_err-parse_value.result
+    c.from_residual-in_err-parse_value.ensures.1 in
+    rw (p.1, p.2) (items_refused sample_part MAX_VALUES c.in_err-parse_value.field-0.0
     c.items.values.items c.items.words c.in-Some.word.now c.next.new.self c.args.words.now is more
-    (value_fails c.in-Some.word.now c.next.new.self c.in_err-value_in.field-0.0
-    (sym c.value_in.ensures ∙ c.in_err-value_in.was)) c.items.invariant.so_far)
+    (value_fails c.in-Some.word.now c.next.new.self c.in_err-parse_value.field-0.0
+    (sym c.parse_value.ensures ∙ c.in_err-parse_value.was)) c.items.invariant.so_far)
 
 pub items-preserved : goal.items-preserved
 items-preserved c =
@@ -34,10 +34,10 @@ items-preserved c =
       terms = (tt, tt);
       so_far = rw c.in_ok-push.ensures.items (goes_on (after_first sample_part) MAX_VALUES
           c.items.values.items c.items.words c.in-Some.word.now c.next.new.self
-          c.in_ok-value_in.field-0 c.next.new.self
+          c.in_ok-parse_value.field-0 c.next.new.self
           (all_at (after_first sample_part) MAX_VALUES c.args.words.now) is more
-          (value_is c.in-Some.word.now c.next.new.self c.in_ok-value_in.field-0
-          (sym c.value_in.ensures ∙ c.in_ok-value_in.was))
+          (value_is c.in-Some.word.now c.next.new.self c.in_ok-parse_value.field-0
+          (sym c.parse_value.ensures ∙ c.in_ok-parse_value.was))
           c.items.invariant.so_far);
     }
 

@@ -18,17 +18,17 @@ returns-then-len-eq-MAX_GROUPS c =
       within_max = tt;
     }
 
-pub returns-in_err-long_in : goal.returns-in_err-long_in
-returns-in_err-long_in c =
+pub returns-in_err-parse_long : goal.returns-in_err-parse_long
+returns-in_err-parse_long c =
     let is : c.items.words ≡ c.in-Some.word.now ∷ c.next.new.self = search rules in
     let more : length c.items.ids.items ≢ MAX_GROUPS = omega arith in
     let p = err_from_is_err_and c.from_residual.result c.from_residual.ensures.1 in
     rw (p.1, p.2) (record {
-      ids = refused id_from MAX_GROUPS c.in_err-long_in.field-0.0
+      ids = refused id_from MAX_GROUPS c.in_err-parse_long.field-0.0
           c.items.ids.items c.items.words c.in-Some.word.now c.next.new.self
           (all_at id_from MAX_GROUPS c.args.words.now) is more
-          (id_fails c.in-Some.word.now c.next.new.self c.in_err-long_in.field-0.0
-          (sym c.long_in.ensures ∙ c.in_err-long_in.was)) c.items.invariant.so_far;
+          (id_fails c.in-Some.word.now c.next.new.self c.in_err-parse_long.field-0.0
+          (sym c.parse_long.ensures ∙ c.in_err-parse_long.was)) c.items.invariant.so_far;
       within_max = tt;
     })
 
@@ -39,10 +39,11 @@ items-preserved c =
     record {
       terms = (tt, tt);
       so_far = rw c.in_ok-push.ensures.items (goes_on id_from MAX_GROUPS c.items.ids.items
-          c.items.words c.in-Some.word.now c.next.new.self c.in_ok-long_in.field-0 c.next.new.self
+          c.items.words c.in-Some.word.now c.next.new.self c.in_ok-parse_long.field-0
+              c.next.new.self
           (all_at id_from MAX_GROUPS c.args.words.now) is more
-          (id_is c.in-Some.word.now c.next.new.self c.in_ok-long_in.field-0
-          (sym c.long_in.ensures ∙ c.in_ok-long_in.was)) c.items.invariant.so_far);
+          (id_is c.in-Some.word.now c.next.new.self c.in_ok-parse_long.field-0
+          (sym c.parse_long.ensures ∙ c.in_ok-parse_long.was)) c.items.invariant.so_far);
     }
 
 pub returns : goal.returns

@@ -6,6 +6,6 @@ use Rattle.trace_words.proofs.labels.read_labelled.Goals as goal
 
 pub returns-clause-answered : goal.returns-clause-answered
 returns-clause-answered g c =
-    answer_is (λ r. (word : Word) × FnOnceReturnsAt g.F.FnOnce c.args.value_in word r)
-    c.value_in.result
-    (c.in_ok-last_word.field-0.now, (c.in_ok-last_word.field-0, c.value_in.ensures, refl))
+    answer_is (λ r. (word : Word) × FnOnceReturnsAt g.F.FnOnce c.args.parse word r)
+    c.parse.result
+    (c.in_ok-last_word.field-0.now, (c.in_ok-last_word.field-0, c.parse.ensures, refl))

@@ -58,16 +58,16 @@ returns-in-Some g c = λ value_from reader.
     let left = (line_behind c.self.inside.text.items c.in-Some.line.now c.in-Some.rest.now
     c.self.inside.taken here ends).1 in
     let long : c.len.result ≡ length c.self.inside.text.items = omega arith in
-    let read = reader c.in-Some.line.now c.value_in-read.result (
+    let read = reader c.in-Some.line.now c.parse-read.result (
       c.in-Some.line,
-      c.value_in-read.ensures,
+      c.parse-read.ensures,
       refl,
     ) in
     let place : place_at c.self.inside.number (drop c.self.inside.taken c.self.inside.text.items)
     ≡ c.args.self.now = c.self.view_is ∙ c.drop_read_text.ensures in
     rw (← place, c.at_line.ensures, long, left)
     (held_read value_from c.self.inside.number (drop c.self.inside.taken c.self.inside.text.items)
-    c.in-Some.line.now c.in-Some.rest.now c.value_in-read.result here ends read)
+    c.in-Some.line.now c.in-Some.rest.now c.parse-read.result here ends read)
 
 pub returns-in-None : goal.returns-in-None
 returns-in-None g c = λ value_from reader.

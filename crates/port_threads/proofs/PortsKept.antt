@@ -7,7 +7,7 @@ use Rattle.turn_lock.specs.Calls.{Joins, parent_after_split, child_after_split}
 use Rattle.turn_lock.specs.History.{calls_by}
 use Rattle.turn_lock.specs.Shown.{ShownPort, IsSame}
 use Rattle.port_threads.specs.Ports.{PortContinues, AreJoined, AreServed, Returns, child}
-use Rattle.port_threads.specs.Sessions.{IsEmpty, AreHeld, IsOpen, IsEnded, Tends}
+use Rattle.port_threads.specs.Sessions.{IsEmpty, AreHeld, IsOpen, IsEnded, KeepsPorts}
 use Rattle.port_threads.proofs.Going.{among_at, goes_refl, goes_trans, goes_split, goes_joins}
 
 -- a port that was returned is the one that was lent
@@ -40,18 +40,18 @@ module _ {H E R O : Type 0} (port_of : H → ShownPort E R O) (terms_of : H → 
   Opens = IsOpen port_of terms_of did terms
 
   abbrev Goes : ShownPort E R O → Slab H → ShownPort E R O → Slab H → Type 0
-  Goes = Tends port_of terms_of did terms
+  Goes = KeepsPorts port_of terms_of did terms
 
-  pub tends_refl : (p : ShownPort E R O) (held : Slab H)
-      → Tends port_of terms_of did terms p held p held
-  tends_refl p held = record { goes = goes_refl p; holds = λ h. h; accounts = λ from a. a }
+  pub keeps_refl : (p : ShownPort E R O) (held : Slab H)
+      → KeepsPorts port_of terms_of did terms p held p held
+  keeps_refl p held = record { goes = goes_refl p; holds = λ h. h; accounts = λ from a. a }
 
-  pub tends_trans : (p : ShownPort E R O) (held : Slab H) (q : ShownPort E R O) (later : Slab H)
+  pub keeps_trans : (p : ShownPort E R O) (held : Slab H) (q : ShownPort E R O) (later : Slab H)
       (r : ShownPort E R O) (last : Slab H)
-      → Tends port_of terms_of did terms p held q later
-      → Tends port_of terms_of did terms q later r last
-      → Tends port_of terms_of did terms p held r last
-  tends_trans p held q later r last s t =
+      → KeepsPorts port_of terms_of did terms p held q later
+      → KeepsPorts port_of terms_of did terms q later r last
+      → KeepsPorts port_of terms_of did terms p held r last
+  keeps_trans p held q later r last s t =
       record {
         goes = goes_trans p q r s.goes t.goes;
         holds = λ h. t.holds (s.holds h);
@@ -59,13 +59,13 @@ module _ {H E R O : Type 0} (port_of : H → ShownPort E R O) (terms_of : H → 
       }
 
   -- the same fact for equal terms
-  pub tends_by : (other : List ℕ) (p : ShownPort E R O) (held : Slab H) (q : ShownPort E R O)
+  pub keeps_by : (other : List ℕ) (p : ShownPort E R O) (held : Slab H) (q : ShownPort E R O)
       (later : Slab H) → terms ≡ other
-      → Tends port_of terms_of did terms p held q later
-      → Tends port_of terms_of did other p held q later
-  tends_by other p held q later same tends =
-      let T : List ℕ → Type 0 = λ t. Tends port_of terms_of did t p held q later in
-      subst T same tends
+      → KeepsPorts port_of terms_of did terms p held q later
+      → KeepsPorts port_of terms_of did other p held q later
+  keeps_by other p held q later same keeps_ports =
+      let T : List ℕ → Type 0 = λ t. KeepsPorts port_of terms_of did t p held q later in
+      subst T same keeps_ports
 
   -- the slab's values after a removal were there before
   held_before : (held later : Slab H) (key other : ℕ) (s : H) → Updates held later key None
@@ -140,13 +140,13 @@ module _ {H E R O : Type 0} (port_of : H → ShownPort E R O) (terms_of : H → 
   }
 
   -- the session at this place ended, and its port was joined in
-  pub tends_close : (legal : O → List (Entry E R) → Type 0) (p q : ShownPort E R O)
+  pub keeps_close : (legal : O → List (Entry E R) → Type 0) (p q : ShownPort E R O)
       (held later : Slab H) (key : ℕ) (s : H) (r : ShownPort E R O) → get held key ≡ Some s
       → Updates held later key None → later.capacity ≡ held.capacity
       → Returns (did (terms_of s)) (port_of s) r → IsSame (port_of s) r → q.lock ≡ p.lock → q.bound
       ≡ p.bound → Joins legal p.known r.known q.known
-      → Tends port_of terms_of did terms p held q later
-  tends_close legal p q held later key s r there updates capacity returned same lock bound joins =
+      → KeepsPorts port_of terms_of did terms p held q later
+  keeps_close legal p q held later key s r there updates capacity returned same lock bound joins =
       let goes = goes_joins legal p q r.known lock bound joins in
       let R : List ℕ → Type 0 = λ t. Returns (did t) (port_of s) r in
       record {
@@ -171,14 +171,14 @@ module _ {H E R O : Type 0} (port_of : H → ShownPort E R O) (terms_of : H → 
       }
 
   -- a port was split off, and a session opened with it
-  pub tends_open : (p q : ShownPort E R O) (held later : Slab H) (key : ℕ) (s : H)
+  pub keeps_open : (p q : ShownPort E R O) (held later : Slab H) (key : ℕ) (s : H)
       (own : ShownPort E R O) → q.lock ≡ p.lock → q.bound ≡ p.bound → q.known
       ≡ parent_after_split p.known → port_of s ≡ own → own.lock ≡ p.lock → own.known
       ≡ child_after_split p.known
       → calls_by own.known.number own.known.seen ≡ [] → terms_of s ≡ terms
       → get held key ≡ None → key < 8 → Updates held later key (Some s) → later.capacity
-      ≡ held.capacity → Tends port_of terms_of did terms p held q later
-  tends_open p q held later key s own lock bound divides is lent birth fresh on_terms vacant
+      ≡ held.capacity → KeepsPorts port_of terms_of did terms p held q later
+  keeps_open p q held later key s own lock bound divides is lent birth fresh on_terms vacant
       within updates capacity =
       let came_from : (other : ℕ) (t : H) → get later other ≡ Some t → ((other ≡ key) × (t ≡ s))
       ⊎ (get held other ≡ Some t) = λ other t found.
@@ -247,13 +247,13 @@ module _ {H E R O : Type 0} (port_of : H → ShownPort E R O) (terms_of : H → 
       }
 
   -- a port was split off, no thread could be started for it, and it was joined in again
-  pub tends_back : (legal : O → List (Entry E R) → Type 0) (p q r own back : ShownPort E R O)
+  pub keeps_back : (legal : O → List (Entry E R) → Type 0) (p q r own back : ShownPort E R O)
       (held : Slab H) → q.lock ≡ p.lock → q.bound ≡ p.bound → q.known ≡ parent_after_split p.known
       → own.known ≡ child_after_split p.known
       → calls_by own.known.number own.known.seen ≡ [] → Returns (did terms) own back
       → IsSame own back → r.lock ≡ q.lock → r.bound ≡ q.bound
-      → Joins legal q.known back.known r.known → Tends port_of terms_of did terms p held r held
-  tends_back legal p q r own back held lock bound divides birth fresh returned same relock rebound
+      → Joins legal q.known back.known r.known → KeepsPorts port_of terms_of did terms p held r held
+  keeps_back legal p q r own back held lock bound divides birth fresh returned same relock rebound
       joins =
       let splits = goes_split p q lock bound divides in
       let rejoins = goes_joins legal q r back.known relock rebound joins in
@@ -294,36 +294,38 @@ module _ {H E R O : Type 0} (port_of : H → ShownPort E R O) (terms_of : H → 
       }
 
   -- nothing happened
-  pub tends_same : (p q : ShownPort E R O) (held later : Slab H) → q.lock ≡ p.lock → q.bound
-      ≡ p.bound → q.known ≡ p.known → later ≡ held → Tends port_of terms_of did terms p held q later
-  tends_same p q held later lock bound known same =
+  pub keeps_same : (p q : ShownPort E R O) (held later : Slab H) → q.lock ≡ p.lock → q.bound
+      ≡ p.bound → q.known ≡ p.known → later ≡ held → KeepsPorts port_of terms_of did terms p held q
+      later
+  keeps_same p q held later lock bound known same =
       let port : q ≡ p = λ i. record { lock = lock i; bound = bound i; known = known i } in
-      let P : ShownPort E R O → Type 0 = λ x. Tends port_of terms_of did terms p held x later in
-      let Q : Slab H → Type 0 = λ x. Tends port_of terms_of did terms p held p x in
-      subst P (sym port) (subst Q (sym same) (tends_refl p held))
+      let P : ShownPort E R O → Type 0 = λ x. KeepsPorts port_of terms_of did terms p held x later
+      in
+      let Q : Slab H → Type 0 = λ x. KeepsPorts port_of terms_of did terms p held p x in
+      subst P (sym port) (subst Q (sym same) (keeps_refl p held))
 
   -- if no session is open, each port that was split off since has ended
   pub ended_all : (p q : ShownPort E R O) (held later : Slab H) → IsEmpty held
-      → Tends port_of terms_of did terms p held q later
+      → KeepsPorts port_of terms_of did terms p held q later
       → ((key : ℕ) → key < 8 → get later key ≡ None)
       → (i : ℕ) → p.known.splits ≤ i → i < q.known.splits → Ends q (child q.known.number i)
-  ended_all p q held later empty tends closed i low high =
+  ended_all p q held later empty keeps_ports closed i low high =
       let at_first : AreHeld port_of p held = held_none p held empty in
-      let at_last : AreHeld port_of q later = tends.holds at_first in
-      elim (tends.accounts p.known.splits (λ j from below. absurd (omega arith)) i low high) [
+      let at_last : AreHeld port_of q later = keeps_ports.holds at_first in
+      elim (keeps_ports.accounts p.known.splits (λ j from below. absurd (omega arith)) i low high) [
         | inl ended ↦ ended
         | inr o ↦ let none : get later o.key ≡ None = closed o.key
             (at_last.places o.key o.session o.there) in let some = o.there in absurd (cc)
       ]
 
   pub joined_all : (p q : ShownPort E R O) (held later : Slab H) → IsEmpty held
-      → Tends port_of terms_of did terms p held q later
+      → KeepsPorts port_of terms_of did terms p held q later
       → ((key : ℕ) → key < 8 → get later key ≡ None) → AreJoined p.known.splits q
-  joined_all p q held later empty tends closed i low high =
-      (ended_all p q held later empty tends closed i low high).among
+  joined_all p q held later empty keeps_ports closed i low high =
+      (ended_all p q held later empty keeps_ports closed i low high).among
 
   pub served_all : (p q : ShownPort E R O) (held later : Slab H) → IsEmpty held
-      → Tends port_of terms_of did terms p held q later
+      → KeepsPorts port_of terms_of did terms p held q later
       → ((key : ℕ) → key < 8 → get later key ≡ None) → AreServed (did terms) p.known.splits q
-  served_all p q held later empty tends closed i low high =
-      (ended_all p q held later empty tends closed i low high).served
+  served_all p q held later empty keeps_ports closed i low high =
+      (ended_all p q held later empty keeps_ports closed i low high).served
