@@ -612,81 +612,47 @@ fn associate(
     Ok(())
 }
 
-/// Returns the frame with the answer to a GET of one attribute at the front, by `next_get` and
-/// `answer_get`. No bytes if there is no such GET.
+/// Returns the frame with the answer to a short request at the front, by `next_short` and
+/// `answer_short`. No bytes if there is no such request.
 fn answer_shortly(
     alloc: Global,
     core: &mut RelayCore,
     session: &mut Session,
 ) -> Result<Octets, AllocError> {
-    let Some((level, attr)) = session.next_get() else {
+    let Some((level, request)) = session.next_short() else {
         return Ok(Octets::new(alloc));
     };
-    let event = Event::Get {
-        level,
-        attr,
-        selected: false,
-    };
+    let event = request.event(level);
     let stepped = core.step(alloc, &event);
     drop(event);
     let reply = stepped?;
-    let frame = session.answer_get(alloc, &reply);
+    let frame = session.answer_short(alloc, &reply);
     drop(reply);
     frame
 }
 
-/// Returns the frame with the answer to a short SET or ACTION at the front, by `next_command` and
-/// `answer_command`. No bytes if there is no such command.
-fn answer_command_shortly(
-    alloc: Global,
-    core: &mut RelayCore,
-    session: &mut Session,
-) -> Result<Octets, AllocError> {
-    let Some(event) = session.next_command() else {
-        return Ok(Octets::new(alloc));
-    };
-    let stepped = core.step(alloc, &event);
-    drop(event);
-    let reply = stepped?;
-    let frame = session.answer_command(alloc, &reply);
-    drop(reply);
-    frame
-}
-
-/// The short way of a GET, or that of a SET or an ACTION.
-#[derive(Clone, Copy)]
-enum ShortWay {
-    Get,
-    Command,
-}
-
-/// Feeds a session the AARQ and a frame of a client, and returns its answer by a short way.
+/// Feeds a session the AARQ and a frame of a client, and returns its answer by the short way.
 fn answer_after(
     alloc: Global,
     core: &mut RelayCore,
     session: &mut Session,
-    way: ShortWay,
     texts: (&str, &str),
 ) -> Result<Octets, AllocError> {
     associate(alloc, core, session, texts.0)?;
     feed_hex(alloc, session, texts.1)?;
-    match way {
-        ShortWay::Get => answer_shortly(alloc, core, session),
-        ShortWay::Command => answer_command_shortly(alloc, core, session),
-    }
+    answer_shortly(alloc, core, session)
 }
 
-/// Returns whether a frame after an AARQ has this answer from a new meter, by a short way.
+/// Returns whether a frame after an AARQ has this answer from a new meter, by the short way.
 fn is_answered_shortly(
     alloc: Global,
-    way: ShortWay,
     texts: (&str, &str),
     answer: &str,
 ) -> Result<bool, AllocError> {
     let mut session = new_session(alloc)?;
     let answered = match new_core(alloc) {
         Ok(mut core) => {
-            let answered = answer_after(alloc, &mut core, &mut session, way, texts);
+            let answered = answer_after(alloc, &mut core, &mut session, texts);
             drop(core);
             answered
         }
@@ -703,9 +669,9 @@ fn is_answered_shortly(
     Ok(same)
 }
 
-/// A read of the switch's state and of an unknown object. A write and another client's GET have no
-/// answer by `next_get`.
-static BY_THE_SHORT_WAY: [(&str, &str); 4] = [
+/// A read of the switch's state and of an unknown object, and a write that is denied to the public
+/// client. Another client's GET has no answer by the short way.
+static OF_THE_PUBLIC_CLIENT: [(&str, &str); 4] = [
     (
         "000100100001000DC001C10046000060030AFF0300",
         "0001000100100006C401C1001601",
@@ -714,16 +680,19 @@ static BY_THE_SHORT_WAY: [(&str, &str); 4] = [
         "000100100001000DC001C10046000060030BFF0200",
         "0001000100100005C401C10104",
     ),
-    ("000100100001000FC101C10046000060030AFF04001602", ""),
+    (
+        "000100100001000FC101C10046000060030AFF04001602",
+        "0001000100100004C501C103",
+    ),
     ("000100010001000DC001C10046000060030AFF0300", ""),
 ];
 
 #[test]
-fn a_get_of_one_attribute_takes_the_short_way(rt: HostRuntime) {
-    for (request, answer) in &BY_THE_SHORT_WAY {
+fn requests_of_the_public_client_take_the_short_way(rt: HostRuntime) {
+    for (request, answer) in &OF_THE_PUBLIC_CLIENT {
         assert!(rt;
             matches!(
-                is_answered_shortly(rt.alloc(), ShortWay::Get, (PUBLIC.0, request), answer),
+                is_answered_shortly(rt.alloc(), (PUBLIC.0, request), answer),
                 Ok(true)
             ),
             "{request}"
@@ -731,9 +700,9 @@ fn a_get_of_one_attribute_takes_the_short_way(rt: HostRuntime) {
     }
 }
 
-/// A write of the control mode, a disconnection that mode 0 refuses, a write with selective access
-/// and a GET, which have no answer by `next_command`.
-static COMMANDS: [(&str, &str); 4] = [
+/// A write of the control mode, a disconnection that mode 0 refuses, and a read of the switch's
+/// state. A write with selective access has no answer by the short way.
+static OF_MANAGEMENT: [(&str, &str); 4] = [
     (
         "000100010001000FC101C10046000060030AFF04001602",
         "0001000100010004C501C100",
@@ -743,20 +712,18 @@ static COMMANDS: [(&str, &str); 4] = [
         "0001000100010005C701C10200",
     ),
     ("0001000100010012C101C10046000060030AFF04010100001602", ""),
-    ("000100010001000DC001C10046000060030AFF0300", ""),
+    (
+        "000100010001000DC001C10046000060030AFF0300",
+        "0001000100010006C401C1001601",
+    ),
 ];
 
 #[test]
-fn a_set_and_an_action_take_the_short_way(rt: HostRuntime) {
-    for (request, answer) in &COMMANDS {
+fn requests_of_management_take_the_short_way(rt: HostRuntime) {
+    for (request, answer) in &OF_MANAGEMENT {
         assert!(rt;
             matches!(
-                is_answered_shortly(
-                    rt.alloc(),
-                    ShortWay::Command,
-                    (MANAGEMENT.0, request),
-                    answer
-                ),
+                is_answered_shortly(rt.alloc(), (MANAGEMENT.0, request), answer),
                 Ok(true)
             ),
             "{request}"

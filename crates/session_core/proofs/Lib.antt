@@ -2,5 +2,4 @@ pub mod Short
 pub mod Meet
 pub mod Tasks
 pub mod Placed
-pub mod Gets
-pub mod Commands
+pub mod Shorts

@@ -2,14 +2,13 @@
 --     tag_is, is_opening, is_call     by its first byte
 --     is_negotiated                   by its form, which must be known and negotiated
 --     call_of                         by the whole payload
---     IsSingleGet                     the GET of one attribute, without selective access
---     IsShortCommand                  a SET to an enum, or an ACTION with an integer
+--     short_event, short_form         the event of a short request, and the form of its answer
+--     IsShortRequest                  the payload is this short request
 use Rattle.std.specs.Prelude.{◌≡◌, ℕ, Bool, true, false, ◌||◌, ◌&&◌, ◌==◌, bit_and, find, Option, Some, None, if◌then◌else◌, List, [], ◌∷◌, Result, Ok, Err}
 use Rattle.std.specs.Int.{w8, cast_signed}
 use Rattle.acse_ber.specs.Reading.{is_release_text}
 use Rattle.cosem_axdr.specs.declared.value.Data.TheVariants.{Enum, Integer}
 use Rattle.cosem_names.specs.declared.level.Level.{Level}
-use Rattle.cosem_names.specs.declared.name.AttrRef.{AttrRef}
 use Rattle.relay_events.specs.declared.event.Event.{Event}
 use Rattle.relay_events.specs.declared.event.Event.TheVariants as event
 use Rattle.session_core.specs.Standard.{aarq_tag, rlrq_tag, request_forms, get_tag, set_tag, action_tag}
@@ -18,8 +17,8 @@ use Rattle.session_core.specs.declared.asked.ReplyForm.TheVariants as form
 use Rattle.session_core.specs.declared.call.Call.{Call}
 use Rattle.session_core.specs.declared.call.Call.TheVariants.{Release, Service, Refused}
 use Rattle.session_core.specs.declared.conformance.RequestForm.{RequestForm}
-use Rattle.session_core.specs.declared.short_command.ShortCommand.{ShortCommand}
-use Rattle.session_core.specs.declared.short_command.ShortCommand.TheVariants as short
+use Rattle.session_core.specs.declared.short_request.ShortRequest.{ShortRequest}
+use Rattle.session_core.specs.declared.short_request.ShortRequest.TheVariants as short
 use Rattle.xdlms_apdu.specs.Requests.{request_of}
 use Rattle.xdlms_apdu.specs.declared.fault.ApduFault.{ApduFault}
 use Rattle.xdlms_apdu.specs.declared.invoke_id.InvokeId.{InvokeId}
@@ -74,35 +73,30 @@ call_of conformance payload =
     then (if is_release_text payload then Release else Refused Unreadable)
     else request_call conformance payload
 
--- The payload is a GET of this attribute, whole and without selective access.
-pub record IsSingleGet (conformance : ℕ) (payload : List ℕ) (id : InvokeId) (attr : AttrRef) : Type
-    0 where
-  pub opens : is_opening payload ≡ false
-  pub calls : is_call payload ≡ true
-  pub call : call_of conformance payload
-      ≡ Service (Get id (record { attr = attr; selected = false }))
-
--- the request of a short command
-abbrev pub command_request : ShortCommand → Request
-command_request (short.Set id attr value) =
+-- the whole request that is this short one
+abbrev pub whole_request : InvokeId → ShortRequest → Request
+whole_request id (short.Get attr) = Get id (record { attr = attr; selected = false })
+whole_request id (short.Set attr value) =
     Set id (record { attr = attr; selected = false }) (Enum value)
-command_request (short.Action id method value) =
+whole_request id (short.Action method value) =
     Action id method (Some (Integer (cast_signed w8 value)))
 
 -- its event, from a client of this level
-abbrev pub command_event : Level → ShortCommand → Event
-command_event level (short.Set id attr value) = event.Set level attr false (Enum value)
-command_event level (short.Action id method value) =
+abbrev pub short_event : Level → ShortRequest → Event
+short_event level (short.Get attr) = event.Get level attr false
+short_event level (short.Set attr value) = event.Set level attr false (Enum value)
+short_event level (short.Action method value) =
     event.Execute level method (Some (Integer (cast_signed w8 value)))
 
 -- the form of its answer
-abbrev pub command_form : ShortCommand → ReplyForm
-command_form (short.Set id attr value) = form.Set id
-command_form (short.Action id method value) = form.Action id
+abbrev pub short_form : InvokeId → ShortRequest → ReplyForm
+short_form id (short.Get attr) = form.Get id
+short_form id (short.Set attr value) = form.Set id
+short_form id (short.Action method value) = form.Action id
 
--- The payload is this short command, whole.
-pub record IsShortCommand (conformance : ℕ) (payload : List ℕ) (command : ShortCommand) : Type 0
-  where
-    pub opens : is_opening payload ≡ false
-    pub calls : is_call payload ≡ true
-    pub call : call_of conformance payload ≡ Service (command_request command)
+-- The payload is this short request, whole.
+pub record IsShortRequest (conformance : ℕ) (payload : List ℕ) (id : InvokeId)
+    (request : ShortRequest) : Type 0 where
+  pub opens : is_opening payload ≡ false
+  pub calls : is_call payload ≡ true
+  pub call : call_of conformance payload ≡ Service (whole_request id request)

@@ -5,19 +5,14 @@
 --     Steps         events and texts are removed from the front
 --     Takes         a reply is the first of the coming replies
 --     AnswersBy     as in Takes, and then its answer is removed from the front
---     AsksFor       the event removed from the front is the GET of an attribute
---     AsksCommand   the event removed from the front is that of a SET or an ACTION
+--     AsksShort     the event removed from the front is that of a short request
 --     Leaves        what the caller can rely on after each `Next`
 use Rattle.std.specs.Prelude.{◌≡◌, ◌⊎◌, ◌<◌, ℕ, true, false, Option, Some, None, List, [], ◌∷◌, ◌++◌, Result, Ok, Err}
-use Rattle.cosem_names.specs.declared.level.Level.{Level}
-use Rattle.cosem_names.specs.declared.name.AttrRef.{AttrRef}
 use Rattle.relay_events.specs.declared.event.Event.{Event}
-use Rattle.relay_events.specs.declared.event.Event.TheVariants.{Get}
 use Rattle.relay_events.specs.declared.reply.Reply.{Reply}
 use Rattle.session_core.specs.Backwards.{Asks, Answers, end_of}
 use Rattle.session_core.specs.Ends.{EndsWithInput}
-use Rattle.session_core.specs.Remaining.{still_asks, still_sends, still_ends, is_asking, is_asking_value, reported_end, is_finished, load_of}
-use Rattle.session_core.specs.Remaining.{is_asking_command}
+use Rattle.session_core.specs.Remaining.{still_asks, still_sends, still_ends, is_asking, is_asking_short, reported_end, is_finished, load_of}
 use Rattle.session_core.specs.declared.end.SessionEnd.{SessionEnd}
 use Rattle.session_core.specs.declared.next.Next.{Next}
 use Rattle.session_core.specs.declared.next.Next.TheVariants.{Ask, Send, Wait, End}
@@ -88,19 +83,11 @@ pub record IsAwaiting (s : Session) : Type 0 where
   pub asking : is_asking s ≡ true
   pub sends : (more : List ℕ) → still_sends s more [] ≡ []
 
--- The session has asked for an attribute, with the access rights of this level, and awaits the
--- reply.
-pub record AsksFor (old : Session) (level : Level) (attr : AttrRef) (new : Session) : Type 0 where
-  pub steps : Steps old (Get level attr false ∷ []) [] new
-  pub awaits : IsAwaiting new
-  pub value : is_asking_value new ≡ true
-  pub less : load_of new < load_of old
-
--- The session has asked the event of a SET or an ACTION, and awaits the reply.
-pub record AsksCommand (old : Session) (event : Event) (new : Session) : Type 0 where
+-- The session has asked the event of a short request, and awaits the reply.
+pub record AsksShort (old : Session) (event : Event) (new : Session) : Type 0 where
   pub steps : Steps old (event ∷ []) [] new
   pub awaits : IsAwaiting new
-  pub command : is_asking_command new ≡ true
+  pub is_short : is_asking_short new ≡ true
   pub less : load_of new < load_of old
 
 -- the events of a `Next`, and below, its texts

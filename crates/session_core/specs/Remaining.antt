@@ -11,7 +11,7 @@ use Rattle.session_core.specs.Backwards.{to_server, end_of}
 use Rattle.session_core.specs.Incoming.{whole_outcome}
 use Rattle.session_core.specs.Outcome.{Outcome, asks, says, event_of}
 use Rattle.session_core.specs.Outgoing.{outgoing_by}
-use Rattle.session_core.specs.Rules.{asks_value, asks_code, reply_text}
+use Rattle.session_core.specs.Rules.{asks_short, reply_text}
 use Rattle.session_core.specs.Running.{known_in, asks_on, answers_on}
 use Rattle.session_core.specs.Walks.{answers_from}
 use Rattle.session_core.specs.declared.asked.Asked.{Asked}
@@ -112,21 +112,13 @@ is_awaiting _ = false
 unfoldable pub is_asking : Session → Bool
 is_asking s = is_awaiting s.task
 
-abbrev pub awaits_value : SessionTask → Bool
-awaits_value (Await asked) = asks_value asked.form
-awaits_value _ = false
+abbrev pub awaits_short : SessionTask → Bool
+awaits_short (Await asked) = asks_short asked.form
+awaits_short _ = false
 
--- whether the reply to a GET of one attribute is awaited
-unfoldable pub is_asking_value : Session → Bool
-is_asking_value s = awaits_value s.task
-
-abbrev pub awaits_code : SessionTask → Bool
-awaits_code (Await asked) = asks_code asked.form
-awaits_code _ = false
-
--- whether the reply to a SET or an ACTION is awaited
-unfoldable pub is_asking_command : Session → Bool
-is_asking_command s = awaits_code s.task
+-- whether the reply to a short request is awaited
+unfoldable pub is_asking_short : Session → Bool
+is_asking_short s = awaits_short s.task
 
 abbrev pub end_in : SessionTask → Option SessionEnd
 end_in (Over end) = Some end

@@ -8,17 +8,16 @@
 --                                                  long GET after it
 --     outcome_at, state_after                      the outcome, and all that a session keeps after
 --                                                  it
-use Rattle.std.specs.Prelude.{◌≡◌, ℕ, Bool, false, true, ◌&&◌, ◌==◌, if◌then◌else◌, Option, Some, None, List, Result, Ok, Err}
+use Rattle.std.specs.Prelude.{◌≡◌, ℕ, Bool, false, true, ◌&&◌, ◌||◌, ◌==◌, if◌then◌else◌, Option, Some, None, List, Result, Ok, Err}
 use Rattle.acse_ber.specs.Reading.{aarq_of}
 use Rattle.acse_ber.specs.Verdict.{verdict_of}
 use Rattle.acse_ber.specs.declared.fault.AcseFault.{AcseFault}
 use Rattle.acse_ber.specs.declared.aarq.Aarq.{Aarq}
-use Rattle.cosem_names.specs.declared.name.AttrRef.{AttrRef}
 use Rattle.relay_events.specs.declared.event.Event.TheVariants as event
 use Rattle.relay_events.specs.declared.reply.Reply.{Reply}
 use Rattle.session_core.specs.Answers.{answer_text, due_text}
 use Rattle.session_core.specs.Association.{aare_by, link_by_opening}
-use Rattle.session_core.specs.Calls.{is_opening, is_call, call_of, command_event, command_form}
+use Rattle.session_core.specs.Calls.{is_opening, is_call, call_of, short_event}
 use Rattle.session_core.specs.Incoming.{no_blocks, block_outcome_of, block_after, transfer_of, later_outcome, later_after, whole_outcome}
 use Rattle.session_core.specs.Outcome.{Outcome, Turn, asks, says, settled, continues}
 use Rattle.session_core.specs.Outgoing.{transfer_after_next, continued_response, outgoing_by, reply_response}
@@ -35,7 +34,7 @@ use Rattle.session_core.specs.declared.incoming.Incoming.{Incoming}
 use Rattle.session_core.specs.declared.incoming.LongService.TheVariants as service
 use Rattle.session_core.specs.declared.incoming.Purpose.TheVariants as purpose
 use Rattle.session_core.specs.declared.link.Link.{Link}
-use Rattle.session_core.specs.declared.short_command.ShortCommand.{ShortCommand}
+use Rattle.session_core.specs.declared.short_request.ShortRequest.{ShortRequest}
 use Rattle.session_core.specs.declared.state.State.{State}
 use Rattle.session_core.specs.declared.step.TurnStep.{TurnStep}
 use Rattle.session_core.specs.declared.step.TurnStep.TheVariants.{Ask, Say, Join}
@@ -88,6 +87,10 @@ abbrev pub asks_code : ReplyForm → Bool
 asks_code (form.Set id) = true
 asks_code (form.Action id) = true
 asks_code _ = false
+
+-- whether an answer is to a GET of one attribute, a SET that arrived whole, or an ACTION
+abbrev pub asks_short : ReplyForm → Bool
+asks_short form = asks_value form || asks_code form
 
 -- ---- the outcome of a frame
 
@@ -235,18 +238,10 @@ is_settled (Ask event asked) = true
 is_settled (Say due) = true
 is_settled (Join joined) = false
 
--- A frame asks for this attribute and ends the transfers, whatever the password is.
-pub record HearsGet (old : State) (f : Frame) (asked : Asked) (attr : AttrRef) (new : State)
-    : Type 0 where
-  pub outcome : (password : List ℕ)
-      → outcome_at password old f ≡ asks (event.Get asked.link.level attr false) asked
-  pub after : (password : List ℕ) → new ≡ state_after password old f None
-  pub form : asks_value asked.form ≡ true
-
--- A frame is this short command and ends the transfers, whatever the password is.
-pub record HearsCommand (old : State) (f : Frame) (link : Link) (command : ShortCommand)
+-- A frame is this short request and ends the transfers, whatever the password is.
+pub record HearsShort (old : State) (f : Frame) (asked : Asked) (heard : ShortRequest)
     (new : State) : Type 0 where
   pub outcome : (password : List ℕ)
-      → outcome_at password old f ≡ asks (command_event link.level command)
-      (record { link = link; form = command_form command })
+      → outcome_at password old f ≡ asks (short_event asked.link.level heard) asked
   pub after : (password : List ℕ) → new ≡ state_after password old f None
+  pub is_short : asks_short asked.form ≡ true

@@ -3,7 +3,7 @@
 ghost use Rattle.std.specs.Prelude.{◌≡◌, ◌≤◌, ◌<◌, ◌*◌, ◌-◌, None, length, option_and_then, true, IfOk, IfErr, OnOk, OnErr};
 ghost use Rattle.session_core.specs.Answers.{answer_text, due_text, way_text, IsSmall};
 ghost use Rattle.session_core.specs.Outgoing.{transfer_after, unsent_transfer, can_go_in_blocks, long_response, long_text, response_in_blocks, text_in_blocks, block_response, code_response, reply_code, reply_response, answer_with_header, reply_in, outgoing_by};
-ghost use Rattle.session_core.specs.Rules.{asks_value, asks_code, reply_text};
+ghost use Rattle.session_core.specs.Rules.{asks_short, asks_value, asks_code, reply_text};
 ghost use Rattle.session_core.specs.Standard.{block_header};
 ghost use Rattle.session_core.specs.declared.answer.Answer.TheVariants.{Service};
 ghost use Rattle.wrapper_frame.specs.Header.{max_payload};
@@ -82,11 +82,36 @@ pub(crate) fn answer_reply(
     }
 }
 
+// Returns the frame with the answer to the reply to a short request. A long GET that it begins
+// replaces the last one. If out of memory, nothing has changed.
+#[inline(always)]
+pub(crate) fn answer_short(
+    alloc: Global,
+    asked: Asked,
+    reply: &Reply,
+    outgoing: &mut Option<Outgoing>,
+) -> Result<Octets, AllocError>
+    requires { asks_short asked.form ≡ true }
+    ensures text { IfOk result (λ text. text ≡ reply_text asked reply.now) }
+    ensures outgoing { OnOk result (outgoing.new ≡ outgoing_by asked reply.now) }
+    ensures err { OnErr result (outgoing.new ≡ outgoing.old) }
+{
+    match asked.form {
+        ReplyForm::Get(_) => answer_get(alloc, asked, reply, outgoing),
+        ReplyForm::Set(_) | ReplyForm::Action(_) => {
+            let text = answer_command(alloc, asked, reply)?;
+            *outgoing = None;
+            Ok(text)
+        }
+        ReplyForm::GetList(_) | ReplyForm::SetLastBlock(_, _) => unreachable!(),
+    }
+}
+
 // Returns the frame with the answer to the reply to a GET of one attribute. A long GET that it
 // begins replaces the last one. If out of memory, nothing has changed.
 #[tactic(auto, unfolding(crate::specs::Outgoing::reply_response, crate::specs::Outgoing::reply_transfer), using(crate::proofs::Tasks::value_cut))]
 #[inline(always)]
-pub(crate) fn answer_get(
+fn answer_get(
     alloc: Global,
     asked: Asked,
     reply: &Reply,
@@ -115,11 +140,7 @@ pub(crate) fn answer_get(
 // Returns the frame with the answer to the reply to a SET or an ACTION, which begins no long GET.
 #[tactic(auto, unfolding(crate::specs::Outgoing::reply_response, crate::specs::Outgoing::reply_transfer, crate::specs::Answers::answer_text, xdlms_apdu::specs::Responses::response_text))]
 #[inline(always)]
-pub(crate) fn answer_command(
-    alloc: Global,
-    asked: Asked,
-    reply: &Reply,
-) -> Result<Octets, AllocError>
+fn answer_command(alloc: Global, asked: Asked, reply: &Reply) -> Result<Octets, AllocError>
     requires { asks_code asked.form ≡ true }
     ensures text { IfOk result (λ text. text ≡ reply_text asked reply.now) }
     ensures outgoing { outgoing_by asked reply.now ≡ None }

@@ -6,17 +6,17 @@ ghost use Rattle.wrapper_frame.specs.Header.{header_size, head_of};
 ghost use Rattle.wrapper_frame.specs.declared.header.Head.TheVariants.{Whole};
 
 use crate::answer::{SERVER_PORT, Way};
-use crate::asked::Asked;
 use crate::end::SessionEnd;
 use crate::next::Next;
 use crate::password::Password;
-use crate::replying::{Answered, answer_command, answer_get, answer_reply};
+use crate::replying::{Answered, answer_reply, answer_short};
+use crate::short_request::ShortRequest;
 use crate::state::State;
 use crate::step::TurnStep;
 use crate::task::SessionTask;
 use cosem_axdr::Octets;
-use cosem_names::{AttrRef, Level};
-use relay_events::{Event, Reply};
+use cosem_names::Level;
+use relay_events::Reply;
 use std::alloc::{AllocError, Global};
 use std::fmt::{self, Debug, Formatter};
 use std::mem::replace;
@@ -44,11 +44,11 @@ impl Debug for Session {
 }
 
 impl Session {
-    ghost use Rattle.session_core.specs.Remaining.{is_asking, is_asking_value, reported_end, is_finished, is_idle, load_of};
-    ghost use Rattle.session_core.specs.Remaining.{is_asking_command};
+    ghost use Rattle.session_core.specs.Remaining.{is_asking, is_asking_short, reported_end, is_finished, is_idle, load_of};
     ghost use Rattle.session_core.specs.Progress.{Owes, IsQuiet, Feeds, Finishes, StepsBy};
     ghost use Rattle.session_core.specs.Progress.{Leaves, Takes};
-    ghost use Rattle.session_core.specs.Progress.{AnswersBy, AsksFor, AsksCommand, WorksBy};
+    ghost use Rattle.session_core.specs.Calls.{short_event};
+    ghost use Rattle.session_core.specs.Progress.{AnswersBy, AsksShort, WorksBy};
     ghost use Rattle.session_core.specs.Progress.{task_by, next_by};
 
     /// Makes a session before its first byte. `password` is the management client's, 1 to 32 bytes.
@@ -159,13 +159,14 @@ impl Session {
         Ok(())
     }
 
-    /// Takes the frame at the front if it is whole and is a GET of one attribute, without selective
-    /// access, from the client of the association. The caller then asks the meter `Event::Get` with
-    /// this level and attribute, and passes the reply to `answer_get`. If it returns `None`,
-    /// nothing has changed, and `next` says what the session needs.
+    /// Takes the frame at the front if it is whole and is a short request from the client of the
+    /// association, and returns its level and the request. The caller then asks the meter the
+    /// request's event for this level, and passes the reply to `answer_short`. If it returns
+    /// `None`, nothing has changed, and `next` says what the session needs.
     #[inline(always)]
-    pub fn next_get(&mut self) -> Option<(Level, AttrRef)>
-        ensures asks { IfSome result (λ get. AsksFor self.old get.0 get.1 self.new) }
+    pub fn next_short(&mut self) -> Option<(Level, ShortRequest)>
+        ensures asks { IfSome result
+            (λ short. AsksShort self.old (short_event short.0 short.1) self.new) }
         ensures none { IfNone result (self.new ≡ self.old) }
     {
         let SessionTask::Listen = &self.task else {
@@ -179,73 +180,26 @@ impl Session {
             return None;
         }
         let payload = self.deframer.payload(size);
-        let (asked, attr) = self.state.receive_get(source, payload)?;
+        let (asked, request) = self.state.receive_short(source, payload)?;
         let level = asked.link.level;
         self.deframer.pass(size);
         self.turn_to(SessionTask::Await(asked));
-        Some((level, attr))
+        Some((level, request))
     }
 
-    /// Takes in the reply to the event of `next_get` and returns the frame with its answer, as
+    /// Takes in the reply to the event of `next_short` and returns the frame with its answer, as
     /// `answer` followed by `next` would. If out of memory, nothing has changed.
     #[inline(always)]
-    #[tactic(auto, unfolding(crate::specs::Remaining::is_asking_value))]
-    pub fn answer_get(&mut self, alloc: Global, reply: &Reply) -> Result<Octets, AllocError>
-        requires { is_asking_value self.now ≡ true }
+    #[tactic(auto, unfolding(crate::specs::Remaining::is_asking_short))]
+    pub fn answer_short(&mut self, alloc: Global, reply: &Reply) -> Result<Octets, AllocError>
+        requires { is_asking_short self.now ≡ true }
         ensures ok { IfOk result (λ frame. AnswersBy self.old reply.now frame self.new) }
         ensures err { OnErr result (self.new ≡ self.old) }
     {
         let SessionTask::Await(asked) = self.task else {
             unreachable!()
         };
-        let text = answer_get(alloc, asked, reply, &mut self.state.outgoing)?;
-        self.turn_to(SessionTask::Listen);
-        Ok(text)
-    }
-
-    /// Takes the frame at the front if it is whole and is a short command from the client of the
-    /// association: a SET of one attribute to an enum, without selective access, or an ACTION with
-    /// an integer. The caller then asks the meter this event, and passes the reply to
-    /// `answer_command`. If it returns `None`, nothing has changed, and `next` says what the
-    /// session needs.
-    #[inline(always)]
-    pub fn next_command(&mut self) -> Option<Event>
-        ensures asks { IfSome result (λ event. AsksCommand self.old event self.new) }
-        ensures none { IfNone result (self.new ≡ self.old) }
-    {
-        let SessionTask::Listen = &self.task else {
-            return None;
-        };
-        let Head::Whole(size) = self.deframer.front() else {
-            return None;
-        };
-        let (source, destination) = self.deframer.ports();
-        if destination != SERVER_PORT {
-            return None;
-        }
-        let payload = self.deframer.payload(size);
-        let (link, command) = self.state.receive_command(source, payload)?;
-        let event = command.event(link.level);
-        let form = command.form();
-        self.deframer.pass(size);
-        self.turn_to(SessionTask::Await(Asked { link, form }));
-        Some(event)
-    }
-
-    /// Takes in the reply to the event of `next_command` and returns the frame with its answer, as
-    /// `answer` followed by `next` would. If out of memory, nothing has changed.
-    #[inline(always)]
-    #[tactic(auto, unfolding(crate::specs::Remaining::is_asking_command))]
-    pub fn answer_command(&mut self, alloc: Global, reply: &Reply) -> Result<Octets, AllocError>
-        requires { is_asking_command self.now ≡ true }
-        ensures ok { IfOk result (λ frame. AnswersBy self.old reply.now frame self.new) }
-        ensures err { OnErr result (self.new ≡ self.old) }
-    {
-        let SessionTask::Await(asked) = self.task else {
-            unreachable!()
-        };
-        let text = answer_command(alloc, asked, reply)?;
-        self.state.outgoing = None;
+        let text = answer_short(alloc, asked, reply, &mut self.state.outgoing)?;
         self.turn_to(SessionTask::Listen);
         Ok(text)
     }

@@ -16,12 +16,11 @@ use crate::incoming::{Incoming, LongService, Purpose, add_to};
 use crate::link::{Link, answer_to, link_from};
 use crate::outgoing::{Outgoing, continue_transfer};
 use crate::password::Password;
-use crate::short_command::{ShortCommand, read_short_command};
-use crate::single_get::read_single_get;
+use crate::short_request::{ShortRequest, read_short_request};
 use crate::step::TurnStep;
 use acse_ber::{AcseFault, judge, read_aarq};
 use cosem_axdr::Data;
-use cosem_names::{AttrRef, AttributeSelection, Level};
+use cosem_names::{AttributeSelection, Level};
 use relay_events::Event;
 use std::alloc::{AllocError, Global};
 use xdlms_apdu::{DataBlock, Exception, InvokeId, Request};
@@ -37,8 +36,7 @@ pub(crate) struct State {
 }
 
 impl State {
-    ghost use Rattle.session_core.specs.Rules.{heard_frame, outcome_at, state_after, state_by_call, step_outcome, outcome_of_turn, call_turn, request_turn, HearsGet};
-    ghost use Rattle.session_core.specs.Rules.{HearsCommand};
+    ghost use Rattle.session_core.specs.Rules.{heard_frame, outcome_at, state_after, state_by_call, step_outcome, outcome_of_turn, call_turn, request_turn, HearsShort};
     ghost use Rattle.session_core.specs.Outcome.{asks, says};
     ghost use Rattle.session_core.specs.Outgoing.{transfer_after_next, continued_response};
 
@@ -80,51 +78,28 @@ impl State {
         }
     }
 
-    // Handles a frame for the server that is a GET of one attribute from the client of the
-    // association. Returns the attribute, and what its answer needs from the request. For any other
-    // frame returns `None` and changes nothing.
+    // Handles a frame for the server that is a short request from the client of the association.
+    // Returns what its answer needs, and the request. For any other frame returns `None` and
+    // changes nothing.
     #[inline(always)]
-    pub(crate) fn receive_get(&mut self, src: u16, payload: &[u8]) -> Option<(Asked, AttrRef)>
+    pub(crate) fn receive_short(
+        &mut self,
+        src: u16,
+        payload: &[u8],
+    ) -> Option<(Asked, ShortRequest)>
         ensures heard { IfSome result
-            (λ heard. HearsGet self.old (heard_frame src payload.now) heard.0 heard.1 self.new) }
+            (λ heard. HearsShort self.old (heard_frame src payload.now) heard.0 heard.1 self.new) }
         ensures none { IfNone result (self.new ≡ self.old) }
     {
         let link = self.link?;
         if link.source != src {
             return None;
         }
-        let get = read_single_get(link.conformance, payload)?;
+        let (id, request) = read_short_request(link.conformance, payload)?;
         self.incoming = None;
         self.outgoing = None;
-        let asked = Asked {
-            link,
-            form: ReplyForm::Get(get.id),
-        };
-        Some((asked, get.attr))
-    }
-
-    // Handles a frame for the server that is a short command from the client of the association.
-    // Returns the association and the command. For any other frame returns `None` and changes
-    // nothing.
-    #[inline(always)]
-    pub(crate) fn receive_command(
-        &mut self,
-        src: u16,
-        payload: &[u8],
-    ) -> Option<(Link, ShortCommand)>
-        ensures heard { IfSome result
-            (λ heard. HearsCommand self.old (heard_frame src payload.now) heard.0 heard.1
-            self.new) }
-        ensures none { IfNone result (self.new ≡ self.old) }
-    {
-        let link = self.link?;
-        if src != link.source {
-            return None;
-        }
-        let command = read_short_command(link.conformance, payload)?;
-        self.incoming = None;
-        self.outgoing = None;
-        Some((link, command))
+        let form = request.form(id);
+        Some((Asked { link, form }, request))
     }
 
     // Handles an AARQ: it ends the association, and opens another if it is accepted.

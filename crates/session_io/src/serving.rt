@@ -17,7 +17,6 @@ use crate::meter::Meter;
 use crate::watch::{SessionWatch, UnwatchedSession};
 use cosem_axdr::Octets;
 use counted_io::{Reader, Writer};
-use relay_events::Event;
 use session_core::{Next, Session, SessionEnd};
 use std::alloc::Global;
 
@@ -55,43 +54,27 @@ fn settle<F: Form, V: SessionWatch, W: Writer, M: Meter>(
         (V.passed watch.old) result (V.passed watch.new) }
 {
     'due: loop {
-        match session.next_get() {
-            Some((level, attr)) => {
-                let event = Event::Get {
-                    level,
-                    attr,
-                    selected: false,
-                };
-                let reply = watch.call(meter, alloc, event)?;
-                let answered = session.answer_get(alloc, &reply);
+        match session.next_short() {
+            Some((level, request)) => {
+                let reply = watch.call(meter, alloc, request.event(level))?;
+                let answered = session.answer_short(alloc, &reply);
                 drop(reply);
                 match answered {
                     Ok(frame) => F::write(alloc, watch, writer, frame.as_slice())?,
                     Err(_) => return Err(ServeFault::Memory),
                 }
             }
-            None => match session.next_command() {
-                Some(event) => {
+            None => match session.next(alloc)? {
+                Next::Ask(event) => {
                     let reply = watch.call(meter, alloc, event)?;
-                    let answered = session.answer_command(alloc, &reply);
-                    drop(reply);
-                    match answered {
-                        Ok(frame) => F::write(alloc, watch, writer, frame.as_slice())?,
+                    match session.answer(alloc, reply) {
+                        Ok(()) => {}
                         Err(_) => return Err(ServeFault::Memory),
                     }
                 }
-                None => match session.next(alloc)? {
-                    Next::Ask(event) => {
-                        let reply = watch.call(meter, alloc, event)?;
-                        match session.answer(alloc, reply) {
-                            Ok(()) => {}
-                            Err(_) => return Err(ServeFault::Memory),
-                        }
-                    }
-                    Next::Send(frame) => F::write(alloc, watch, writer, frame.as_slice())?,
-                    Next::Wait => return Ok(None),
-                    Next::End(end) => return Ok(Some(end)),
-                },
+                Next::Send(frame) => F::write(alloc, watch, writer, frame.as_slice())?,
+                Next::Wait => return Ok(None),
+                Next::End(end) => return Ok(Some(end)),
             },
         }
     }

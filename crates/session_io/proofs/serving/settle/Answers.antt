@@ -1,5 +1,4 @@
-use Rattle.std.proofs.Common.{◌≡◌, false, refl, [], ◌∙◌}
-use Rattle.relay_events.specs.declared.event.Event.TheVariants as event
+use Rattle.std.proofs.Common.{◌≡◌, refl, sym, [], ◌∙◌}
 use Rattle.session_io.proofs.serving.settle.Goals as goal
 use Rattle.session_core.specs.Remaining.{still_sends}
 use Rattle.session_io.specs.Sides.{output_of, outlets_of}
@@ -23,37 +22,37 @@ due-init g c = record {
       at;
 }
 
--- ---- a GET of one attribute
+-- ---- a short request
 
 pub returns-in_err-reply-in-Some-clause-err : goal.returns-in_err-reply-in-Some-clause-err
 returns-in_err-reply-in-Some-clause-err g c =
-    let asked = c.in-Some.ensures.asks in
+    let asked = rw (sym c.event.ensures) at c.in-Some.ensures.asks in
     refused_by {before = outlets_of g.W.Writer.contents g.W.Writer.failures c.args.writer.now
-    c.args.meter.now} [] [] c.due.session c.next_get.new.self
+    c.args.meter.now} [] [] c.due.session c.next_short.new.self
     (outlets_of g.W.Writer.contents g.W.Writer.failures c.due.writer c.due.meter) c.call.new.meter
-    (event.Get c.in-Some.level c.in-Some.attr false) c.in_err-reply-in-Some.field-0.0
+    c.event.result c.in_err-reply-in-Some.field-0.0
     c.from_residual.result c.due.invariant.reached asked.steps asked.awaits
     c.in_err-reply-in-Some.ensures.step c.from_residual.ensures.1
 
 pub returns-in-Err-clause-err : goal.returns-in-Err-clause-err
 returns-in-Err-clause-err g c =
-    let asked = c.in-Some.ensures.asks in
+    let asked = rw (sym c.event.ensures) at c.in-Some.ensures.asks in
     unanswered {before = outlets_of g.W.Writer.contents g.W.Writer.failures c.args.writer.now
-    c.args.meter.now} [] [] c.due.session c.next_get.new.self
+    c.args.meter.now} [] [] c.due.session c.next_short.new.self
     (outlets_of g.W.Writer.contents g.W.Writer.failures c.due.writer c.due.meter) c.call.new.meter
-    (event.Get c.in-Some.level c.in-Some.attr false) c.in_ok-reply-in-Some.reply
+    c.event.result c.in_ok-reply-in-Some.reply
     c.due.invariant.reached asked.steps c.in_ok-reply-in-Some.ensures.step
 
 pub due-preserved-in-Ok : goal.due-preserved-in-Ok
 due-preserved-in-Ok g c =
-    let asked = c.in-Some.ensures.asks in
+    let asked = rw (sym c.event.ensures) at c.in-Some.ensures.asks in
     let answered = c.in-Ok.ensures.ok in
     record {
-      reached = reached_answered [] c.due.session c.next_get.new.self c.answer_get-answered.new.self
+      reached = reached_answered [] c.due.session c.next_short.new.self c.answer_short-answered.new.self
           (outlets_of g.W.Writer.contents g.W.Writer.failures c.due.writer c.due.meter)
           c.call.new.meter
           (output_of g.W.Writer.contents g.W.Writer.failures c.write.new.writer)
-          (event.Get c.in-Some.level c.in-Some.attr false) c.in_ok-reply-in-Some.reply
+          c.event.result c.in_ok-reply-in-Some.reply
           c.in-Ok.frame
           c.due.invariant.reached asked.steps c.in_ok-reply-in-Some.ensures.step answered
           (rw c.as_slice.ensures at c.in_ok-write-in-Ok.ensures.bytes);
@@ -66,12 +65,12 @@ due-preserved-in-Ok g c =
           comes_sent happened (g.V.SessionWatch.passed c.args.watch.now)
           (g.V.SessionWatch.passed c.call.new.self)
           (g.V.SessionWatch.passed c.write.new.watch)
-          answered.between c.answer_get-answered.new.self c.in-Ok.frame
+          answered.between c.answer_short-answered.new.self c.in-Ok.frame
           (comes_asked happened (g.V.SessionWatch.passed c.args.watch.now)
           (g.V.SessionWatch.passed c.due.watch)
           (g.V.SessionWatch.passed c.call.new.self)
-          c.due.session c.next_get.new.self answered.between
-          (event.Get c.in-Some.level c.in-Some.attr false) c.in_ok-reply-in-Some.reply
+          c.due.session c.next_short.new.self answered.between
+          c.event.result c.in_ok-reply-in-Some.reply
           (c.due.invariant.order password texts_of happened at) asked.steps asked.awaits
           c.in_ok-reply-in-Some.ensures.passes answered.takes)
           answered.sends (rw c.as_slice.ensures at c.in_ok-write-in-Ok.ensures.passes);
@@ -79,7 +78,7 @@ due-preserved-in-Ok g c =
 
 pub returns-in_err-write-in-Ok-clause-err : goal.returns-in_err-write-in-Ok-clause-err
 returns-in_err-write-in-Ok-clause-err g c =
-    let asked = c.in-Some.ensures.asks in
+    let asked = rw (sym c.event.ensures) at c.in-Some.ensures.asks in
     let answered = c.in-Ok.ensures.ok in
     unsent_by {before = outlets_of g.W.Writer.contents g.W.Writer.failures c.args.writer.now
     c.args.meter.now} [] [] answered.between
@@ -87,116 +86,31 @@ returns-in_err-write-in-Ok-clause-err g c =
     (output_of g.W.Writer.contents g.W.Writer.failures c.write.new.writer)
     c.in_err-write-in-Ok.field-0.0 c.from_residual-in_err-write-in-Ok.result
     (reached_asked {before = outlets_of g.W.Writer.contents g.W.Writer.failures c.args.writer.now
-    c.args.meter.now} [] c.due.session c.next_get.new.self answered.between
+    c.args.meter.now} [] c.due.session c.next_short.new.self answered.between
     (outlets_of g.W.Writer.contents g.W.Writer.failures c.due.writer c.due.meter) c.call.new.meter
-    (event.Get c.in-Some.level c.in-Some.attr false) c.in_ok-reply-in-Some.reply
+    c.event.result c.in_ok-reply-in-Some.reply
     c.due.invariant.reached asked.steps c.in_ok-reply-in-Some.ensures.step answered.takes)
     c.due.invariant.even c.in_err-write-in-Ok.ensures.err
     c.from_residual-in_err-write-in-Ok.ensures.1
 
--- ---- a short command
-
-pub returns-in_err-reply-in-Some-next_command-clause-err :
-    goal.returns-in_err-reply-in-Some-next_command-clause-err
-returns-in_err-reply-in-Some-next_command-clause-err g c =
-    let asked = rw c.in-None.ensures.none at c.in-Some-next_command.ensures.asks in
-    refused_by {before = outlets_of g.W.Writer.contents g.W.Writer.failures c.args.writer.now
-    c.args.meter.now} [] [] c.due.session c.next_command.new.self
-    (outlets_of g.W.Writer.contents g.W.Writer.failures c.due.writer c.due.meter)
-    c.call-in-Some-next_command.new.meter
-    c.in-Some-next_command.event c.in_err-reply-in-Some-next_command.field-0.0
-    c.from_residual-in_err-reply-in-Some-next_command.result c.due.invariant.reached asked.steps
-    asked.awaits
-    c.in_err-reply-in-Some-next_command.ensures.step
-    c.from_residual-in_err-reply-in-Some-next_command.ensures.1
-
-pub returns-in-Err-answered-clause-err : goal.returns-in-Err-answered-clause-err
-returns-in-Err-answered-clause-err g c =
-    let asked = rw c.in-None.ensures.none at c.in-Some-next_command.ensures.asks in
-    unanswered {before = outlets_of g.W.Writer.contents g.W.Writer.failures c.args.writer.now
-    c.args.meter.now} [] [] c.due.session c.next_command.new.self
-    (outlets_of g.W.Writer.contents g.W.Writer.failures c.due.writer c.due.meter)
-    c.call-in-Some-next_command.new.meter
-    c.in-Some-next_command.event c.in_ok-reply-in-Some-next_command.reply
-    c.due.invariant.reached asked.steps c.in_ok-reply-in-Some-next_command.ensures.step
-
-pub due-preserved-in-Ok-answered : goal.due-preserved-in-Ok-answered
-due-preserved-in-Ok-answered g c =
-    let asked = rw c.in-None.ensures.none at c.in-Some-next_command.ensures.asks in
-    let answered = c.in-Ok-answered.ensures.ok in
-    record {
-      reached = reached_answered [] c.due.session c.next_command.new.self
-          c.answer_command-answered.new.self
-          (outlets_of g.W.Writer.contents g.W.Writer.failures c.due.writer c.due.meter)
-          c.call-in-Some-next_command.new.meter
-          (output_of g.W.Writer.contents g.W.Writer.failures c.write-in-Ok-answered.new.writer)
-          c.in-Some-next_command.event c.in_ok-reply-in-Some-next_command.reply
-          c.in-Ok-answered.frame
-          c.due.invariant.reached asked.steps c.in_ok-reply-in-Some-next_command.ensures.step
-          answered
-          (rw c.as_slice-in-Ok-answered.ensures at c.in_ok-write-in-Ok-answered.ensures.bytes);
-      silent = answered.silent;
-      finished = answered.sends.finished ∙ answered.takes.finished ∙ asked.steps.finished
-          ∙ c.due.invariant.finished;
-      writable = c.in_ok-write-in-Ok-answered.ensures.ready;
-      even = c.in_ok-write-in-Ok-answered.ensures.failures_unchanged ∙ c.due.invariant.even;
-      order = λ password texts_of happened at.
-          comes_sent happened (g.V.SessionWatch.passed c.args.watch.now)
-          (g.V.SessionWatch.passed c.call-in-Some-next_command.new.self)
-          (g.V.SessionWatch.passed c.write-in-Ok-answered.new.watch)
-          answered.between c.answer_command-answered.new.self c.in-Ok-answered.frame
-          (comes_asked happened (g.V.SessionWatch.passed c.args.watch.now)
-          (g.V.SessionWatch.passed c.due.watch)
-          (g.V.SessionWatch.passed c.call-in-Some-next_command.new.self)
-          c.due.session c.next_command.new.self answered.between
-          c.in-Some-next_command.event c.in_ok-reply-in-Some-next_command.reply
-          (c.due.invariant.order password texts_of happened at) asked.steps asked.awaits
-          c.in_ok-reply-in-Some-next_command.ensures.passes answered.takes)
-          answered.sends (rw c.as_slice-in-Ok-answered.ensures at
-          c.in_ok-write-in-Ok-answered.ensures.passes);
-    }
-
-pub returns-in_err-write-in-Ok-answered-clause-err :
-    goal.returns-in_err-write-in-Ok-answered-clause-err
-returns-in_err-write-in-Ok-answered-clause-err g c =
-    let asked = rw c.in-None.ensures.none at c.in-Some-next_command.ensures.asks in
-    let answered = c.in-Ok-answered.ensures.ok in
-    unsent_by {before = outlets_of g.W.Writer.contents g.W.Writer.failures c.args.writer.now
-    c.args.meter.now} [] [] answered.between
-    (outlets_of g.W.Writer.contents g.W.Writer.failures c.due.writer
-    c.call-in-Some-next_command.new.meter)
-    (output_of g.W.Writer.contents g.W.Writer.failures c.write-in-Ok-answered.new.writer)
-    c.in_err-write-in-Ok-answered.field-0.0 c.from_residual-in_err-write-in-Ok-answered.result
-    (reached_asked {before = outlets_of g.W.Writer.contents g.W.Writer.failures c.args.writer.now
-    c.args.meter.now} [] c.due.session c.next_command.new.self answered.between
-    (outlets_of g.W.Writer.contents g.W.Writer.failures c.due.writer c.due.meter)
-    c.call-in-Some-next_command.new.meter
-    c.in-Some-next_command.event c.in_ok-reply-in-Some-next_command.reply
-    c.due.invariant.reached asked.steps c.in_ok-reply-in-Some-next_command.ensures.step
-    answered.takes)
-    c.due.invariant.even c.in_err-write-in-Ok-answered.ensures.err
-    c.from_residual-in_err-write-in-Ok-answered.ensures.1
-
 -- ---- all other tasks
 
-pub returns-in_err-event-in-None-next_command-clause-err :
-    goal.returns-in_err-event-in-None-next_command-clause-err
-returns-in_err-event-in-None-next_command-clause-err g c =
-    let same : c.next_command.new.self ≡ c.due.session =
-    c.in-None-next_command.ensures.none ∙ c.in-None.ensures.none in
+pub returns-in_err-event-in-None-clause-err :
+    goal.returns-in_err-event-in-None-clause-err
+returns-in_err-event-in-None-clause-err g c =
+    let same : c.next_short.new.self ≡ c.due.session = c.in-None.ensures.none in
     starved_by {before = outlets_of g.W.Writer.contents g.W.Writer.failures c.args.writer.now
     c.args.meter.now} [] [] c.due.session c.next.new.self
     (outlets_of g.W.Writer.contents g.W.Writer.failures c.due.writer c.due.meter)
-    c.from_residual-in_err-event-in-None-next_command.result c.due.invariant.reached
-    (rw same at c.in_err-event-in-None-next_command.ensures.steps)
-    c.from_residual-in_err-event-in-None-next_command.ensures.1
+    c.from_residual-in_err-event-in-None.result c.due.invariant.reached
+    (rw same at c.in_err-event-in-None.ensures.steps)
+    c.from_residual-in_err-event-in-None.ensures.1
 
 pub returns-in_err-reply-in-Ask-clause-err : goal.returns-in_err-reply-in-Ask-clause-err
 returns-in_err-reply-in-Ask-clause-err g c =
-    let same : c.next_command.new.self ≡ c.due.session =
-    c.in-None-next_command.ensures.none ∙ c.in-None.ensures.none in
-    let stepped = rw (c.in-Ask.is, same) at c.in_ok-event-in-None-next_command.ensures.steps in
-    let left = rw c.in-Ask.is at c.in_ok-event-in-None-next_command.ensures.leaves in
+    let same : c.next_short.new.self ≡ c.due.session = c.in-None.ensures.none in
+    let stepped = rw (c.in-Ask.is, same) at c.in_ok-event-in-None.ensures.steps in
+    let left = rw c.in-Ask.is at c.in_ok-event-in-None.ensures.leaves in
     refused_by {before = outlets_of g.W.Writer.contents g.W.Writer.failures c.args.writer.now
     c.args.meter.now} [] [] c.due.session c.next.new.self
     (outlets_of g.W.Writer.contents g.W.Writer.failures c.due.writer c.due.meter)
@@ -206,10 +120,9 @@ returns-in_err-reply-in-Ask-clause-err g c =
 
 pub due-preserved-in-Ok-answer : goal.due-preserved-in-Ok-answer
 due-preserved-in-Ok-answer g c =
-    let same : c.next_command.new.self ≡ c.due.session =
-    c.in-None-next_command.ensures.none ∙ c.in-None.ensures.none in
-    let stepped = rw (c.in-Ask.is, same) at c.in_ok-event-in-None-next_command.ensures.steps in
-    let left = (rw c.in-Ask.is at c.in_ok-event-in-None-next_command.ensures.leaves).0 in
+    let same : c.next_short.new.self ≡ c.due.session = c.in-None.ensures.none in
+    let stepped = rw (c.in-Ask.is, same) at c.in_ok-event-in-None.ensures.steps in
+    let left = (rw c.in-Ask.is at c.in_ok-event-in-None.ensures.leaves).0 in
     let taken = c.in-Ok-answer.ensures.ok in
     record {
       reached = reached_asked [] c.due.session c.next.new.self c.answer.new.self
@@ -232,9 +145,8 @@ due-preserved-in-Ok-answer g c =
 
 pub returns-in-Err-answer-clause-err : goal.returns-in-Err-answer-clause-err
 returns-in-Err-answer-clause-err g c =
-    let same : c.next_command.new.self ≡ c.due.session =
-    c.in-None-next_command.ensures.none ∙ c.in-None.ensures.none in
-    let stepped = rw (c.in-Ask.is, same) at c.in_ok-event-in-None-next_command.ensures.steps in
+    let same : c.next_short.new.self ≡ c.due.session = c.in-None.ensures.none in
+    let stepped = rw (c.in-Ask.is, same) at c.in_ok-event-in-None.ensures.steps in
     unanswered {before = outlets_of g.W.Writer.contents g.W.Writer.failures c.args.writer.now
     c.args.meter.now} [] [] c.due.session c.next.new.self
     (outlets_of g.W.Writer.contents g.W.Writer.failures c.due.writer c.due.meter)
@@ -244,10 +156,9 @@ returns-in-Err-answer-clause-err g c =
 
 pub due-preserved : goal.due-preserved
 due-preserved g c =
-    let same : c.next_command.new.self ≡ c.due.session =
-    c.in-None-next_command.ensures.none ∙ c.in-None.ensures.none in
-    let stepped = rw (c.in-Send.is, same) at c.in_ok-event-in-None-next_command.ensures.steps in
-    let left = rw c.in-Send.is at c.in_ok-event-in-None-next_command.ensures.leaves in
+    let same : c.next_short.new.self ≡ c.due.session = c.in-None.ensures.none in
+    let stepped = rw (c.in-Send.is, same) at c.in_ok-event-in-None.ensures.steps in
+    let left = rw c.in-Send.is at c.in_ok-event-in-None.ensures.leaves in
     record {
       reached = reached_sent [] c.due.session c.next.new.self
           (outlets_of g.W.Writer.contents g.W.Writer.failures c.due.writer c.due.meter)
@@ -279,48 +190,47 @@ returns-in_err-write-in-Send-clause-err g c =
 
 pub returns-in-End-clause-ok : goal.returns-in-End-clause-ok
 returns-in-End-clause-ok g c =
-    let same : c.next_command.new.self ≡ c.due.session =
-    c.in-None-next_command.ensures.none ∙ c.in-None.ensures.none in
+    let same : c.next_short.new.self ≡ c.due.session = c.in-None.ensures.none in
     settled_over g.M.Meter.steps g.F.Form.written_as c.args.session.now c.due.session
     c.next.new.self
     (outlets_of g.W.Writer.contents g.W.Writer.failures c.args.writer.now c.args.meter.now)
     (outlets_of g.W.Writer.contents g.W.Writer.failures c.due.writer c.due.meter) c.in-End.end
     c.due.invariant.reached c.due.invariant.finished
-    (rw (c.in-End.is, same) at c.in_ok-event-in-None-next_command.ensures.steps)
-    (rw c.in-End.is at c.in_ok-event-in-None-next_command.ensures.leaves)
+    (rw (c.in-End.is, same) at c.in_ok-event-in-None.ensures.steps)
+    (rw c.in-End.is at c.in_ok-event-in-None.ensures.leaves)
 
 -- ---- the order
 
 pub returns-in_err-reply-in-Some-clause-order : goal.returns-in_err-reply-in-Some-clause-order
 returns-in_err-reply-in-Some-clause-order g c = λ password texts_of happened at.
-    let asked = c.in-Some.ensures.asks in
+    let asked = rw (sym c.event.ensures) at c.in-Some.ensures.asks in
     orders_stop (λ f. f ≡ fault_of c.in_err-reply-in-Some.field-0.0) texts_of
-    (still_sends c.next_get.new.self) happened (g.V.SessionWatch.passed c.args.watch.now)
+    (still_sends c.next_short.new.self) happened (g.V.SessionWatch.passed c.args.watch.now)
     (g.V.SessionWatch.passed c.call.new.self) c.from_residual.result c.from_residual.ensures.1
     (stops_refused happened (g.V.SessionWatch.passed c.args.watch.now)
     (g.V.SessionWatch.passed c.due.watch)
     (g.V.SessionWatch.passed c.call.new.self)
-    c.due.session c.next_get.new.self (event.Get c.in-Some.level c.in-Some.attr false)
+    c.due.session c.next_short.new.self c.event.result
     (c.due.invariant.order password texts_of happened at) asked.steps asked.awaits
     c.in_err-reply-in-Some.ensures.passes)
 
 pub returns-in-Err-clause-order : goal.returns-in-Err-clause-order
 returns-in-Err-clause-order g c = λ password texts_of happened at.
-    let asked = c.in-Some.ensures.asks in
+    let asked = rw (sym c.event.ensures) at c.in-Some.ensures.asks in
     stops_asked happened (g.V.SessionWatch.passed c.args.watch.now)
     (g.V.SessionWatch.passed c.due.watch)
     (g.V.SessionWatch.passed c.call.new.self)
-    c.due.session c.next_get.new.self (event.Get c.in-Some.level c.in-Some.attr false)
+    c.due.session c.next_short.new.self c.event.result
     c.in_ok-reply-in-Some.reply
     (c.due.invariant.order password texts_of happened at) asked.steps asked.awaits
     c.in_ok-reply-in-Some.ensures.passes
 
 pub returns-in_err-write-in-Ok-clause-order : goal.returns-in_err-write-in-Ok-clause-order
 returns-in_err-write-in-Ok-clause-order g c = λ password texts_of happened at.
-    let asked = c.in-Some.ensures.asks in
+    let asked = rw (sym c.event.ensures) at c.in-Some.ensures.asks in
     let answered = c.in-Ok.ensures.ok in
     orders_stop (λ f. f ≡ c.in_err-write-in-Ok.field-0.0) texts_of
-    (still_sends c.answer_get-answered.new.self) happened (g.V.SessionWatch.passed c.args.watch.now)
+    (still_sends c.answer_short-answered.new.self) happened (g.V.SessionWatch.passed c.args.watch.now)
     (g.V.SessionWatch.passed c.write.new.watch) c.from_residual-in_err-write-in-Ok.result
     c.from_residual-in_err-write-in-Ok.ensures.1
     (stops_unsent happened (g.V.SessionWatch.passed c.args.watch.now)
@@ -330,80 +240,28 @@ returns-in_err-write-in-Ok-clause-order g c = λ password texts_of happened at.
     (comes_asked happened (g.V.SessionWatch.passed c.args.watch.now)
     (g.V.SessionWatch.passed c.due.watch)
     (g.V.SessionWatch.passed c.call.new.self)
-    c.due.session c.next_get.new.self answered.between
-    (event.Get c.in-Some.level c.in-Some.attr false) c.in_ok-reply-in-Some.reply
+    c.due.session c.next_short.new.self answered.between
+    c.event.result c.in_ok-reply-in-Some.reply
     (c.due.invariant.order password texts_of happened at) asked.steps asked.awaits
     c.in_ok-reply-in-Some.ensures.passes answered.takes)
     c.in_err-write-in-Ok.ensures.fails_to_pass)
 
-pub returns-in_err-reply-in-Some-next_command-clause-order :
-    goal.returns-in_err-reply-in-Some-next_command-clause-order
-returns-in_err-reply-in-Some-next_command-clause-order g c = λ password texts_of happened at.
-    let asked = rw c.in-None.ensures.none at c.in-Some-next_command.ensures.asks in
-    orders_stop (λ f. f ≡ fault_of c.in_err-reply-in-Some-next_command.field-0.0) texts_of
-    (still_sends c.next_command.new.self) happened (g.V.SessionWatch.passed c.args.watch.now)
-    (g.V.SessionWatch.passed c.call-in-Some-next_command.new.self)
-    c.from_residual-in_err-reply-in-Some-next_command.result
-    c.from_residual-in_err-reply-in-Some-next_command.ensures.1
-    (stops_refused happened (g.V.SessionWatch.passed c.args.watch.now)
-    (g.V.SessionWatch.passed c.due.watch)
-    (g.V.SessionWatch.passed c.call-in-Some-next_command.new.self)
-    c.due.session c.next_command.new.self c.in-Some-next_command.event
-    (c.due.invariant.order password texts_of happened at) asked.steps asked.awaits
-    c.in_err-reply-in-Some-next_command.ensures.passes)
-
-pub returns-in-Err-answered-clause-order : goal.returns-in-Err-answered-clause-order
-returns-in-Err-answered-clause-order g c = λ password texts_of happened at.
-    let asked = rw c.in-None.ensures.none at c.in-Some-next_command.ensures.asks in
-    stops_asked happened (g.V.SessionWatch.passed c.args.watch.now)
-    (g.V.SessionWatch.passed c.due.watch)
-    (g.V.SessionWatch.passed c.call-in-Some-next_command.new.self)
-    c.due.session c.next_command.new.self c.in-Some-next_command.event
-    c.in_ok-reply-in-Some-next_command.reply
-    (c.due.invariant.order password texts_of happened at) asked.steps asked.awaits
-    c.in_ok-reply-in-Some-next_command.ensures.passes
-
-pub returns-in_err-write-in-Ok-answered-clause-order :
-    goal.returns-in_err-write-in-Ok-answered-clause-order
-returns-in_err-write-in-Ok-answered-clause-order g c = λ password texts_of happened at.
-    let asked = rw c.in-None.ensures.none at c.in-Some-next_command.ensures.asks in
-    let answered = c.in-Ok-answered.ensures.ok in
-    orders_stop (λ f. f ≡ c.in_err-write-in-Ok-answered.field-0.0) texts_of
-    (still_sends c.answer_command-answered.new.self) happened (g.V.SessionWatch.passed
-    c.args.watch.now)
-    (g.V.SessionWatch.passed c.write-in-Ok-answered.new.watch)
-    c.from_residual-in_err-write-in-Ok-answered.result
-    c.from_residual-in_err-write-in-Ok-answered.ensures.1
-    (stops_unsent happened (g.V.SessionWatch.passed c.args.watch.now)
-    (g.V.SessionWatch.passed c.call-in-Some-next_command.new.self)
-    (g.V.SessionWatch.passed c.write-in-Ok-answered.new.watch)
-    c.in_err-write-in-Ok-answered.field-0.0
-    (comes_asked happened (g.V.SessionWatch.passed c.args.watch.now)
-    (g.V.SessionWatch.passed c.due.watch)
-    (g.V.SessionWatch.passed c.call-in-Some-next_command.new.self)
-    c.due.session c.next_command.new.self answered.between
-    c.in-Some-next_command.event c.in_ok-reply-in-Some-next_command.reply
-    (c.due.invariant.order password texts_of happened at) asked.steps asked.awaits
-    c.in_ok-reply-in-Some-next_command.ensures.passes answered.takes)
-    c.in_err-write-in-Ok-answered.ensures.fails_to_pass)
-
-pub returns-in_err-event-in-None-next_command-clause-order :
-    goal.returns-in_err-event-in-None-next_command-clause-order
-returns-in_err-event-in-None-next_command-clause-order g c = λ password texts_of happened at.
+pub returns-in_err-event-in-None-clause-order :
+    goal.returns-in_err-event-in-None-clause-order
+returns-in_err-event-in-None-clause-order g c = λ password texts_of happened at.
     orders_stop (λ f. f ≡ fault.Memory) texts_of (still_sends c.next.new.self) happened
     (g.V.SessionWatch.passed c.args.watch.now) (g.V.SessionWatch.passed c.due.watch)
-    c.from_residual-in_err-event-in-None-next_command.result
-    c.from_residual-in_err-event-in-None-next_command.ensures.1
+    c.from_residual-in_err-event-in-None.result
+    c.from_residual-in_err-event-in-None.ensures.1
     (stops_here happened (g.V.SessionWatch.passed c.args.watch.now)
     (g.V.SessionWatch.passed c.due.watch)
     (c.due.invariant.order password texts_of happened at))
 
 pub returns-in_err-reply-in-Ask-clause-order : goal.returns-in_err-reply-in-Ask-clause-order
 returns-in_err-reply-in-Ask-clause-order g c = λ password texts_of happened at.
-    let same : c.next_command.new.self ≡ c.due.session =
-    c.in-None-next_command.ensures.none ∙ c.in-None.ensures.none in
-    let stepped = rw (c.in-Ask.is, same) at c.in_ok-event-in-None-next_command.ensures.steps in
-    let left = rw c.in-Ask.is at c.in_ok-event-in-None-next_command.ensures.leaves in
+    let same : c.next_short.new.self ≡ c.due.session = c.in-None.ensures.none in
+    let stepped = rw (c.in-Ask.is, same) at c.in_ok-event-in-None.ensures.steps in
+    let left = rw c.in-Ask.is at c.in_ok-event-in-None.ensures.leaves in
     orders_stop (λ f. f ≡ fault_of c.in_err-reply-in-Ask.field-0.0) texts_of
     (still_sends c.next.new.self) happened (g.V.SessionWatch.passed c.args.watch.now)
     (g.V.SessionWatch.passed c.call-in-Ask.new.self) c.from_residual-in_err-reply-in-Ask.result
@@ -417,10 +275,9 @@ returns-in_err-reply-in-Ask-clause-order g c = λ password texts_of happened at.
 
 pub returns-in-Err-answer-clause-order : goal.returns-in-Err-answer-clause-order
 returns-in-Err-answer-clause-order g c = λ password texts_of happened at.
-    let same : c.next_command.new.self ≡ c.due.session =
-    c.in-None-next_command.ensures.none ∙ c.in-None.ensures.none in
-    let stepped = rw (c.in-Ask.is, same) at c.in_ok-event-in-None-next_command.ensures.steps in
-    let left = rw c.in-Ask.is at c.in_ok-event-in-None-next_command.ensures.leaves in
+    let same : c.next_short.new.self ≡ c.due.session = c.in-None.ensures.none in
+    let stepped = rw (c.in-Ask.is, same) at c.in_ok-event-in-None.ensures.steps in
+    let left = rw c.in-Ask.is at c.in_ok-event-in-None.ensures.leaves in
     stops_asked happened (g.V.SessionWatch.passed c.args.watch.now)
     (g.V.SessionWatch.passed c.due.watch)
     (g.V.SessionWatch.passed c.call-in-Ask.new.self)
@@ -443,18 +300,16 @@ returns-in_err-write-in-Send-clause-order g c = λ password texts_of happened at
 
 pub returns-in-Wait-clause-order : goal.returns-in-Wait-clause-order
 returns-in-Wait-clause-order g c = λ password texts_of happened at.
-    let same : c.next_command.new.self ≡ c.due.session =
-    c.in-None-next_command.ensures.none ∙ c.in-None.ensures.none in
-    let stepped = rw (c.in-Wait.is, same) at c.in_ok-event-in-None-next_command.ensures.steps in
+    let same : c.next_short.new.self ≡ c.due.session = c.in-None.ensures.none in
+    let stepped = rw (c.in-Wait.is, same) at c.in_ok-event-in-None.ensures.steps in
     comes_still happened (g.V.SessionWatch.passed c.args.watch.now)
     (g.V.SessionWatch.passed c.due.watch)
     stepped.sends (c.due.invariant.order password texts_of happened at)
 
 pub returns-in-End-clause-order : goal.returns-in-End-clause-order
 returns-in-End-clause-order g c = λ password texts_of happened at.
-    let same : c.next_command.new.self ≡ c.due.session =
-    c.in-None-next_command.ensures.none ∙ c.in-None.ensures.none in
-    let stepped = rw (c.in-End.is, same) at c.in_ok-event-in-None-next_command.ensures.steps in
+    let same : c.next_short.new.self ≡ c.due.session = c.in-None.ensures.none in
+    let stepped = rw (c.in-End.is, same) at c.in_ok-event-in-None.ensures.steps in
     comes_still happened (g.V.SessionWatch.passed c.args.watch.now)
     (g.V.SessionWatch.passed c.due.watch)
     stepped.sends (c.due.invariant.order password texts_of happened at)

@@ -1,47 +1,102 @@
--- A short command, from its frame to the frame of its answer.
-use Rattle.std.proofs.Common.{◌≡◌, ◌<◌, ◌==◌, ℕ, Bool, true, if◌then◌else◌, Some, None, Ok, List}
-use Rattle.std.proofs.Common.{[], ◌∷◌, get_or, ◌≤◌, length, take, drop, bit_and, refl, sym, ap}
-use Rattle.std.proofs.Common.{arith}
+-- A short request, from its frame to the frame of its answer.
+use Rattle.std.proofs.Common.{◌≡◌, ◌<◌, ◌==◌, ℕ, Bool, true, if◌then◌else◌, Option, Some, None, Ok, List, [], ◌∷◌, get_or, ◌≤◌, length, take, drop, bit_and, refl, sym, ap, subst, arith}
 use Rattle.std.specs.Int.{w16, from_be_bytes}
 use Rattle.byteorder.specs.Endian.{big_number}
 use Rattle.cosem_axdr.specs.Reading.{first_data, value_at, leaf_at, fixed_at}
 use Rattle.std.proofs.lemmas.Bool.{eq-eqb}
 use Rattle.std.proofs.lemmas.Slice.Eq.{text_from_reads}
 use Rattle.relay_events.specs.declared.event.Event.{Event}
-use Rattle.session_core.proofs.Tasks.{hears_any}
-use Rattle.session_core.specs.Calls.{IsShortCommand, call_by, call_of, command_event, command_form}
-use Rattle.session_core.specs.Calls.{is_negotiated, request_form}
-use Rattle.session_core.specs.Progress.{AsksCommand, WorksBy}
-use Rattle.session_core.specs.Remaining.{is_asking_command}
-use Rattle.session_core.specs.Rules.{HearsCommand, asks_code, heard_frame, incoming_after}
-use Rattle.session_core.specs.Rules.{link_after, outgoing_after, turn_of}
+use Rattle.relay_events.specs.declared.reply.Reply.{Reply}
+use Rattle.session_core.proofs.Tasks.{hears_any, takes_any, gives_any}
+use Rattle.session_core.specs.Calls.{IsShortRequest, call_by, call_of, is_negotiated, request_form, short_event, short_form}
+use Rattle.session_core.specs.Outgoing.{outgoing_by}
+use Rattle.session_core.specs.Progress.{AnswersBy, AsksShort, WorksBy}
+use Rattle.session_core.specs.Remaining.{is_asking, is_asking_short, load_of, task_load}
+use Rattle.session_core.specs.Rules.{HearsShort, heard_frame, incoming_after, link_after, outgoing_after, reply_text, turn_of}
 use Rattle.session_core.specs.Standard.{management_device}
-use Rattle.session_core.specs.declared.call.Call.TheVariants.{Refused}
 use Rattle.session_core.specs.declared.asked.Asked.{Asked}
+use Rattle.session_core.specs.declared.call.Call.TheVariants.{Refused}
 use Rattle.session_core.specs.declared.link.Link.{Link}
 use Rattle.session_core.specs.declared.next.Next.TheVariants as next
 use Rattle.session_core.specs.declared.session.Session.{Session}
-use Rattle.session_core.specs.declared.short_command.ShortCommand.{ShortCommand}
-use Rattle.session_core.specs.declared.short_command.ShortCommand.TheVariants as short
+use Rattle.session_core.specs.declared.short_request.ShortRequest.{ShortRequest}
+use Rattle.session_core.specs.declared.short_request.ShortRequest.TheVariants as short
 use Rattle.session_core.specs.declared.state.State.{State}
 use Rattle.session_core.specs.declared.step.TurnStep.TheVariants as step
-use Rattle.session_core.specs.declared.task.SessionTask.TheVariants.{Listen, Await}
+use Rattle.session_core.specs.declared.task.SessionTask.TheVariants.{Listen, Await, Send}
 use Rattle.wrapper_frame.specs.Header.{head_of, header_size, src_of, dst_of}
 use Rattle.wrapper_frame.specs.Messages.{first_frame, after_first}
 use Rattle.wrapper_frame.specs.Stream.{KeepsFrames}
 use Rattle.wrapper_frame.specs.declared.header.Head.TheVariants as head
 use Rattle.xdlms_apdu.specs.Requests.{request_of}
+use Rattle.xdlms_apdu.specs.declared.invoke_id.InvokeId.{InvokeId}
 use Rattle.xdlms_apdu.specs.declared.response.Exception.TheVariants.{Unknown}
+use Rattle.xdlms_blocks.specs.Transfer.{Sending}
 
 -- ---- its payload
+
+-- a payload of thirteen bytes that is a GET of one attribute
+get_of : (conformance id high low a b c d e f number : ℕ)
+    → (bit_and conformance 0x10 == 0x10) ≡ true
+    → IsShortRequest conformance (0xC0 ∷ 0x01 ∷ id ∷ high ∷ low ∷ a ∷ b ∷ c ∷ d ∷ e ∷ f ∷ number ∷ 0x00
+    ∷ []) (record { 0 = id })
+    (short.Get (record {
+      class = record { 0 = from_be_bytes w16 (high ∷ low ∷ []) };
+      name = record { 0 = a ∷ b ∷ c ∷ d ∷ e ∷ f ∷ [] };
+      number = number;
+    }))
+unfolding call_of is_negotiated request_form request_of
+get_of conformance id high low a b c d e f number negotiated =
+    let payload : List ℕ = 0xC0 ∷ 0x01 ∷ id ∷ high ∷ low ∷ a ∷ b ∷ c ∷ d ∷ e ∷ f ∷ number
+    ∷ 0x00 ∷ [] in
+    record {
+      opens = refl;
+      calls = refl;
+      call = ap (λ (has_get : Bool). if has_get then call_by (request_of payload) else Refused
+          Unknown) negotiated;
+    }
+
+pub reads_get : (conformance : ℕ) (s : List ℕ) (class : ℕ) → 13 ≤ length s → length s < 14
+    → get_or s 0 0 ≡ 0xC0 → get_or s 1 0 ≡ 0x01 → get_or s 12 0 ≡ 0x00
+    → (bit_and conformance 0x10 == 0x10) ≡ true → class
+    ≡ big_number 2 (get_or s 3 0 ∷ get_or s 4 0 ∷ [])
+    → IsShortRequest conformance s (record { 0 = get_or s 2 0 })
+    (short.Get (record {
+      class = record { 0 = class };
+      name = record {
+        0 = get_or s 5 0 ∷ get_or s 6 0
+            ∷ get_or s 7 0 ∷ get_or s 8 0 ∷ get_or s 9 0 ∷ get_or s 10 0 ∷ [];
+      };
+      number = get_or s 11 0;
+    }))
+reads_get conformance s class least most tag form selection negotiated is_class =
+    let read : List ℕ =
+    0xC0 ∷ 0x01 ∷ get_or s 2 0 ∷ get_or s 3 0 ∷ get_or s 4 0 ∷ get_or s 5 0 ∷ get_or s 6 0
+    ∷ get_or s 7 0 ∷ get_or s 8 0 ∷ get_or s 9 0 ∷ get_or s 10 0 ∷ get_or s 11 0 ∷ 0x00 ∷ [] in
+    let spelled : s ≡ read =
+    text_from_reads s read (omega (arith, least, most)) (
+      tag,
+      (
+        form,
+        (
+          refl,
+          (
+            refl,
+            (refl, (refl, (refl, (refl, (refl, (refl, (refl, (refl, (selection, tt))))))))),
+          ),
+        ),
+      ),
+    ) in
+    let class_is : class ≡ from_be_bytes w16 (get_or s 3 0 ∷ get_or s 4 0 ∷ []) =
+    omega (arith, is_class) in
+    rw (spelled, class_is) (get_of conformance _ _ _ _ _ _ _ _ _ _ negotiated)
 
 -- a payload of fifteen bytes that is a SET of one attribute to an enum
 set_of : (conformance id high low a b c d e f number value : ℕ)
     → (bit_and conformance 0x08 == 0x08) ≡ true
-    → IsShortCommand conformance (0xC1 ∷ 0x01 ∷ id ∷ high ∷ low ∷ a ∷ b ∷ c ∷ d ∷ e ∷ f ∷ number
-    ∷ 0x00 ∷ 0x16 ∷ value ∷ [])
-    (short.Set (record { 0 = id })
-    (record {
+    → IsShortRequest conformance (0xC1 ∷ 0x01 ∷ id ∷ high ∷ low ∷ a ∷ b ∷ c ∷ d ∷ e ∷ f ∷ number
+    ∷ 0x00 ∷ 0x16 ∷ value ∷ []) (record { 0 = id })
+    (short.Set (record {
       class = record { 0 = from_be_bytes w16 (high ∷ low ∷ []) };
       name = record { 0 = a ∷ b ∷ c ∷ d ∷ e ∷ f ∷ [] };
       number = number;
@@ -61,10 +116,9 @@ set_of conformance id high low a b c d e f number value negotiated =
 -- a payload of fifteen bytes that is an ACTION with an integer
 action_of : (conformance id high low a b c d e f number value : ℕ)
     → (bit_and conformance 0x01 == 0x01) ≡ true
-    → IsShortCommand conformance (0xC3 ∷ 0x01 ∷ id ∷ high ∷ low ∷ a ∷ b ∷ c ∷ d ∷ e ∷ f ∷ number
-    ∷ 0x01 ∷ 0x0F ∷ value ∷ [])
-    (short.Action (record { 0 = id })
-    (record {
+    → IsShortRequest conformance (0xC3 ∷ 0x01 ∷ id ∷ high ∷ low ∷ a ∷ b ∷ c ∷ d ∷ e ∷ f ∷ number
+    ∷ 0x01 ∷ 0x0F ∷ value ∷ []) (record { 0 = id })
+    (short.Action (record {
       class = record { 0 = from_be_bytes w16 (high ∷ low ∷ []) };
       name = record { 0 = a ∷ b ∷ c ∷ d ∷ e ∷ f ∷ [] };
       number = number;
@@ -123,9 +177,8 @@ pub reads_set : (conformance : ℕ) (s : List ℕ) (class : ℕ) → 15 ≤ leng
     → get_or s 0 0 ≡ 0xC1 → get_or s 1 0 ≡ 0x01 → get_or s 12 0 ≡ 0x00 → get_or s 13 0 ≡ 0x16
     → (bit_and conformance 0x08 == 0x08) ≡ true → class
     ≡ big_number 2 (get_or s 3 0 ∷ get_or s 4 0 ∷ [])
-    → IsShortCommand conformance s
-    (short.Set (record { 0 = get_or s 2 0 })
-    (record {
+    → IsShortRequest conformance s (record { 0 = get_or s 2 0 })
+    (short.Set (record {
       class = record { 0 = class };
       name = record {
         0 = get_or s 5 0 ∷ get_or s 6 0
@@ -146,9 +199,8 @@ pub reads_action : (conformance : ℕ) (s : List ℕ) (class : ℕ) → 15 ≤ l
     → get_or s 0 0 ≡ 0xC3 → get_or s 1 0 ≡ 0x01 → get_or s 12 0 ≡ 0x01 → get_or s 13 0 ≡ 0x0F
     → (bit_and conformance 0x01 == 0x01) ≡ true → class
     ≡ big_number 2 (get_or s 3 0 ∷ get_or s 4 0 ∷ [])
-    → IsShortCommand conformance s
-    (short.Action (record { 0 = get_or s 2 0 })
-    (record {
+    → IsShortRequest conformance s (record { 0 = get_or s 2 0 })
+    (short.Action (record {
       class = record { 0 = class };
       name = record {
         0 = get_or s 5 0 ∷ get_or s 6 0
@@ -167,58 +219,97 @@ reads_action conformance s class least most tag form presence kind negotiated is
 
 -- ---- its frame
 
--- the client of the association sends a short command
-pub hears_command : (s : State) (src : ℕ) (payload : List ℕ) (link : Link)
-    (command : ShortCommand) → s.link ≡ Some link → link.source ≡ src
-    → IsShortCommand link.conformance.0 payload command
-    → HearsCommand s (heard_frame src payload) link command
+-- the client of the association sends a short request
+pub hears_short : (s : State) (src : ℕ) (payload : List ℕ) (link : Link) (id : InvokeId)
+    (request : ShortRequest) → s.link ≡ Some link → link.source ≡ src
+    → IsShortRequest link.conformance.0 payload id request
+    → HearsShort s (heard_frame src payload)
+    (record { link = link; form = short_form id request }) request
     (record { link = s.link; incoming = None; outgoing = None })
 unfolding turn_of link_after incoming_after outgoing_after
-hears_command s src payload link (short.Set id attr value) linked same read =
+hears_short s src payload link id (short.Get attr) linked same read =
     let here : (link.source == src) ≡ true = eq-eqb link.source src same in
     record {
       outcome = λ password. rw (read.opens, read.calls, linked, here, read.call) refl;
       after = λ password. rw (read.opens, linked, read.calls, here, read.call) refl;
+      is_short = refl;
     }
-hears_command s src payload link (short.Action id method value) linked same read =
+hears_short s src payload link id (short.Set attr value) linked same read =
     let here : (link.source == src) ≡ true = eq-eqb link.source src same in
     record {
       outcome = λ password. rw (read.opens, read.calls, linked, here, read.call) refl;
       after = λ password. rw (read.opens, linked, read.calls, here, read.call) refl;
+      is_short = refl;
+    }
+hears_short s src payload link id (short.Action method value) linked same read =
+    let here : (link.source == src) ≡ true = eq-eqb link.source src same in
+    record {
+      outcome = λ password. rw (read.opens, read.calls, linked, here, read.call) refl;
+      after = λ password. rw (read.opens, linked, read.calls, here, read.call) refl;
+      is_short = refl;
     }
 
--- the answer to a short command is a result code
-is_code : (command : ShortCommand) → asks_code (command_form command) ≡ true
-is_code (short.Set id attr value) = refl
-is_code (short.Action id method value) = refl
-
--- the frame at the front is a short command
-pub asks_command : (s t : Session) (pending payload : List ℕ) (kept : State) (src dst n : ℕ)
-    (link : Link) (command : ShortCommand) → s.task ≡ Listen
+-- the frame at the front is a short request
+pub asks_at_front : (s t : Session) (pending payload : List ℕ) (kept : State) (src dst n : ℕ)
+    (asked : Asked) (request : ShortRequest) → s.task ≡ Listen
     → head_of s.deframer ≡ head.Whole n → src ≡ src_of s.deframer → dst ≡ dst_of s.deframer → dst
     ≡ management_device → payload ≡ take n (drop header_size s.deframer)
     → pending ≡ after_first n s.deframer → KeepsFrames s.deframer
     (Some (first_frame n s.deframer)) pending
-    → HearsCommand s.state (heard_frame src payload) link command kept
+    → HearsShort s.state (heard_frame src payload) asked request kept
     → t ≡ record {
       password = s.password;
       deframer = pending;
       is_finished = s.is_finished;
       state = kept;
-      task = Await (record { link = link; form = command_form command });
-    } → AsksCommand s (command_event link.level command) t
-unfolding is_asking_command
-asks_command s t pending payload kept src dst n link command listening whole src_is dst_is here
+      task = Await asked;
+    } → AsksShort s (short_event asked.link.level request) t
+unfolding is_asking_short
+asks_at_front s t pending payload kept src dst n asked request listening whole src_is dst_is here
     payload_is left goes_on heard after =
-    let event : Event = command_event link.level command in
-    let asked : Asked = record { link = link; form = command_form command } in
+    let event : Event = short_event asked.link.level request in
     let works : WorksBy {E = ℕ} s (Ok (Some (next.Ask event))) t =
     hears_any ℕ s t pending payload kept src dst n (step.Ask event asked) (Some (next.Ask event))
     listening whole src_is dst_is here payload_is left goes_on
     (sym (heard.outcome s.password)) (heard.after s.password) refl after in
+    record { steps = works.0; awaits = works.1.0; is_short = rw after heard.is_short; less = works.1.1 }
+
+-- ---- its answer
+
+-- the frame of the answer is returned at once
+pub answers_any : (s t : Session) (asked : Asked) (reply : Reply) (text : List ℕ)
+    (outgoing : Option Sending) → s.task ≡ Await asked
+    → text ≡ reply_text asked reply → outgoing ≡ outgoing_by asked reply
+    → t ≡ record {
+      password = s.password;
+      deframer = s.deframer;
+      is_finished = s.is_finished;
+      state = record { link = s.state.link; incoming = s.state.incoming; outgoing = outgoing };
+      task = Listen;
+    }
+    → AnswersBy s reply text t
+unfolding is_asking load_of
+answers_any s t asked reply text outgoing awaiting e o after =
+    let kept : State = record {
+      link = s.state.link;
+      incoming = s.state.incoming;
+      outgoing = outgoing;
+    } in
+    let between : Session = record {
+      password = s.password;
+      deframer = s.deframer;
+      is_finished = s.is_finished;
+      state = kept;
+      task = Send text;
+    } in
+    let gives : WorksBy {E = ℕ} between (Ok (Some (next.Send text))) t = subst
+    (λ (u : Session). WorksBy {E = ℕ} between (Ok (Some (next.Send text))) u) (sym after)
+    (gives_any ℕ between text Listen refl refl) in
+    let before : task_load s.task ≡ 3 = ap task_load awaiting in
     record {
-      steps = works.0;
-      awaits = works.1.0;
-      command = rw after (is_code command);
-      less = works.1.1;
+      between = between;
+      takes = takes_any s between asked reply text outgoing awaiting e o refl;
+      sends = gives.0;
+      silent = gives.1.0;
+      less = rw after (omega (arith, before));
     }

@@ -1,6 +1,6 @@
 use Rattle.std.proofs.Common.{sym}
-use Rattle.session_core.proofs.Commands.{reads_set, reads_action}
-use Rattle.session_core.proofs.short_command.read_short_command.Goals as goal
+use Rattle.session_core.proofs.Shorts.{reads_set, reads_action}
+use Rattle.session_core.proofs.short_request.read_command.Goals as goal
 
 pub returns-in-193-eq0-eq22 : goal.returns-in-193-eq0-eq22
 returns-in-193-eq0-eq22 c =

@@ -1,9 +1,9 @@
 use Rattle.std.proofs.Common.{sym}
-use Rattle.session_core.proofs.Gets.{reads_single}
-use Rattle.session_core.proofs.single_get.read_single_get.Goals as goal
+use Rattle.session_core.proofs.Shorts.{reads_get}
+use Rattle.session_core.proofs.short_request.read_get.Goals as goal
 
 pub returns : goal.returns
 returns c =
-    reads_single c.args.conformance.0 c.args.payload.now c.read_u16.result c.in-len13.len_at_least
+    reads_get c.args.conformance.0 c.args.payload.now c.read_u16.result c.in-len13.len_at_least
     c.in-len13.len_below c.if-tag.false c.if-form-ne-NORMAL.false c.if-selection-ne-ABSENT.false
     (sym (c.if-not-contains.ensures tt)) c.read_u16.ensures
