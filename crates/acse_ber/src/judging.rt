@@ -77,7 +77,7 @@ pub fn judge(aarq: &Aarq, sap: u16, password: &Octets) -> Verdict
     }
 }
 
-// Performs the checks. An `Err` is a refusal.
+// Performs the checks, and returns the verdict. An `Err` is a refusal.
 #[tactic(auto, unfolding(crate::specs::Verdict::association_check))]
 fn associate(aarq: &Aarq, sap: u16, password: &Octets) -> Result<Verdict, Verdict>
     ensures { result ≡ association_check aarq.now sap password.now }
@@ -150,7 +150,7 @@ fn is_same(given: &[u8], password: &[u8]) -> bool
     differing == 0
 }
 
-// Checks the client's proposal.
+// Checks the client's proposal, and returns the verdict. An `Err` is a refusal.
 #[tactic(auto, unfolding(crate::specs::Verdict::proposal_check))]
 fn agree(level: Level, proposal: Proposal) -> Result<Verdict, Verdict>
     ensures { result ≡ proposal_check level proposal }

@@ -41,7 +41,7 @@ pub record Seats (terms : MeterTerms) (old : Option MeterState) (number : ℕ)
   pub is : new ≡ Some after
   pub opens : Opens before number after
 
--- all sessions of the meter of a place are open
+-- whether all sessions of the meter of a place are open
 abbrev pub IsFull : Option MeterState → Type 0
 IsFull m = (number : ℕ) → number < max_sessions → session_of m number ≢ None
 

@@ -68,7 +68,7 @@ abbrev pub told_at : ℕ → List FleetCall → List Exchange
 told_at place [] = []
 told_at place (call ∷ calls) = told_there place call ++ told_at place calls
 
--- the connection with a key was closed, or memory ran out in its turn
+-- whether the connection with a key was closed, or memory ran out in its turn
 abbrev pub IsEnd : ℕ → FleetCall → Type 0
 IsEnd key (ran k place turn told) = (k ≡ key) × (turn ≡ Over Memory)
 IsEnd key (closed k) = k ≡ key

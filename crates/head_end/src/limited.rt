@@ -90,7 +90,7 @@ impl<R: Clock + Drop, S: LimitedStream> Connection for LimitedConnection<R, S> {
     }
 }
 
-// Returns the remaining time of a limit, or zero if the clock can't be read.
+// Returns the remaining time of a limit, or zero if the clock cannot be read.
 fn time_left<R: Clock>(rt: &R, opened: Instant, within: Duration) -> Duration
     ensures { as_nanos result ≤ as_nanos within }
 {

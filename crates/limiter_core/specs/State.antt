@@ -42,7 +42,7 @@ pub record IsFit (last : ℕ) (over under : Count) : Type 0 where
   pub above : 0 < over.run → 0 < last
   pub below : 0 < under.run → last < 4294967295
 
--- the tests that decide `IsFitCount` and `IsFit`
+-- whether a count is fit: the test that decides `IsFitCount`
 abbrev pub is_fit_count : Count → Bool
 is_fit_count count = if count.run == 0 then not count.fired else if count.run == cap
     then count.fired else nat_lt count.run cap

@@ -48,7 +48,8 @@ impl<F: DurableFile> ProgressState<F> {
         self.lines.load(Ordering::SeqCst) >= lines
     }
 
-    // Waits until this number of lines is on the disk, or the journal has ended.
+    // Waits until this number of lines is on the disk, or the journal has ended. Returns whether
+    // the lines are on the disk.
     fn wait<W: Wait>(&self, rt: &W, lines: u64) -> bool
         ensures { IsTrue result → F.acts_as_file → IsStored F.renews F.stored lines }
     {

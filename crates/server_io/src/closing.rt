@@ -1,4 +1,4 @@
-//! Ends the listening when the console ends or the journal fails.
+//! The end of a server: it stops accepting connections.
 use crate::listening::Stopped;
 use crate::reading::Ended;
 use crate::running::ConsoleEnd;

@@ -15,7 +15,7 @@ use Rattle.campaign_ledger.specs.declared.entry.LedgerEntry.{LedgerEntry}
 use Rattle.campaign_ledger.specs.Entries.{HasGone}
 use Rattle.sqlite_ledger.specs.Schema.{begun_tree}
 
--- a row of the table `begun` has the place as its key
+-- whether a row of the table `begun` has the place as its key
 abbrev pub IsBegun : Trees → ℤ → Type 0
 IsBegun db place = IsTrue (list_any (has_rowid place) (db begun_tree))
 

@@ -16,7 +16,7 @@ CREATE TABLE campaign (version INTEGER PRIMARY KEY, jobs INTEGER NOT NULL) STRIC
 
 const INSERT_CAMPAIGN: &str = "INSERT INTO campaign (version, jobs) VALUES (?1, ?2)";
 
-// Writes the jobs at their places.
+// Writes the jobs at their places, and returns their number.
 fn insert_jobs<S: Alter>(transaction: &mut Transaction<'_, S>, jobs: &[Job]) -> Result<u32, Error> {
     let mut place = 0u32;
     for job in jobs {

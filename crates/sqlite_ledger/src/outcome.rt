@@ -40,6 +40,7 @@ pub(crate) fn number_of(outcome: Outcome) -> Option<u32>
 }
 
 // Writes the outcome of a place, in a transaction of its own. An outcome that is there remains.
+// Returns the number of rows written.
 pub(crate) fn insert_outcome<S: Alter>(
     conn: &mut Connection<S>,
     place: u32,

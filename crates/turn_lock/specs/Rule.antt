@@ -51,11 +51,11 @@ LastCall E R = Option (Snapshot E × Snapshot R)
 abbrev pub full_slot : {T E R : Type 0} → T → LastCall E R → Slot T E R
 full_slot value last = record { value = Some value; last = last }
 
--- q is the port's own number or one joined into it
+-- whether q is the port's own number or one joined into it
 abbrev pub IsOwn : {E R O : Type 0} → Known E R O → List ℕ → Type 0
 IsOwn known q = (q ≡ known.number) ⊎ IsAmong q known.joined
 
--- the port has seen no call of its own
+-- whether the port has seen no call of its own
 abbrev pub HasNoCalls : {E R O : Type 0} → Known E R O → Type 0
 HasNoCalls known = calls_by known.number known.seen ≡ []
 
