@@ -12,9 +12,10 @@ use bitflags::Flags;
 use cosem_axdr::Octets;
 use cosem_names::Level;
 
-// The ports of the clients that may open an association.
+// The port of the management client, which needs the password.
 const MANAGEMENT_CLIENT: u16 = 1;
 
+// The port of the public client, which needs none.
 const PUBLIC_CLIENT: u16 = 16;
 
 // The diagnostics of the ACSE service user.

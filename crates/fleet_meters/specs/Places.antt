@@ -27,7 +27,7 @@ session_of (Some m) number = dialogue_at m number
 abbrev pub session_in : List (Option MeterState) → ℕ → ℕ → Option Dialogue
 session_in places place number = session_of (meter_in places place) number
 
--- the meter of a place before its session is opened: the one that is there, or a new one
+-- the meter of a place before its session is opened: the one that the place has, or a new one
 abbrev pub Makes : MeterTerms → Option MeterState → MeterState → Type 0
 Makes terms None m = Resumes terms.trace terms.password terms.kept_events m
 Makes terms (Some old) m = m ≡ old

@@ -8,9 +8,10 @@ use crate::connection::Connection;
 use counted_io::StreamFault;
 use std::time::{Clock, Duration, Instant};
 
-// The maximum number of reads after the end of a conversation, and the limit of each in seconds.
+// The maximum number of reads after the end of a conversation.
 const MAX_LAST_READS: u32 = 16;
 
+// The time limit of each of these reads, in seconds.
 const MAX_LAST_WAIT: u64 = 5;
 
 /// A stream whose next read or write has a time limit.

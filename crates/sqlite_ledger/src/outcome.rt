@@ -39,8 +39,8 @@ pub(crate) fn number_of(outcome: Outcome) -> Option<u32>
     }
 }
 
-// Writes the outcome of a place, in a transaction of its own. An outcome that is there remains.
-// Returns the number of rows written.
+// Writes the outcome of a place, in a transaction of its own. An outcome that was written before
+// remains. Returns the number of rows written.
 pub(crate) fn insert_outcome<S: Alter>(
     conn: &mut Connection<S>,
     place: u32,
