@@ -46,7 +46,7 @@ pub record IsDay (n : ℕ) (c : CivilDate) : Type 0 where
 unfoldable pub first_day : ℕ
 first_day = day_count (record { year = 2000; month = 1; day = 1 })
 
--- the day after
+-- the date of the next day
 abbrev pub next_date : CivilDate → CivilDate
 next_date c =
     if nat_lt c.day (month_length c.year c.month)

@@ -11,7 +11,7 @@ use Rattle.relay_recorder.specs.Histories.{Continues}
 use Rattle.relay_recorder.specs.Recording.{Recording}
 use Rattle.embedded_meter.specs.Dialogues.{Dialogue}
 
--- a meter
+-- a meter: its recorder, its password, and the place of each session
 pub record MeterState : Type 0 where
   pub recorder : Recording
   pub password : List ℕ

@@ -15,9 +15,9 @@ use Rattle.fleet_links.specs.declared.link.Turn.TheVariants.{Over}
 use Rattle.fleet_meters.specs.Fleets.{FleetState, AdmitsBy, Runs, Releases}
 use Rattle.fleet_meters.specs.declared.place.Refusal.{Refusal}
 
--- A call of a fleet: a client came to the meter with a number, with this stream and result; the
--- connection with a key ran at the place of its meter, which applied these events; it was closed;
--- or there was no connection with this key.
+-- A call of a fleet. `admitted`: a client of the meter with this number, with its stream and the
+-- result; `ran`: the connection with this key, at the place of its meter, which applied these
+-- events; `closed`: the connection with this key; `missed`: no connection has this key.
 pub data FleetCall : Type 0 where
   admitted : ℕ → StreamState → Result ℕ Refusal → FleetCall
   ran : ℕ → ℕ → Turn → List Exchange → FleetCall

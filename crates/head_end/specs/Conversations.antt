@@ -96,7 +96,7 @@ pub record Waits (verb : Verb) (password : List ℕ) (reads : ℕ) (client : Cli
   pub talks : Talks verb password reads client now
   pub listens : Listens verb password talks.log
 
--- a write failed
+-- a conversation that ended at a failed write
 pub record IsCut (verb : Verb) (password : List ℕ) (client : Client) (now : Option
     (List Happening)) : Type 0 where
   pub log : List Happening

@@ -67,7 +67,7 @@ abbrev pub rows_after : Limits → List ℕ → List Row → List Row
 rows_after limits [] rows = rows
 rows_after limits (value ∷ values) rows = rows_after limits values (row_of limits value ∷ rows)
 
--- no sample fires
+-- whether no sample fires
 abbrev pub IsQuiet : Limits → List ℕ → List Row → Type 0
 IsQuiet limits [] rows = Unit {0}
 IsQuiet limits (value ∷ values) rows =

@@ -86,6 +86,7 @@ impl<F: DurableFile> JournalProgress<F> {
         requires { F.acts_as_file → IsSettled F.seen F.may_leave F.stored file.now }
         ensures { OnOk result (F.acts_as_file → IsStored F.renews F.stored 0) }
     {
+        // (no effect: the contract needs this law)
         port.has_a_legal_history();
         let _file = file;
         let state = ProgressState {

@@ -16,7 +16,7 @@ all_but_last [] = []
 all_but_last (part ∷ []) = []
 all_but_last (part ∷ next ∷ parts) = part ∷ all_but_last (next ∷ parts)
 
--- the last part
+-- the last of these parts
 abbrev pub last_of : List (List ℕ) → List ℕ
 last_of [] = []
 last_of (part ∷ []) = part

@@ -57,7 +57,7 @@ iso to from part = record {
   Spells = λ b tokens. part.Spells (from b) tokens;
 }
 
--- no tokens
+-- the format whose text has no tokens
 abbrev pub empty : {T F : Type 0} → Format T F (Unit {0})
 empty = record {
   read = λ tokens. Ok (tt, tokens);
