@@ -1,6 +1,6 @@
 -- Which bytes spell which APDU (IEC 62056-5-3, AARQ, AARE and RLRQ; BER: ISO/IEC 8825-1).
---     IsApdu                          fields, in any order, that fill an APDU
---     HasNone, HasOne, HasInner       the presence of fields with a tag
+--     IsApdu                                   fields, in any order, that fill an APDU
+--     HasNone, HasOne, HasInner                the presence of fields with a tag
 --     SpellsAarq, SpellsAare, SpellsRelease    whole APDUs
 use Rattle.std.specs.Prelude.{◌≡◌, ◌⊎◌, ℕ, true, Option, Some, None, List, [], ◌∷◌}
 use Rattle.std.proofs.Common.{inl, inr}

@@ -1,10 +1,10 @@
 -- Calls of a fleet, one after the other.
---     FleetCall         a call, with its result
---     CallsBy           the effect of a call
---     Calls             the effect of several calls
---     exchanges_at           the events of the connection with a key
---     told_at           the events of the meter at a place
---     StaysOpen         no call ends the connection with a key
+--     FleetCall       a call, with its result
+--     CallsBy         the effect of a call
+--     Calls           the effect of several calls
+--     exchanges_at    the events of the connection with a key
+--     told_at         the events of the meter at a place
+--     StaysOpen       no call ends the connection with a key
 use Rattle.std.specs.Prelude.{◌≡◌, ℕ, ◌==◌, if◌then◌else◌, List, [], ◌∷◌, ◌++◌, None, Result, ⊤}
 use Rattle.slab.specs.Slab.{get}
 use Rattle.relay_recorder.specs.Histories.{Exchange}

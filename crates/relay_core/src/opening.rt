@@ -38,12 +38,17 @@ pub struct LimiterOpening {
 pub struct Opening {
     /// The logical device name, 1 to 16 bytes.
     pub device: Octets,
+    /// The state of the switch.
     pub state: ControlState,
+    /// The mode of the switch.
     pub mode: ControlMode,
     /// The last moment of the clock, in seconds since 2000-01-01 00:00:00 of the meter's time.
     pub moment: Option<u32>,
+    /// The limiter of the imported power.
     pub import: LimiterOpening,
+    /// The limiter of the exported power.
     pub export: LimiterOpening,
+    /// The script table.
     pub scripts: ScriptTable,
     /// The schedules 0 to 3.
     pub schedules: Schedules,

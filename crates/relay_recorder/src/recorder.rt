@@ -73,6 +73,7 @@ impl Recorder {
         ensures history { IfOk result (λ recorder. (w : World) → StandsFor core w
             → StandsForHistory recorder [] w) }
     {
+        // (no effect: the contract needs this law)
         core.stands_for_its_opening();
         match core.try_copy(alloc) {
             Ok(opening) => match HeapCircularBuffer::with_capacity(alloc, usize::from(capacity)) {

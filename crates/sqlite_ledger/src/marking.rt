@@ -30,6 +30,7 @@ pub(crate) fn insert_begun<S: Alter>(
     ensures taken { HasCleanDisk (state S.Store conn.new) → conn.old.schema ≡ ledger_schema
         → IfErr result (λ e. IsTrue (is_taken e) → conn.new.schema ≡ ledger_schema) }
 {
+    // (an open transaction would hold back what is written)
     if !conn.is_autocommit() {
         return Err(Error::SqliteFailure(ErrorCode::TransactionState));
     }

@@ -56,6 +56,7 @@ pub(crate) fn insert_outcome<S: Alter>(
     ensures schema { HasCleanDisk (state S.Store conn.new) → conn.old.schema ≡ ledger_schema
         → OnOk result (conn.new.schema ≡ ledger_schema) }
 {
+    // (an open transaction would hold back what is written)
     if !conn.is_autocommit() {
         return Err(Error::SqliteFailure(ErrorCode::TransactionState));
     }

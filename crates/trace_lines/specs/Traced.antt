@@ -1,9 +1,9 @@
 -- The events that a trace can hold: numbers in the ranges of their types, and within the limits of
 -- a line.
---     IsTraced     an event whose line is read back
---     FitsLine     an event within the limits of a line, whose line is then read back
---     IsNamed, HasPlainData        an event whose line has no byte 0 or 0A, as that of each event
---                                  that a program can hold
+--     IsTraced                 an event whose line is read back
+--     FitsLine                 an event within the limits of a line, whose line is then read back
+--     IsNamed, HasPlainData    an event whose line has no byte 0 or 0A, as that of each event
+--                              that a program can hold
 use Rattle.std.specs.Prelude.{◌≤◌, length, IfSome}
 use Rattle.relay_events.specs.declared.event.Event.{Event}
 use Rattle.relay_events.specs.declared.event.Event.TheVariants.{Get, GetList, Set, Execute}

@@ -1,9 +1,9 @@
 -- The invariant of the table: what holds for its words, its slot and all views between any two
 -- steps.
---     Moment  the table at one moment
---     Fits    a seat's view agrees with the moment
---     Facts   all that holds at a moment
---     IsLockState   the invariant
+--     Moment         the table at one moment
+--     Fits           a seat's view agrees with the moment
+--     Facts          all that holds at a moment
+--     IsLockState    the invariant
 use Rattle.std.specs.Prelude.{◌≡◌, ◌≢◌, ◌⊎◌, ℕ, ◌+◌, ◌^◌, ◌<◌, ◌≤◌, Bool, true, List, [], ◌∷◌, length, Option, Some, None}
 use mathlib.Core.Option.{some, none}
 use mathlib.Core.Option as maybe
