@@ -1,5 +1,4 @@
-//! A client's session at a meter without threads: it keeps its pending event, reply or frame if out
-//! of memory.
+//! A client's session at a meter without threads. If out of memory, what is pending stays pending.
 ghost use Rattle.std.specs.Prelude.{◌≡◌, IfOk, OnOk, OnErr};
 ghost use Rattle.acse_ber.specs.Password.{IsPassword};
 ghost use Rattle.embedded_meter.specs.declared.under_way.UnderWay.TheVariants.{Nothing};
