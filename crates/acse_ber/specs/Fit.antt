@@ -9,11 +9,12 @@ use Rattle.acse_ber.specs.declared.aare.Aare.{Aare}
 use Rattle.acse_ber.specs.declared.aare.Info.{Info}
 use Rattle.acse_ber.specs.declared.aare.Info.TheVariants.{Absent, Response, InitiateError}
 
--- an AARQ whose fields have a length that fits in two bytes
+-- whether the body of an AARQ has a length that fits in two bytes
 abbrev pub IsFitAarq : Aarq → Type 0
 IsFitAarq aarq = length (aarq_body aarq) < 2 ^ 16
 
--- 24 bits, and a size that fits in two bytes (IEC 62056-5-3, InitiateResponse)
+-- whether the conformance bits of a response are 24, and its size fits in two bytes (IEC 62056-5-3,
+-- InitiateResponse)
 abbrev pub IsFitInfo : Info → Type 0
 IsFitInfo Absent = Unit {0}
 IsFitInfo (Response bits limit) = (bits < 2 ^ 24) × (limit < 2 ^ 16)

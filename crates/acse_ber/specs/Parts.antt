@@ -59,7 +59,8 @@ with_test test part = record {
 
 -- ---- lengths and tags
 
--- the forms of a length: one byte below 80 hex, 81 hex and one byte, or 82 hex and two
+-- whether bytes are a length in one of its forms: one byte below 80 hex, 81 hex and one byte, or 82
+-- hex and two
 abbrev pub IsLength : List ℕ → ℕ → Type 0
 IsLength text n =
     ((n < 0x80) × (text ≡ n ∷ []))
@@ -102,7 +103,7 @@ pub record Field : Type 0 where
   pub tag : ℕ
   pub contents : List ℕ
 
--- the tag of a field is context-specific
+-- whether the tag of a field is context-specific
 abbrev pub is_field_tag : ℕ → Bool
 is_field_tag tag = nat_le 0x80 tag && nat_le tag 0xBF
 

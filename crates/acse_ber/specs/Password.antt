@@ -2,6 +2,6 @@
 -- the server compares with its own password.
 use Rattle.std.specs.Prelude.{ℕ, ◌≤◌, List, length}
 
--- a password has 1 to 32 bytes
+-- whether a password has 1 to 32 bytes
 abbrev pub IsPassword : List ℕ → Type 0
 IsPassword password = (1 ≤ length password) × (length password ≤ 32)

@@ -151,7 +151,7 @@ aarq_in body = do
     user = user;
   })
 
--- an AARQ
+-- the AARQ that these bytes spell, or the first fault
 unfoldable pub aarq_of : List ℕ → Result Aarq AcseFault
 aarq_of bytes = tag_contents 0x60 bytes >>= aarq_in
 
@@ -177,7 +177,7 @@ aare_in body = do
   outcome ← whole_value (result_part.read result_field)
   aare_with_result outcome body
 
--- an AARE
+-- the AARE that these bytes spell, or the first fault
 unfoldable pub aare_of : List ℕ → Result Aare AcseFault
 aare_of bytes = tag_contents 0x61 bytes >>= aare_in
 

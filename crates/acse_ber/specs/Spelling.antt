@@ -1,6 +1,6 @@
 -- Which bytes spell which APDU (IEC 62056-5-3, AARQ, AARE and RLRQ; BER: ISO/IEC 8825-1).
---     IsApdu                          fields, in any order, that fill an APDU
---     HasNone, HasOne, HasInner       the presence of fields with a tag
+--     IsApdu                                   fields, in any order, that fill an APDU
+--     HasNone, HasOne, HasInner                the presence of fields with a tag
 --     SpellsAarq, SpellsAare, SpellsRelease    whole APDUs
 use Rattle.std.specs.Prelude.{◌≡◌, ◌⊎◌, ℕ, true, Option, Some, None, List, [], ◌∷◌}
 use Rattle.std.proofs.Common.{inl, inr}
@@ -37,7 +37,7 @@ HasInner tag inner fields (Some text) = HasOne tag ((tagged_part inner).Spells t
 
 -- ---- AARQ
 
--- an absent mechanism is an empty one
+-- whether the fields have this mechanism: no field, if it is empty
 abbrev pub HasMechanism : List Field → List ℕ → Type 0
 HasMechanism fields mechanism = (HasNone 0x8B fields × (mechanism ≡ []))
     ⊎ HasOne 0x8B (λ contents. contents ≡ mechanism) fields
@@ -53,7 +53,8 @@ pub record SpellsAarq (bytes : List ℕ) (aarq : Aarq) : Type 0 where
 
 -- ---- AARE
 
--- the text of user information that is a response or an error; absent for any other
+-- whether a text is that of this user information: of a response or an error; any other text is
+-- absent information
 abbrev pub IsInfo : Info → List ℕ → Type 0
 IsInfo Absent text = (info : (ℕ × ℕ) ⊎ ℕ) → info_part.Spells info text → ⊥
 IsInfo (Response bits limit) text = info_part.Spells (inl (bits, limit)) text

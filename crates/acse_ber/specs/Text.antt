@@ -1,9 +1,9 @@
 -- The written text of each APDU (IEC 62056-5-3, AARQ, AARE, RLRQ and RLRE; BER: ISO/IEC 8825-1),
 -- with the shortest lengths.
---     tagged_text                     a tag, the length and the contents
---     aarq_body, aare_body            the fields
---     aarq_text, aare_text            whole APDUs
---     low_level_aarq                  the AARQ of a client that authenticates with a password
+--     tagged_text                          a tag, the length and the contents
+--     aarq_body, aare_body                 the fields
+--     aarq_text, aare_text                 whole APDUs
+--     low_level_aarq                       the AARQ of a client that authenticates with a password
 --     release_request, release_response    the RLRQ and the RLRE that are sent
 use Rattle.std.specs.Prelude.{ℕ, Option, Some, None, List, [], ◌∷◌, ◌++◌}
 use Rattle.std.proofs.Common.{inl, inr}

@@ -43,6 +43,7 @@ pub(crate) const VAA_NAME: [u8; 2] = [0x00, 0x07];
 // Marks an optional part as absent.
 pub(crate) const ABSENT: u8 = 0;
 
+// Marks an optional part as present.
 const PRESENT: u8 = 1;
 
 // The proposal of a client in an InitiateRequest.

@@ -12,9 +12,10 @@ use bitflags::Flags;
 use cosem_axdr::Octets;
 use cosem_names::Level;
 
-// The ports of the clients that may open an association.
+// The port of the management client, which needs the password.
 const MANAGEMENT_CLIENT: u16 = 1;
 
+// The port of the public client, which needs none.
 const PUBLIC_CLIENT: u16 = 16;
 
 // The diagnostics of the ACSE service user.
@@ -77,7 +78,7 @@ pub fn judge(aarq: &Aarq, sap: u16, password: &Octets) -> Verdict
     }
 }
 
-// Performs the checks. An `Err` is a refusal.
+// Performs the checks, and returns the verdict. An `Err` is a refusal.
 #[tactic(auto, unfolding(crate::specs::Verdict::association_check))]
 fn associate(aarq: &Aarq, sap: u16, password: &Octets) -> Result<Verdict, Verdict>
     ensures { result ≡ association_check aarq.now sap password.now }
@@ -150,7 +151,7 @@ fn is_same(given: &[u8], password: &[u8]) -> bool
     differing == 0
 }
 
-// Checks the client's proposal.
+// Checks the client's proposal, and returns the verdict. An `Err` is a refusal.
 #[tactic(auto, unfolding(crate::specs::Verdict::proposal_check))]
 fn agree(level: Level, proposal: Proposal) -> Result<Verdict, Verdict>
     ensures { result ≡ proposal_check level proposal }

@@ -9,13 +9,13 @@ use Rattle.action_schedule.specs.Schedule.{Schedule}
 use Rattle.action_schedule.specs.declared.kind.ScheduleType.{ScheduleType}
 use Rattle.action_schedule.specs.declared.kind.ScheduleType.TheVariants.{Type1, Type2, Type3, Type4, Type5}
 
--- both are not specified, or both are the same number
+-- whether two fields are both not specified, or both the same number
 abbrev pub is_same_field : Option ℕ → Option ℕ → Bool
 is_same_field None None = true
 is_same_field (Some m) (Some n) = m == n
 is_same_field _ _ = false
 
--- the same hour, minute and second, as written
+-- whether two times have the same hour, minute and second, as written
 abbrev pub is_same_time : TimeFields → TimeFields → Bool
 is_same_time one other =
     is_same_field one.hour other.hour &&
@@ -51,11 +51,11 @@ seconds_looked_back = 86400
 abbrev pub window_start : ℕ → ℕ → ℕ
 window_start previous now = max previous (now - seconds_looked_back)
 
--- some second after `after`, and at most `upto`, matches one of the entries
+-- whether some second after `after`, and at most `upto`, matches one of the entries
 abbrev pub has_match : List EntryPattern → ℕ → ℕ → Bool
 has_match entries after upto = list_any (λ entry. matches_in entry after upto) entries
 
--- the schedule is due between the previous moment and now
+-- whether the schedule is due between the previous moment and now
 unfoldable pub is_due : Schedule → ℕ → ℕ → Bool
 is_due schedule previous now =
     fits schedule && has_match schedule.entries (window_start previous now) now

@@ -9,14 +9,14 @@ use cosem_datetime::EntryPattern;
 use cosem_names::NamedScript;
 use std::alloc::{AllocError, Global};
 
-// Writes a script of the script table: a structure of a logical name and a selector.
+// Returns the Data of a script of the script table: a structure of a logical name and a selector.
 pub(crate) fn write_script(alloc: Global, selector: u16) -> Result<Data, AllocError>
     ensures { IfOk result (λ value. value ≡ script_data (script_at selector)) }
 {
     NamedScript::in_the_table(selector).to_data(alloc)
 }
 
-// Writes an entry: a structure of two octet-strings, time and date.
+// Returns the Data of an entry: a structure of two octet-strings, time and date.
 #[tactic(auto, unfolding(crate::specs::Writing::entry_data))]
 fn write_entry(alloc: Global, entry: &EntryPattern) -> Result<Data, AllocError>
     ensures { IfOk result (λ value. value ≡ entry_data entry.now) }
@@ -29,7 +29,7 @@ fn write_entry(alloc: Global, entry: &EntryPattern) -> Result<Data, AllocError>
     ]?)))
 }
 
-// Writes the array of the entries.
+// Returns the array of the entries as Data.
 #[tactic(auto, unfolding(crate::specs::Writing::entries_data))]
 pub(crate) fn write_entries(alloc: Global, entries: &[EntryPattern]) -> Result<Data, AllocError>
     ensures { IfOk result (λ value. value ≡ entries_data entries.now) }

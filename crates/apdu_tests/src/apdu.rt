@@ -10,16 +10,20 @@ use xdlms_apdu::{
     text_of_request_spells, text_of_response_spells, write_request, write_response,
 };
 
+/// The invoke id of the services here.
 const ID: InvokeId = InvokeId(0xC1);
 
+/// The GET of control_state.
 pub(crate) const GET: [u8; 13] = [
     0xC0, 0x01, 0xC1, 0x00, 0x46, 0x00, 0x00, 0x60, 0x03, 0x0A, 0xFF, 0x03, 0x00,
 ];
 
+/// A GET with selective access.
 pub(crate) const GET_SELECTED: [u8; 15] = [
     0xC0, 0x01, 0xC1, 0x00, 0x46, 0x00, 0x00, 0x60, 0x03, 0x0A, 0xFF, 0x03, 0x01, 0x00, 0x00,
 ];
 
+/// The last block of a long SET.
 pub(crate) const SET_LAST_BLOCK: [u8; 11] = [
     0xC1, 0x03, 0xC1, 0x01, 0x00, 0x00, 0x00, 0x02, 0x02, 0x1B, 0x58,
 ];
@@ -244,6 +248,7 @@ fn add_requests(
     add_action_blocks(alloc, pairs)
 }
 
+/// The response to the GET: state 1.
 pub(crate) const GOT: [u8; 6] = [0xC4, 0x01, 0xC1, 0x00, 0x16, 0x01];
 
 // Adds responses with the value of an attribute, or the reason why there is none, with their texts.

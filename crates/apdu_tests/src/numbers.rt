@@ -1,4 +1,4 @@
-//! The numbers of the codecs' faults.
+//! The numbers of the codecs' faults. They are public: new faults are added at the end.
 use acse_ber::AcseFault;
 use cosem_axdr::DataFault;
 use wrapper_frame::WrapperFault;

@@ -5,7 +5,7 @@ use Rattle.std.specs.Prelude.{ℕ, List, slice_index_or, ⊤}
 use Rattle.campaign_ledger.specs.declared.entry.LedgerEntry.{LedgerEntry}
 use Rattle.campaign_ledger.specs.declared.entry.LedgerEntry.TheVariants.{NotSent, MaybeSent, Came}
 
--- the command may have been sent, by the entry of its place
+-- whether the command may have been sent, by the entry of its place
 abbrev pub HasGone : LedgerEntry → Type 0
 HasGone NotSent = ⊥
 HasGone MaybeSent = ⊤

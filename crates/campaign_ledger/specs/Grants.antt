@@ -40,7 +40,8 @@ module _ {B : Type 0} (is_honest : B → Type 0) (is_marked : B → ℕ → Type
     pub remains_marked : is_honest after.book → (place : ℕ) → is_marked before.book place
         → is_marked after.book place
 
-  -- each place whose command may have been sent, by the entries found, is marked on the disk
+  -- whether each place whose command may have been sent, by the entries found, is marked on the
+  -- disk
   abbrev pub IsFoundBy : (ℕ → LedgerEntry) → B → Type 0
   IsFoundBy found book = (place : ℕ) → HasGone (found place) → is_marked book place
 

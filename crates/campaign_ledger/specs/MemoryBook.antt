@@ -16,7 +16,7 @@ pub record MemoryState : Type 0 where
 abbrev pub Leaves : List LedgerEntry → (ℕ → LedgerEntry) → Type 0
 Leaves entries left = (place : ℕ) → left place ≡ entry_at entries place
 
--- the place is marked, or has an outcome
+-- whether the place is marked, or has an outcome
 abbrev pub IsMarked : List LedgerEntry → ℕ → Type 0
 IsMarked entries place = HasGone (entry_at entries place)
 

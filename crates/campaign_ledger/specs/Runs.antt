@@ -10,7 +10,7 @@ use Rattle.campaign_ledger.specs.declared.entry.LedgerEntry.{LedgerEntry}
 use Rattle.campaign_ledger.specs.declared.entry.LedgerEntry.TheVariants.{NotSent}
 use Rattle.campaign_ledger.specs.Entries.{HasGone}
 
--- the place is in the list
+-- whether the place is in the list
 abbrev pub IsIn : ℕ → List ℕ → Type 0
 IsIn place [] = ⊥
 IsIn place (first ∷ places) = (place ≡ first) ⊎ IsIn place places

@@ -24,7 +24,7 @@ pub trait Book: Drop {
     ghost is_marked: { Self → ℕ → Type 0 };
 
     /// Marks a place: its command may be sent from now on. Returns false if the place was marked
-    /// before, or can't be marked.
+    /// before, or cannot be marked.
     fn mark(&mut self, place: u32) -> Result<bool, LedgerFault>
         ensures honest { is_honest self.new → is_honest self.old }
         ensures fresh { is_honest self.new

@@ -4,7 +4,7 @@ ghost use Rattle.std.specs.Prelude.{◌≡◌};
 use std::marker::Model;
 
 /// The right to send the switching command of one place, once. Only [`crate::Ledger::begin`] makes
-/// one, and it can't be copied. Contracts see the place.
+/// one, and it cannot be copied. Contracts see the place.
 #[derive(Debug, Drop)]
 pub struct Permit {
     place: u32,

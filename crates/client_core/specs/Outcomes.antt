@@ -26,7 +26,7 @@ payloads_of (frame ∷ frames) = if frame.src == 1 && frame.dst == 1 then frame.
     ∷ payloads_of frames
     else payloads_of frames
 
--- the request may be sent, and its response has not come
+-- whether the request may be sent, and its response has not come
 abbrev pub is_asking : Progress → Bool
 is_asking progress = progress.accepted && is_none progress.outcome
 
@@ -63,7 +63,7 @@ outcome_after verb bytes = (progress_of verb bytes).outcome
 unfoldable pub outcome_of : Verb → List ℕ → Outcome
 outcome_of verb bytes = unwrap_or (outcome_after verb bytes) Unknown
 
--- the meter has responded to the request
+-- whether the meter has responded to the request
 abbrev pub is_served : Option Outcome → Bool
 is_served (Some (Done code)) = true
 is_served (Some (Refused code)) = true

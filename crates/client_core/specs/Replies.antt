@@ -41,7 +41,7 @@ service_bit Disconnect = 0x000001
 service_bit Reconnect = 0x000001
 service_bit ReadState = 0x000010
 
--- the negotiated services include that of the request
+-- whether the negotiated services include that of the request
 abbrev pub is_granted : Verb → Info → Bool
 is_granted verb (Response bits limit) = not (bit_and bits (service_bit verb) == 0)
 is_granted verb Absent = false

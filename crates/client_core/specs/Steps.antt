@@ -25,7 +25,7 @@ abbrev pub progress_after_frame : Verb → Progress → Frame → Progress
 progress_after_frame verb progress frame = if frame.src == 1 && frame.dst == 1
     then progress_after verb progress frame.payload else progress
 
--- consecutive payloads
+-- the progress after payloads, one after the other
 abbrev pub progress_after_all : Verb → Progress → List (List ℕ) → Progress
 progress_after_all verb progress [] = progress
 progress_after_all verb progress (payload ∷ later) = progress_after_all verb

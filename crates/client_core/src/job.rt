@@ -21,6 +21,7 @@ pub struct Job {
     pub id: Octets,
     /// The address of the meter.
     pub address: Octets,
+    /// The request.
     pub verb: Verb,
 }
 

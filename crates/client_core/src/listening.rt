@@ -11,7 +11,8 @@ use wrapper_frame::{Deframer, Frame, WrapperFault};
 // The port of the meter's management logical device and of the management client.
 const PORT: u16 = 1;
 
-/// Processes more bytes from the meter: all whole frames are removed and processed.
+/// Processes more bytes from the meter, and returns the progress after them: all whole frames are
+/// removed and processed.
 pub fn hear_more(
     alloc: Global,
     verb: Verb,
@@ -30,7 +31,7 @@ pub fn hear_more(
     }
 }
 
-// Removes and processes all whole frames.
+// Removes and processes all whole frames, and returns the progress after them.
 fn receive(
     alloc: Global,
     verb: Verb,

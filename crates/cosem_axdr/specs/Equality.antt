@@ -6,7 +6,7 @@ use Rattle.cosem_axdr.specs.Stored.{stored, stored_all}
 use Rattle.cosem_axdr.specs.View.{tree_of}
 use Rattle.cosem_axdr.specs.declared.value.Data.{Data}
 
--- the same number, or the same in both parts
+-- whether two codes have the same number, or the same in both parts
 unfoldable pub is_same_code : Gv → Gv → Bool
 is_same_code gnil gnil = true
 is_same_code (gnum m) (gnum n) = m == n

@@ -39,8 +39,8 @@ tag_of (time bytes) = 0x1B
 
 -- ---- what bytes spell
 
--- a length or count: one byte below 80 hex, or 81 to 84 hex and one to four bytes, even if fewer
--- would do
+-- whether bytes are a length or count: one byte below 80 hex, or 81 to 84 hex and one to four
+-- bytes, even if fewer would do
 abbrev pub IsLength : List ℕ → ℕ → Type 0
 IsLength [] n = ⊥
 IsLength (first ∷ bytes) n = ((first < 0x80) × (bytes ≡ []) × (n ≡ first))
@@ -70,7 +70,7 @@ pub record IsCounted (AreItems : List ℕ → Type 0) (contents : List ℕ) (cou
   pub few : count ≤ max_items
   pub are_items : AreItems items
 
--- the bytes of an unsigned number, and of a signed one in two's complement
+-- whether bytes are those of an unsigned number, or of a signed one in two's complement
 abbrev pub IsUnsigned : Width → List ℕ → ℕ → Type 0
 IsUnsigned w contents n = (length contents ≡ byte_len w) × (n ≡ from_be_bytes w contents)
 
@@ -78,11 +78,11 @@ abbrev pub IsSigned : Width → List ℕ → ℤ → Type 0
 IsSigned w contents z = (length contents ≡ byte_len w)
     × (z ≡ cast_signed w (from_be_bytes w contents))
 
--- a fixed number of bytes, unchanged
+-- whether bytes are a fixed number of bytes, unchanged
 abbrev pub IsFixed : ℕ → List ℕ → List ℕ → Type 0
 IsFixed n contents bytes = (length contents ≡ n) × (bytes ≡ contents)
 
--- one byte, true if it is not 0
+-- whether a byte is a boolean: true if it is not 0
 abbrev pub IsBoolean : List ℕ → Bool → Type 0
 IsBoolean contents b = (byte : ℕ) × (contents ≡ byte ∷ []) × (b ≡ not (byte == 0))
 
@@ -176,7 +176,7 @@ text t = tag_of t ∷ contents_text t
 
 -- ---- which values fit
 
--- numbers that are bytes
+-- whether all numbers are bytes
 abbrev pub IsBytes : List ℕ → Type 0
 IsBytes bytes = (i : ℕ) → slice_index bytes i < 256
 

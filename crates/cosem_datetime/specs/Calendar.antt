@@ -3,7 +3,8 @@
 use Rattle.std.specs.Prelude.{◌≡◌, ◌==◌, ℕ, zero, suc, ◌+◌, ◌-◌, ◌%◌, Bool, not, ◌&&◌, ◌||◌, nat_le, nat_lt, IsTrue, if◌then◌else◌}
 use Rattle.cosem_datetime.specs.declared.calendar.CivilDate.{CivilDate}
 
--- every fourth year is a leap year, but of the years that begin a century only every fourth
+-- whether a year is a leap year: every fourth year is one, but of the years that begin a century
+-- only every fourth
 abbrev pub is_leap_year : ℕ → Bool
 is_leap_year y = (y % 4 == 0) && (not (y % 100 == 0) || (y % 400 == 0))
 
@@ -45,7 +46,7 @@ pub record IsDay (n : ℕ) (c : CivilDate) : Type 0 where
 unfoldable pub first_day : ℕ
 first_day = day_count (record { year = 2000; month = 1; day = 1 })
 
--- the day after
+-- the date of the next day
 abbrev pub next_date : CivilDate → CivilDate
 next_date c =
     if nat_lt c.day (month_length c.year c.month)

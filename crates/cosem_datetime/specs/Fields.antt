@@ -26,7 +26,7 @@ pub record DateTimeFields : Type 0 where
   pub deviation : Option ℤ
   pub status : ℕ
 
--- a field that is specified is in its range
+-- whether a field that is specified is in its range
 abbrev pub IsWithin : ℕ → ℕ → Option ℕ → Type 0
 IsWithin low high field = IfSome field (λ n. IsInRange low high n)
 

@@ -1,5 +1,4 @@
--- The numbers of Data-Access-Result and Action-Result in APDUs (IEC 62056-5-3), and the result of
--- a number.
+-- Result codes as numbers in an APDU, and read from one (IEC 62056-5-3).
 use Rattle.std.specs.Prelude.{ℕ, Option, Some, None, ◌==◌, if◌then◌else◌}
 use Rattle.wire_bytes.specs.ByteFormats.{byte}
 use Rattle.wire_bytes.specs.Format.{Format, narrow}

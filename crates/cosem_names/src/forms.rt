@@ -6,11 +6,13 @@ ghost use Rattle.cosem_names.specs.Forms.{bytes_of_length, name_of, date_time_by
 use crate::name::Obis;
 use cosem_axdr::Data;
 
-// The lengths in bytes of a date-time, a date and a time (IEC 62056-6-2, date and time formats).
+// The length in bytes of a date-time (IEC 62056-6-2, date and time formats).
 const DATE_TIME_LEN: usize = 12;
 
+// The length in bytes of a date.
 const DATE_LEN: usize = 5;
 
+// The length in bytes of a time.
 const TIME_LEN: usize = 4;
 
 /// Returns the logical name in an octet-string of six bytes (IEC 62056-6-2, logical_name), or

@@ -20,7 +20,8 @@ pub fn object_list(alloc: Global, level: Level) -> Result<Data, AllocError>
     Ok(Data::Array(Items::from_vec(entries)))
 }
 
-// Writes the entries of objects, in order. `attributes` and `methods` have those of their classes.
+// Returns the Data of the entries of objects, in order. `attributes` and `methods` have those of
+// their classes.
 #[tactic(auto, unfolding(crate::specs::ObjectList::object_entries))]
 fn object_entries(
     alloc: Global,
@@ -39,8 +40,8 @@ fn object_entries(
     Ok(entries)
 }
 
-// Writes the entry of an object: its class, version and logical name, and the access rights of its
-// class.
+// Returns the Data of the entry of an object: its class, version and logical name, and the access
+// rights of its class.
 #[tactic(auto, unfolding(crate::specs::ObjectList::object_entry))]
 fn object_entry(
     alloc: Global,
@@ -60,7 +61,8 @@ fn object_entry(
     Ok(Data::Structure(Items::from_vec(entry)))
 }
 
-// Writes the access rights of a class: those to its attributes, then those to its methods.
+// Returns the Data of the access rights of a class: those to its attributes, then those to its
+// methods.
 #[tactic(auto, unfolding(crate::specs::ObjectList::access_rights))]
 fn access_rights(
     alloc: Global,
@@ -81,7 +83,7 @@ fn access_rights(
     Ok(Data::Structure(Items::from_vec(rights)))
 }
 
-// Writes the entries of a class's attributes, in the order of the rows.
+// Returns the Data of the entries of a class's attributes, in the order of the rows.
 #[tactic(auto, unfolding(crate::specs::ObjectList::attribute_entries))]
 fn attribute_entries(
     alloc: Global,
@@ -100,7 +102,7 @@ fn attribute_entries(
     Ok(entries)
 }
 
-// Writes the entries of a class's methods, in the order of the rows.
+// Returns the Data of the entries of a class's methods, in the order of the rows.
 #[tactic(auto, unfolding(crate::specs::ObjectList::method_entries))]
 fn method_entries(
     alloc: Global,
@@ -119,7 +121,8 @@ fn method_entries(
     Ok(entries)
 }
 
-// Writes the entry of an attribute: its number, its access mode and no access selectors.
+// Returns the Data of the entry of an attribute: its number, its access mode and no access
+// selectors.
 #[tactic(auto, unfolding(crate::specs::ObjectList::attribute_entry))]
 fn attribute_entry(alloc: Global, level: Level, row: &Attribute) -> Result<Data, AllocError>
     ensures { IfOk result (λ entry. entry ≡ attribute_entry level row.now) }
@@ -136,7 +139,7 @@ fn attribute_entry(alloc: Global, level: Level, row: &Attribute) -> Result<Data,
     Ok(Data::Structure(Items::from_vec(entry)))
 }
 
-// Writes the entry of a method: its number and its access mode.
+// Returns the Data of the entry of a method: its number and its access mode.
 #[tactic(auto, unfolding(crate::specs::ObjectList::method_entry))]
 fn method_entry(alloc: Global, level: Level, row: &Method) -> Result<Data, AllocError>
     ensures { IfOk result (λ entry. entry ≡ method_entry level row.now) }

@@ -53,7 +53,7 @@ impl NamedScript {
         self.table == SCRIPT_TABLE
     }
 
-    /// Writes the structure that names the script. Fails only if out of memory.
+    /// Returns the Data of the structure that names the script. Fails only if out of memory.
     #[tactic(auto, unfolding(crate::specs::Scripts::script_data))]
     pub fn to_data(&self, alloc: Global) -> Result<Data, AllocError>
         ensures value { IfOk result (λ value. value ≡ script_data self.now) }

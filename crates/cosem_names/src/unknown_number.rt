@@ -1,7 +1,7 @@
 //! The error of the conversions from a number to a variant.
 use thiserror::Error;
 
-/// The number that no value of the type has.
+/// A number that no variant of the type has.
 #[derive(Clone, Copy, Debug, PartialEq, Eq, Error)]
 #[error("no value has the number {0}")]
 pub struct UnknownNumber(pub u8);

@@ -1,5 +1,4 @@
-//! The error of a written value, wrong type, wrong value or out of memory, and the result code that
-//! a client receives.
+//! The faults of a written value, and the result code of each.
 ghost use Rattle.std.specs.Prelude.{◌≡◌};
 ghost use Rattle.cosem_names.specs.Numbers.{fault_number};
 ghost use Rattle.cosem_names.specs.WriteFault.{fault_code};

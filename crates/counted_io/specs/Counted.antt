@@ -14,7 +14,7 @@ reads_of c = c.reads
 abbrev pub has_failed : {T : Type 0} → Counted T → Bool
 has_failed c = c.has_failed
 
--- the number of failures, 0 or 1: after the first the stream can't be used
+-- the number of failures, 0 or 1: after the first the stream cannot be used
 abbrev pub failures_of : {T : Type 0} → Counted T → ℕ
 failures_of c = if c.has_failed then 1 else 0
 

@@ -49,8 +49,8 @@ pub record ReadsLine (left : Option (List ℕ)) (line : List ℕ) (count : ℕ) 
   pub through : IfSome left (λ all. bytes ≡ take_through 10 all)
   pub rest : DropsThrough left left' 10
 
--- why no line was appended to `line`: with it, `line` would exceed the limit, or a read has failed,
--- or out of memory
+-- whether this is why no line was appended to `line`: with it, `line` would exceed the limit, or a
+-- read has failed, or out of memory
 abbrev pub IsLineFault : ℕ → Option (List ℕ) → List ℕ → Bool → InputFault → Type 0
 IsLineFault limit left line failed fault.TooLong =
     IfSome left (λ all. limit < length line + length (take_through 10 all))

@@ -20,7 +20,7 @@ fn is_tried_again(kind: ErrorKind) -> bool
     kind == ErrorKind::Interrupted
 }
 
-/// A std stream as a [`Reader`] or a [`Writer`]. It can't be used after its first failure. Read
+/// A std stream as a [`Reader`] or a [`Writer`]. It cannot be used after its first failure. Read
 /// number 18,446,744,073,709,551,616 fails.
 #[derive(Debug, Drop)]
 pub struct Counted<T> {

@@ -10,6 +10,7 @@ use std::test::Fail;
 /// A SET of control_mode, and remote_disconnect.
 const SET: &str = "C101C10046000060030AFF04001601";
 
+/// The ACTION remote_disconnect.
 const DISCONNECT: &str = "C301C10046000060030AFF0100";
 
 /// A request, the meter's reply, and the answer (IEC 62056-5-3, Set-Response-Normal,

@@ -25,8 +25,8 @@
 --     LeavesOnly      a fact of each outcome since a moment
 use Rattle.std.specs.Prelude.{◌≡◌, ◌⊎◌, ◌≤◌, ℕ, List, [], ◌∷◌, ◌++◌, take, ⊤}
 
--- What an append may leave of its bytes: each byte is itself, or 0, or is missing with all bytes
--- after it.
+-- Whether an append may leave this of its bytes: each byte is itself, or 0, or is missing with all
+-- bytes after it.
 abbrev pub IsTorn : List ℕ → List ℕ → Type 0
 IsTorn bytes [] = ⊤
 IsTorn [] (left ∷ rest) = ⊥

@@ -25,8 +25,8 @@ pub record State : Type 0 where
 abbrev pub seen_of : State → List ℕ
 seen_of s = take s.kept s.synced ++ s.added
 
--- Before the next sync a crash leaves the synced bytes with the cut done, in part or not at all, or
--- with the cut done and an interrupted append.
+-- Whether a crash before the next sync may leave this: the synced bytes with the cut done, in part
+-- or not at all, or with the cut done and an interrupted append.
 abbrev pub IsLeft : State → List ℕ → Type 0
 IsLeft s c = TornCut s.kept s.synced c ⊎ TornAppend s.added (take s.kept s.synced) c
 

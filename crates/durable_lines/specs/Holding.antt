@@ -7,7 +7,7 @@
 use Rattle.std.specs.Prelude.{◌≡◌, ◌⊎◌, ℕ, zero, suc, List, ◌++◌}
 use Rattle.durable_lines.specs.Lines.{lines_in}
 
--- the same bytes, or bytes that renew them
+-- whether bytes are the same as before, or renew them
 abbrev pub IsSameOrRenewed : (Renews : List ℕ → List ℕ → Type 0) → List ℕ → List ℕ → Type 0
 IsSameOrRenewed Renews old new = (new ≡ old) ⊎ Renews old new
 

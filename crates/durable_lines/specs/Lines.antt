@@ -23,11 +23,11 @@ lines_after begun (byte ∷ rest) =
 abbrev pub lines_in : List ℕ → List (List ℕ)
 lines_in bytes = lines_after [] bytes
 
--- bytes that are whole lines without a byte 0, and nothing else
+-- whether bytes are whole lines without a byte 0, and nothing else
 abbrev pub IsText : List ℕ → Type 0
 IsText bytes = bytes ≡ text_of (lines_in bytes)
 
--- the old lines, followed by a front of the added ones
+-- whether bytes are the old lines, followed by a front of the added ones
 abbrev pub IsBetween : List (List ℕ) → List (List ℕ) → List (List ℕ) → Type 0
 IsBetween old added lines = (k : ℕ) × (k ≤ length added) × (lines ≡ old ++ take k added)
 

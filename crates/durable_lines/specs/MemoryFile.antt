@@ -30,6 +30,6 @@ LeftSince m t c = LeftIn IsLeft m.past.items m.state t c
 abbrev pub syncs_left : MemoryFile → ℕ
 syncs_left m = m.syncs_left
 
--- a call has failed
+-- whether a call has failed
 abbrev pub HasFailed : MemoryFile → Type 0
 HasFailed m = m.has_failed ≡ true

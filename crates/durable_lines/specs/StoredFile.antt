@@ -6,6 +6,6 @@ use Rattle.durable_lines.specs.declared.stored_file.StoredFile.{StoredFile}
 abbrev pub limit_of : StoredFile → ℕ
 limit_of f = f.limit
 
--- a call has failed
+-- whether a call has failed
 abbrev pub HasFailed : StoredFile → Type 0
 HasFailed f = f.has_failed ≡ true

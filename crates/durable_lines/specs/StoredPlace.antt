@@ -2,6 +2,6 @@
 use Rattle.std.specs.Prelude.{◌≡◌, true}
 use Rattle.durable_lines.specs.declared.stored_place.StoredPlace.{StoredPlace}
 
--- a call has failed
+-- whether a call has failed
 abbrev pub HasFailed : {R S : Type 0} → StoredPlace R S → Type 0
 HasFailed p = p.has_failed ≡ true

@@ -25,7 +25,7 @@ pub enum LockFault {
     /// Another process, or another value of this one, has locked the file.
     #[error("another process has locked the file")]
     Held = 1,
-    /// The file can't be locked or synced.
+    /// The file cannot be locked or synced.
     #[error("the file can't be locked or synced")]
     Failed = 2,
 }

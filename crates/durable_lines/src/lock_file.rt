@@ -13,7 +13,7 @@ pub struct LockFile {
 impl LockFile {
     /// Locks the file of a path, until the value is dropped or the process ends. The file is
     /// created if it is missing; its bytes are not changed. Errors: `Held` if another process has
-    /// locked it, `Failed` if it can't be opened or locked.
+    /// locked it, `Failed` if it cannot be opened or locked.
     pub fn try_lock<R: Files<File = File>>(files: &R, path: &str) -> Result<LockFile, LockFault> {
         let mut options = File::options();
         options.read(true).write(true).create(true);

@@ -26,7 +26,7 @@ impl StoredFile {
     /// Locks a file that is open for reading and writing, until the value is dropped. `limit` is
     /// the maximum length in bytes: a longer file is not read, and an append that would exceed it
     /// is refused. Then syncs the file, so that it is read from the disk. Errors: `Held` if another
-    /// process has locked the file, `Failed` if it can't be locked or synced.
+    /// process has locked the file, `Failed` if it cannot be locked or synced.
     pub fn try_lock(file: File, limit: usize) -> Result<StoredFile, LockFault>
         ensures unfailed { IfOk result (λ stored. ¬ HasFailed stored) }
         ensures limit { IfOk result (λ stored. limit_of stored ≡ limit) }

@@ -127,7 +127,7 @@ ClosesBy old number (Err fault) new = (fault ≡ NoSession) × (dialogue_at old 
 
 -- ---- events of the meter's own
 
--- the reply to a block of samples, as the number of firings
+-- whether a reply is that to a block of samples with these firings
 abbrev pub IsFired : Reply → Fired → Type 0
 IsFired (Sampled over under) fired =
     fired ≡ record { over = over; under = under; export_over = 0; export_under = 0 }
@@ -157,7 +157,7 @@ SamplesBy old samples (Err Memory) new = new ≡ old
 SamplesBy old samples (Err NoSession) new = ⊥
 SamplesBy old samples (Err SessionTaken) new = ⊥
 
--- the reply to a moment, as a result
+-- whether a reply is that to a moment with this result
 abbrev pub IsTick : Reply → Tick → Type 0
 IsTick (Ran count) t = t ≡ tick.Ran count
 IsTick (Stale last) t = t ≡ tick.Stale last

@@ -1,8 +1,8 @@
 -- One meter with its sessions.
---     MeterState        a recorder, the management client's password, and a place for each session
---     dialogue_at     the session with a number
---     AtSession       a call that changes one session
---     Takes           an event that the meter applied
+--     MeterState     a recorder, the management client's password, and a place for each session
+--     dialogue_at    the session with a number
+--     AtSession      a call that changes one session
+--     Takes          an event that the meter applied
 use Rattle.std.specs.Prelude.{◌≡◌, ◌≢◌, ℕ, Option, Some, None, List, length, slice_index_or}
 use Rattle.acse_ber.specs.Password.{IsPassword}
 use Rattle.relay_events.specs.declared.event.Event.{Event}
@@ -11,7 +11,7 @@ use Rattle.relay_recorder.specs.Histories.{Continues}
 use Rattle.relay_recorder.specs.Recording.{Recording}
 use Rattle.embedded_meter.specs.Dialogues.{Dialogue}
 
--- a meter
+-- a meter; a place without a session is `None`
 pub record MeterState : Type 0 where
   pub recorder : Recording
   pub password : List ℕ

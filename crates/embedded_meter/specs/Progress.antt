@@ -5,7 +5,7 @@
 --     Advances     the meter applied events, and frames were returned
 --     IsIdle       nothing must be sent until more input arrives
 --     IsOver       the session is over
---     GivesNext        what `next` did and returned
+--     GivesNext    what `next` did and returned
 use Rattle.std.specs.Prelude.{◌≡◌, ◌<◌, ◌++◌, ℕ, List, [], ◌∷◌, length, drop, Result, Ok, Err}
 use Rattle.relay_core.specs.World.{World}
 use Rattle.relay_events.specs.declared.reply.Reply.{Reply}

@@ -46,6 +46,7 @@ steps_in (Asked event) = 1
 steps_in (Answered reply) = 0
 steps_in (Due frame) = 0
 
+-- the amount of work that is left: each step lowers it
 abbrev pub weight : Dialogue → ℕ
 weight d = load_of d.session + load_of d.session + steps_in d.under_way
 
@@ -61,7 +62,7 @@ AsksBy old (Ok None) new = SameAhead old new × (weight new < weight old)
 AsksBy old (Ok (Some rest)) new = SameAhead old new × Leaves rest new
 AsksBy old (Err error) new = SameAhead old new
 
--- the meter applied the event, or out of memory
+-- the meter applied the event, or memory ran out
 abbrev pub AppliesBy : {E : Type 0} → Dialogue → Recording → Result Unit E → Dialogue → Recording
     → Type 0
 AppliesBy old r (Ok done) new r' = Advances old r [] new r' × (weight new < weight old)
@@ -72,14 +73,14 @@ abbrev pub AnswersBy : {E : Type 0} → Dialogue → Result Unit E → Dialogue 
 AnswersBy old (Ok done) new = SameAhead old new × (weight new < weight old)
 AnswersBy old (Err error) new = new ≡ old
 
--- one step
+-- one step was done: `None` if there may be a further one
 abbrev pub WorksBy : {E : Type 0} → Dialogue → Recording → Result (Option Rest) E → Dialogue
     → Recording → Type 0
 WorksBy old r (Ok None) new r' = Advances old r [] new r' × (weight new < weight old)
 WorksBy old r (Ok (Some rest)) new r' = Advances old r [] new r' × Leaves rest new
 WorksBy old r (Err error) new r' = Advances old r [] new r'
 
--- all steps
+-- steps were done until none was left
 abbrev pub RestsBy : {E : Type 0} → Dialogue → Recording → Result Rest E → Dialogue → Recording
     → Type 0
 RestsBy old r (Ok rest) new r' = Advances old r [] new r' × Leaves rest new

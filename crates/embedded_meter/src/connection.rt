@@ -1,5 +1,4 @@
-//! A client's session at a meter without threads: it keeps its pending event, reply or frame if out
-//! of memory.
+//! A client's session at a meter without threads. If out of memory, what is pending stays pending.
 ghost use Rattle.std.specs.Prelude.{◌≡◌, IfOk, OnOk, OnErr};
 ghost use Rattle.acse_ber.specs.Password.{IsPassword};
 ghost use Rattle.embedded_meter.specs.declared.under_way.UnderWay.TheVariants.{Nothing};
@@ -24,7 +23,7 @@ pub(crate) enum Rest {
     End(SessionEnd),
 }
 
-// A session of a client, with its pending event, reply or frame.
+// A session of a client, with its pending event, reply or frame (`under_way`).
 #[derive(Drop)]
 pub(crate) struct ClientSession {
     session: Session,
@@ -85,8 +84,8 @@ impl ClientSession {
         self.session.finish();
     }
 
-    // Applies the requests of the session to the meter, up to the next frame, and copies the frame
-    // to the buffer.
+    // Applies the requests of the session to the meter, up to the next frame, copies the frame to
+    // the buffer, and returns what the caller must do.
     pub(crate) fn next(
         &mut self,
         alloc: Global,
@@ -115,6 +114,7 @@ impl ClientSession {
     }
 
     // Does one step: from the session to the meter, from the meter to the session, or to a frame.
+    // Returns `None` if there may be a further step.
     fn work(&mut self, alloc: Global, recorder: &mut Recorder) -> Result<Option<Rest>, AllocError>
         ensures { WorksBy self.old recorder.old result self.new recorder.new }
     {
@@ -132,7 +132,7 @@ impl ClientSession {
         }
     }
 
-    // Asks the session for its next event, frame or end.
+    // Asks the session for its next event, frame or end. Returns `None` if it is an event.
     fn ask(&mut self, alloc: Global) -> Result<Option<Rest>, AllocError>
         requires { self.now.under_way ≡ Nothing }
         ensures { AsksBy self.old result self.new }
@@ -183,7 +183,8 @@ impl ClientSession {
         }
     }
 
-    // Copies the pending frame to the buffer if it fits. Otherwise it stays pending.
+    // Copies the pending frame to the buffer, and returns its length. If the buffer is too short,
+    // the frame stays pending, and the result is the length that it needs.
     fn give(&mut self, buffer: &mut [u8]) -> Given
         requires { IsDue self.now }
         ensures { GivesDue self.old buffer.old result self.new buffer.new }

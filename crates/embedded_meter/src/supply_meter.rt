@@ -172,9 +172,10 @@ impl SupplyMeter {
         }
     }
 
-    /// Applies the requests of a session to the meter, up to the next frame, and copies the frame
-    /// to `buffer`. A frame that is longer than the buffer stays pending. Errors: `NoSession`;
-    /// `Memory`, after which the effects so far remain, and the same call continues from there.
+    /// Applies the requests of a session to the meter, up to the next frame, copies the frame to
+    /// `buffer`, and returns what the caller must do. A frame that is longer than the buffer stays
+    /// pending. Errors: `NoSession`; `Memory`, after which the effects so far remain, and the same
+    /// call continues from there.
     pub fn next(
         &mut self,
         alloc: Global,
@@ -233,8 +234,8 @@ impl SupplyMeter {
         }
     }
 
-    /// Applies at most 256 samples of the imported power, in watts. Errors, in this order:
-    /// `TooManySamples`, `Memory`.
+    /// Applies at most 256 samples of the imported power, in watts, and returns the number of
+    /// firings of each threshold. Errors, in this order: `TooManySamples`, `Memory`.
     pub fn sample(&mut self, alloc: Global, watts: &[u32]) -> Result<Fired, MeterFault>
         ensures { SamplesBy self.old (values_alone watts.now) result self.new }
     {
@@ -246,8 +247,9 @@ impl SupplyMeter {
         }
     }
 
-    /// Applies at most 256 pairs of samples of the imported and the exported power, in watts.
-    /// Errors, in this order: `Uneven`, `TooManySamples`, `Memory`.
+    /// Applies at most 256 pairs of samples of the imported and the exported power, in watts, and
+    /// returns the number of firings of each threshold. Errors, in this order: `Uneven`,
+    /// `TooManySamples`, `Memory`.
     pub fn sample_pairs(
         &mut self,
         alloc: Global,
@@ -277,7 +279,7 @@ impl SupplyMeter {
         }
     }
 
-    // Applies a block of samples.
+    // Applies a block of samples, and returns the number of firings of each threshold.
     fn take_block(&mut self, alloc: Global, block: Block) -> Result<Fired, MeterFault>
         ensures { SamplesBy self.old block result self.new }
     {
@@ -306,7 +308,7 @@ impl SupplyMeter {
         }
     }
 
-    // Applies an event of the meter itself.
+    // Applies an event of the meter itself, and returns the reply.
     fn take(&mut self, alloc: Global, event: Event) -> Result<Reply, AllocError>
         ensures takes { IfOk result (λ reply. Takes self.old event reply self.new) }
         ensures fits { IfOk result (Fits event) }

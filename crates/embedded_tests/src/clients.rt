@@ -7,11 +7,13 @@ use std::alloc::Global;
 use std::process::Abort;
 use std::test::Fail;
 
-/// The AARQ of the management client at port 1, with the password 12345678, and its answer.
+/// The AARQ of the management client at port 1, with the password 12345678, in its
+/// frame.
 const AARQ: &str =
     "00010001000100386036A1090607608574050801018A0207808B0760857405080201AC0A80083132333435363738BE\
         10040E01000000065F1F0400001C190400";
 
+/// The AARE that accepts the management client, in its frame.
 const AARE: &str =
     "000100010001002B6129A109060760857405080101A203020100A305A103020100BE10040E0800065F1F0400001C19\
         04000007";
@@ -19,15 +21,19 @@ const AARE: &str =
 /// The length of the answer in bytes.
 const AARE_BYTES: usize = 51;
 
-/// A SET of control_mode 1 and its answer; remote_disconnect, remote_reconnect and their answer.
+/// The SET of control_mode to 1.
 const SET_MODE_1: &str = "000100010001000FC101C10046000060030AFF04001601";
 
+/// The response to a SET: success.
 const SET_DONE: &str = "0001000100010004C501C100";
 
+/// The ACTION remote_disconnect.
 const DISCONNECT: &str = "000100010001000FC301C10046000060030AFF01010F00";
 
+/// The ACTION remote_reconnect.
 const RECONNECT: &str = "000100010001000FC301C10046000060030AFF02010F00";
 
+/// The response to an ACTION: success.
 const ACTION_DONE: &str = "0001000100010005C701C10000";
 
 /// A frame of a client, the answer, and the meter's state after it.

@@ -13,10 +13,13 @@ use std::alloc::{AllocError, Global};
 use std::process::Abort;
 use std::test::Fail;
 
+/// The application context of logical names without ciphering.
 static LN_CONTEXT: [u8; 7] = [0x60, 0x85, 0x74, 0x05, 0x08, 0x01, 0x01];
 
+/// The mechanism of low-level security: a password.
 static LOW_LEVEL: [u8; 7] = [0x60, 0x85, 0x74, 0x05, 0x08, 0x02, 0x01];
 
+/// The meter's password.
 const PASSWORD: &[u8] = b"12345678";
 
 // The AARQ of a public client: an example of the Green Book.

@@ -36,7 +36,7 @@ pub record Stops (old new : StreamState) : Type 0 where
   pub wrote : Appends old.written new.written []
   pub ends : new.ends ≢ old.ends
 
--- at least one byte, and at most those of the buffer
+-- whether a count is at least 1, and at most the bytes of the buffer
 abbrev pub IsCount : ℕ → List ℕ → Type 0
 IsCount count bytes = (0 < count) × (count ≤ length bytes)
 

@@ -1,8 +1,8 @@
 -- A fleet: its meters and the connections of their clients.
---     FleetState     the two
---     IsFleet        each connection has a session of its meter for itself
---     Isolated       what one connection does leaves the others unchanged
---     Admits, Runs, Releases     a connection was admitted, ran, or was closed
+--     FleetState                the two
+--     IsFleet                   each connection has a session of its meter for itself
+--     Isolated                  what one connection does leaves the others unchanged
+--     Admits, Runs, Releases    a connection was admitted, ran, or was closed
 use Rattle.std.specs.Prelude.{◌≡◌, ◌≢◌, ◌≤◌, ◌+◌, ℕ, List, [], Option, Some, None, Result, Ok, Err, length}
 use Rattle.slab.specs.Slab.{Slab, get}
 use Rattle.embedded_meter.specs.MeterStates.{MeterState}

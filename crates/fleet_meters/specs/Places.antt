@@ -27,7 +27,7 @@ session_of (Some m) number = dialogue_at m number
 abbrev pub session_in : List (Option MeterState) → ℕ → ℕ → Option Dialogue
 session_in places place number = session_of (meter_in places place) number
 
--- the meter of a place before its session is opened: the one that is there, or a new one
+-- the meter of a place before its session is opened: the one that the place has, or a new one
 abbrev pub Makes : MeterTerms → Option MeterState → MeterState → Type 0
 Makes terms None m = Resumes terms.trace terms.password terms.kept_events m
 Makes terms (Some old) m = m ≡ old
@@ -41,7 +41,7 @@ pub record Seats (terms : MeterTerms) (old : Option MeterState) (number : ℕ)
   pub is : new ≡ Some after
   pub opens : Opens before number after
 
--- all sessions of the meter of a place are open
+-- whether all sessions of the meter of a place are open
 abbrev pub IsFull : Option MeterState → Type 0
 IsFull m = (number : ℕ) → number < max_sessions → session_of m number ≢ None
 

@@ -1,10 +1,10 @@
 -- Calls of a fleet, one after the other.
---     FleetCall         a call, with its result
---     CallsBy           the effect of a call
---     Calls             the effect of several calls
---     exchanges_at           the events of the connection with a key
---     told_at           the events of the meter at a place
---     StaysOpen         no call ends the connection with a key
+--     FleetCall       a call, with its result
+--     CallsBy         the effect of a call
+--     Calls           the effect of several calls
+--     exchanges_at    the events of the connection with a key
+--     told_at         the events of the meter at a place
+--     StaysOpen       no call ends the connection with a key
 use Rattle.std.specs.Prelude.{◌≡◌, ℕ, ◌==◌, if◌then◌else◌, List, [], ◌∷◌, ◌++◌, None, Result, ⊤}
 use Rattle.slab.specs.Slab.{get}
 use Rattle.relay_recorder.specs.Histories.{Exchange}
@@ -15,9 +15,9 @@ use Rattle.fleet_links.specs.declared.link.Turn.TheVariants.{Over}
 use Rattle.fleet_meters.specs.Fleets.{FleetState, AdmitsBy, Runs, Releases}
 use Rattle.fleet_meters.specs.declared.place.Refusal.{Refusal}
 
--- A call of a fleet: a client came to the meter with a number, with this stream and result; the
--- connection with a key ran at the place of its meter, which applied these events; it was closed;
--- or there was no connection with this key.
+-- A call of a fleet. `admitted`: a client of the meter with this number, with its stream and the
+-- result; `ran`: the connection with this key, at the place of its meter, which applied these
+-- events; `closed`: the connection with this key; `missed`: no connection has this key.
 pub data FleetCall : Type 0 where
   admitted : ℕ → StreamState → Result ℕ Refusal → FleetCall
   ran : ℕ → ℕ → Turn → List Exchange → FleetCall
@@ -68,7 +68,7 @@ abbrev pub told_at : ℕ → List FleetCall → List Exchange
 told_at place [] = []
 told_at place (call ∷ calls) = told_there place call ++ told_at place calls
 
--- the connection with a key was closed, or memory ran out in its turn
+-- whether the connection with a key was closed, or memory ran out in its turn
 abbrev pub IsEnd : ℕ → FleetCall → Type 0
 IsEnd key (ran k place turn told) = (k ≡ key) × (turn ≡ Over Memory)
 IsEnd key (closed k) = k ≡ key

@@ -4,30 +4,36 @@ ghost use Rattle.std.specs.Prelude.{None, if◌then◌else◌};
 use fleet_links::{Received, Sent, Stream};
 use std::alloc::{AllocError, Global};
 
-/// The AARQ of the management client at port 1, with the password 12345678, and its answer
-/// (IEC 62056-5-3, COSEM-OPEN; IEC 62056-4-7, the wrapper).
+/// The AARQ of the management client at port 1, with the password 12345678, in its
+/// frame (IEC 62056-5-3, COSEM-OPEN; IEC 62056-4-7, the wrapper).
 pub(crate) const AARQ: &str =
     "00010001000100386036A1090607608574050801018A0207808B0760857405080201AC0A80083132333435363738BE\
         10040E01000000065F1F0400001C190400";
 
+/// The AARE that accepts the management client, in its frame.
 pub(crate) const AARE: &str =
     "000100010001002B6129A109060760857405080101A203020100A305A103020100BE10040E0800065F1F0400001C19\
         04000007";
 
-/// A SET of control_mode 1 and its answer; remote_disconnect and its answer; a GET of
-/// control_state and the answers Connected (1) and Disconnected (0) (class 70).
+/// The SET of control_mode to 1 (class 70), in its frame.
 pub(crate) const SET_MODE_1: &str = "000100010001000FC101C10046000060030AFF04001601";
 
+/// The response to a SET: success.
 pub(crate) const SET_DONE: &str = "0001000100010004C501C100";
 
+/// The ACTION remote_disconnect.
 pub(crate) const DISCONNECT: &str = "000100010001000FC301C10046000060030AFF01010F00";
 
+/// The response to an ACTION: success.
 pub(crate) const ACTION_DONE: &str = "0001000100010005C701C10000";
 
+/// The GET of control_state.
 pub(crate) const GET_STATE: &str = "000100010001000DC001C10046000060030AFF0300";
 
+/// The response to the GET: state 1.
 pub(crate) const IS_CONNECTED: &str = "0001000100010006C401C1001601";
 
+/// The response to the GET: state 0.
 pub(crate) const IS_DISCONNECTED: &str = "0001000100010006C401C1001600";
 
 /// A stream: the bytes that arrive, `piece` bytes at a time, and those that were written. It takes

@@ -58,14 +58,14 @@ abbrev pub row_outcome : Row → Option Outcome
 row_outcome (Came outcome) = Some outcome
 row_outcome Memory = None
 
--- the log of a connection, if it is known, is a conversation whose outcome is the row
+-- whether the log of a connection, if it is known, is a conversation whose outcome is the row
 abbrev pub HasRow : Verb → List ℕ → Row → Option (List Happening) → Type 0
 HasRow verb password row None = ⊤
 HasRow verb password row (Some log) = HasConversed verb password (row_outcome row) (Some log)
 
--- unused, if out of memory before the connect; a refused connect to the job's address; or one
--- connection to this address, closed after a conversation with the job's verb and this password,
--- whose outcome is the row
+-- whether an attempt is that of its job: unused, if out of memory before the connect; a refused
+-- connect to the job's address; or one connection to this address, closed after a conversation with
+-- the job's verb and this password, whose outcome is the row
 abbrev pub IsTried : Job → List ℕ → Row → State → Type 0
 IsTried job password row unused = row ≡ Memory
 IsTried job password row (refused address) = (address ≡ job.address) × (row ≡ Came Unknown)

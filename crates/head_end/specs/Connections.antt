@@ -1,6 +1,6 @@
 -- The predicted reads of a connection, and the effect of its calls on them.
---     Forecast              the results of a number of reads of a connection
---     ReadTells, WriteTells, ConnectTells      the effect of a read, a write and a connect on them
+--     Forecast                               the results of a number of reads of a connection
+--     ReadTells, WriteTells, ConnectTells    the effect of a read, a write and a connect on them
 use Rattle.std.specs.Prelude.{◌≡◌, ℕ, zero, suc, List, [], ◌++◌, length, take, Option, Some, None, Result, Ok, Err, ⊤}
 use Rattle.counted_io.specs.declared.fault.StreamFault.{StreamFault}
 use Rattle.head_end.specs.declared.connection.ConnectFault.{ConnectFault}

@@ -1,8 +1,8 @@
 -- A client on a connection, by its position in the initially predicted reads.
---     Follows           the bytes read so far, and the reads that are left
---     At, AtEnd         a client that was fed the bytes read so far, and one that was fed all
---     GivesUp .. Converses      the effect of the steps of a conversation on that
---     Talks .. Speaks           their effect on the log of the connection
+--     Follows                 the bytes read so far, and the reads that are left
+--     At, AtEnd               a client that was fed the bytes read so far, and one that was fed all
+--     GivesUp .. Converses    the effect of the steps of a conversation on that
+--     Talks .. Speaks         their effect on the log of the connection
 use Rattle.std.specs.Prelude.{◌≡◌, ◌≤◌, ℕ, suc, Bool, false, true, List, [], ◌++◌, length, Option, Some, None, Result, Ok, Err}
 use Rattle.client_core.specs.declared.client.Client.{Client}
 use Rattle.client_core.specs.declared.job.Outcome.{Outcome}
@@ -96,7 +96,7 @@ pub record Waits (verb : Verb) (password : List ℕ) (reads : ℕ) (client : Cli
   pub talks : Talks verb password reads client now
   pub listens : Listens verb password talks.log
 
--- a write failed
+-- a conversation that ended at a failed write
 pub record IsCut (verb : Verb) (password : List ℕ) (client : Client) (now : Option
     (List Happening)) : Type 0 where
   pub log : List Happening

@@ -18,7 +18,7 @@ abbrev pub are_password_words : List (List ℕ) → Bool
 are_password_words (name ∷ password ∷ []) = is_name 32 name && is_name 32 password
 are_password_words _ = false
 
--- an empty line, or a name and a password with one blank between them
+-- whether a line is empty, or a name and a password with one blank between them
 abbrev pub is_password_line : List ℕ → Bool
 is_password_line [] = true
 is_password_line (byte ∷ bytes) = are_password_words (words_of (byte ∷ bytes))

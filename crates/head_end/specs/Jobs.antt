@@ -17,11 +17,11 @@ use Rattle.head_end.specs.declared.fault.JobsFault.TheVariants as fault
 abbrev pub job_lines : List ℕ → List (List ℕ)
 job_lines text = lines_of text ++ unended_of text ∷ []
 
--- a visible byte, from 21 to 7E hex
+-- whether a byte is visible, from 21 to 7E hex
 abbrev pub is_visible : ℕ → Bool
 is_visible byte = nat_le 0x21 byte && nat_le byte 0x7E
 
--- one or more visible bytes, up to a maximum
+-- whether a text is one or more visible bytes, up to a maximum
 abbrev pub is_name : ℕ → List ℕ → Bool
 is_name most word = nat_lt 0 (length word) && nat_le (length word) most && list_all is_visible word
 

@@ -67,7 +67,7 @@ WriteLogs None text result new = new ≡ None
 WriteLogs (Some log) text (Ok x) new = new ≡ Some (log ++ sent text ∷ [])
 WriteLogs (Some log) text (Err fault) new = IsCutOff text log new
 
--- the log of a new connection is empty
+-- whether the log of a new connection is empty
 abbrev pub IsNewLog : Option (List Happening) → Type 0
 IsNewLog None = ⊤
 IsNewLog (Some log) = log ≡ []

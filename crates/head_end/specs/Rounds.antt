@@ -39,7 +39,7 @@ RunInOrder = (jobs : List Job) (rounds : List ℕ) (count i j : ℕ) (job : Job)
     → (slice_index_or jobs i job).address ≡ (slice_index_or jobs j job).address
     → slice_index_or rounds i 0 < slice_index_or rounds j 0
 
--- the job of a slot has this round
+-- whether the job of a slot has this round
 abbrev pub IsTurn : (turns workers : ℕ) → List ℕ → ℕ → ℕ → Type 0
 IsTurn turns workers rounds round slot = (place_at turns workers slot < length rounds)
     × (slice_index_or rounds (place_at turns workers slot) 0 ≡ round)

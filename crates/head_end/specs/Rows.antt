@@ -11,12 +11,12 @@ use Rattle.head_end.specs.declared.row.Row.TheVariants.{Came, Memory}
 use Rattle.head_end.specs.declared.row.ReportLine.{ReportLine}
 use Rattle.head_end.specs.Connections.{Forecast}
 
--- the outcome of a job is that of the predicted bytes of its meter's connection
+-- whether the outcome of a job is that of the predicted bytes of its meter's connection
 abbrev pub IsOutcome : Option Forecast → Verb → Outcome → Type 0
 IsOutcome None verb outcome = ⊤
 IsOutcome (Some told) verb outcome = outcome ≡ outcome_of verb told.bytes
 
--- the row of a job, which may be out of memory
+-- whether a row is that of the job, which may be out of memory
 abbrev pub IsRow : (List ℕ → Option Forecast) → Job → Row → Type 0
 IsRow tells job (Came outcome) = IsOutcome (tells job.address) job.verb outcome
 IsRow tells job Memory = ⊤

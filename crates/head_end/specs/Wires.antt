@@ -23,12 +23,12 @@ pub record Listens (verb : Verb) (password : List ℕ) (log : List Happening) : 
   pub sent_is : bytes_sent log ≡ due_text verb password (bytes_received log)
   pub unsettled : outcome_after verb (bytes_received log) ≡ None
 
--- with these bytes, at most the messages that may be sent are sent
+-- whether with these bytes at most the messages that may be sent are sent
 abbrev pub IsDueNext : Verb → List ℕ → List Happening → List ℕ → Type 0
 IsDueNext verb password log bytes =
     IsFront (bytes_sent log ++ bytes) (due_text verb password (bytes_received log))
 
--- why no read follows: the outcome is settled, or 65,536 reads have not settled it
+-- whether no read follows: the outcome is settled, or 65,536 reads have not settled it
 abbrev pub IsOver : Verb → List Happening → Type 0
 IsOver verb log = IsSome (outcome_after verb (bytes_received log)) ⊎ (reads_made log ≡ 65536)
 

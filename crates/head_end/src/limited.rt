@@ -8,9 +8,10 @@ use crate::connection::Connection;
 use counted_io::StreamFault;
 use std::time::{Clock, Duration, Instant};
 
-// The maximum number of reads after the end of a conversation, and the limit of each in seconds.
+// The maximum number of reads after the end of a conversation.
 const MAX_LAST_READS: u32 = 16;
 
+// The time limit of each of these reads, in seconds.
 const MAX_LAST_WAIT: u64 = 5;
 
 /// A stream whose next read or write has a time limit.
@@ -90,7 +91,7 @@ impl<R: Clock + Drop, S: LimitedStream> Connection for LimitedConnection<R, S> {
     }
 }
 
-// Returns the remaining time of a limit, or zero if the clock can't be read.
+// Returns the remaining time of a limit, or zero if the clock cannot be read.
 fn time_left<R: Clock>(rt: &R, opened: Instant, within: Duration) -> Duration
     ensures { as_nanos result ≤ as_nanos within }
 {

@@ -35,7 +35,7 @@ pub fn run_job<C: Connector>(
     }
 }
 
-// Runs a job. The messages are allocated before it connects.
+// Runs a job, and returns its outcome. The messages are allocated before it connects.
 fn try_job<C: Connector>(
     alloc: Global,
     job: &Job,

@@ -11,7 +11,8 @@ use Rattle.clap.specs.Matches.{one_text}
 use Rattle.clap.specs.declared.parser.matches.Found.{Found}
 use Rattle.head_end.specs.declared.tcp.TcpLimits.{TcpLimits}
 
--- the number of the option of this name, which is written in decimal and fits this number of bits
+-- whether this is the number of the option of this name: it is written in decimal and fits this
+-- number of bits
 abbrev pub IsNumber : ℕ → Found → List ℕ → ℕ → Type 0
 IsNumber bits found name number = (text : List ℕ) → one_text found name ≡ Some text
     → IsNumeral 10 (without_leading_plus text)

@@ -90,7 +90,7 @@ pub(crate) fn plan_ledgered(
 
 // Runs the jobs with permits of the ledger, where `S` stands for what the file holds, and prints
 // the report. Writes a line on standard error for each job whose outcome is unknown, and if the
-// ledger can't be opened. Errors: `Input` for the ledger of another list, `Write` if the ledger
+// ledger cannot be opened. Errors: `Input` for the ledger of another list, `Write` if the ledger
 // failed, `Memory`.
 pub(crate) fn run_on_ledger<S: Start + Send, R: Threads + Wait + Sync, C: Connector, W: Write>(
     rt: &HostRuntime,

@@ -144,7 +144,7 @@ fn report_job(rt: &HostRuntime, jobs: &Jobs, place: usize) {
 
 // Returns the password of each job: that of its name in the file of `--passwords`, else the common
 // one. If a job has none, or the file is not a list of passwords, writes a line on standard error.
-// Errors: `Read` if the file can't be read; `Input` if it is not a list of passwords, or a job has
+// Errors: `Read` if the file cannot be read; `Input` if it is not a list of passwords, or a job has
 // no password; `Memory`.
 pub(crate) fn passwords(
     rt: &HostRuntime,

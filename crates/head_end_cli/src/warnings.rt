@@ -36,7 +36,8 @@ fn warn_of_job(rt: &HostRuntime, number: u64, job: &Job) {
     }
 }
 
-// The jobs before one of a list, of which `count` came so far.
+// The first `count` jobs of a list, with filters of their names and addresses. `text` is the list,
+// and `jobs` has all of its jobs.
 #[derive(Drop)]
 struct EarlierJobs<'a> {
     text: &'a [u8],
@@ -47,7 +48,7 @@ struct EarlierJobs<'a> {
 }
 
 impl<'a> EarlierJobs<'a> {
-    // Returns the jobs before the first one.
+    // Returns no jobs of a list: those before its first one.
     fn new(text: &'a [u8], jobs: &'a [Job]) -> EarlierJobs<'a> {
         EarlierJobs {
             text,
@@ -65,7 +66,7 @@ impl<'a> EarlierJobs<'a> {
         self.addresses.add(job.address.as_slice());
     }
 
-    // Writes the warnings about a name or an address of a job that an earlier line has too.
+    // Writes a warning if an earlier line has the name of a job, and one if it has its address.
     fn warn_of_double(&self, rt: &HostRuntime, number: u64, job: &Job) {
         let (name, address) = (job.id.as_slice(), job.address.as_slice());
         if self.names.may_have(name) {
@@ -88,7 +89,8 @@ impl<'a> EarlierJobs<'a> {
         }
     }
 
-    // Returns the number of the line of the job at a place, or `None` if it is not an earlier one.
+    // Returns the number of the line of the job at a place, from 0, or `None` if the job is not one
+    // of the first `count`.
     fn line_of(&self, place: Option<usize>) -> Option<u64> {
         match place {
             Some(place) if place < self.count => Some(line_of(self.text, place)),
@@ -97,7 +99,7 @@ impl<'a> EarlierJobs<'a> {
     }
 }
 
-// Returns the number of the line of the job at an index. Empty lines are skipped.
+// Returns the number, from 1, of the line of the job at a place, from 0. Empty lines have no job.
 fn line_of(text: &[u8], place: usize) -> u64 {
     let mut number: u64 = 0;
     let mut before = place;

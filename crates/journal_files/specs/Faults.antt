@@ -22,7 +22,7 @@ of_file file.Failed = journal.File
 of_file file.TooLong = journal.TooLong
 of_file file.Memory = journal.Memory
 
--- the text was refused, before anything was changed
+-- whether the text was refused, before anything was changed
 abbrev pub IsRefusal : StartFault → Type 0
 IsRefusal (journal.Line number) = ⊤
 IsRefusal journal.Counted = ⊤

@@ -53,7 +53,8 @@ pub record IsRenewalOf (depth : ℕ) (old new : List ℕ) : Type 0 where
   pub read_back : trace_of new ≡ Ok later
   pub journal : IsJournal new
 
--- A journal is renewed if it has more than this number of bytes.
+-- Whether `new` follows from `old` by this limit: a journal of more than `limit` bytes is renewed,
+-- any other is unchanged.
 abbrev pub IsRenewedOver : (limit depth : ℕ) → List ℕ → List ℕ → Type 0
 IsRenewedOver limit depth old new = ((length old ≤ limit) × (new ≡ old))
     ⊎ ((limit < length old) × IsRenewalOf depth old new)

@@ -6,6 +6,6 @@ use Rattle.journal_files.specs.declared.renewed_file.RenewedFile.{RenewedFile}
 abbrev pub place_of : {P D : Type 0} → RenewedFile P D → P
 place_of file = file.place
 
--- a call has failed
+-- whether a call has failed
 abbrev pub HasFailed : {P D : Type 0} → RenewedFile P D → Type 0
 HasFailed file = file.has_failed ≡ true

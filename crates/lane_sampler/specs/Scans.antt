@@ -5,11 +5,11 @@ use Rattle.lane_sampler.specs.declared.samples.Scans.{Scans}
 use Rattle.lane_sampler.specs.Masks.{AreMasks}
 use Rattle.lane_sampler.specs.Samples.{Samples}
 
--- the masks are those of the values at the threshold that the scan names
+-- whether the masks are those of the values at the threshold that the scan names
 abbrev pub IsRightScan : List ℕ → Scan → Type 0
 IsRightScan values scan = AreMasks values scan.threshold scan.masks
 
--- there is an export scan exactly if there are export values, and it is right for them
+-- whether there is an export scan exactly if there are export values, and it is right for them
 abbrev pub IsRightExport : Option (List ℕ) → Option Scan → Type 0
 IsRightExport None None = Unit {0}
 IsRightExport None (Some scan) = ⊥

@@ -68,12 +68,13 @@ module _ {B : Type 0} where
   EndsStored place outcome calls = (before : LedgerCalls B) × (by : List ℕ)
       × (calls ≡ before ++ entry by (Record place outcome) Recorded ∷ [])
 
-  -- one of the calls has this request
+  -- whether one of the calls has this request
   abbrev pub HasRequest : LedgerRequest → LedgerCalls B → Type 0
   HasRequest request calls = (before later : LedgerCalls B) × (by : List ℕ)
       × (answer : LedgerAnswer B) × (calls ≡ before ++ entry by request answer ∷ later)
 
-  -- a call that the port has seen asked to store this outcome of a place, or all turns were drawn
+  -- whether a call that the port has seen asked to store this outcome of a place, or all turns were
+  -- drawn
   abbrev pub IsAskedToStore : {O : Type 0} → ℕ → Outcome
       → ShownPort LedgerRequest (LedgerAnswer B) O → Type 0
   IsAskedToStore place outcome port = HasRequest (Record place outcome) port.known.seen
@@ -85,7 +86,7 @@ module _ {B : Type 0} where
   permits_given (call ∷ calls) = permits_of call.reply ++ permits_given calls
 
 module _ {B : Type 0} (is_honest : B → Type 0) (is_marked : B → ℕ → Type 0) where
-  -- an answer that a request may have. A permit is for the place that was asked for, which is
+  -- whether a request may have this answer. A permit is for the place that was asked for, which is
   -- marked in the book as it then was, if that was honest
   abbrev pub IsAnswer : LedgerRequest → LedgerAnswer B → Type 0
   IsAnswer (Begin place) (Given permit book) = (permit ≡ place)

@@ -28,7 +28,7 @@ use Rattle.ledger_campaigns.specs.declared.request.LedgerRequest.{LedgerRequest}
 use Rattle.ledger_campaigns.specs.declared.request.LedgerAnswer.{LedgerAnswer}
 use Rattle.ledger_campaigns.specs.Desks.{permits_given, IsAskedToStore}
 
--- the verb operates the switch
+-- whether the verb operates the switch
 abbrev pub IsSwitching : Verb → Type 0
 IsSwitching Disconnect = ⊤
 IsSwitching Reconnect = ⊤
@@ -50,14 +50,16 @@ pub record Asked : Type 1 where
   pub given : Type 0
   pub stored : Outcome → Type 0
 
--- the connection was closed before anything was sent or received, or it was used for a conversation
--- that needs a permit only for a switching command, and whose outcome is the row and is stored
+-- whether the connection was closed before anything was sent or received, or it was used for a
+-- conversation that needs a permit only for a switching command, and whose outcome is the row and
+-- is stored
 abbrev pub IsClosedUse : Asked → Job → List ℕ → Row → Option (List Happening) → Type 0
 IsClosedUse asked job password row log = (IsNewLog log × (row ≡ Came Unknown))
     ⊎ (MayAsk job.verb asked.given × IfCame row asked.stored × HasRow job.verb password row log)
 
--- The use of its attempt by a job whose command was not sent before: unused, if out of memory
--- before the connect; a refused connect to the job's address; or one connection to this address.
+-- Whether a use is that of the attempt by a job whose command was not sent before: unused, if out
+-- of memory before the connect; a refused connect to the job's address; or one connection to this
+-- address.
 abbrev pub IsNewUse : Asked → Job → List ℕ → Row → State → Type 0
 IsNewUse asked job password row unused = row ≡ Memory
 IsNewUse asked job password row (refused address) = (address ≡ job.address) × (row ≡ Came Unknown)
@@ -65,7 +67,7 @@ IsNewUse asked job password row (connected address) = ⊥
 IsNewUse asked job password row (closed address log) = (address ≡ job.address)
     × IsClosedUse asked job password row log
 
--- The use of its attempt by a job: none, if its command may have been sent before.
+-- Whether a use is that of the attempt by a job: none, if its command may have been sent before.
 abbrev pub IsUse : LedgerEntry → Asked → Job → List ℕ → Row → State → Type 0
 IsUse NotSent asked job password row stage = IsNewUse asked job password row stage
 IsUse MaybeSent asked job password row stage = stage ≡ unused
@@ -83,14 +85,14 @@ asked_through place port = record {
   stored = λ outcome. IsAskedToStore place outcome port;
 }
 
--- The row of a job: the outcome that was found; unknown, if its command may have been sent before
--- or no permit was given; else that of its run.
+-- Whether a row is that of the job: the outcome that was found; unknown, if its command may have
+-- been sent before or no permit was given; else that of its run.
 abbrev pub IsRowFor : (List ℕ → Option Forecast) → Job → LedgerEntry → Row → Type 0
 IsRowFor tells job NotSent row = IsRow tells job row ⊎ (row ≡ Came Unknown)
 IsRowFor tells job MaybeSent row = row ≡ Came Unknown
 IsRowFor tells job (entry.Came outcome) row = row ≡ Came outcome
 
--- something was sent or received on the attempt's connection, by its log
+-- whether something was sent or received on the attempt's connection, by its log
 abbrev pub HasTalked : State → Type 0
 HasTalked unused = ⊥
 HasTalked (refused address) = ⊥
@@ -98,13 +100,13 @@ HasTalked (connected address) = ⊥
 HasTalked (closed address None) = ⊥
 HasTalked (closed address (Some log)) = log ≢ []
 
--- A switching command may have been sent: the log of the connection is not empty.
+-- Whether a switching command may have been sent: the log of the connection is not empty.
 abbrev pub HasSwitched : Verb → State → Type 0
 HasSwitched verb stage = IsSwitching verb × HasTalked stage
 
 -- ---- a conversation that needs a permit
 
--- the outcome is that of a conversation, or unknown without one
+-- whether the outcome is that of a conversation, or unknown without one
 abbrev pub IsToldOutcome : Client → Option Forecast → Outcome → Type 0
 IsToldOutcome client before outcome = Converses client before outcome ⊎ (outcome ≡ Unknown)
 

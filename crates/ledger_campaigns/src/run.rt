@@ -28,8 +28,8 @@ pub struct LedgeredRun<'a, C: Connector, B: Book> {
     pub report: Report,
     /// A place for each job, in their order.
     pub places: Vec<LedgeredPlace<'a, C, B>>,
-    /// The ledger, or `None` if a turn of its lock has not ended. All calls have returned, so it
-    /// has; no contract states it.
+    /// The ledger, or `None` if a turn of its lock has not ended. All turns have ended, since all
+    /// calls have returned; no contract states that.
     pub ledger: Option<Ledger<B>>,
 }
 
@@ -78,6 +78,7 @@ pub fn run_ledgered_campaign<
         lines.as_mut_slice(),
     );
     meet_all(&mut port, places.as_mut_slice());
+    // (no effect: the contract needs these laws)
     port.has_a_legal_history();
     grants_add_up::<B>();
     let ledger = close(shared, port);

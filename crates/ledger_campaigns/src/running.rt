@@ -91,7 +91,8 @@ fn run_new_job<C: Connector, B: Book, W: Wait>(
     }
 }
 
-// Runs a job whose command was not sent before. The messages are allocated before it connects.
+// Runs a job whose command was not sent before, and returns its outcome. The messages are allocated
+// before it connects.
 fn try_new_job<C: Connector, B: Book, W: Wait>(
     rt: &W,
     alloc: Global,
@@ -119,7 +120,8 @@ fn try_new_job<C: Connector, B: Book, W: Wait>(
     }
 }
 
-// Asks for the permit that the job needs, and converses if it is given. Without it nothing is sent.
+// Asks for the permit that the job needs, converses if it is given, and returns the outcome.
+// Without a permit nothing is sent, and the outcome is unknown.
 fn converse_if_given<K: Connection, B: Book, W: Wait>(
     rt: &W,
     alloc: Global,
@@ -138,12 +140,12 @@ fn converse_if_given<K: Connection, B: Book, W: Wait>(
         return Ok(Outcome::Unknown);
     };
     let outcome = converse_cleared(alloc, clearance, client, connection)?;
-    // If the outcome can't be stored, the ledger has failed and gives no further permit.
+    // If the outcome cannot be stored, the ledger has failed and gives no further permit.
     let _stored = report_outcome(rt, alloc, port, task.place, outcome);
     Ok(outcome)
 }
 
-// Converses with the meter, and uses up the clearance.
+// Converses with the meter, uses up the clearance, and returns the outcome.
 fn converse_cleared<K: Connection>(
     alloc: Global,
     clearance: Clearance,

@@ -1,5 +1,4 @@
-//! Proves that both limiters have their attributes and access rights in the table of objects, and
-//! monitor the register of their direction.
+//! The laws of the limiters' attributes.
 ghost use Rattle.cosem_names.specs.declared.objects.Which.{Which};
 ghost use Rattle.limiter_attributes.specs.declared.attribute.LimiterAttribute.{LimiterAttribute};
 ghost use Rattle.limiter_attributes.specs.Law.{IsInTable, IsMonitored};

@@ -24,8 +24,8 @@ fn register_name(which: Which) -> Obis
     }
 }
 
-// Writes monitored_value (attribute 2): the class, the logical name and the attribute number of
-// the register's value.
+// Returns the Data of monitored_value (attribute 2): the class, the logical name and the attribute
+// number of the register's value.
 #[tactic(auto, unfolding(crate::specs::Writing::monitored_data))]
 fn write_monitored(alloc: Global, which: Which) -> Result<Data, AllocError>
     ensures { IfOk result (λ value. value ≡ monitored_data which) }
@@ -38,7 +38,7 @@ fn write_monitored(alloc: Global, which: Which) -> Result<Data, AllocError>
     ]?)))
 }
 
-/// Writes emergency_profile (attribute 8 of a limiter, IEC 62056-6-2, class 71) as Data. The start
+/// Returns emergency_profile (attribute 8 of a limiter, IEC 62056-6-2, class 71) as Data. The start
 /// is an octet-string. Fails only if out of memory.
 #[tactic(auto, using(crate::proofs::Again::profile_again))]
 pub fn write_profile(alloc: Global, profile: &Profile) -> Result<Data, AllocError>
@@ -61,7 +61,7 @@ fn write_ids(alloc: Global, ids: &[u16]) -> Result<Vec<Data>, AllocError>
     ids.iter().map(|id| Data::LongUnsigned(*id)).collect(alloc)
 }
 
-// Writes emergency_profile_group_id_list (attribute 9): an array of long-unsigned.
+// Returns the Data of emergency_profile_group_id_list (attribute 9): an array of long-unsigned.
 #[tactic(auto, unfolding(crate::specs::Writing::groups_data), using(crate::proofs::Again::groups_again))]
 fn write_groups(alloc: Global, ids: &[u16]) -> Result<Data, AllocError>
     requires { length ids.now ≤ max_groups }
@@ -72,8 +72,8 @@ fn write_groups(alloc: Global, ids: &[u16]) -> Result<Data, AllocError>
     Ok(Data::Array(Items::from_vec(items)))
 }
 
-// Writes actions (attribute 11): a structure of two structures, each of a logical name and a
-// selector.
+// Returns the Data of actions (attribute 11): a structure of two structures, each of a logical name
+// and a selector.
 #[tactic(auto, unfolding(crate::specs::Writing::actions_data), using(crate::proofs::Again::actions_again))]
 fn write_actions(alloc: Global, actions: Actions) -> Result<Data, AllocError>
     ensures value { IfOk result (λ value. value ≡ actions_data actions) }

@@ -42,7 +42,7 @@ pub record IsFit (last : ℕ) (over under : Count) : Type 0 where
   pub above : 0 < over.run → 0 < last
   pub below : 0 < under.run → last < 4294967295
 
--- the tests that decide `IsFitCount` and `IsFit`
+-- whether a count is fit: the test that decides `IsFitCount`
 abbrev pub is_fit_count : Count → Bool
 is_fit_count count = if count.run == 0 then not count.fired else if count.run == cap
     then count.fired else nat_lt count.run cap
@@ -67,7 +67,7 @@ abbrev pub rows_after : Limits → List ℕ → List Row → List Row
 rows_after limits [] rows = rows
 rows_after limits (value ∷ values) rows = rows_after limits values (row_of limits value ∷ rows)
 
--- no sample fires
+-- whether no sample fires
 abbrev pub IsQuiet : Limits → List ℕ → List Row → Type 0
 IsQuiet limits [] rows = Unit {0}
 IsQuiet limits (value ∷ values) rows =

@@ -1,4 +1,4 @@
-//! The length of a run of samples past the threshold, and whether the run has fired.
+//! Counts the samples of a run.
 ghost use Rattle.std.specs.Prelude.{◌≡◌, ◌↔◌, IsTrue};
 ghost use Rattle.limiter_core.specs.Counting.{no_run, count_after, fires_at, quiet_before, count_after_run};
 ghost use Rattle.limiter_core.specs.State.{IsFit, IsFitCount, is_fit_count, are_fit};

@@ -127,7 +127,7 @@ pub record GivenAt (session : ℕ) (buffer buffer' : List ℕ) (count : ℕ) (m 
 
 -- ---- events of the meter's own
 
--- a press
+-- the button was pressed
 pub record PressedTo (number : ℕ) (m : MeterState) (code : ℕ) (m' : MeterState) : Type 0 where
   pub result : ResultCode
   pub takes : Takes m Button (Code result) m'
@@ -162,7 +162,7 @@ pub record SampledTo (samples : Samples) (firings : Firings) (m : MeterState) (c
   pub told : code ≡ code_of (tells_samples result)
   pub fires : firings ≡ firings_of (firings_of_result result)
 
--- a moment
+-- the clock reported a moment
 pub record TickedTo (moment ran : ℕ) (m : MeterState) (code : ℕ) (m' : MeterState) : Type 0 where
   pub tick : Tick
   pub takes : TakesMoment m moment tick m'
@@ -211,7 +211,7 @@ WritesText text buffer buffer' count outcome.NoRoom = (buffer' ≡ buffer) × (c
     × (length buffer < count)
 WritesText text buffer buffer' count _ = ⊥
 
--- the text was copied, only its length returned, or out of memory
+-- the text was copied, or only its length returned, or memory ran out
 abbrev pub WritesBy : {E : Type 0} → Result (List ℕ) E → List ℕ → List ℕ → ℕ → CallResult → Type 0
 WritesBy (Ok text) buffer buffer' count outcome = WritesText text buffer buffer' count outcome
 WritesBy (Err error) buffer buffer' count outcome.NoMemory = (buffer' ≡ buffer) × (count ≡ 0)

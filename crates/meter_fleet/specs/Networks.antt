@@ -9,10 +9,10 @@ use Rattle.fleet_links.specs.Streams.{StreamState}
 use Rattle.meter_fleet.specs.declared.network.NextClient.{NextClient}
 use Rattle.meter_fleet.specs.declared.network.NextClient.TheVariants as next
 
--- A report of a network: `woke` with the keys of connections that are ready, and whether clients
--- may be waiting, after a call that might wait or not; such a call failed; a client was accepted,
--- whose connection has this key, with the address that it named and its stream; a client was
--- closed at once; no client was waiting.
+-- A report of a network. `woke`: a call returned that might wait or not, with the keys of the
+-- connections that are ready, and whether clients may be waiting; `failed`: such a call failed;
+-- `accepted`: a client, with the key of its connection, the address that it named, and its stream;
+-- `rejected`: a client was closed at once; `nobody`: no client was waiting.
 pub data NetworkEvent : Type 0 where
   woke : Bool → List ℕ → Bool → NetworkEvent
   failed : Bool → NetworkEvent

@@ -186,7 +186,7 @@ pub record Works (old : LoopState) (round : Round) (left : List ℕ)
       (flat_map arrival_calls round.arrivals ++ flat_map service_calls round.services)
       fleet
 
--- a whole round
+-- a whole round of the loop was done
 pub record DoesRound (old : LoopState) (round : Round) (new : LoopState) : Type 0 where
   pub works : Works old round [] new.log new.fleet
   pub goes_on : flat_map key_again round.services ≡ new.ready

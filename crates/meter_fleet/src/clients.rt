@@ -1,4 +1,4 @@
-//! Meeting the clients that are waiting.
+//! Accepts the clients that are waiting.
 ghost use Rattle.meter_fleet.specs.Rounds.{MeetsClients, MeetsOne, AdmitsAt};
 ghost use Rattle.fleet_links.specs.Addresses.{meter_of};
 
@@ -10,7 +10,7 @@ use std::alloc::Global;
 // The maximum number of connections that are accepted in a round.
 const MAX_ACCEPTED: u16 = 4_096;
 
-// Meets the clients that are waiting, if `is_due`. Returns whether more may be waiting.
+// Accepts the clients that are waiting, if `is_due`. Returns whether more may be waiting.
 pub(crate) fn meet_clients<N: Network>(
     alloc: Global,
     network: &mut N,
@@ -31,8 +31,8 @@ pub(crate) fn meet_clients<N: Network>(
     true
 }
 
-// Accepts a client, and admits it to the meter at the address that it named. Returns whether there
-// was one.
+// Accepts a client, and admits it to the meter at the address that it named. Returns whether a
+// client was waiting, even if its connection was closed at once.
 fn meet_client<N: Network>(alloc: Global, network: &mut N, fleet: &mut Fleet<N::Stream>) -> bool
     ensures { MeetsOne (N.log network.old) fleet.old result (N.log network.new) fleet.new }
 {

@@ -5,7 +5,7 @@ ghost use Rattle.meter_fleet.specs.Networks.{NetworkEvent, WaitsBy, AcceptsBy};
 use fleet_links::Stream;
 use thiserror::Error;
 
-/// The network failed: it can't wait for further events.
+/// The network failed: it cannot wait for further events.
 #[derive(Clone, Copy, Debug, PartialEq, Eq, Error)]
 #[error("the network failed")]
 pub struct NetworkFault;

@@ -1,4 +1,4 @@
-//! `Rounds`: one round after the other of meeting clients and serving connections.
+//! `Rounds`: one round after the other: accepts clients and serves connections.
 ghost use Rattle.std.specs.Prelude.{◌≡◌, ◌==◌, ◌&&◌, [], false, not, IfOk, length};
 ghost use Rattle.meter_fleet.specs.Rounds.{frame_bytes};
 

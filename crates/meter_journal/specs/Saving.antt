@@ -23,11 +23,12 @@ pub record IsSaved (Renews : List ℕ → List ℕ → Type 0) (first : List (Li
   pub within : n ≤ length (lines_of_calls calls)
   pub lines : Holds Renews first (take n (lines_of_calls calls)) file
 
--- the same, for at least this number of lines
+-- whether a file holds the lines that it had first, followed by at least `from` lines of the
+-- history
 abbrev pub IsSavedFrom : (List ℕ → List ℕ → Type 0) → ℕ → List (List ℕ) → Calls → List ℕ → Type 0
 IsSavedFrom Renews from first calls file = (n : ℕ) × (from ≤ n) × IsSaved Renews first n calls file
 
--- all lines of the history
+-- whether a file holds the lines that it had first, followed by all lines of the history
 abbrev pub IsAllSaved : (List ℕ → List ℕ → Type 0) → List (List ℕ) → Calls → List ℕ → Type 0
 IsAllSaved Renews first calls file =
     IsSaved Renews first (length (lines_of_calls calls)) calls file

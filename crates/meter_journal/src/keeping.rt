@@ -38,6 +38,7 @@ pub(crate) fn keep_lines<F: DurableFile, W: Wait>(
     ensures any_moment { F.acts_as_file → LeavesOnly F.moment F.left_since file.old file.new
         (IsSavedFrom F.renews 0 (lines_in (F.seen file.old)) port.new.known.seen) }
 {
+    // (no effect: the contract needs this law)
     port.has_a_legal_history();
     let mut saved = Saved { count: 0, room };
     'saving: for _ in rt.forever() {

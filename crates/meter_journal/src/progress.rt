@@ -48,7 +48,8 @@ impl<F: DurableFile> ProgressState<F> {
         self.lines.load(Ordering::SeqCst) >= lines
     }
 
-    // Waits until this number of lines is on the disk, or the journal has ended.
+    // Waits until this number of lines is on the disk, or the journal has ended. Returns whether
+    // the lines are on the disk.
     fn wait<W: Wait>(&self, rt: &W, lines: u64) -> bool
         ensures { IsTrue result → F.acts_as_file → IsStored F.renews F.stored lines }
     {
@@ -85,6 +86,7 @@ impl<F: DurableFile> JournalProgress<F> {
         requires { F.acts_as_file → IsSettled F.seen F.may_leave F.stored file.now }
         ensures { OnOk result (F.acts_as_file → IsStored F.renews F.stored 0) }
     {
+        // (no effect: the contract needs this law)
         port.has_a_legal_history();
         let _file = file;
         let state = ProgressState {

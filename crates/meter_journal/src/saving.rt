@@ -55,8 +55,8 @@ fn take_lines<W: Wait>(
 /// and every crash leaves them. A crash during the call leaves a front of them, with at least the
 /// first `taken`. Errors: `Lines` if a line was lost, another number of lines was taken before, or
 /// the meter has no journal; `Turns` if all turns of the lock were drawn; `File` if the file failed
-/// or would exceed its limit. After an error some of the lines may be lost, so the journal can't be
-/// continued.
+/// or would exceed its limit. After an error some of the lines may be lost, so the journal cannot
+/// be continued.
 pub fn save<F: DurableFile, W: Wait>(
     rt: &W,
     alloc: Global,

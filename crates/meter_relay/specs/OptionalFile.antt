@@ -7,7 +7,7 @@ abbrev pub FileHasFailed : {F : Type 0} → (F → Type 0) → Option F → Type
 FileHasFailed has_failed None = ⊥
 FileHasFailed has_failed (Some file) = has_failed file
 
--- the file has failed, or was to be cut
+-- whether the file has failed, or was to be cut
 abbrev pub HasFailed : {F : Type 0} → (F → Type 0) → OptionalFile F → Type 0
 HasFailed has_failed optional =
     (optional.is_cut ≡ true) ⊎ FileHasFailed has_failed optional.file

@@ -2,6 +2,6 @@
 use Rattle.std.specs.Prelude.{◌≡◌, true}
 use Rattle.meter_relay.specs.declared.relayed_file.RelayedFile.{RelayedFile}
 
--- a call has failed
+-- whether a call has failed
 abbrev pub HasFailed : {F W L : Type 0} → RelayedFile F W L → Type 0
 HasFailed relayed = relayed.has_failed ≡ true

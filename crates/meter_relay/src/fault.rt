@@ -1,4 +1,4 @@
-//! Why a relay no longer follows its meter.
+//! The faults of a relay, and their numbers.
 ghost use Rattle.std.specs.Prelude.{◌≡◌};
 ghost use Rattle.meter_relay.specs.declared.fault.RelayFault.TheVariants as fault;
 

@@ -72,7 +72,7 @@ pub record IsRunFrom (first : ℕ) (recorder : Recording) (given : Given)
   pub stands : Stands kept calls
   pub traced : TellsRun kept.recorder text
 
--- a run of a meter without a journal
+-- whether a run is one of a meter without a journal
 abbrev pub IsRun : Recording → Given → Result Served ServeFault → List ℕ → Type 0
 IsRun = IsRunFrom 0
 

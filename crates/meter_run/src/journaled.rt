@@ -226,6 +226,7 @@ pub fn run_journaled_meter<
     ensures fault { IfErr result.served (StopsFor ⊤ (L.has_failed listener.new)) }
     ensures err { IfErr result.trace (λ fault. (fault ≡ Turns) ⊎ (fault ≡ Memory)) }
 {
+    // (no effect: the contract needs this law)
     file_is_idle(&journal.file);
     let Some(started) = start(rt, alloc, recorder, journal) else {
         drop(sources);

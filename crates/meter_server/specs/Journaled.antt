@@ -18,7 +18,7 @@ use Rattle.turn_lock.specs.Shown.{IsSame}
 use Rattle.turn_lock.specs.declared.call_fault.CallFault.{CallFault}
 use Rattle.turn_lock.specs.declared.call_fault.CallFault.TheVariants.{Memory, Exhausted, Journal}
 
--- as many lines as these calls have are on the disk
+-- whether as many lines as these calls have are on the disk
 abbrev pub IsOnDisk : (IsDurable : ℕ → Type 0) → Calls → Type 0
 IsOnDisk IsDurable calls = IsDurable (length (lines_of_calls calls))
 
@@ -29,7 +29,7 @@ pub record HasCalled (p : MeterPort) (event : Event) (reply : Reply) (q : MeterP
   pub same : IsSame between q
   pub watches : Watches IsLegal between.known q.known
 
--- an event that may change the meter was not passed on
+-- whether an event that may change the meter was not passed on
 abbrev pub IsHeldBack : MeterPort → Event → MeterPort → Type 0
 IsHeldBack p event q = (is_read event ≡ false) × (q ≡ p)
 

@@ -22,7 +22,7 @@ use Rattle.turn_lock.specs.declared.call_fault.CallFault.{CallFault}
 abbrev pub client_terms : {D : Type 0} → Option D → List ℕ → List ℕ
 client_terms journal password = (if is_some journal then 1 else 0) ∷ password
 
--- by these terms the meter has a journal
+-- whether by these terms the meter has a journal
 abbrev pub HasJournal : List ℕ → Type 0
 HasJournal terms = take 1 terms ≡ 1 ∷ []
 

@@ -27,7 +27,7 @@ pub record Acted (port : MeterPort) (number : List ℕ) (Whole : List Event → 
   pub joined : IsAmong number port.known.joined
   pub whole : Whole (events_by number port)
 
--- the number of connections has reached the limit
+-- whether the number of connections has reached the limit
 abbrev pub IsLimit : ℕ → Served → Type 0
 IsLimit limit served = 0 < limit → served.served + served.turned_away ≡ limit
 
@@ -37,7 +37,7 @@ pub record IsServed (splits later : ℕ) (served : Served) : Type 0 where
   pub most : splits + served.served ≤ later
   pub all : served.served < 18446744073709551615 → splits + served.served ≡ later
 
--- the port has read that all turns of the lock were drawn
+-- whether the port has read that all turns of the lock were drawn
 abbrev pub IsSpent : MeterPort → Type 0
 IsSpent port = port.bound ≤ port.known.drawn
 

@@ -146,7 +146,7 @@ fn share_journal<D: Durability>(journal: &Option<D>) -> Result<Option<D>, AllocE
 }
 
 // Returns the client of these streams with a copy of the password and another handle of the
-// journal, `OutOfMemory` if one of these can't be allocated, or `SetupFailed` if there are no
+// journal, `OutOfMemory` if one of these cannot be allocated, or `SetupFailed` if there are no
 // streams.
 fn prepare_client<I: Drop, O: Drop, D: Durability>(
     alloc: Global,

@@ -318,6 +318,7 @@ pub fn serve_all_journaled<
     let presses = PressEvents { source: buttons };
     let events = (blocks, (moments, presses));
     let served = serve_with_three(rt, alloc, listener, events, &mut port, terms);
+    // (no effect: the contract needs this law)
     port.has_a_legal_history();
     match served {
         Ok(served) => Ok((port, served)),

@@ -3,7 +3,7 @@ use acse_ber::MAX_PASSWORD;
 use server_commands::ServeOptions;
 use std::io::ErrorKind;
 
-// The maximum length of a meter's name, in bytes.
+// The maximum length of a meter's name, in bytes (`relay_core::MAX_DEVICE_NAME`).
 const MAX_DEVICE: usize = 16;
 
 // Returns whether a text has 1 to `most` bytes.

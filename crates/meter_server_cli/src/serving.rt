@@ -204,8 +204,8 @@ pub(crate) struct Server {
     address: SocketAddr,
 }
 
-// Listens on the address of the command line. If `is_verbose`, prints the address, or why
-// listening failed, on standard error.
+// Listens on the address of the command line, and returns the listener and its address. If
+// `is_verbose`, prints the address, or why listening failed, on standard error.
 fn listen_on(
     rt: &HostRuntime,
     address: &str,

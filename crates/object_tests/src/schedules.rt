@@ -7,13 +7,13 @@ use std::alloc::{AllocError, Global};
 use std::process::Abort;
 use std::test::Fail;
 
-/// Script 1 of the script table.
+/// Script 1 of the script table. This text and those below are Data in hexadecimal digits.
 const SCRIPT: &str = "0202090600000A006AFF120001";
 
 /// The last second of each month.
 const LAST_SECOND: &str = "010102020904173B3B000905FFFFFFFEFF";
 
-/// 31 March 2028, 23:59:59.
+/// 31 March 2028, 23:59:59, in seconds since 1 January 2000, as all moments here.
 const MARCH: u32 = 891_475_199;
 
 /// An attribute, the text that is written to it, and the fault of the write, if it has one.
@@ -144,14 +144,19 @@ const OPEN: &str = "010202020904173BFF00090507EC0319FF02020904173BFF00090507EC03
 /// Two entries, one of which has an unspecified hour.
 const HALF_OPEN: &str = "010202020904FF3B0000090507EC0319FF02020904003B0000090507EC031AFF";
 
+/// Midnight of 25 March 2028.
 const PLAIN: &str = "01010202090400000000090507EC0319FF";
 
+/// The year is not specified.
 const ANY_YEAR: &str = "010102020904000000000905FFFF031907";
 
+/// The month is not specified.
 const ANY_MONTH: &str = "01010202090400000000090507ECFF1907";
 
+/// The day of the month is not specified.
 const ANY_DAY: &str = "01010202090400000000090507EC03FF07";
 
+/// The last day of a month.
 const LAST_DAY: &str = "01010202090400000000090507EC03FE07";
 
 /// Types, entries, and whether a schedule with these entries fits the type.
@@ -473,7 +478,7 @@ fn midnights(alloc: Global, count: u8, last: &str) -> Result<String, AllocError>
     Ok(text)
 }
 
-/// Checks the fault of that many entries of midnight, the last of which is another.
+/// Checks the fault of `count` entries: `last` after entries of midnight.
 fn check_midnights(
     rt: &impl Abort,
     alloc: Global,

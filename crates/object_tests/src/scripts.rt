@@ -123,8 +123,10 @@ fn long_text(alloc: Global, counts: (u8, u8), pair: (&str, &str)) -> Result<Stri
     }
 }
 
+/// The step remote_disconnect, as Data in hexadecimal digits.
 const DISCONNECT: &str = "020516021200460906000060030AFF0F010F00";
 
+/// A step that writes a duration of the export limiter, as Data in hexadecimal digits.
 const EXPORT_DURATION: &str = "0205160112004709060001110000FF0F07060000000F";
 
 /// Returns whether a step, or `None`, is the expected one: compares what Debug writes.
@@ -242,7 +244,7 @@ fn a_full_table_is_read_and_written_back(rt: HostRuntime) -> Result<(), Fail> {
     Ok(())
 }
 
-/// Returns whether a table of that many scripts, each of that many steps, is written as it was
+/// Returns whether a table of `counts.0` scripts, each of `counts.1` steps, is written as it was
 /// read.
 fn is_read_back(alloc: Global, counts: (u8, u8)) -> Result<bool, AllocError> {
     let text = long_text(alloc, counts, (DISCONNECT, DISCONNECT))?;
@@ -287,8 +289,8 @@ static TOO_LONG: [(u8, u8, &str, ScriptFault); 3] = [
     ),
 ];
 
-/// Returns the fault of a table of that many scripts, each of that many steps, the last of which is
-/// `last`.
+/// Returns the fault of a table of `counts.0` scripts, each of `counts.1` steps, the last of which
+/// is `last`.
 fn long_fault(alloc: Global, counts: (u8, u8), last: &str) -> Option<ScriptFault> {
     let text = long_text(alloc, counts, (DISCONNECT, last)).ok()?;
     let fault = fault(alloc, text.as_str());

@@ -53,8 +53,8 @@ module _ {H E R O : Type 0} (lent : H → ShownPort E R O) (terms_of : H → Lis
     pub among : IsAmong number p.known.joined
     pub served : AreCallsOf (did terms) number (calls_by number p.known.seen)
 
-  -- each port that was split off, from the count `from` on, was joined in or is that of an open
-  -- session
+  -- whether each port that was split off, from the count `from` on, was joined in or is that of an
+  -- open session
   abbrev pub IsAccounted : ℕ → ShownPort E R O → Slab H → Type 0
   IsAccounted from p held = (i : ℕ) → from ≤ i → i < p.known.splits
       → IsEnded p (child p.known.number i) ⊎ IsOpen held (child p.known.number i)
@@ -80,14 +80,14 @@ Takes Crowded splits later = later ≡ splits
 Takes Starved splits later = splits ≤ later
 Takes SetupFailed splits later = later ≡ splits
 
--- a connection that its listener closed is reported with the listener's reason; no other is
+-- whether a connection that its listener closed is reported with the listener's reason; no other is
 -- reported as one whose stream could not be set up
 abbrev pub IsClosedFor : {C : Type 0} → Arrival C → Admission → Type 0
 IsClosedFor (incoming.Ready connection) outcome = outcome ≢ SetupFailed
 IsClosedFor incoming.OutOfMemory outcome = outcome ≡ Starved
 IsClosedFor incoming.SetupFailed outcome = outcome ≡ SetupFailed
 
--- a connection is closed as one too many only if eight sessions are open
+-- whether a connection is closed as one too many only if eight sessions are open
 abbrev pub IsCrowd : {H : Type 0} → Admission → Slab H → Type 0
 IsCrowd outcome held = outcome ≡ Crowded → 8 ≤ slab_len held
 

@@ -7,7 +7,7 @@ use std::sync::atomic::{AtomicBool, Ordering};
 pub const SESSIONS: usize = 8;
 
 // Two flags for each session's place. They are needed because the handle of a thread does not show
-// whether the thread has ended, and because the closure of a thread that can't be started keeps
+// whether the thread has ended, and because the closure of a thread that cannot be started keeps
 // its values until it is called.
 #[derive(Drop)]
 pub(crate) struct Flags {

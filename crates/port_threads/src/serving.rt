@@ -138,6 +138,7 @@ where
     let mut sessions = Sessions::new(alloc)?;
     let accepted = accept_all(rt, alloc, listener, &mut sessions, port, limit);
     sessions.close_all(rt, port);
+    // (no effect: the contract needs this law)
     port.has_a_legal_history();
     Ok(accepted)
 }

@@ -30,12 +30,13 @@ pub record IsFileOf (text bytes : List ℕ) : Type 0 where
   pub one_line : HasNoLineEnd text
   pub bytes_are : (bytes ≡ text) ⊎ (bytes ≡ text ++ 10 ∷ [])
 
--- others than the file's owner may read, change or run it: in a mode of POSIX the six lowest bits
--- are the permissions of the group and of all others
+-- whether others than the file's owner may read, change or run it: in a mode of POSIX the six
+-- lowest bits are the permissions of the group and of all others
 abbrev pub IsExposed : ℕ → Type 0
 IsExposed mode = mode % 64 ≢ 0
 
--- why these bytes of a file gave no line: they are not one line of UTF-8 text, or out of memory
+-- whether this is why these bytes of a file gave no line: they are not one line of UTF-8 text, or
+-- out of memory
 abbrev pub IsLineFault : List ℕ → PasswordFault → Type 0
 IsLineFault bytes password.Read = ⊥
 IsLineFault bytes password.Exposed = ⊥
@@ -55,14 +56,15 @@ pub record HasNoLine (left left' : Option (List ℕ)) : Type 0 where
   pub read : Consumes left left' bytes
   pub cause : (1024 < length bytes) ⊎ (IsAtEnd left' × IsLineFault bytes password.Line)
 
--- why an open file of this mode gave no password; `failed` reads had failed before, `failed'` after
+-- whether this is why an open file of this mode gave no password; `failed` reads had failed before,
+-- `failed'` after
 abbrev pub IsFileFault : ℕ → Option (List ℕ) → ℕ → Option (List ℕ) → ℕ → PasswordFault → Type 0
 IsFileFault mode left failed left' failed' password.Read = failed < failed'
 IsFileFault mode left failed left' failed' password.Exposed = IsExposed mode
 IsFileFault mode left failed left' failed' password.Line = HasNoLine left left'
 IsFileFault mode left failed left' failed' password.Memory = ⊤
 
--- a file that can't be read, one that is exposed or has no password, and no memory
+-- a file that cannot be read, one that is exposed or has no password, and no memory
 abbrev pub fault_of : PasswordFault → Fault
 fault_of password.Read = fault.Read
 fault_of password.Exposed = fault.Input

@@ -20,7 +20,7 @@ const MAX_LENGTH: usize = 1_024;
 /// Why a file gave no password. It is displayed as what was expected.
 #[derive(Clone, Copy, Debug, PartialEq, Eq, Error)]
 pub enum PasswordFault {
-    /// The file can't be read.
+    /// The file cannot be read.
     #[error("the file can't be read")]
     Read = 1,
     /// Others than the file's owner may read, change or run it.
@@ -116,7 +116,7 @@ fn read_open_file<R: Reader>(
 
 /// Reads a password from a file: one line of UTF-8 text, with or without the byte 0A at its end.
 ///
-/// Errors, in this order: `Read` if the file can't be opened; `Exposed` if others than its owner
+/// Errors, in this order: `Read` if the file cannot be opened; `Exposed` if others than its owner
 /// may read, change or run it; `Line` if it has more than 1,024 bytes, or `Read`; `Line` if it is
 /// not one line of UTF-8 text. `Memory` can occur at any point. No contract can say what a file of
 /// the operating system has, so the order is tested.

@@ -1,5 +1,4 @@
--- The object that a request names, or the result code that refuses it: name, class, rights and
--- selective access, in this order.
+-- The object that a request names, or the result code that refuses it.
 use Rattle.std.specs.Prelude.{Bool, Option, Some, None, Result, Ok, Err, ◌==◌, not, if◌then◌else◌}
 use Rattle.cosem_names.specs.declared.name.Obis.{Obis}
 use Rattle.cosem_names.specs.declared.name.ClassId.{ClassId}
@@ -9,9 +8,9 @@ use Rattle.cosem_names.specs.declared.result_code.ResultCode.{ResultCode}
 use Rattle.cosem_names.specs.declared.result_code.ResultCode.TheVariants.{ObjectUndefined, ObjectClassInconsistent, ReadWriteDenied, ScopeOfAccessViolated}
 use Rattle.cosem_names.specs.Objects.{object_of}
 
--- The first refusal of a request for an object, in this meter's order, or the object. The result
--- codes are those of IEC 62056-5-3, Data-Access-Result and Action-Result; the order is this meter's
--- own.
+-- The object with the name of a request, or the first refusal. `allowed`: the client has the right
+-- to that attribute or method; `selected`: the request has selective access. The result codes are
+-- those of IEC 62056-5-3, Data-Access-Result and Action-Result; their order is this meter's own.
 abbrev pub target_in : Option Object → ClassId → Bool → Bool → Result Instance ResultCode
 target_in None class allowed selected = Err ObjectUndefined
 target_in (Some object) class allowed selected =
@@ -20,8 +19,7 @@ target_in (Some object) class allowed selected =
     else if selected then Err ScopeOfAccessViolated
     else Ok object.instance
 
--- The object that a request names, or the first refusal: the name is unknown (ObjectUndefined), the
--- class isn't the object's (ObjectClassInconsistent), the client has no right to that attribute or
--- method (ReadWriteDenied), or the request has selective access.
+-- The object that a request names, or the first refusal: of the name, the class, the right, and the
+-- selective access.
 unfoldable pub target_of : Obis → ClassId → Bool → Bool → Result Instance ResultCode
 target_of name class allowed selected = target_in (object_of name) class allowed selected

@@ -13,7 +13,7 @@ use Rattle.relay_core.specs.Access.{target_of}
 use Rattle.relay_core.specs.Moving.{list_numbered}
 use Rattle.relay_core.specs.Registers.{attribute_numbered as register_attribute, is_plain as is_plain_register}
 
--- whether a read of an attribute never allocates; a number that the object doesn't have is refused
+-- whether a read of an attribute never allocates; a number that the object does not have is refused
 -- without allocating
 abbrev pub is_plain_where : {A : Type 0} → (A → Bool) → Option A → Bool
 is_plain_where plain None = true

@@ -30,7 +30,7 @@ pub record World : Type 0 where
   pub scripts : List Script
   pub schedules : Schedules
 
--- a device name has 1 to 16 bytes
+-- whether a device name has 1 to 16 bytes
 abbrev pub IsDeviceName : List ℕ → Type 0
 IsDeviceName device = (1 ≤ length device) × (length device ≤ 16)
 

@@ -9,7 +9,7 @@ use cosem_names::{
 };
 
 // Returns the object that a request names, or the first refusal, in this order: an unknown name, a
-// class that isn't the object's, an attribute or method that isn't `allowed`, selective access.
+// class that is not the object's, an attribute or method that is not `allowed`, selective access.
 #[tactic(auto, unfolding(crate::specs::Access::target_of))]
 fn target(name: Obis, class: ClassId, allowed: bool, selected: bool) -> Result<Instance, ResultCode>
     ensures { result ≡ target_of name class allowed selected }
@@ -30,7 +30,7 @@ fn target(name: Obis, class: ClassId, allowed: bool, selected: bool) -> Result<I
 }
 
 // Returns the object of the attribute that a client of this level reads, or the first refusal. The
-// rights are those of the class that the request names: if it isn't the object's, `target` refuses
+// rights are those of the class that the request names: if it is not the object's, `target` refuses
 // the request before it asks for rights. So the table of objects is searched once.
 pub(crate) fn read_target(
     level: Level,

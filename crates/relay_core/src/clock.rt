@@ -48,8 +48,8 @@ impl RelayCore {
         }
     }
 
-    // Runs the schedules that are due after `last` and at or before `now`, in order, and counts
-    // them.
+    // Runs the schedules that are due after `last` and at or before `now`, in order, and returns
+    // their number.
     fn run_schedules(&mut self, last: u32, now: u32) -> u8
         ensures world { (w : World) → StandsFor self.old w
             → StandsFor self.new (after_schedules last now (all_schedules w.schedules) w) }

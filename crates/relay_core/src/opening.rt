@@ -38,12 +38,17 @@ pub struct LimiterOpening {
 pub struct Opening {
     /// The logical device name, 1 to 16 bytes.
     pub device: Octets,
+    /// The state of the switch.
     pub state: ControlState,
+    /// The mode of the switch.
     pub mode: ControlMode,
     /// The last moment of the clock, in seconds since 2000-01-01 00:00:00 of the meter's time.
     pub moment: Option<u32>,
+    /// The limiter of the imported power.
     pub import: LimiterOpening,
+    /// The limiter of the exported power.
     pub export: LimiterOpening,
+    /// The script table.
     pub scripts: ScriptTable,
     /// The schedules 0 to 3.
     pub schedules: Schedules,
@@ -52,7 +57,7 @@ pub struct Opening {
 /// Why an opening could not be restored.
 #[derive(Clone, Copy, Debug, PartialEq, Eq, Error)]
 pub enum OpeningFault {
-    /// No core can have this state: the device name isn't 1 to 16 bytes, the mode is 0 outside
+    /// No core can have this state: the device name is not 1 to 16 bytes, the mode is 0 outside
     /// Connected, a limiter has more than 32 group ids, or no samples give its runs.
     #[error("an opening that no core has")]
     Unfit = 1,
@@ -116,7 +121,7 @@ impl LimiterOpening {
         few && are_fit(self.value, self.over, self.under)
     }
 
-    // Restores the limiter, with its clock at a moment.
+    // Returns the limiter of this opening, with its clock at a moment.
     fn limiter(&self, alloc: Global, moment: Option<u32>) -> Result<Limiter, AllocError>
         requires { IsFitLimiterOpening self.now }
         ensures same { IfOk result (λ limiter. limiter_opening_of limiter ≡ self.now) }
@@ -132,7 +137,7 @@ impl LimiterOpening {
 }
 
 impl RelayCore {
-    // Saves the state of the core.
+    // Returns the state of the core.
     #[tactic(auto, using(crate::proofs::OpeningLemmas::table_in_range))]
     fn save_state(&self, alloc: Global) -> Result<Opening, AllocError>
         ensures opening { IfOk result (λ opening. opening ≡ opening_of self.now) }
@@ -251,7 +256,7 @@ impl Opening {
         DisconnectControl::of(self.state, self.mode)
     }
 
-    // Restores both limiters: import, then export.
+    // Returns the limiters of this opening: import, then export.
     fn limiters(&self, alloc: Global) -> Result<(Limiter, Limiter), AllocError>
         requires { IsFitOpening self.now }
         ensures import { IfOk result (λ both. limiter_opening_of both.0 ≡ self.now.import) }

@@ -23,7 +23,7 @@ use std::alloc::{AllocError, Global};
 /// memory for.
 #[derive(Debug, Drop)]
 pub enum Parts {
-    /// No list: the event doesn't write one, or the write is refused.
+    /// No list: the event does not write one, or the write is refused.
     Plain,
     /// The scripts of the script table.
     Scripts(ScriptTable),

@@ -103,7 +103,7 @@ pub(crate) fn read_schedule(
     Ok(GetResult::Value(schedule.to_data(alloc, attribute)?))
 }
 
-// Returns the result code of a write that doesn't allocate.
+// Returns the result code of a write that does not allocate.
 fn code_of(answer: Result<(), WriteFault>) -> ResultCode
     ensures { result ≡ write_code answer }
 {

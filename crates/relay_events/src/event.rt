@@ -1,5 +1,4 @@
-//! The inputs of a meter: client requests, presses of the button, blocks of power samples, moments
-//! of the clock.
+//! The inputs of a meter, and their copies.
 ghost use Rattle.std.specs.Prelude.{◌≡◌, IfOk};
 ghost use Rattle.relay_events.specs.Kinds.{is_read};
 

@@ -36,7 +36,9 @@ pub enum Reply {
 /// One line of a run: the reply to an event, and the switch's state and output after it.
 #[derive(Debug, Drop)]
 pub struct Line {
+    /// The reply to the event.
     pub reply: Reply,
+    /// The state of the switch.
     pub state: ControlState,
     /// Whether the supply is on.
     pub output: bool,

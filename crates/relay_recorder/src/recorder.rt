@@ -73,6 +73,7 @@ impl Recorder {
         ensures history { IfOk result (λ recorder. (w : World) → StandsFor core w
             → StandsForHistory recorder [] w) }
     {
+        // (no effect: the contract needs this law)
         core.stands_for_its_opening();
         match core.try_copy(alloc) {
             Ok(opening) => match HeapCircularBuffer::with_capacity(alloc, usize::from(capacity)) {
@@ -170,7 +171,7 @@ impl Recorder {
     /// Exports a trace: the opening (the saved state of the core before the kept events) and copies
     /// of these events. Run from that opening, the events give the same lines as in every history
     /// that the recorder may have, with the replies that [`apply`](Recorder::apply) returned. The
-    /// opening's state can't be distinguished from the state that the core before the kept events
+    /// opening's state cannot be distinguished from the state that the core before the kept events
     /// was in. Fails if out of memory.
     pub fn export(&self, alloc: Global) -> Result<Trace, AllocError>
         ensures opening { IfOk result (λ trace. trace.opening ≡ opening_of self.now.opening) }

@@ -68,7 +68,7 @@ pub record IsInTable (step : Step) : Type 0 where
       ≡ Some (address_named_by step).class
   pub allowed : is_allowed (address_named_by step) ≡ true
 
--- a step that writes a limiter names the attribute that it writes
+-- whether a step that writes a limiter names the attribute that it writes
 abbrev pub IsNamed : Step → Type 0
 IsNamed (WriteMode mode) = Unit {0}
 IsNamed (WriteNormal which watts) =
@@ -87,6 +87,6 @@ IsNamed (WriteProfile which profile) =
 IsNamed Disconnect = Unit {0}
 IsNamed Reconnect = Unit {0}
 
--- a step is listed: its address is that of its action, and of no other
+-- whether a step is listed: its address is that of its action, and of no other
 abbrev pub IsListed : Step → Type 0
 IsListed step = action_at (address_named_by step) ≡ Some (action_of step)

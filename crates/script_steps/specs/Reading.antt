@@ -82,7 +82,7 @@ judged_scripts items = do
   fault_of_items script_of items
   guard (nat_le (length items) max_scripts && are_distinct identifier_of items) Value
 
--- a script table
+-- the scripts of a script table, or the first fault
 unfoldable pub table_of : Data → Result (List Script) WriteFault
 table_of value = do
   items ← ok_or (array_of value) Unmatched

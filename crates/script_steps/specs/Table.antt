@@ -7,7 +7,8 @@ use Rattle.script_steps.specs.declared.step.Script.{Script}
 use Rattle.script_steps.specs.declared.step.Step.{Step}
 use Rattle.script_steps.specs.declared.step.Step.TheVariants.{WriteNormal, WriteEmergency, WriteMinOver, WriteMinUnder, WriteProfile}
 
--- thresholds and durations are numbers of 32 bits, and a profile's start has fields in their ranges
+-- whether the thresholds and durations are numbers of 32 bits, and a profile's start has fields in
+-- their ranges
 abbrev pub IsStep : Step → Type 0
 IsStep (WriteNormal which watts) = watts < 2 ^ 32
 IsStep (WriteEmergency which watts) = watts < 2 ^ 32

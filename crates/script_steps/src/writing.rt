@@ -9,7 +9,7 @@ use cosem_axdr::{Data, Items, Octets};
 use limiter_attributes::write_profile;
 use std::alloc::{AllocError, Global};
 
-// Writes the parameter of a step. The parameter of a method is the integer 0.
+// Returns the Data of the parameter of a step. The parameter of a method is the integer 0.
 fn parameter(alloc: Global, step: &Step) -> Result<Data, AllocError>
     ensures { IfOk result (λ value. value ≡ parameter_of step.now) }
 {
@@ -24,8 +24,8 @@ fn parameter(alloc: Global, step: &Step) -> Result<Data, AllocError>
     })
 }
 
-// Writes a step with this address and parameter: a structure of service_id, class_id, logical_name,
-// index and parameter.
+// Returns the Data of a step with this address and parameter: a structure of service_id, class_id,
+// logical_name, index and parameter.
 fn write_addressed_step(
     alloc: Global,
     address: Address,
@@ -43,7 +43,7 @@ fn write_addressed_step(
     ]?)))
 }
 
-// Writes a step.
+// Returns the Data of a step.
 #[tactic(auto, unfolding(crate::specs::Writing::step_data))]
 fn write_step(alloc: Global, step: &Step) -> Result<Data, AllocError>
     ensures { IfOk result (λ value. value ≡ step_data step.now) }
@@ -52,7 +52,7 @@ fn write_step(alloc: Global, step: &Step) -> Result<Data, AllocError>
     write_addressed_step(alloc, step.action().address(), parameter)
 }
 
-// Writes the steps of a script.
+// Returns the Data of the steps of a script.
 fn write_steps(alloc: Global, steps: &[Step]) -> Result<Data, AllocError>
     ensures { IfOk result (λ value. value ≡ array_with (map step_data steps.now)) }
 {
@@ -63,7 +63,7 @@ fn write_steps(alloc: Global, steps: &[Step]) -> Result<Data, AllocError>
     Ok(Data::Array(Items::from_vec(items)))
 }
 
-// Writes a script.
+// Returns the Data of a script.
 #[tactic(auto, unfolding(crate::specs::Writing::script_data))]
 fn write_script(alloc: Global, script: &Script) -> Result<Data, AllocError>
     ensures { IfOk result (λ value. value ≡ script_data script.now) }
@@ -75,7 +75,7 @@ fn write_script(alloc: Global, script: &Script) -> Result<Data, AllocError>
     ]?)))
 }
 
-// Writes the scripts of a table.
+// Returns the Data of the scripts of a table.
 #[tactic(auto, unfolding(crate::specs::Writing::data_of))]
 pub(crate) fn write_scripts(alloc: Global, scripts: &[Script]) -> Result<Data, AllocError>
     ensures { IfOk result (λ value. value ≡ data_of scripts.now) }

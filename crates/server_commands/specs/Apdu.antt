@@ -46,7 +46,7 @@ max_bytes = 1048576
 module _ {R W : Type 0}
     (remaining : R → Option (List ℕ)) (read_failures : R → ℕ)
     (contents : W → Option (List ℕ)) (write_failures : W → ℕ) where
-  -- a whole text of a fit length was read
+  -- whether a whole text of a fit length was read
   abbrev pub IsWholeText : List ℕ → R → Type 0
   IsWholeText text r = (length text ≤ max_bytes) × IsAtEnd (remaining r)
 

@@ -41,7 +41,8 @@ pub record HasHead (bytes : List ℕ) : Type 0 where
   pub trace : Trace
   pub told : trace_of text ≡ Ok trace
 
--- why a trace is not read: there is none, a read of the stream failed, or out of memory
+-- whether this is why a trace is not read: there is none, a read of the stream failed, or out of
+-- memory
 abbrev pub IsHeadFault : Bool → Fault → Type 0
 IsHeadFault failed program.Input = ⊤
 IsHeadFault failed program.Read = failed ≡ true

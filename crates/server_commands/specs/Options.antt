@@ -13,12 +13,12 @@ use Rattle.clap.specs.Texts.{items_of}
 use Rattle.clap.specs.declared.builder.arg.Arg.{Arg}
 use Rattle.server_commands.specs.declared.options.Bounds.{Bounds}
 
--- the text of the option of this name; empty if there is none
+-- whether this is the text of the option of this name; empty if there is none
 abbrev pub IsText : Found → List ℕ → List ℕ → Type 0
 IsText found name text = text ≡ unwrap_or (first_value found name) []
 
--- the number of the option of this name, which is written in decimal and fits in this number of
--- bits
+-- whether this is the number of the option of this name: it is written in decimal and fits in this
+-- number of bits
 abbrev pub IsNumber : ℕ → Found → List ℕ → ℕ → Type 0
 IsNumber bits found name number = (text : List ℕ) → one_text found name ≡ Some text
     → IsNumeral 10 (without_leading_plus text)

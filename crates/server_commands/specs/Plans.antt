@@ -20,15 +20,15 @@ pub record Resumes (left left' : Option (List ℕ)) (recorder : Recording) : Typ
   pub stands : StandsFor recorder.core (world_of trace)
   pub goes_on : ContinuesRun trace (world_of trace)
 
--- the input does not begin with a trace
+-- whether the input does not begin with a trace
 abbrev pub HasNoTrace : Option (List ℕ) → Type 0
 HasNoTrace left = IfSome left (λ bytes. ¬ (HasHead bytes))
 
--- a number of kept events other than 1 to 1,024
+-- whether a number of kept events is other than 1 to 1,024
 abbrev pub IsWrongDepth : ℕ → Type 0
 IsWrongDepth depth = (depth ≡ 0) ⊎ (1024 < depth)
 
--- why there is no recorder, by whether a read of the input failed
+-- whether this is why there is no recorder, by whether a read of the input failed
 abbrev pub IsRecorderFault : Bounds → Option (List ℕ) → Bool → Fault → Type 0
 IsRecorderFault bounds left failed fault.Input = IsWrongDepth bounds.depth
     ⊎ ((bounds.resumes ≡ true) × HasNoTrace left)
@@ -38,7 +38,8 @@ IsRecorderFault bounds left failed fault.Write = ⊥
 IsRecorderFault bounds left failed fault.Listen = ⊥
 IsRecorderFault bounds left failed fault.Turns = ⊥
 
--- why there is no plan: the password or the device name has a wrong length, or there is no recorder
+-- whether this is why there is no plan: the password or the device name has a wrong length, or
+-- there is no recorder
 abbrev pub IsPlanFault : List ℕ → List ℕ → Bounds → Option (List ℕ) → Fault → Type 0
 IsPlanFault password device bounds left fault.Input =
     ((length password ≡ 0) ⊎ (32 < length password)) ⊎ ((length device ≡ 0) ⊎ (16 < length device))

@@ -13,8 +13,8 @@ use Rattle.server_commands.specs.Apdu.{max_bytes}
 use Rattle.server_commands.specs.declared.telling.CommandFault.{CommandFault}
 use Rattle.server_commands.specs.declared.telling.CommandFault.TheVariants as fault
 
--- the fault of an option's text of this length: the option's own fault if the text is empty or too
--- long, or out of memory
+-- whether this is the fault of an option's text of this length: the option's own fault if the text
+-- is empty or too long, or out of memory
 abbrev pub IsOptionFault : CommandFault → ℕ → ℕ → CommandFault → Type 0
 IsOptionFault wrong count longest given = (given ≡ fault.Memory)
     ⊎ ((given ≡ wrong) × ((count ≡ 0) ⊎ (longest < count)))
@@ -28,7 +28,7 @@ fault_at None = fault.OddDigits
 abbrev pub digit_fault : List ℕ → CommandFault
 digit_fault text = fault_at (position (λ character. not (is_taken character)) text)
 
--- a text is not pairs of digits and has this fault, and nothing was written
+-- whether a text is not pairs of digits and has this fault, and nothing was written
 abbrev pub IsNoHex : List ℕ → CommandFault → Output → Output → Type 0
 IsNoHex text given before after = (given ≡ digit_fault text)
     × ((input : List ℕ) → ¬ (IsHex text input)) × WritesNothing before after

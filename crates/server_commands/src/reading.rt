@@ -66,8 +66,8 @@ fn parse_work<R: Env + AllocGlobal + Print + Eprint + Files<File = File>>(
 ///
 /// Errors: `Memory`; `Input` if a word or the password of the environment is not UTF-8; `Write` if
 /// help, the version or why the command line is wrong could not be printed; `Read` if the file of
-/// the password can't be read, `Input` if it is exposed or is not one line of UTF-8 text, each with
-/// a line on standard error.
+/// the password cannot be read, `Input` if it is exposed or is not one line of UTF-8 text, each
+/// with a line on standard error.
 #[tactic(auto, using(crate::proofs::Faults::words_told))]
 pub fn parse_command_line<R: Env + AllocGlobal + Print + Eprint + Files<File = File>>(
     rt: &R,

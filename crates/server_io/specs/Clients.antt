@@ -2,6 +2,6 @@
 use Rattle.std.specs.Prelude.{Bool}
 use Rattle.server_io.specs.declared.listening.Sockets.{Sockets}
 
--- the listener has failed
+-- whether the listener has failed
 abbrev pub has_failed : {R : Type 0} → Sockets R → Bool
 has_failed s = s.has_failed

@@ -8,7 +8,8 @@ use Rattle.trace_lines.specs.Events.{event_of}
 use Rattle.trace_words.specs.declared.version.Version.TheVariants.{Two}
 use Rattle.text_lines.specs.Words.{words_of}
 
--- a press, samples, pairs or a moment; the events that clients request begin with other words
+-- whether a word begins an event of the console: a press, samples, pairs or a moment; the events
+-- that clients request begin with other words
 abbrev pub IsOwnWord : List ℕ → Type 0
 IsOwnWord word = (word ≡ codes "button") ⊎ (word ≡ codes "samples") ⊎ (word ≡ codes "pairs")
     ⊎ (word ≡ codes "moment")

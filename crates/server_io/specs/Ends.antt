@@ -43,7 +43,7 @@ abbrev pub Hands : Option (List ℕ) → Option (List Event) → ℕ → Option 
 Hands known listed lost left taken = (input : List ℕ) (before : List Event) → known ≡ Some input
     → listed ≡ Some before → HandsOn input before lost left taken
 
--- a read failed
+-- whether a read failed
 abbrev pub has_failed : ConsoleEnd → Bool
 has_failed end = end.has_failed
 

@@ -8,12 +8,12 @@ use Rattle.std.specs.Prelude.{◌≡◌, ◌≤◌, ℕ, ◌*◌, ◌-◌, min, 
 use Rattle.std.specs.Duration.{as_nanos}
 use Rattle.std.specs.declared.time.Duration.{Duration}
 
--- the limit of this number of seconds; 0 means no limit
+-- whether this is the limit of this number of seconds; 0 means no limit
 abbrev pub IsLimit : ℕ → Option Duration → Type 0
 IsLimit seconds None = seconds ≡ 0
 IsLimit seconds (Some limit) = (1 ≤ seconds) × (as_nanos limit ≡ seconds * 1_000_000_000)
 
--- a session that has lasted this long has exceeded its limit
+-- whether a session that has lasted this long has exceeded its limit
 abbrev pub IsOver : Option Duration → Duration → Type 0
 IsOver None lasted = ⊥
 IsOver (Some limit) lasted = as_nanos limit ≤ as_nanos lasted

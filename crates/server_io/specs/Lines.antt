@@ -10,7 +10,7 @@ use Rattle.text_lines.specs.Lines.{lines_of}
 abbrev pub max_line : ℕ
 max_line = 8192
 
--- a line is short enough to be read
+-- whether a line is short enough to be read
 abbrev pub IsShort : List ℕ → Type 0
 IsShort line = length line + 1 ≤ max_line
 

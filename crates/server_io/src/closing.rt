@@ -1,4 +1,4 @@
-//! Ends the listening when the console ends or the journal fails.
+//! The end of a server: it stops accepting connections.
 use crate::listening::Stopped;
 use crate::reading::Ended;
 use crate::running::ConsoleEnd;
@@ -13,6 +13,7 @@ const MAX_WAKE_ATTEMPTS: u32 = 100;
 /// Ends the listening, when the console ends or the journal fails, if this is enabled.
 #[derive(Drop)]
 pub struct Closing<R> {
+    /// The runtime: the network and the clock.
     pub rt: R,
     /// Whether the listening was ended.
     pub stopped: Stopped,

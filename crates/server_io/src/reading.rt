@@ -17,12 +17,15 @@ pub trait Ended {
 /// its end.
 #[derive(Drop)]
 pub struct Reading<R, B, E, N> {
+    /// The lines of the console.
     pub input: B,
+    /// The channels that the events are passed to.
     pub console: Console<R>,
     /// The output on which lost lines and a failed read are reported.
     pub errors: E,
     /// Whether lines that are skipped are reported, too.
     pub is_verbose: bool,
+    /// Called at the end of the input.
     pub ended: N,
 }
 

@@ -60,7 +60,8 @@ fn log_of<R: AllocGlobal + Copy>(
 /// the meter with this core. What is in the file stays. The open does not wait: a named pipe is
 /// opened for reading, too, so that it keeps what is written until a reader opens it.
 ///
-/// Errors: `Write` if the file can't be opened or written, with a line on standard error; `Memory`.
+/// Errors: `Write` if the file cannot be opened or written, with a line on standard error;
+/// `Memory`.
 pub fn open_relay<R: Clock + Eprint + AllocGlobal + Files<File = File> + Copy + Drop>(
     rt: &R,
     path: &str,

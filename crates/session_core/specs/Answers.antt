@@ -34,7 +34,7 @@ abbrev pub way_size : Way → ℕ
 way_size way.Framed = header_size
 way_size way.Bare = 0
 
--- a response without values, or with a block that fits in a PDU
+-- whether a response has no values, or a block that fits in a PDU
 abbrev pub IsSmall : Response → Type 0
 IsSmall (response.Get id (Value value)) = ⊥
 IsSmall (response.GetList id results) = ⊥

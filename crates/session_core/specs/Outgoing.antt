@@ -177,7 +177,7 @@ outgoing_by asked reply = option_and_then (transfer_after 1) (reply_transfer ask
 
 -- ---- what the code's values mean
 
--- the answer with values that don't fit in one PDU: the first block of these bytes, else
+-- the answer with values that do not fit in one PDU: the first block of these bytes, else
 -- other-reason
 abbrev pub response_in_blocks : Link → InvokeId → List ℕ → Response
 response_in_blocks link id raw =

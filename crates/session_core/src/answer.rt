@@ -20,8 +20,10 @@ const ROOM: usize = 64;
 // 62056-5-3, GET).
 const GET_RESPONSE: u8 = 0xC4;
 
+// The form of a response with one result, GET-Response-Normal.
 const NORMAL: u8 = 1;
 
+// The choice of Get-Data-Result that is a value.
 const DATA: u8 = 0;
 
 // An answer of the server.

@@ -131,7 +131,7 @@ impl Added {
 }
 
 impl Incoming {
-    // Adds a block. If out of memory, nothing has changed.
+    // Adds a block, and returns what became of the transfer. If out of memory, nothing has changed.
     #[tactic(auto, unfolding(crate::specs::Incoming::block_outcome_of, crate::specs::Incoming::block_after))]
     pub(crate) fn add(
         &mut self,
@@ -167,7 +167,8 @@ impl Incoming {
     }
 }
 
-// Adds a block to a transfer of this service. If out of memory, nothing has changed.
+// Adds a block to a transfer of this service, and returns what became of the transfer. If out of
+// memory, nothing has changed.
 pub(crate) fn add_to(
     transfer: &mut Option<Incoming>,
     link: Link,

@@ -350,7 +350,7 @@ fn answer_long(
     answered
 }
 
-// Returns the answer with values that don't fit in one PDU: the first block of these bytes, else a
+// Returns the answer with values that do not fit in one PDU: the first block of these bytes, else a
 // refusal.
 fn answer_in_blocks(
     alloc: Global,

@@ -282,8 +282,9 @@ impl Session {
         }
     }
 
-    // Handles the frame at the front. `size` is the length of its payload in bytes. Drops a frame
-    // for another port.
+    // Handles the frame at the front, and returns what the caller must do, or `None` if there may
+    // be more to handle. `size` is the length of its payload in bytes. Drops a frame for another
+    // port.
     #[tactic(auto, unfolding(crate::specs::Remaining::is_asking))]
     fn receive(&mut self, alloc: Global, size: usize) -> Result<Option<Next>, AllocError>
         requires listening { self.now.task ≡ Listen }

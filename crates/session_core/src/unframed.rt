@@ -117,7 +117,7 @@ fn is_unframed(payload: &[u8]) -> bool
 }
 
 /// Returns the answer to the reply to an event of a request without a frame. A long answer is the
-/// first block of a transfer that can't be continued. Fails if out of memory.
+/// first block of a transfer that cannot be continued. Fails if out of memory.
 pub fn answer_unframed(alloc: Global, asked: Asked, reply: Reply) -> Result<Octets, AllocError>
     ensures { IfOk result (λ text. text ≡ answer_text (Service (reply_response asked reply))) }
 {

@@ -39,7 +39,7 @@ is_blank character = character == 0x20 || character == 0x0A || character == 0x0D
 abbrev pub bytes_of : List ℕ → Result (List ℕ) FromHexError
 bytes_of text = decode_of (filter (λ character. not (is_blank character)) text)
 
--- the text's digits encode these bytes
+-- whether the text's digits encode these bytes
 abbrev pub IsHex : List ℕ → List ℕ → Type 0
 IsHex text input = bytes_of text ≡ Ok input
 
@@ -70,11 +70,11 @@ fault_at None = text_fault.OddDigits
 abbrev pub digit_fault : List ℕ → TextFault
 digit_fault text = fault_at (position (λ character. not (is_taken character)) text)
 
--- a text is not pairs of hexadecimal digits, and has this fault
+-- whether a text is not pairs of hexadecimal digits, and has this fault
 abbrev pub IsNoHex : List ℕ → TextFault → Type 0
 IsNoHex text given = (given ≡ digit_fault text) × ((input : List ℕ) → ¬ (IsHex text input))
 
--- a text is not pairs of hexadecimal digits, or out of memory
+-- whether a text is not pairs of hexadecimal digits, or out of memory
 abbrev pub IsUndecoded : List ℕ → TextFault → Type 0
 IsUndecoded text (text_fault.Digit character) = IsNoHex text (text_fault.Digit character)
 IsUndecoded text text_fault.OddDigits = IsNoHex text text_fault.OddDigits
@@ -90,7 +90,7 @@ pub record ReadsHex (left left' : Option (List ℕ)) (input : List ℕ) : Type 0
   pub within : length text ≤ max_characters
   pub is_hex : IsHex text input
 
--- a whole text is not pairs of hexadecimal digits
+-- whether a whole text is not pairs of hexadecimal digits
 abbrev pub IsWrongWhole : List ℕ → TextFault → Option (List ℕ) → Type 0
 IsWrongWhole text given left' = IsNoHex text given × (length text ≤ max_characters) × IsAtEnd left'
 
@@ -159,7 +159,7 @@ PlaysNew device password input before (Err fault.Write) after = before.failures 
 PlaysNew device password input before (Err fault.Memory) after =
     WritesNothing before after ⊎ RunsShort device password input before after
 
--- the characters that were read are a whole text of a fit length
+-- whether the characters that were read are a whole text of a fit length
 abbrev pub IsWholeText : List ℕ → Input → Type 0
 IsWholeText text after = (length text ≤ max_characters) × IsAtEnd after.left
 

@@ -101,7 +101,7 @@ has_failed (refuses event ∷ earlier) = true
 -- ---- the order
 
 module _ (written_as : List ℕ → List ℕ) (password : List ℕ) where
-  -- all answers that the bytes read and the replies ask for were written, and no more
+  -- whether all answers that the bytes read and the replies ask for were written, and no more
   abbrev pub IsAnswered : List Happening → Type 0
   IsAnswered happened =
       bytes_written happened ≡ flat_map written_as
@@ -116,7 +116,7 @@ module _ (written_as : List ℕ → List ℕ) (password : List ℕ) where
   Follows (calls event reply) earlier = IsAnswered earlier
   Follows (refuses event) earlier = IsAnswered earlier
 
-  -- each read and each call follows the answers before it, and nothing follows a failure
+  -- whether each read and each call follows the answers before it, and nothing follows a failure
   abbrev pub IsOrdered : List Happening → Type 0
   IsOrdered [] = ⊤
   IsOrdered (happening ∷ earlier) =

@@ -158,7 +158,7 @@ EndsBefore ending.TooLong left = ⊤
 -- ---- a whole session
 
 module _ {M : Type 0} (steps : M → Event → Result Reply CallFault → M → Type 0) where
-  -- the effect of the bytes that were read, by the result
+  -- whether this is the effect of the bytes that were read, by the result
   abbrev pub HasEffect : Plan → List ℕ → Sides M → Result SessionEnd ServeFault → Sides M → Type 0
   HasEffect plan seen before (Ok end) after =
       DoesAll steps as_bytes (work_for plan seen) before.outlets after.outlets

@@ -50,6 +50,6 @@ abbrev pub outlets_of : {W M : Type 0} → (W → Option (List ℕ)) → (W → 
 outlets_of contents failures writer meter =
     record { output = output_of contents failures writer; meter = meter }
 
--- nothing was written
+-- whether nothing was written
 abbrev pub WritesNothing : Output → Output → Type 0
 WritesNothing before after = Appends before.written after.written []

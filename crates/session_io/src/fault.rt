@@ -66,7 +66,7 @@ impl From<ServeFault> for u8 {
 /// Why the session of a text of hexadecimal was not served to its end.
 #[derive(Clone, Copy, Debug, PartialEq, Eq, Error)]
 pub enum HexFault {
-    /// The text isn't pairs of hexadecimal digits.
+    /// The text is not pairs of hexadecimal digits.
     #[error("expected pairs of hexadecimal digits")]
     Digits = 1,
     /// The text has more than 1,048,576 characters.

@@ -80,7 +80,8 @@ fn settle<F: Form, V: SessionWatch, W: Writer, M: Meter>(
     }
 }
 
-// Feeds the session bytes, and performs everything that they require.
+// Feeds the session bytes, and performs everything that they require. Returns how the session
+// ended, or `None` if it continues.
 fn take_in<V: SessionWatch, W: Writer, M: Meter>(
     alloc: Global,
     session: &mut Session,
@@ -114,7 +115,7 @@ fn take_in<V: SessionWatch, W: Writer, M: Meter>(
     settle::<AsBytes, V, W, M>(alloc, session, watch, writer, meter)
 }
 
-// Ends the input, and performs everything that the session still requires.
+// Ends the input, performs everything that the session still requires, and returns how it ended.
 pub(crate) fn end_input<F: Form, V: SessionWatch, W: Writer, M: Meter>(
     alloc: Global,
     session: &mut Session,

@@ -23,7 +23,7 @@ use Rattle.xdlms_apdu.specs.declared.response.Response.TheVariants as response
 abbrev pub answer_of_aare : Aare → AnswerKind
 answer_of_aare aare = if aare.result == 0 then Opened else NotOpened aare.diagnostic
 
--- 0 is success
+-- the meaning of an answer with a result code: 0 is success
 abbrev pub answer_of_code : ResultCode → AnswerKind
 answer_of_code code = if code_of code == 0 then Served else Refused
 

@@ -6,7 +6,7 @@ use std::fmt;
 use std::time::Clock;
 
 /// The time of a line of the log, in UTC, shown to the millisecond: `2026-11-27T08:05:09.042Z`. A
-/// clock that can't be read is shown as `(no time)`.
+/// clock that cannot be read is shown as `(no time)`.
 #[derive(Clone, Copy)]
 pub struct LogTime {
     time: Option<DateTime>,

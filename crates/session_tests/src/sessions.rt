@@ -19,6 +19,7 @@ use turn_lock::CallFault;
 pub(crate) const PUBLIC_AARQ: &str =
     "000100100001001F601DA109060760857405080101BE10040E01000000065F1F0400007E1F04B0";
 
+/// The AARE that accepts the public client, in its frame.
 pub(crate) const PUBLIC_AARE: &str =
     "000100010010002B6129A109060760857405080101A203020100A305A103020100BE10040E0800065F1F0400001E19\
         04000007";
@@ -28,6 +29,7 @@ const MANAGEMENT_AARQ: &str =
     "00010001000100386036A1090607608574050801018A0207808B0760857405080201AC0A80083132333435363738BE\
         10040E01000000065F1F0400001C190400";
 
+/// The AARE that accepts the management client, in its frame.
 const MANAGEMENT_AARE: &str =
     "000100010001002B6129A109060760857405080101A203020100A305A103020100BE10040E0800065F1F0400001C19\
         04000007";
@@ -35,6 +37,7 @@ const MANAGEMENT_AARE: &str =
 /// The public client's GET of the state of the switch, which is connected, and its answer.
 pub(crate) const PUBLIC_GET: &str = "000100100001000DC001C10046000060030AFF0300";
 
+/// The response to the public client: state 1, in its frame.
 pub(crate) const PUBLIC_STATE: &str = "0001000100100006C401C1001601";
 
 /// A stream that returns this number of bytes at each read. One of the reads may fail.
@@ -496,11 +499,12 @@ const TEN_NAMES: &str =
         0060030AFF01000046000060030AFF01000046000060030AFF01000046000060030AFF01000046000060030AFF\
         01000046000060030AFF0100";
 
-/// The two blocks of that answer.
+/// The first block of that answer.
 const FIRST_BLOCK: &str =
     "C402C1000000000100340A000906000060030AFF000906000060030AFF000906000060030AFF000906000060030AFF\
         000906000060030AFF000906000060";
 
+/// The second block of that answer.
 const SECOND_BLOCK: &str =
     "C402C101000000020027030AFF000906000060030AFF000906000060030AFF000906000060030AFF00090600006003\
         0AFF";
@@ -649,6 +653,7 @@ pub(crate) fn front(text: &[u8], size: usize) -> &[u8] {
     &text[..size.min(text.len())]
 }
 
+/// The GET of control_state, and its response.
 const GET: (&str, &str) = ("C001C10046000060030AFF0300", "C401C1001601");
 
 /// The AARQ of the public client, and a GET.

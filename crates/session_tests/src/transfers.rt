@@ -359,7 +359,7 @@ fn the_object_list_goes_in_13_blocks(rt: HostRuntime) -> Result<(), Fail> {
     Ok(())
 }
 
-/// Reads the first block of the object list, and then requests a block that isn't the next.
+/// Reads the first block of the object list, and then requests a block that is not the next.
 fn read_wrong_block(alloc: Global, talk: &mut Talk) -> Result<(), Fail> {
     let list = object_list(alloc)?;
     let read = talk.read_block(alloc, GET_LIST, 0, false, front(list.as_slice(), 52));
@@ -542,7 +542,7 @@ static NO_VALUES: [(&str, &str); 6] = [
     ),
     // Each refusal has ended its transfer.
     ("C103C101000000020116", "C503C11200000002"),
-    // A value that isn't complete.
+    // A value that is not complete.
     ("C304C10046000060030AFF010100000001020600", "C701C1FA00"),
 ];
 

@@ -7,8 +7,8 @@ use Rattle.relay_events.specs.declared.event.Event.TheVariants as event
 use Rattle.shared_meter.specs.Handed.{without_reads}
 use Rattle.shared_meter.specs.Thresholds.{threshold_read}
 
--- the events before the block with this index (from 0): at most one read of the thresholds, and
--- only for the indices 0, 64, 128 and so on
+-- whether these are the events before the block with this index (from 0): at most one read of the
+-- thresholds, and only for the indices 0, 64, 128 and so on
 abbrev pub IsAhead : ℕ → List Event → Type 0
 IsAhead place ahead = (ahead ≡ []) ⊎ ((place % 64 ≡ 0) × (ahead ≡ threshold_read ∷ []))
 

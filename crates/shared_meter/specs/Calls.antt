@@ -18,7 +18,7 @@ Calls = List (Entry Event Reply)
 abbrev pub events_and_replies : Calls → List Exchange
 events_and_replies calls = map (λ (call : Entry Event Reply). (call.event, call.reply)) calls
 
--- the replies are those of the run over the events, from the world of the opening
+-- whether the replies are those of the run over the events, from the world of the opening
 abbrev pub IsLegal : Opening → Calls → Type 0
 IsLegal origin calls =
     replies_of (events_and_replies calls) ≡ replies_from (world_of_opening origin)
@@ -36,6 +36,6 @@ pub record HasCalls (kept : KeptRecorder) : Type 0 where
   pub calls : Calls
   pub stands : Stands kept calls
 
--- the event never runs out of memory, so that it always has a reply
+-- whether the event never runs out of memory, so that it always has a reply
 abbrev pub IsSure : Event → Type 0
 IsSure event = IsTrue (is_sure event)

@@ -28,7 +28,7 @@ abbrev pub lines_of_calls : List (Entry Event Reply) → List (List ℕ)
 lines_of_calls [] = []
 lines_of_calls (call ∷ calls) = event_lines call.event ++ lines_of_calls calls
 
--- the text of a line that has no byte 0 and no byte 0A
+-- whether this is the text of a line that has no byte 0 and no byte 0A
 abbrev pub IsTextOfLine : List ℕ → List ℕ → Type 0
 IsTextOfLine line text = (text ≡ text_of (line ∷ [])) × IsPlain line
 

@@ -1,7 +1,7 @@
 -- What a source declares it has yet to return: a list, or `None` if it declares nothing. `before`
 -- is the value before a call, `after` the value after it.
---     Gives, Presses        the next item of a source of blocks, moments or presses
---     Offers                the next event of a source of events
+--     Gives, Presses            the next item of a source of blocks, moments or presses
+--     Offers                    the next event of a source of events
 --     AllMoments, AllPresses    the events of moments and of presses
 use Rattle.std.specs.Prelude.{◌≡◌, ◌⊎◌, ⊤, ℕ, zero, suc, Bool, true, false, List, [], ◌∷◌, map, replicate, Option, Some, None, IfSome}
 use Rattle.shared_meter.specs.Calls.{IsSure}

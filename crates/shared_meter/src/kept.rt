@@ -169,8 +169,8 @@ impl Inspected for Kept {
     }
 }
 
-// Applies an event, and notes its line if it may change the meter. If out of memory for the event,
-// nothing is noted; if out of memory for the line, the line is lost.
+// Applies an event, notes its line if it may change the meter, and returns the reply. If out of
+// memory for the event, nothing is noted; if out of memory for the line, the line is lost.
 fn apply_and_note(
     alloc: Global,
     recorder: &mut Recorder,

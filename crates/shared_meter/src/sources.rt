@@ -35,7 +35,8 @@ pub trait ButtonSource: Drop {
     /// The number of presses that the source has yet to return, if it declares it.
     ghost forecast: { Self → Option ℕ } = { λ _. None };
 
-    /// Waits for the next press. `false` is the end of the source.
+    /// Waits for the next press, and returns whether there was one. `false` is the end of the
+    /// source.
     fn pressed(&mut self) -> bool
         ensures { Presses (forecast self.old) result (forecast self.new) };
 }

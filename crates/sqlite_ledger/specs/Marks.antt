@@ -1,10 +1,10 @@
 -- The marks of a ledger's file: the places whose command may have been sent.
---     IsBegun           the trees have the place's mark
---     IsMarked            whatever a crash leaves has it
---     IsLeft            entries say of each place whether the trees have its mark
---     LeavesEntries     entries that the next run may find after a crash
---     LeavesCommit      while the connection is open, a crash leaves the last commit alone
---     left_marked       what is marked remains so after a crash
+--     IsBegun          the trees have the place's mark
+--     IsMarked         whatever a crash leaves has it
+--     IsLeft           entries say of each place whether the trees have its mark
+--     LeavesEntries    entries that the next run may find after a crash
+--     LeavesCommit     while the connection is open, a crash leaves the last commit alone
+--     left_marked      what is marked remains so after a crash
 use Rattle.std.specs.Prelude.{◌≡◌, ℕ, ℤ, pos, IsTrue}
 use Rattle.std.proofs.Math.Logic.{∥∥₁_elim}
 use mathlib.Core.Bool.{Bool-set}
@@ -15,7 +15,7 @@ use Rattle.campaign_ledger.specs.declared.entry.LedgerEntry.{LedgerEntry}
 use Rattle.campaign_ledger.specs.Entries.{HasGone}
 use Rattle.sqlite_ledger.specs.Schema.{begun_tree}
 
--- a row of the table `begun` has the place as its key
+-- whether a row of the table `begun` has the place as its key
 abbrev pub IsBegun : Trees → ℤ → Type 0
 IsBegun db place = IsTrue (list_any (has_rowid place) (db begun_tree))
 

@@ -14,7 +14,7 @@ impl WallClock {
         WallClock { rt: *rt }
     }
 
-    // Returns the seconds since 1970, or 0 if the clock can't be read.
+    // Returns the seconds since 1970, or 0 if the clock cannot be read.
     pub(crate) fn seconds(&self) -> i64 {
         match self.rt.since_1970() {
             Ok(time) => i64::try_from(time.as_secs()).unwrap_or(0),

@@ -3,9 +3,10 @@ use crate::jobs::insert_job;
 use client_core::Job;
 use sqlite::{Alter, Connection, Error, ErrorCode, Transaction, params};
 
-// The version of the format.
+// The version of the tables of a ledger.
 const VERSION: u32 = 1;
 
+// The tables of a ledger; docs/CAMPAIGNS.md describes them.
 const TABLES: &str = "\
 CREATE TABLE begun (place INTEGER PRIMARY KEY, at INTEGER NOT NULL) STRICT;
 CREATE TABLE outcome (place INTEGER PRIMARY KEY, kind TEXT NOT NULL, number INTEGER, \
@@ -16,7 +17,7 @@ CREATE TABLE campaign (version INTEGER PRIMARY KEY, jobs INTEGER NOT NULL) STRIC
 
 const INSERT_CAMPAIGN: &str = "INSERT INTO campaign (version, jobs) VALUES (?1, ?2)";
 
-// Writes the jobs at their places.
+// Writes the jobs at their places, and returns their number.
 fn insert_jobs<S: Alter>(transaction: &mut Transaction<'_, S>, jobs: &[Job]) -> Result<u32, Error> {
     let mut place = 0u32;
     for job in jobs {
@@ -37,6 +38,7 @@ fn fill<S: Alter>(transaction: &mut Transaction<'_, S>, jobs: &[Job]) -> Result<
 // Makes the tables of a ledger and writes the jobs, in one transaction: after an error, or a crash,
 // the database is empty or has all of it.
 pub(crate) fn create_ledger<S: Alter>(conn: &mut Connection<S>, jobs: &[Job]) -> Result<(), Error> {
+    // (an open transaction would hold back what is written)
     if !conn.is_autocommit() {
         return Err(Error::SqliteFailure(ErrorCode::TransactionState));
     }

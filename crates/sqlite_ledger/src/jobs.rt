@@ -14,7 +14,7 @@ fn verb_word(verb: Verb) -> &'static str {
     }
 }
 
-// Writes a job at its place.
+// Writes a job at its place, and returns the number of rows written.
 pub(crate) fn insert_job<S: Alter>(
     transaction: &mut Transaction<'_, S>,
     place: u32,

@@ -11,7 +11,7 @@ use sqlite::{Alter, Connection, Error, ErrorCode, params};
 const INSERT_BEGUN: &str = "INSERT INTO begun (place, at) VALUES (?1, ?2)";
 
 // Writes the mark of a place, in a transaction of its own: its key is the right to send the command
-// of the place. Fails if the mark is there.
+// of the place. Returns the number of rows written. Fails if the mark is there.
 pub(crate) fn insert_begun<S: Alter>(
     conn: &mut Connection<S>,
     place: u32,
@@ -30,6 +30,7 @@ pub(crate) fn insert_begun<S: Alter>(
     ensures taken { HasCleanDisk (state S.Store conn.new) → conn.old.schema ≡ ledger_schema
         → IfErr result (λ e. IsTrue (is_taken e) → conn.new.schema ≡ ledger_schema) }
 {
+    // (an open transaction would hold back what is written)
     if !conn.is_autocommit() {
         return Err(Error::SqliteFailure(ErrorCode::TransactionState));
     }

@@ -1,4 +1,4 @@
-//! Why a ledger is not opened.
+//! The faults of opening a ledger.
 ghost use Rattle.std.specs.Prelude.{◌≡◌};
 ghost use Rattle.sqlite_ledger.specs.declared.open_fault.LedgerOpenFault.TheVariants as open_fault;
 
@@ -18,7 +18,7 @@ pub enum LedgerOpenFault {
     /// Another process has the file open.
     #[error("another process has the ledger open")]
     Busy = 3,
-    /// The file can't be opened, read or written.
+    /// The file cannot be opened, read or written.
     #[error("can't open the file")]
     File = 4,
     /// Out of memory.

@@ -39,7 +39,8 @@ pub(crate) fn number_of(outcome: Outcome) -> Option<u32>
     }
 }
 
-// Writes the outcome of a place, in a transaction of its own. An outcome that is there remains.
+// Writes the outcome of a place, in a transaction of its own. An outcome that was written before
+// remains. Returns the number of rows written.
 pub(crate) fn insert_outcome<S: Alter>(
     conn: &mut Connection<S>,
     place: u32,
@@ -55,6 +56,7 @@ pub(crate) fn insert_outcome<S: Alter>(
     ensures schema { HasCleanDisk (state S.Store conn.new) → conn.old.schema ≡ ledger_schema
         → OnOk result (conn.new.schema ≡ ledger_schema) }
 {
+    // (an open transaction would hold back what is written)
     if !conn.is_autocommit() {
         return Err(Error::SqliteFailure(ErrorCode::TransactionState));
     }

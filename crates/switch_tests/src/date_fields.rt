@@ -2,6 +2,7 @@
 use cosem_datetime::{PatternFault, read_date, read_date_time, read_time};
 use std::process::Abort;
 
+/// 26 March 2028, a Sunday.
 const DATE: [u8; 5] = [0x07, 0xEC, 3, 26, 7];
 
 const DATE_TIME: [u8; 12] = [0x07, 0xEC, 3, 26, 7, 12, 30, 15, 0, 0, 60, 0x80];

@@ -9,6 +9,7 @@ use std::test::Fail;
 /// Midnight of 26 March 2028, a Sunday: 10,312 days after 1 January 2000.
 const MARCH_26: u32 = 890_956_800;
 
+/// The number of seconds of a day.
 const DAY: u32 = 86_400;
 
 const ANY_TIME: [u8; 4] = [0xFF, 0xFF, 0xFF, 0xFF];

@@ -5,7 +5,7 @@ use std::alloc::{AllocError, Global};
 use std::process::Abort;
 use std::test::Fail;
 
-/// Returns a limiter of 5000 W that fires after that many seconds over the threshold.
+/// Returns a limiter of 5000 W that fires after `seconds` over the threshold.
 fn limiter(alloc: Global, seconds: u32) -> Limiter {
     let mut limiter = Limiter::new(alloc);
     limiter.set_threshold_normal(5000);
@@ -42,7 +42,7 @@ fn skip(limiter: &mut Limiter, kind: Kind, n: u64, last: u32) -> bool {
 enum Step {
     /// That many samples of a value, of which the last fires this and those before it nothing.
     Samples(u32, u32, Fire),
-    /// Skips that many samples of a kind, the last of which has this value.
+    /// Skips a number of samples of a kind, the last of which has this value.
     Skip(Kind, u64, u32),
     /// The switch enters Connected.
     Closed,
@@ -80,8 +80,7 @@ fn take(limiter: &mut Limiter, step: &Step) -> bool {
     }
 }
 
-/// Takes these steps with a limiter that fires after that many seconds over the threshold, and
-/// checks each.
+/// Takes these steps with a limiter that fires after `seconds` over the threshold, and checks each.
 fn play(rt: &impl Abort, alloc: Global, seconds: u32, steps: &[Step]) {
     let mut limiter = limiter(alloc, seconds);
     for (place, step) in steps.iter().enumerate() {
@@ -269,7 +268,7 @@ fn the_actions_are_kept(rt: HostRuntime) {
     drop(limiter);
 }
 
-/// Returns a run of that many samples.
+/// Returns a run of `run` samples.
 fn run(run: u64, fired: bool) -> Count {
     Count { run, fired }
 }

@@ -5,11 +5,11 @@ use Rattle.std.specs.List.{list_all}
 use Rattle.std.specs.Result.{result_ok}
 use Rattle.hex.specs.Hex.{decode_of}
 
--- one of the digits `0` to `9` and `A` to `F`
+-- whether a byte is one of the digits `0` to `9` and `A` to `F`
 abbrev pub is_capital_digit : ℕ → Bool
 is_capital_digit c = is_in_range 48 57 c || is_in_range 65 70 c
 
--- one or more such digits
+-- whether a text is one or more of the digits `0` to `9` and `A` to `F`
 abbrev pub is_hexadecimal : List ℕ → Bool
 is_hexadecimal word = nat_lt 0 (length word) && list_all is_capital_digit word
 

@@ -16,7 +16,7 @@ all_but_last [] = []
 all_but_last (part ∷ []) = []
 all_but_last (part ∷ next ∷ parts) = part ∷ all_but_last (next ∷ parts)
 
--- the last part
+-- the last of these parts
 abbrev pub last_of : List (List ℕ) → List ℕ
 last_of [] = []
 last_of (part ∷ []) = part
@@ -35,7 +35,7 @@ unfoldable pub text_of : List (List ℕ) → List ℕ
 text_of [] = []
 text_of (line ∷ lines) = line ++ 10 ∷ text_of lines
 
--- a line without the bytes 0 and 0A
+-- whether a line has no byte 0 or 0A
 abbrev pub IsPlain : List ℕ → Type 0
 IsPlain line = AllByRecursion (λ byte. (byte ≢ 0) × (byte ≢ 10)) line
 

@@ -4,7 +4,7 @@ use Rattle.std.specs.Char.{is_ascii_digit}
 use Rattle.std.specs.List.{list_all}
 use Rattle.std.specs.Str.Parse.{digits_value}
 
--- one decimal digit, or several of which the first is not 0
+-- whether a text is one decimal digit, or several of which the first is not 0
 abbrev pub is_decimal : List ℕ → Bool
 is_decimal word = nat_lt 0 (length word) && list_all is_ascii_digit word &&
     (length word == 1 || not (slice_index word 0 == 48))

@@ -15,11 +15,11 @@ words_of line = parts_at 32 line
 unfoldable pub line_of : List (List ℕ) → List ℕ
 line_of words = join_with_byte 32 words
 
--- neither a blank nor the end of a line
+-- whether a byte is neither a blank nor the end of a line
 abbrev pub is_word_byte : ℕ → Bool
 is_word_byte b = not (b == 32) && not (b == 10)
 
--- one or more bytes, none of them a blank or the end of a line
+-- whether bytes are a word: one or more, none of them a blank or the end of a line
 abbrev pub is_word : List ℕ → Bool
 is_word [] = false
 is_word (b ∷ bytes) = list_all is_word_byte (b ∷ bytes)

@@ -7,8 +7,8 @@ use itoa::Buffer;
 use std::alloc::AllocError;
 
 /// Returns the number that a word writes in decimal digits without leading zeros, or `None` if the
-/// word is any other or the number is above `limit`. The empty word and a word with a sign are not
-/// numbers.
+/// word has another form or the number is above `limit`. The empty word and a word with a sign are
+/// not numbers.
 #[tactic(auto, using(crate::proofs::NumbersLemmas::reading))]
 pub fn read_number(word: &[u8], limit: u64) -> Option<u64>
     ensures value { result ≡ number_of limit word.now }
@@ -20,7 +20,8 @@ pub fn read_number(word: &[u8], limit: u64) -> Option<u64>
     value_of(word, limit)
 }
 
-// Returns whether a word has one byte, or several of which the first is not 0.
+// Returns whether a word can begin a number: it has one byte, or several of which the first is not
+// the digit 0.
 fn begins_number(word: &[u8]) -> bool
     ensures { result ≡ begins_number word.now }
 {

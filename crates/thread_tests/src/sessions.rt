@@ -154,7 +154,7 @@ fn counts_what_was_closed_out_of_memory(rt: HostRuntime) -> Result<(), Fail> {
     Ok(())
 }
 
-// A stream that can't be set up doesn't count as out of memory.
+// A stream that cannot be set up does not count as out of memory.
 #[test]
 fn counts_those_whose_stream_cannot_be_set_up(rt: HostRuntime) -> Result<(), Fail> {
     let closed = Closed {

@@ -116,6 +116,7 @@ pub fn write_event(alloc: Global, out: &mut Vec<u8>, event: &Event) -> Result<()
 {
     let mut line = Vec::new(alloc);
     add_event(alloc, &mut line, event)?;
+    // (no effect: the contract needs this law)
     event_is_named(event);
     out.extend_from_slice(line.as_slice())
 }

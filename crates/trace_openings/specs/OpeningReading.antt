@@ -72,7 +72,7 @@ export_from Two place = do
 
 -- ---- all of it
 
--- the four schedules
+-- the four schedules of an opening, read from its lines
 unfoldable pub schedules_from : Place → ReadLines Schedules
 schedules_from place = do
   first ← line_as (schedule_from 0) place

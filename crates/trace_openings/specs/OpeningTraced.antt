@@ -42,8 +42,8 @@ pub record IsTracedSchedule (schedule : Schedule) : Type 0 where
   pub selector : schedule.selector ≤ 65535
   pub entries : AreEntries schedule.entries
 
--- watts of 32 bits, a profile's id of 16 bits and its seconds of 32 bits; the other parts of a step
--- are in their ranges in every table
+-- whether the watts have 32 bits, a profile's id 16 bits and its seconds 32 bits; the other parts
+-- of a step are in their ranges in every table
 abbrev pub IsTracedStep : Step → Type 0
 IsTracedStep (WriteNormal which watts) = watts ≤ 4294967295
 IsTracedStep (WriteEmergency which watts) = watts ≤ 4294967295

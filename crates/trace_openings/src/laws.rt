@@ -29,6 +29,7 @@ pub fn written_opening_is_read()
     ensures rows { (opening : Opening) → IsWritable opening
         → IsTrue (list_all is_row (opening_rows opening)) }
 {
+    // (no effect: the contract needs this law)
     fit_runs_mean();
 }
 

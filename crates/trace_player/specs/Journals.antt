@@ -42,8 +42,8 @@ abbrev pub StartsWith : List (List ℕ) → List ℕ → Type 0
 StartsWith [] line = ⊥
 StartsWith (first ∷ lines) line = first ≡ line
 
--- A text begins as a journal: its version is 2, and `events -` is its line 31, which follows the 30
--- lines of an opening. Its lines may be wrong.
+-- Whether a text begins as a journal: its version is 2, and `events -` is its line 31, which
+-- follows the 30 lines of an opening. Its lines may be wrong.
 abbrev pub IsJournal : List ℕ → Type 0
 IsJournal text = StartsWith (lines_of text) (codes "RELAYTRACE 2")
     × StartsWith (drop 30 (lines_of text)) (codes "events -")

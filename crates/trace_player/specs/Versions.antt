@@ -11,7 +11,7 @@ use Rattle.trace_words.specs.Rows.{Row}
 use Rattle.trace_lines.specs.Writing.{event_row}
 use Rattle.text_lines.specs.Lines.{rows_of, rows_text}
 
--- the first line of a text has version 2
+-- whether the first line of a text has version 2
 abbrev pub IsOfVersionTwo : List ℕ → Type 0
 IsOfVersionTwo text = (rows : List Row) × (rows_of text ≡ number_row (codes "RELAYTRACE") 2 ∷ rows)
 

@@ -14,6 +14,7 @@ use std::alloc::{AllocError, Global};
 pub fn recorder_trace(alloc: Global, recorder: &Recorder) -> Result<Octets, AllocError>
     ensures { IfOk result (TellsRun recorder.now) }
 {
+    // (no effect: the contract needs this law)
     exported_run_is_played();
     let trace = recorder.export(alloc)?;
     let text = write_trace(alloc, &trace);

@@ -50,6 +50,7 @@ pub fn write_journal(alloc: Global, trace: &Trace) -> Result<Octets, AllocError>
         → length (text ++ events_text more ++ tail) ≤ max_bytes
         → trace_of (text ++ events_text more ++ tail) ≡ Ok (with_events trace.now more)) }
 {
+    // (no effect: the contract needs this law)
     journal_is_read_again(trace);
     write_lines(alloc, trace)
 }

@@ -38,6 +38,7 @@ pub fn resume_recorder(alloc: Global, trace: &Trace, capacity: u16) -> Result<Re
     ensures world { IfOk result (λ recorder. StandsFor recorder.core (world_of trace.now)) }
     ensures continues_run { ContinuesRun trace.now (world_of trace.now) }
 {
+    // (no effect: the contract needs this law)
     has_range(&trace.opening);
     let mut core = RelayCore::from_fit_opening(alloc, &trace.opening)?;
     match take_events(alloc, &mut core, trace.events.as_slice()) {

@@ -63,6 +63,7 @@ pub fn write_trace(alloc: Global, trace: &Trace) -> Result<Octets, AllocError>
     ensures within_max { IfOk result (λ text. FitsText trace.now → length trace.now.events ≤ 1024
         → length text ≤ max_bytes) }
 {
+    // (no effect: the contract needs this law)
     trace_is_read_again(trace);
     write_lines(alloc, trace)
 }

@@ -48,6 +48,6 @@ abbrev pub AreInOrder : Option ℕ → Option ℕ → Type 0
 AreInOrder (Some first) (Some last) = first ≤ last
 AreInOrder _ _ = Unit {0}
 
--- faults are described with either of the options
+-- whether faults are described with either of the options
 abbrev pub IsDescribed : Bool → Bool → Type 0
 IsDescribed is_partial is_verbose = (is_partial ≡ true) ⊎ (is_verbose ≡ true)

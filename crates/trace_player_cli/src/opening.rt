@@ -1,4 +1,4 @@
-//! The fault of a file that cannot be opened, and its message.
+//! Reports why a file cannot be opened.
 ghost use Rattle.std.specs.Prelude.{◌≡◌, ◌≢◌};
 ghost use Rattle.program.specs.declared.fault.Fault.TheVariants as program;
 

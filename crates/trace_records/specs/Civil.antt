@@ -21,7 +21,7 @@ time_text second =
     two_digits (second / 3600) ++ codes ":" ++ two_digits (second / 60 % 60) ++ codes ":"
     ++ two_digits (second % 60)
 
--- a moment
+-- the date and time of a moment
 abbrev pub civil_text : ℕ → List ℕ
 civil_text moment =
     date_text (date_of_day (first_day + moment / 86400)) ++ codes "T" ++ time_text (moment % 86400)

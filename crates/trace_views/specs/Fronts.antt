@@ -31,7 +31,7 @@ abbrev pub events_with : ReadLines Event → (Place → List Event × End) → L
 events_with (Ok read) others = (read.0 ∷ (others read.1).0, (others read.1).1)
 events_with (Err fault) others = ([], Err fault)
 
--- the fault of a line
+-- whether a fault is that of a line
 abbrev pub IsLine : TraceFault → Type 0
 IsLine (Line number) = Unit {0}
 IsLine _ = ⊥

@@ -70,7 +70,7 @@ steps number [] w = []
 steps number (event ∷ events) w =
     step_at number event w ∷ steps (suc number) events (at_event event w).world
 
--- a number below the lower bound, or above the upper one
+-- whether a number is below the lower bound, or above the upper one
 abbrev pub is_below : Option ℕ → ℕ → Bool
 is_below None number = false
 is_below (Some first) number = nat_lt number first
@@ -79,7 +79,7 @@ abbrev pub is_above : Option ℕ → ℕ → Bool
 is_above None number = false
 is_above (Some last) number = nat_lt last number
 
--- a number within the bounds of a view
+-- whether a number is within the bounds of a view
 abbrev pub is_within : TraceView → ℕ → Bool
 is_within view number = not (is_below view.first number) && not (is_above view.last number)
 

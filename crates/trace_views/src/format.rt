@@ -1,4 +1,4 @@
-//! `TraceFormat`: how the events of a run are shown.
+//! The formats of a view.
 
 /// How the events of a run are shown.
 #[derive(Clone, Copy, Debug, PartialEq, Eq)]

@@ -13,8 +13,8 @@ pub struct TraceView {
     pub first: Option<u32>,
     /// The number of the last event that is shown; `None`: no upper bound.
     pub last: Option<u32>,
-    /// Whether only the lines are shown in which the control state or the supply differs from the
-    /// line before. Before the first line they are those of the opening.
+    /// Whether to show only the lines whose control state or supply differs from that of the line
+    /// before, and for the first line from that of the opening.
     pub changes_only: bool,
     /// Whether each line ends with its event.
     pub with_events: bool,
@@ -43,7 +43,7 @@ impl TraceView {
         }
     }
 
-    // Returns whether an event of this number is shown, as far as the bounds decide.
+    // Returns whether the number of an event is within the bounds.
     fn is_within(&self, number: u64) -> bool
         ensures { result ≡ is_within self.now number }
     {

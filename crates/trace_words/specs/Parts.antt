@@ -1,12 +1,12 @@
 -- The parts of a line as formats of words.
---     Part                        a format of words, with the faults of a line
---     word .. data_part           one word, by its value; a number, a flag, a Data
---     items_to_end                      items up to the end of the line
---     counted_items                     a number of items, and the items
---     only_if                     a part of which only some values are written
---     same_word, word_forms       a choice by the next word
---     labelled_part                    a first word, and a part
---     line_read                   the value of a whole line
+--     Part                     a format of words, with the faults of a line
+--     word .. data_part        one word, by its value; a number, a flag, a Data
+--     items_to_end             items up to the end of the line
+--     counted_items            a number of items, and the items
+--     only_if                  a part of which only some values are written
+--     same_word, word_forms    a choice by the next word
+--     labelled_part            a first word, and a part
+--     line_read                the value of a whole line
 use Rattle.std.specs.Prelude.{◌≡◌, ℕ, ◌≤◌, Bool, nat_eq, decimal, List, [], ◌∷◌, ◌++◌, length}
 use Rattle.std.specs.Prelude.{Result, Ok}
 use Rattle.std.specs.Cmp.Lexicographic.{pointwise}

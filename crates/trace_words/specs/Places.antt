@@ -53,7 +53,7 @@ first_as value_in number (row ∷ rows) unended = line_result (value_in row) num
 unfoldable pub line_as : {X : Type 0} → (Row → Result X RowFault) → Place → ReadLines X
 line_as value_in place = first_as value_in place.number place.rows place.unended
 
--- whatever this code can return for the words of a line is what the definition gives
+-- whether whatever this code can return for the words of a line is what the definition gives
 abbrev pub IsRowReader : {F X : Type 0}
     → Once F (MutBor Row × Unit {0}) (Result X RowFault × (MutBor Row × Unit {0})) → F
     → (Row → Result X RowFault) → Type 0
@@ -61,7 +61,8 @@ IsRowReader {F} {X} calls row value_from = (words after : Row) (read : Result X 
     → FnOnceReturnsAtMut calls row words read after
     → Gives row_fault.Memory (λ x. x) read (value_from words)
 
--- whatever this code can return for a line is what the definition gives for the words of the line
+-- whether whatever this code can return for a line is what the definition gives for the words of
+-- the line
 abbrev pub IsLineReader : {F X : Type 0} → Once F (Bor (List ℕ) × Unit {0}) (Result X RowFault) → F
     → (Row → Result X RowFault) → Type 0
 IsLineReader {F} {X} calls read value_from = (line : List ℕ) (given : Result X RowFault)

@@ -40,7 +40,7 @@ whole_lines place = record {
 abbrev pub whole_text : List ℕ → List ℕ
 whole_text text = rows_text (before_zero (rows_of text))
 
--- bytes that have no whole line before their first byte 0
+-- whether bytes have no whole line before their first byte 0
 abbrev pub IsTail : List ℕ → Type 0
 IsTail bytes = before_zero (rows_of bytes) ≡ []
 

@@ -25,6 +25,7 @@ pub fn add_data(alloc: Global, out: &mut Vec<u8>, value: &Data) -> Result<(), Al
 {
     let mut text = Octets::new(alloc);
     write(alloc, value, &mut text)?;
+    // (no effect: the contract needs this law)
     digits_are_plain(text.as_slice());
     add_hex(alloc, out, text.as_slice())
 }

@@ -54,8 +54,9 @@ pub record Called {E R O : Type 0} (legal : O → List (Entry E R) → Type 0) (
   pub joined_calls : (q : List ℕ) → IsAmong q before.joined
       → calls_by q after.seen ≡ calls_by q before.seen
 
--- The cause of a refusal by a lock: `Memory` only if the event may allocate, `Exhausted` only if
--- the port has read that at least `bound` turns were drawn. A lock has no journal.
+-- Whether this may be the cause of a refusal by a lock: `Memory` only if the event may allocate,
+-- `Exhausted` only if the port has read that at least `bound` turns were drawn. A lock has no
+-- journal.
 abbrev pub IsCause : {E R O : Type 0} → (E → Type 0) → E → ℕ → Known E R O → CallFault → Type 0
 IsCause sure event bound after Memory = ¬ sure event
 IsCause sure event bound after Exhausted = bound ≤ after.drawn

@@ -6,7 +6,7 @@ use Rattle.turn_lock.specs.declared.turned.Entry.{Entry}
 abbrev pub StartsWith : {A : Type 0} → List A → List A → Type 0
 StartsWith {A} xs ys = (rest : List A) × (xs ≡ ys ++ rest)
 
--- the number q is in the list
+-- whether the number q is in the list
 abbrev pub IsAmong : List ℕ → List (List ℕ) → Type 0
 IsAmong q [] = ⊥
 IsAmong q (number ∷ numbers) = (q ≡ number) ⊎ IsAmong q numbers

@@ -1,9 +1,9 @@
 -- The invariant of the table: what holds for its words, its slot and all views between any two
 -- steps.
---     Moment  the table at one moment
---     Fits    a seat's view agrees with the moment
---     Facts   all that holds at a moment
---     IsLockState   the invariant
+--     Moment         the table at one moment
+--     Fits           a seat's view agrees with the moment
+--     Facts          all that holds at a moment
+--     IsLockState    the invariant
 use Rattle.std.specs.Prelude.{◌≡◌, ◌≢◌, ◌⊎◌, ℕ, ◌+◌, ◌^◌, ◌<◌, ◌≤◌, Bool, true, List, [], ◌∷◌, length, Option, Some, None}
 use mathlib.Core.Option.{some, none}
 use mathlib.Core.Option as maybe
@@ -51,11 +51,11 @@ LastCall E R = Option (Snapshot E × Snapshot R)
 abbrev pub full_slot : {T E R : Type 0} → T → LastCall E R → Slot T E R
 full_slot value last = record { value = Some value; last = last }
 
--- q is the port's own number or one joined into it
+-- whether q is the port's own number or one joined into it
 abbrev pub IsOwn : {E R O : Type 0} → Known E R O → List ℕ → Type 0
 IsOwn known q = (q ≡ known.number) ⊎ IsAmong q known.joined
 
--- the port has seen no call of its own
+-- whether the port has seen no call of its own
 abbrev pub HasNoCalls : {E R O : Type 0} → Known E R O → Type 0
 HasNoCalls known = calls_by known.number known.seen ≡ []
 

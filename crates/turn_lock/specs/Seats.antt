@@ -13,7 +13,7 @@ use Rattle.turn_lock.specs.History.{entry}
 use Rattle.turn_lock.specs.Rule.{max_turns, LastCall, fresh_known}
 use Rattle.turn_lock.specs.Calls.{IsLegal, parent_after_split, child_after_split}
 
--- a table of two words and one slot
+-- whether a table has two words and one slot
 abbrev pub IsSized : TableId → Type 0
 IsSized table = (table.words ≡ 2) × (table.slots ≡ 1)
 

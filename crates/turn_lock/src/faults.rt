@@ -1,7 +1,7 @@
 //! The error of `Shared::close`.
 use thiserror::Error;
 
-/// The error of a lock that can't be closed: more turns were drawn than had ended.
+/// The error of a lock that cannot be closed: more turns were drawn than had ended.
 #[derive(Clone, Copy, Debug, PartialEq, Eq, Error)]
 #[error("{drawn} turns were drawn, and {served} have ended")]
 pub struct Busy {

@@ -96,7 +96,7 @@ impl<T: Turned> Port<T> {
     /// Makes a second port, which has seen the same history and has made no call. It can be sent to
     /// another thread.
     ///
-    /// Returns `AllocError`, with nothing changed, if the lock can't have another owner.
+    /// Returns `AllocError`, with nothing changed, if the lock cannot have another owner.
     pub fn split(&mut self) -> Result<Port<T>, AllocError>
         ensures lock { (self.new.lock ≡ self.old.lock) × (self.new.bound ≡ self.old.bound) }
         ensures parent { OnOk result (self.new.known ≡ parent_after_split self.old.known) }

@@ -237,7 +237,8 @@ pub(crate) fn call_at<T: Turned, W: Wait>(
     }
 }
 
-// Asks one question: draws a turn, waits for it, asks the value, and ends the turn without a call.
+// Asks one question, and returns the answer: draws a turn, waits for it, asks the value, and ends
+// the turn without a call.
 pub(crate) fn inspect_at<T: Inspected, W: Wait>(
     top: &Top<T>,
     place: &mut Place<T>,

@@ -11,7 +11,7 @@ use Rattle.wire_bytes.specs.Format.{Format, IsJoined, narrow}
 use Rattle.wire_bytes.specs.Outcome.{◌>>=◌}
 use Rattle.wire_bytes.specs.Choice.{Choice, Parts, next_read, choice_by}
 
--- a number that is a byte
+-- whether a number is a byte
 abbrev pub IsByte : ℕ → Type 0
 IsByte n = n < 256
 

@@ -42,7 +42,7 @@ pub record IsTagged {T : Type 0} (tag : T) (IsContents : List T → Type 0) (tok
     pub parts : tokens ≡ tag ∷ contents
     pub are_contents : IsContents contents
 
--- a spelling of a value of which this one is made
+-- whether a spelling of a value is one of which this one is made
 abbrev pub IsMade : {T A B : Type 0} → (A → B) → (A → List T → Type 0) → B → List T → Type 0
 IsMade {A = A} make Spells b tokens = (a : A) × (make a ≡ b) × Spells a tokens
 
@@ -57,7 +57,7 @@ iso to from part = record {
   Spells = λ b tokens. part.Spells (from b) tokens;
 }
 
--- no tokens
+-- the format whose text has no tokens
 abbrev pub empty : {T F : Type 0} → Format T F (Unit {0})
 empty = record {
   read = λ tokens. Ok (tt, tokens);

@@ -49,7 +49,7 @@ head_of bytes =
     else Whole (length_of bytes))
     else BadVersion
 
--- the header and the payload of a whole frame are complete, and the payload is not too long
+-- whether the header and the payload of a whole frame are complete, and the payload is not too long
 abbrev pub IsThere : List ℕ → Head → Type 0
 IsThere bytes (Whole n) = (n ≤ max_payload) × (header_size + n ≤ length bytes)
 IsThere bytes Part = Unit {0}

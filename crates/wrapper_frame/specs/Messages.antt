@@ -70,7 +70,8 @@ pub record Messages (bytes : List ℕ) (frames : List Frame) (rest : List ℕ) :
   pub fit : AreFrames frames
   pub ended : BeginsWithNone rest
 
--- the three ends of a stream's frames: part of a frame, a wrong version, too large a length
+-- whether this is one of the three ends of a stream's frames: part of a frame, a wrong version, too
+-- large a length
 abbrev pub IsEnd : Head → Type 0
 IsEnd Part = Unit {0}
 IsEnd BadVersion = Unit {0}

@@ -6,7 +6,7 @@ ghost use Rattle.wrapper_frame.specs.declared.fault.WrapperFault.TheVariants.{Me
 use std::alloc::AllocError;
 use thiserror::Error;
 
-/// Why bytes are not a frame, or why a payload can't be framed.
+/// Why bytes are not a frame, or why a payload cannot be framed.
 #[derive(Clone, Copy, Debug, PartialEq, Eq, Error)]
 pub enum WrapperFault {
     /// The header has a version other than 0001.

@@ -79,7 +79,8 @@ request_of bytes = whole_or Unreadable (request_format.read bytes)
 unfoldable pub request_text : Request → List ℕ
 request_text request = request_format.text request
 
--- a request whose numbers, lengths and Data are within their limits, so that its text is read back
+-- whether the numbers, lengths and Data of a request are within their limits, so that its text is
+-- read back
 abbrev pub IsFitRequest : Request → Type 0
 IsFitRequest request = request_format.Fits request
 

@@ -91,7 +91,8 @@ response_of bytes = whole_or Unreadable (response_format.read bytes)
 unfoldable pub response_text : Response → List ℕ
 response_text response = response_format.text response
 
--- a response whose numbers, lengths and Data are within their limits, so that its text is read back
+-- whether the numbers, lengths and Data of a response are within their limits, so that its text is
+-- read back
 abbrev pub IsFitResponse : Response → Type 0
 IsFitResponse response = response_format.Fits response
 

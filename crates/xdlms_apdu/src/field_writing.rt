@@ -85,8 +85,10 @@ pub(crate) fn put_selection(selected: bool, out: &mut Octets) -> Result<(), Allo
     }
 }
 
+// Marks selective access as absent.
 const NO_SELECTOR: u8 = 0;
 
+// The tag of null-data.
 const NULL_DATA: u8 = 0;
 
 // Appends a Cosem-Attribute-Descriptor-With-Selection.

@@ -12,7 +12,7 @@ pub enum Exception {
     NotAllowed,
     /// service-unknown, service-not-supported: the service is not known.
     Unknown,
-    /// service-not-allowed, other-reason: the service is known, but its bytes can't be read.
+    /// service-not-allowed, other-reason: the service is known, but its bytes cannot be read.
     Unreadable,
 }
 

@@ -9,7 +9,7 @@ abbrev pub IsCut : Type 0
 IsCut = (text : List ℕ) (size : ℕ) → 0 < length text → 0 < size
     → AreBlocks size 0 (pieces_of text size)
 
--- their concatenation is the text
+-- the concatenation of the pieces that a transfer returns is the text
 abbrev pub IsWhole : Type 0
 IsWhole = (text : List ℕ) (size : ℕ) → 0 < length text → 0 < size
     → joined_bytes (pieces_of text size) ≡ text
