@@ -1,14 +1,16 @@
 #!/usr/bin/env python3
 """Tests `bin/campaign --ledgers`. Campaigns of three parts against scripted meters that count what
-they receive are stopped and killed at random times, by GNU parallel and by a Slurm cluster of one
-node that the test starts, and run again until they are whole: no meter may get a second command,
-and the report must be whole and right. Also tested: ledgers that are missing, elsewhere or of
-another list, and two campaigns at once. Every wait has a time limit. What a missing program would
-test is skipped; without a `head_end run --ledger` all of it is.
+they receive are stopped and killed at random times, by GNU parallel, by ssh with ledgers on each
+machine, and by a Slurm cluster of one node that the test starts, and run again until they are
+whole: no meter may get a second command, and the report must be whole and right. Also tested:
+ledgers that are missing, elsewhere or of another list, two campaigns at once, a machine that does
+not answer, and 20,000 jobs through Slurm that are stopped once. Every wait has a time limit. What a
+missing program would test is skipped; without a `head_end run --ledger` all of it is.
 
-usage: tests/campaign_ledgers.py [--long] [--seed N]
+usage: tests/campaign_ledgers.py [--long] [--short] [--seed N]
 
-  --long     50 campaigns that are stopped or killed instead of 4
+  --long     50 campaigns that are stopped or killed instead of 4, 10 of them by ssh instead of 2
+  --short    2,000 jobs through Slurm instead of 20,000
   --seed N   the seed of the random choices; the times are never the same twice"""
 
 import argparse
@@ -27,7 +29,7 @@ import time
 sys.dont_write_bytecode = True  # importing the modules of tests/ leaves no files
 
 import serving
-from campaigns import CAMPAIGN, stop_campaigns, started
+from campaigns import CAMPAIGN, SSHD_PATH, Shell, stop_campaigns, started
 from counted_meters import COMMANDS, CountedMeters, kind_of
 from journal import in_folder
 from ledger import HEAD_END, any_verb, entries, first_differences, has_ledger, report_of, text_of
@@ -37,9 +39,11 @@ from serving import PASSWORD, check, test
 
 JOBS, PARTS, LINES = 150, 3, 1_000  # a part of 50 jobs is filled up with empty lines
 KILLED, LONG_KILLED, KILLED_JOBS = 4, 50, 90
+KILLED_BY_SSH, LONG_KILLED_BY_SSH = 2, 10
+MANY, SHORT_MANY = 20_000, 2_000  # the jobs of the long array
 MOST_RUNS = 40  # of one campaign
 LONGEST = 300  # the time limit of a run, in seconds
-is_long, seed = False, 49
+is_long, is_short, seed = False, False, 49
 
 
 def module_of(path):
@@ -57,13 +61,13 @@ class Long:
     """A list of three parts at meters that count, in a file, and the commands that they received
     over all runs."""
 
-    def __init__(self, folder, meters, verb_of=any_verb):
+    def __init__(self, folder, meters, verb_of=any_verb, parts=PARTS):
         self.path, self.meters = folder / "jobs", meters
-        self.jobs = [(f"job{place}", f"127.0.0.1:{port}", verb_of(place))
-                     for place, port in enumerate(meters.ports)]
+        self.jobs = [(f"job{place}", address, verb_of(place))
+                     for place, address in enumerate(meters.addresses)]
         self.rows = [CROWD[kind_of(place)][2][job[2]] for place, job in enumerate(self.jobs)]
         self.commands = [0] * len(self.jobs)
-        size = len(self.jobs) // PARTS
+        size = len(self.jobs) // parts
         for at in range(0, len(self.jobs), size):
             with self.path.open("a") as file:
                 file.write(text_of(self.jobs[at:at + size]) + "\n" * (LINES - size))
@@ -322,18 +326,179 @@ def arrays_command_nobody_twice(name, folder):
         meters.stop()
 
 
+def a_long_array(name, folder, slurm, count):
+    """A campaign of many parts through Slurm is stopped once, and run again until it is whole."""
+    meters = CountedMeters(count, is_wide=True)
+    try:
+        campaign = Long(folder, meters, parts=count // LINES)
+        words = ("--slurm", "--jobs", "4", "--workers", "16")
+        process = campaign.start(*words)
+        reports = "campaign.*/ended.*"
+        begun = wait_until(lambda: process.poll() is not None or list(folder.glob(reports)), LONGEST)
+        check(f"{name}: a part ends", begun and process.poll() is None, campaign.errors.read_text()[-500:])
+        process.send_signal(signal.SIGTERM)
+        status = process.wait(LONGEST)
+        started.remove(process)
+        known = len(campaign.output.read_text().splitlines())
+        check(f"{name}: it is stopped", status == 143 and LINES <= known, status, known, campaign.errors.read_text()[-500:])
+        campaign.follow()
+        begun = time.monotonic()
+        ran = campaign.run(*words)
+        campaign.follow()
+        left = campaign.check_end(name, ran)
+        print(f"{name}: {count} jobs, {known} rows when it was stopped, then {time.monotonic() - begun:.0f} s, {left} jobs left unknown", flush=True)
+    finally:
+        stop_campaigns()
+        meters.stop()
+
+
+@in_folder
+def long_arrays_command_nobody_twice(name, folder):
+    missing = missing_commands()
+    if missing:
+        print(f"SKIPPED Slurm: {', '.join(missing)} not installed")
+        return
+    slurm = Slurm(folder / "slurm")
+    try:
+        if not slurm.start():
+            print(f"SKIPPED Slurm: the daemons that the test started accept no tasks: {slurm.errors()}")
+            return
+        os.environ["SLURM_CONF"] = str(slurm.configuration)
+        a_long_array(name, folder, slurm, SHORT_MANY if is_short else MANY)
+    finally:
+        stop_campaigns()
+        slurm.stop()
+        os.environ.pop("SLURM_CONF", None)
+
+
+class ByMachines(Long):
+    """A campaign by ssh to two names of this machine, each with ledgers of its own."""
+
+    def __init__(self, folder, meters, shell, verb_of=any_verb):
+        super().__init__(folder, meters, verb_of)
+        self.shell, self.there, self.names = shell, folder / "there", ("127.0.0.1", "localhost")
+        self.dead, self.has_dead = "ssh -F /dev/null -p 1 -o BatchMode=yes 127.0.0.9", False
+        # (the password is not sent: the command reads it on its machine)
+        password = folder / "password"
+        password.write_text(f"{PASSWORD}\n")
+        password.chmod(0o600)
+        self.there.write_text(f'#!/bin/sh\nexec {HEAD_END} "$@" --password-file {password}\n')
+        self.there.chmod(0o700)
+
+    def words(self, *names):
+        logins = ",".join([self.shell.login(it) for it in names or self.names]
+                          + [self.dead] * self.has_dead)
+        return ("--machine-folder", str(self.path.parent / "far"), "--sshlogin", logins,
+                "--program", str(self.there))
+
+    def places(self):
+        """The machine of each part that has begun, by the record."""
+        text = self.path.with_name("jobs.campaign").read_text()
+        return dict(line.split()[1:] for line in text.splitlines() if line.startswith("part "))
+
+    def far_ledgers(self):
+        return sorted(self.path.parent.glob("far/jobs.*/ledger.[0-9]"))
+
+
+@in_folder
+def machines_command_nobody_twice(name, folder):
+    missing = [word for word in ("ssh", "ssh-keygen", "sshd") if not shutil.which(word, path=SSHD_PATH)]
+    if missing:
+        print(f"SKIPPED ssh: {', '.join(missing)} not installed")
+        return
+    shell = Shell(folder)
+    try:
+        if not shell.answers():
+            print("SKIPPED ssh: the sshd that the test started does not accept connections")
+            return
+        place = folder / "whole"
+        place.mkdir()
+        a_campaign_by_machines(f"{name}: whole", place, shell)
+        for number in range(LONG_KILLED_BY_SSH if is_long else KILLED_BY_SSH):
+            choose, meters = random.Random(f"{seed} ssh {number}"), CountedMeters(KILLED_JOBS)
+            place = folder / str(number)
+            place.mkdir()
+            try:
+                campaign = ByMachines(place, meters, shell)
+                runs, left = until_whole(f"{name} {number}", campaign, choose, lambda it: (
+                    *campaign.words(), "--jobs", it.choice("12"), "--workers", it.choice(("1", "4"))))
+                print(f"{name} {number}: {runs} runs, {left} jobs left unknown", flush=True)
+            except AssertionError as error:
+                check(f"{name}: campaign {number}, seed {seed}", False, error)
+            finally:
+                stop_campaigns()
+                meters.stop()
+    finally:
+        shell.stop()
+
+
+def a_campaign_by_machines(name, folder, shell):
+    meters = CountedMeters(JOBS)
+    try:
+        campaign = ByMachines(folder, meters, shell)
+        campaign.has_dead = True
+        ran = campaign.run(*campaign.words(), "--jobs", "2")
+        campaign.follow()
+        check(f"{name}: a machine that does not answer", "127.0.0.9: no part runs there" in ran[2], ran[2])
+        campaign.has_dead = False
+        wanted = report_of(campaign.jobs, campaign.rows)
+        check(f"{name}: report", ran[:2] == (0, wanted), ran[0], first_differences(wanted, ran[1]),
+              ran[2][-500:])
+        places = campaign.places()
+        check(f"{name}: the record names the machine of each part", set(places) == {"1", "2", "3"}
+              and set(places.values()) == set(campaign.names), places)
+        check(f"{name}: the ledgers", len(campaign.far_ledgers()) == PARTS
+              and not list((folder / "jobs.ledgers").glob("ledger.[0-9]")))
+        record = folder / "jobs.campaign"
+        with record.open("a") as file:
+            file.write("part 3 another")  # (no line end: a crash left it)
+        again = campaign.run(*campaign.words(), "--jobs", "3")
+        check(f"{name}: again, after a torn line", again[:2] == ran[:2] and campaign.places() == places,
+              first_differences(wanted, again[1]), again[2])
+        check(f"{name}: no connection again", not any(map(sum, map(dict.values, meters.take_counts()))))
+        machine_refusals(name, campaign, record)
+        check(f"{name}: nothing was sent", not any(map(sum, map(dict.values, meters.take_counts()))))
+    finally:
+        stop_campaigns()
+        meters.stop()
+
+
+def machine_refusals(name, campaign, record):
+    """What is refused with status 2 and before anything is sent."""
+
+    def is_refused(what, message, *words):
+        ran = campaign.run(*words)
+        check(f"{name}: refused: {what}", ran[:2] == (2, "") and message in ran[2], ran)
+
+    is_refused("a machine that has a ledger is not named", "is on localhost, which --sshlogin does "
+               "not name", *campaign.words("127.0.0.1"))
+    is_refused("on one machine", "and the campaign runs nowhere else")
+    is_refused("another folder", "and the campaign runs nowhere else", *campaign.words(),
+               "--machine-folder", "/tmp")
+    is_refused("no folder", "expected --folder DIR", *campaign.words()[2:])
+    ledger = campaign.far_ledgers()[0]
+    ledger.rename(ledger.with_name("away"))
+    is_refused("a missing ledger", "ledger.1: the ledger is not there", *campaign.words())
+    ledger.with_name("away").rename(ledger)
+    text = record.read_text()
+    record.unlink()
+    is_refused("no record", "has ledgers of a campaign", *campaign.words())
+    record.write_text(text)
+
+
 TESTS = (a_campaign_is_run_again, what_is_known_is_printed, killed_campaigns_command_nobody_twice,
-         arrays_command_nobody_twice)
+         machines_command_nobody_twice, arrays_command_nobody_twice, long_arrays_command_nobody_twice)
 
 
 def main():
-    global is_long, seed
+    global is_long, is_short, seed
     parser = argparse.ArgumentParser(description=__doc__,
                                      formatter_class=argparse.RawDescriptionHelpFormatter)
     parser.add_argument("--long", action="store_true")
+    parser.add_argument("--short", action="store_true")
     parser.add_argument("--seed", type=int, default=seed)
     given = parser.parse_args()
-    is_long, seed = given.long, given.seed
+    is_long, is_short, seed = given.long, given.short, given.seed
     if not os.access(HEAD_END, os.X_OK):
         print(f"{HEAD_END} is missing: run bin/build or bin/test\n0 passed, 1 failed")
         return 1

@@ -26,7 +26,8 @@ sys.dont_write_bytecode = True  # importing the modules of tests/ leaves no file
 
 import serving
 from one_node_slurm import LONG_PATIENCE, Slurm, missing_commands, wait_until
-from scripted_meters import AARQ, CROWD, HOLDING, RELEASE, REQUESTS, SCRIPTS, Crowd, ScriptedMeter, Unheard, answers_slowly, answers_the_release, does_it
+from scripted_meters import AARQ, CROWD, HOLDING, RELEASE, REQUESTS, SCRIPTS, Crowd, ScriptedMeter, Unheard, answers_slowly, answers_the_release, does_it, \
+    loopback_address
 from serving import MODE, PASSWORD, PATIENCE, PLAYER, SERVER, TOP, Client, Server, check, played, shown_of, test
 
 HEAD_END = os.environ.get("HEAD_END") or TOP / "crates" / "head_end_cli" / "out" / "head_end_cli"
@@ -360,7 +361,7 @@ def progress_is_reported(name):
 
 def address_of(number, port):
     """A loopback address of its own for each job."""
-    return f"127.{number // 65_536 + 1}.{number // 256 % 256}.{number % 256}:{port}"
+    return f"{loopback_address(number)}:{port}"
 
 
 def crowd_jobs(crowd, count):

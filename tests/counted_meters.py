@@ -9,7 +9,7 @@ import select
 import socket
 import time
 
-from scripted_meters import CROWD, NAMES, STAGES, TEXTS
+from scripted_meters import CROWD, NAMES, STAGES, TEXTS, loopback_address
 from serving import PATIENCE
 
 DELAYS = (0, 0, 0.001, 0.004, 0.012)  # the times before an answer, in seconds
@@ -22,13 +22,18 @@ def kind_of(number):
 
 
 class CountedMeters:
-    """A process with `count` meters. It ends when its parent does."""
+    """A process with `count` meters, each on a port of its own, or if `is_wide` each at a loopback
+    address of its own, on the port of its kind. It ends when its parent does."""
 
-    def __init__(self, count):
-        listeners = [socket.create_server(("127.0.0.1", 0), backlog=16) for _ in range(count)]
-        self.ports = [listener.getsockname()[1] for listener in listeners]
+    def __init__(self, count, is_wide=False):
+        listeners = [socket.create_server(("0.0.0.0", 0), backlog=1024) for _ in CROWD] \
+            if is_wide else [socket.create_server(("127.0.0.1", 0), backlog=16) for _ in range(count)]
+        ports = [listener.getsockname()[1] for listener in listeners]
+        self.addresses = [f"{loopback_address(it)}:{ports[kind_of(it)]}" for it in range(count)] \
+            if is_wide else [f"127.0.0.1:{port}" for port in ports]
         self.pipe, theirs = multiprocessing.Pipe()
-        given = {"target": serve, "args": (listeners, self.pipe, theirs), "daemon": True}
+        places = {loopback_address(it): it for it in range(count)} if is_wide else None
+        given = {"target": serve, "args": (listeners, places, self.pipe, theirs), "daemon": True}
         self.process = multiprocessing.get_context("fork").Process(**given)
         self.process.start()
         theirs.close()
@@ -74,10 +79,10 @@ class Answered:
 class Process:
     """The process of the meters: its clients, what they sent, and the answers that are pending."""
 
-    def __init__(self, listeners, pipe):
-        self.poll, self.pipe = select.epoll(), pipe
+    def __init__(self, listeners, places, pipe):
+        self.poll, self.pipe, self.places = select.epoll(), pipe, places
         self.listeners = {it.fileno(): (meter, it) for meter, it in enumerate(listeners)}
-        self.counts = [collections.Counter() for _ in listeners]
+        self.counts = [collections.Counter() for _ in places or listeners]
         self.clients, self.pending, self.number = {}, [], 0
         self.choose, self.is_asked = random.Random(), False
         for one in (*self.listeners, pipe.fileno()):
@@ -86,6 +91,8 @@ class Process:
     def accept(self, number):
         meter, listener = self.listeners[number]
         stream, _ = listener.accept()
+        if self.places:
+            meter = self.places[stream.getsockname()[0]]
         stream.setsockopt(socket.IPPROTO_TCP, socket.TCP_NODELAY, 1)
         self.counts[meter]["connections"] += 1
         self.clients[stream.fileno()] = Answered(stream, meter)
@@ -137,7 +144,7 @@ class Process:
                 self.is_asked = False
 
 
-def serve(listeners, others, pipe):
+def serve(listeners, places, others, pipe):
     """The main function of the process."""
     others.close()
-    Process(listeners, pipe).run()
+    Process(listeners, places, pipe).run()

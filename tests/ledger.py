@@ -58,8 +58,8 @@ class Campaign:
 
     def __init__(self, meters, verb_of):
         self.meters = meters
-        self.jobs = [(f"job{place}", f"127.0.0.1:{port}", verb_of(place))
-                     for place, port in enumerate(meters.ports)]
+        self.jobs = [(f"job{place}", address, verb_of(place))
+                     for place, address in enumerate(meters.addresses)]
         self.text = text_of(self.jobs)
         self.rows = [CROWD[kind_of(place)][2][verb] for place, (_, _, verb) in enumerate(self.jobs)]
         self.commands = [place for place, (_, _, verb) in enumerate(self.jobs) if verb in COMMANDS]
@@ -187,7 +187,7 @@ def first_differences(wanted, found):
 
 def campaign_of(meters, choose):
     """A campaign in which each place has a random verb, most of them commands."""
-    verbs = [choose.choice((*REQUESTS, *COMMANDS)) for _ in meters.ports]
+    verbs = [choose.choice((*REQUESTS, *COMMANDS)) for _ in meters.addresses]
     return Campaign(meters, verbs.__getitem__)
 
 

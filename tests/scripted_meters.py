@@ -350,6 +350,11 @@ CROWD = [
 ]
 
 
+def loopback_address(number):
+    """A loopback address of its own for each number."""
+    return f"127.{number // 65_536 + 1}.{number // 256 % 256}.{number % 256}"
+
+
 class Crowd:
     """A process that answers any number of clients at once, on a port for each kind of `CROWD`, and
     counts what they send."""

@@ -10,6 +10,7 @@ complete -c campaign -l passwords -r -d 'file of the meters\' own passwords, eac
 complete -c campaign -l joblog -r -d 'write the log of GNU parallel to FILE: a line for each part'
 complete -c campaign -l sshlogin -r -d 'run the parts on these machines, separated by commas'
 complete -c campaign -l sshloginfile -r -d 'run the parts on the machines that FILE lists'
+complete -c campaign -l machine-folder -r -d 'with --ledgers and ssh: the folder of each machine for its ledgers'
 complete -c campaign -l slurm -d 'run the parts as an array of Slurm (sbatch), which never requeues'
 complete -c campaign -l folder -r -d 'folder that all machines share, for the parts and reports of --slurm and for the ledgers; the default is that of JOBS'
 complete -c campaign -l program -r -d 'run COMMAND instead of head_end'
