@@ -38,7 +38,8 @@ use Rattle.xdlms_blocks.specs.Transfer.{Sending}
 -- a payload of thirteen bytes that is a GET of one attribute
 get_of : (conformance id high low a b c d e f number : ℕ)
     → (bit_and conformance 0x10 == 0x10) ≡ true
-    → IsShortRequest conformance (0xC0 ∷ 0x01 ∷ id ∷ high ∷ low ∷ a ∷ b ∷ c ∷ d ∷ e ∷ f ∷ number ∷ 0x00
+    → IsShortRequest conformance (0xC0 ∷ 0x01 ∷ id ∷ high ∷ low ∷ a ∷ b ∷ c ∷ d ∷ e ∷ f ∷ number ∷
+    0x00
     ∷ []) (record { 0 = id })
     (short.Get (record {
       class = record { 0 = from_be_bytes w16 (high ∷ low ∷ []) };
@@ -272,7 +273,13 @@ asks_at_front s t pending payload kept src dst n asked request listening whole s
     hears_any ℕ s t pending payload kept src dst n (step.Ask event asked) (Some (next.Ask event))
     listening whole src_is dst_is here payload_is left goes_on
     (sym (heard.outcome s.password)) (heard.after s.password) refl after in
-    record { steps = works.0; awaits = works.1.0; is_short = rw after heard.is_short; less = works.1.1 }
+    record {
+      steps = works.0;
+      awaits = works.1.0;
+      is_short = rw after heard.is_short;
+      less =
+          works.1.1;
+    }
 
 -- ---- its answer
 

@@ -18,9 +18,9 @@ use xdlms_apdu::tag::{ACTION_REQUEST, GET_REQUEST, SET_REQUEST};
 const ABSENT: u8 = 0;
 // The byte that says that an ACTION has a parameter.
 const PRESENT: u8 = 1;
-// The tags of the values (IEC 62056-6-2, Data): enum and integer.
+// The tag of an enum (IEC 62056-6-2, Data).
 const ENUM: u8 = 0x16;
-
+// The tag of an integer (IEC 62056-6-2, Data).
 const INTEGER: u8 = 0x0F;
 
 /// A request that a session reads and answers without building a large value. A GET or a SET is of

@@ -48,7 +48,8 @@ due-preserved-in-Ok g c =
     let asked = rw (sym c.event.ensures) at c.in-Some.ensures.asks in
     let answered = c.in-Ok.ensures.ok in
     record {
-      reached = reached_answered [] c.due.session c.next_short.new.self c.answer_short-answered.new.self
+      reached = reached_answered [] c.due.session c.next_short.new.self
+          c.answer_short-answered.new.self
           (outlets_of g.W.Writer.contents g.W.Writer.failures c.due.writer c.due.meter)
           c.call.new.meter
           (output_of g.W.Writer.contents g.W.Writer.failures c.write.new.writer)
@@ -230,7 +231,8 @@ returns-in_err-write-in-Ok-clause-order g c = λ password texts_of happened at.
     let asked = rw (sym c.event.ensures) at c.in-Some.ensures.asks in
     let answered = c.in-Ok.ensures.ok in
     orders_stop (λ f. f ≡ c.in_err-write-in-Ok.field-0.0) texts_of
-    (still_sends c.answer_short-answered.new.self) happened (g.V.SessionWatch.passed c.args.watch.now)
+    (still_sends c.answer_short-answered.new.self) happened (g.V.SessionWatch.passed
+    c.args.watch.now)
     (g.V.SessionWatch.passed c.write.new.watch) c.from_residual-in_err-write-in-Ok.result
     c.from_residual-in_err-write-in-Ok.ensures.1
     (stops_unsent happened (g.V.SessionWatch.passed c.args.watch.now)
