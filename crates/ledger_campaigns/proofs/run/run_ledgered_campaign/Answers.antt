@@ -37,7 +37,7 @@ returns-clause-run g c =
     c.meet_all.ensures.origin ∙ (c.in_ok-places.ensures.origin
     ∙ ap (λ k. k.origin) c.in_ok-shared.ensures.known) in
     taken_run g.B.Book.is_honest g.B.Book.is_marked c.in_ok-places.places.len c.meet_all.new.places
-        _
+    _
     (λ p. p.attempt.stage) c.args.plan.now.jobs.now c.args.plan.now.password.now c.args.ledger
     c.close-ledger.result c.from_vec.result (omega (arith, count, ap length same))
     (rw (whole, same) (run_by g.B.Book.is_honest g.B.Book.is_marked c.args.plan.now.jobs.now
