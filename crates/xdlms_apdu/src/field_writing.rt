@@ -44,7 +44,8 @@ pub(crate) fn put_raw(raw: &Octets, out: &mut Octets) -> Result<(), AllocError>
 
 // Appends a Cosem-Attribute-Descriptor.
 pub(crate) fn put_attribute(attribute: &AttrRef, out: &mut Octets) -> Result<(), AllocError>
-    ensures { OnOk result (out.new ≡ out.old ++ attribute_part.text attribute.now) }
+    ensures ok { OnOk result (out.new ≡ out.old ++ attribute_part.text attribute.now) }
+    ensures extends { OnErr result (Extends out.old out.new) }
 {
     put_descriptor(attribute.class, attribute.name, attribute.number, out)
 }
@@ -57,14 +58,16 @@ pub(crate) fn put_method(method: &MethodRef, out: &mut Octets) -> Result<(), All
 }
 
 // Appends a class, a logical name and the number of an attribute or a method.
+#[tactic(auto, using(cosem_axdr::proofs::Appending::extends_same, cosem_axdr::proofs::Appending::extends_more))]
 fn put_descriptor(
     class: ClassId,
     name: Obis,
     number: u8,
     out: &mut Octets,
 ) -> Result<(), AllocError>
-    ensures { OnOk result (out.new ≡ out.old
+    ensures ok { OnOk result (out.new ≡ out.old
         ++ (class_part & name_part & byte_part).text (class, (name, number))) }
+    ensures extends { OnErr result (Extends out.old out.new) }
 {
     let mut class_text = [0; 2];
     BigEndian::write_u16(&mut class_text, class.0);
@@ -75,8 +78,10 @@ fn put_descriptor(
 
 // Appends an optional Selective-Access-Descriptor: if it is present, selector 0 with null-data as
 // its parameters.
+#[tactic(auto, using(cosem_axdr::proofs::Appending::extends_same, cosem_axdr::proofs::Appending::extends_more))]
 pub(crate) fn put_selection(selected: bool, out: &mut Octets) -> Result<(), AllocError>
-    ensures { OnOk result (out.new ≡ out.old ++ selection_part.text selected) }
+    ensures ok { OnOk result (out.new ≡ out.old ++ selection_part.text selected) }
+    ensures extends { OnErr result (Extends out.old out.new) }
 {
     if selected {
         out.extend_from_slice(&[PRESENT, NO_SELECTOR, NULL_DATA])
@@ -92,8 +97,10 @@ const NO_SELECTOR: u8 = 0;
 const NULL_DATA: u8 = 0;
 
 // Appends a Cosem-Attribute-Descriptor-With-Selection.
+#[tactic(auto, using(cosem_axdr::proofs::Appending::extends_same, cosem_axdr::proofs::Appending::extends_more))]
 pub(crate) fn put_target(target: &AttributeSelection, out: &mut Octets) -> Result<(), AllocError>
-    ensures { OnOk result (out.new ≡ out.old ++ target_part.text target.now) }
+    ensures ok { OnOk result (out.new ≡ out.old ++ target_part.text target.now) }
+    ensures extends { OnErr result (Extends out.old out.new) }
 {
     put_attribute(&target.attr, out)?;
     put_selection(target.selected, out)

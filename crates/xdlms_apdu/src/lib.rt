@@ -11,6 +11,7 @@ mod field_writing;
 pub mod form;
 mod invoke_id;
 mod laws;
+mod list_item;
 mod list_reading;
 mod list_writing;
 mod request;

@@ -15,7 +15,7 @@ use crate::field_reading::{
     read_block, read_data, read_id_and_number, read_invoke_id, read_method, read_parameter,
     read_target,
 };
-use crate::list_reading::read_targets;
+use crate::list_reading::read_list;
 use crate::request::Request;
 use crate::{form, tag};
 use std::alloc::Global;
@@ -102,7 +102,7 @@ fn read_get_list(alloc: Global, reader: &mut Cursor) -> Result<Request, ApduFaul
         ((invoke_id_part & list_part target_part).read reader.old)) }
 {
     let id = read_invoke_id(reader)?;
-    let targets = read_targets(alloc, reader)?;
+    let targets = read_list(alloc, reader)?;
     Ok(Request::GetList { id, targets })
 }
 

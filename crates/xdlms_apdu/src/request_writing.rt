@@ -5,7 +5,7 @@ ghost use Rattle.xdlms_apdu.specs.Requests.{request_text};
 use crate::field_writing::{put_block, put_method, put_number, put_parameter, put_target};
 use crate::form;
 use crate::form::{action_request, get_request, set_request};
-use crate::list_writing::put_targets;
+use crate::list_writing::put_list;
 use crate::request::Request;
 use crate::tag::{ACTION_REQUEST, GET_REQUEST, SET_REQUEST};
 use cosem_axdr::Octets;
@@ -53,7 +53,7 @@ fn put_rest(request: &Request, out: &mut Octets) -> Result<(), AllocError>
     match request {
         Request::Get { target, .. } => put_target(target, out),
         Request::GetNext { number, .. } => put_number(*number, out),
-        Request::GetList { targets, .. } => put_targets(targets.as_slice(), out),
+        Request::GetList { targets, .. } => put_list(targets.as_slice(), out),
         Request::Set { target, value, .. } => {
             put_target(target, out)?;
             cosem_axdr::append(value, out)

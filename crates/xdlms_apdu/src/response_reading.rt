@@ -21,7 +21,7 @@ use crate::field_reading::{
 };
 use crate::field_value::{ABSENT, service_error, state_error};
 use crate::invoke_id::InvokeId;
-use crate::list_reading::read_results;
+use crate::list_reading::read_list;
 use crate::response::{Exception, Response};
 use crate::{choice, form, tag};
 use std::alloc::Global;
@@ -101,7 +101,7 @@ fn read_get_list(alloc: Global, reader: &mut Cursor) -> Result<Response, ApduFau
         ((invoke_id_part & list_part result_part).read reader.old)) }
 {
     let id = read_invoke_id(reader)?;
-    let results = read_results(alloc, reader)?;
+    let results = read_list(alloc, reader)?;
     Ok(Response::GetList { id, results })
 }
 

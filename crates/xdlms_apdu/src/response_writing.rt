@@ -12,7 +12,7 @@ use crate::block::DataBlock;
 use crate::field_value::{ABSENT, service_error, state_error};
 use crate::field_writing::{put_number, put_raw, put_result};
 use crate::form::{action_response, get_response, set_response};
-use crate::list_writing::put_results;
+use crate::list_writing::put_list;
 use crate::response::{Exception, Response};
 use crate::tag::{ACTION_RESPONSE, EXCEPTION_RESPONSE, GET_RESPONSE, SET_RESPONSE};
 use crate::{choice, form};
@@ -96,7 +96,7 @@ fn put_rest(response: &Response, out: &mut Octets) -> Result<(), AllocError>
             code,
             ..
         } => put_refusal(*last, *number, *code, out),
-        Response::GetList { results, .. } => put_results(results.as_slice(), out),
+        Response::GetList { results, .. } => put_list(results.as_slice(), out),
         Response::Set { code, .. } => put_code(*code, out),
         Response::SetBlock { number, .. } | Response::ActionBlock { number, .. } => {
             put_number(*number, out)
