@@ -1,7 +1,7 @@
 -- The beginning and the end of a program.
-use Rattle.std.specs.Prelude.{ℕ, Bool, true, false, codes, List, ◌++◌, Result, Ok, Err}
+use Rattle.std.specs.Prelude.{ℕ, Bool, true, false, codes, List, ◌++◌, Option, Some, None, Result, Ok, Err}
 use Rattle.clap.specs.declared.error.kind.ErrorKind.{ErrorKind}
-use Rattle.clap.specs.declared.error.kind.ErrorKind.TheVariants.{DisplayHelp, DisplayVersion}
+use Rattle.clap.specs.declared.error.kind.ErrorKind.TheVariants.{DisplayHelp, DisplayVersion, MissingRequiredArgument}
 use Rattle.program.specs.Statuses.{status_of}
 use Rattle.program.specs.declared.fault.Fault.{Fault}
 use Rattle.program.specs.declared.fault.Fault.TheVariants.{Input, Read, Write, Listen, Memory, Turns}
@@ -25,6 +25,12 @@ abbrev pub status_without_work : ErrorKind → ℕ
 status_without_work DisplayHelp = 0
 status_without_work DisplayVersion = 0
 status_without_work _ = 2
+
+-- the line about a command line without a password, the one argument that is required
+abbrev pub password_line : ErrorKind → Option (List ℕ)
+password_line MissingRequiredArgument =
+    Some (codes "password: expected --password, --password-file or the variable METER_PASSWORD")
+password_line _ = None
 
 -- the program's own exit status, or that of its fault
 abbrev pub status_by : Result ℕ Fault → ℕ

@@ -3,9 +3,10 @@
 ghost use Rattle.std.specs.Prelude.{◌≡◌, true, IfOk, IfErr, IsOk, OnOk, nat_eq, string_bytes};
 ghost use Rattle.std.specs.Io.KnownBytes.{Appends};
 ghost use Rattle.std.specs.List.{list_any, starts_with};
+ghost use Rattle.std.specs.Option.{option_map};
 ghost use Rattle.std.specs.Process.{exit_status};
 ghost use Rattle.clap.specs.Words.{AddsArg, AddsSubcommand, kind_of};
-ghost use Rattle.program.specs.Ends.{is_of_words, is_of_texts, status_without_work, status_by, fault_line, first_of};
+ghost use Rattle.program.specs.Ends.{is_of_words, is_of_texts, status_without_work, status_by, fault_line, first_of, password_line};
 ghost use Rattle.program.specs.declared.fault.Fault.TheVariants.{Write};
 
 use crate::fault::Fault;
@@ -130,6 +131,34 @@ pub fn print_help_or_error<R: Print + Eprint>(rt: &R, error: &Error) -> Result<u
         Ok(()) => Ok(if error.use_stderr() { 2 } else { 0 }),
         Err(_) => Err(Fault::Write),
     }
+}
+
+/// Returns the line, without its end, that says how a password is given, for an error of this kind
+/// in the command line of a command whose one required argument is the password. Returns `None` if
+/// that is not missing.
+pub fn password_line(kind: ErrorKind) -> Option<&'static str>
+    ensures { option_map (λ line. line.now) result ≡ password_line kind }
+{
+    match kind {
+        ErrorKind::MissingRequiredArgument => {
+            Some("password: expected --password, --password-file or the variable METER_PASSWORD")
+        }
+        _ => None,
+    }
+}
+
+/// Prints the text of a command line without work, as [`print_help_or_error`] does. If the password
+/// is missing, the one required argument, then writes a line on standard error that says how it is
+/// given.
+pub fn print_help_or_missing_password<R: Print + Eprint>(rt: &R, error: &Error) -> Result<u8, Fault>
+    ensures status { IfOk result (λ status. status ≡ status_without_work (kind_of error.now)) }
+    ensures fault { IfErr result (λ fault. is_of_texts fault ≡ true) }
+{
+    let status = print_help_or_error(rt, error)?;
+    if let Some(line) = password_line(error.kind()) {
+        let _ = eprintln!(rt; "{line}");
+    }
+    Ok(status)
 }
 
 /// Writes a whole text and flushes the output. Returns `Write` if that fails; then part of the text
