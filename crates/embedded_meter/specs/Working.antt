@@ -3,7 +3,7 @@
 --     IsAsked, IsAnswered, IsDue     an event, a reply or a frame is pending
 --     weight                         the amount of work that is left
 --     Leaves                         the state in which no step is left
-use Rattle.std.specs.Prelude.{◌≡◌, ◌+◌, ◌<◌, ◌++◌, ℕ, List, [], length, drop, Option, Some, None, Result, Ok, Err}
+use Rattle.std.specs.Prelude.{◌≡◌, ◌+◌, ◌<◌, ◌++◌, ℕ, Bool, true, false, List, [], length, drop, Option, Some, None, Result, Ok, Err}
 use Rattle.relay_events.specs.declared.event.Event.{Event}
 use Rattle.relay_events.specs.declared.reply.Reply.{Reply}
 use Rattle.relay_recorder.specs.Recording.{Recording}
@@ -61,6 +61,13 @@ abbrev pub AsksBy : {E : Type 0} → Dialogue → Result (Option Rest) E → Dia
 AsksBy old (Ok None) new = SameAhead old new × (weight new < weight old)
 AsksBy old (Ok (Some rest)) new = SameAhead old new × Leaves rest new
 AsksBy old (Err error) new = SameAhead old new
+
+-- a short request was served up to its frame, or there is none
+abbrev pub ServesBy : {E : Type 0} → Dialogue → Recording → Result Bool E → Dialogue → Recording
+    → Type 0
+ServesBy old r (Ok true) new r' = Advances old r [] new r' × IsDue new
+ServesBy old r (Ok false) new r' = (new ≡ old) × (r' ≡ r)
+ServesBy old r (Err error) new r' = Advances old r [] new r'
 
 -- the meter applied the event, or memory ran out
 abbrev pub AppliesBy : {E : Type 0} → Dialogue → Recording → Result Unit E → Dialogue → Recording

@@ -54,7 +54,7 @@ impl Model for ClientSession {
 
 impl ClientSession {
     ghost use Rattle.embedded_meter.specs.Progress.{Owes, Feeds, Finishes, GivesNextBy};
-    ghost use Rattle.embedded_meter.specs.Working.{AsksBy, WorksBy, RestsBy, AppliesBy, AnswersBy, IsAsked, IsAnswered, IsDue, GivesDue};
+    ghost use Rattle.embedded_meter.specs.Working.{AsksBy, ServesBy, WorksBy, RestsBy, AppliesBy, AnswersBy, IsAsked, IsAnswered, IsDue, GivesDue};
 
     // Returns a new session that has received no byte. `password`, 1 to 32 bytes, is that of the
     // management client.
@@ -119,7 +119,12 @@ impl ClientSession {
         ensures { WorksBy self.old recorder.old result self.new recorder.new }
     {
         match &self.under_way {
-            UnderWay::Nothing => self.ask(alloc),
+            UnderWay::Nothing => {
+                if self.serve_short(alloc, recorder)? {
+                    return Ok(Some(Rest::Due));
+                }
+                self.ask(alloc)
+            }
             UnderWay::Asked(_) => {
                 self.apply(alloc, recorder)?;
                 Ok(None)
@@ -129,6 +134,35 @@ impl ClientSession {
                 Ok(None)
             }
             UnderWay::Due(_) => Ok(Some(Rest::Due)),
+        }
+    }
+
+    // Serves a short request at the front, up to the frame with its answer. Returns false if there
+    // is none; nothing has changed then. On an error the event or the reply stays pending.
+    fn serve_short(&mut self, alloc: Global, recorder: &mut Recorder) -> Result<bool, AllocError>
+        requires { self.now.under_way ≡ Nothing }
+        ensures { ServesBy self.old recorder.old result self.new recorder.new }
+    {
+        let Some((level, request)) = self.session.next_short() else {
+            return Ok(false);
+        };
+        let reply = match recorder.apply(alloc, request.event(level)) {
+            Ok(reply) => reply,
+            Err(fault) => {
+                put(&mut self.under_way, UnderWay::Asked(request.event(level)));
+                return Err(fault);
+            }
+        };
+        match self.session.answer_short(alloc, &reply) {
+            Ok(frame) => {
+                drop(reply);
+                put(&mut self.under_way, UnderWay::Due(frame));
+                Ok(true)
+            }
+            Err(fault) => {
+                put(&mut self.under_way, UnderWay::Answered(reply));
+                Err(fault)
+            }
         }
     }
 
