@@ -43,6 +43,7 @@ KILLED_BY_SSH, LONG_KILLED_BY_SSH = 2, 10
 MANY, SHORT_MANY = 20_000, 2_000  # the jobs of the long array
 MOST_RUNS = 40  # of one campaign
 LONGEST = 300  # the time limit of a run, in seconds
+LONGEST_ARRAY = 1_500  # that of the long array
 is_long, is_short, seed = False, False, 49
 
 
@@ -85,10 +86,10 @@ class Long:
         started.append(process)
         return process
 
-    def run(self, *words):
+    def run(self, *words, limit=LONGEST):
         """Runs the campaign; returns its status, report and standard error."""
         process = self.start(*words)
-        status = process.wait(LONGEST)
+        status = process.wait(limit)
         started.remove(process)
         return status, self.output.read_text(), self.errors.read_text()
 
@@ -343,7 +344,7 @@ def a_long_array(name, folder, slurm, count):
         check(f"{name}: it is stopped", status == 143 and LINES <= known, status, known, campaign.errors.read_text()[-500:])
         campaign.follow()
         begun = time.monotonic()
-        ran = campaign.run(*words)
+        ran = campaign.run(*words, limit=LONGEST_ARRAY)
         campaign.follow()
         left = campaign.check_end(name, ran)
         print(f"{name}: {count} jobs, {known} rows when it was stopped, then {time.monotonic() - begun:.0f} s, {left} jobs left unknown", flush=True)
