@@ -16,7 +16,8 @@ returns-else-branch c =
 
 pub returns-in_err-apply-in-Asked : goal.returns-in_err-apply-in-Asked
 returns-in_err-apply-in-Asked c =
-    works_short _ _ _ _ c.from_residual-in_err-apply-in-Asked.result _ c.from_residual-in_err-apply-in-Asked.ensures.1
+    works_short _ _ _ _ c.from_residual-in_err-apply-in-Asked.result _
+    c.from_residual-in_err-apply-in-Asked.ensures.1
     (advances_kept _ _ _ _ c.in_err-apply-in-Asked.ensures.0 c.in_err-apply-in-Asked.ensures.1)
 
 pub returns-in_err-answer-in-Answered : goal.returns-in_err-answer-in-Answered
