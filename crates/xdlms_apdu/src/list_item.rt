@@ -1,5 +1,5 @@
-//! `ListItem`: a part of which an APDU has a list, with its format. A list of such parts is read and
-//! written by code that is proved once for all of them.
+//! `ListItem`: a part of which an APDU has a list, with its format. A list of such parts is read
+//! and written by code that is proved once for all of them.
 ghost use Rattle.std.specs.Prelude.{◌≡◌, ◌++◌, OnOk, OnErr};
 ghost use Rattle.cosem_axdr.specs.Appending.{Extends};
 ghost use Rattle.xdlms_apdu.specs.Parts.{Part, Reads, target_part, result_part};
