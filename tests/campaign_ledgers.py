@@ -335,7 +335,7 @@ def a_long_array(name, folder, slurm, count):
         words = ("--slurm", "--jobs", "4", "--workers", "16")
         process = campaign.start(*words)
         reports = "campaign.*/ended.*"
-        begun = wait_until(lambda: process.poll() is not None or list(folder.glob(reports)), LONGEST)
+        begun = wait_until(lambda: process.poll() is not None or list(folder.glob(reports)), LONGEST_ARRAY)
         check(f"{name}: a part ends", begun and process.poll() is None, campaign.errors.read_text()[-500:])
         process.send_signal(signal.SIGTERM)
         status = process.wait(LONGEST)
