@@ -54,7 +54,7 @@ module _ {B : Type 0} (is_honest : B → Type 0) (is_marked : B → ℕ → Type
         (first.remains_marked (second.honest honest) place down));
     durable = λ honest. on_both (λ place. is_marked after.book place) permits more
         (λ place here. second.remains_marked honest place (first.durable
-            (second.honest honest) place here))
+        (second.honest honest) place here))
         (second.durable honest);
     remains_marked = λ honest place down. second.remains_marked honest place
         (first.remains_marked (second.honest honest) place down);
@@ -63,7 +63,7 @@ module _ {B : Type 0} (is_honest : B → Type 0) (is_marked : B → ℕ → Type
   -- commands that are sent with permits, each once, make a run safe
   pub safe_run : (may_leave : B → (ℕ → LedgerEntry) → Type 0)
       → ((book : B) (place : ℕ) (left : ℕ → LedgerEntry) → is_marked book place
-          → may_leave book left
+      → may_leave book left
       → HasGone (left place))
       → (start now : LedgerState B) (permits sent : List ℕ)
       → Grants is_honest is_marked start now permits → AreApart sent

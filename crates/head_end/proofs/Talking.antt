@@ -210,12 +210,12 @@ talks_sent : (verb : Verb) (password text : List ℕ) (reads : ℕ) (old new : C
 talks_sent verb password text reads old new before after gives writes t =
     let is = gives.text verb password (bytes_received t.log) t.given false t.stands in
     let same : bytes_received (t.log ++ sent text ∷ []) ≡ bytes_received t.log = heard_sent t.log
-        text in
+    text in
     let now : Stands verb password (bytes_received t.log)
     (suc t.given) false new = gives.stands verb password
     (bytes_received t.log) t.given false t.stands in
     let few : suc t.given ≤ length (due_frames verb password (progress_of verb
-        (bytes_received t.log))) =
+    (bytes_received t.log))) =
     given_within verb password text (progress_of verb (bytes_received t.log)).accepted (is_served
     (progress_of verb (bytes_received t.log)).outcome) t.given is in
     record {
@@ -228,7 +228,7 @@ talks_sent verb password text reads old new before after gives writes t =
         sent_is =
             sent_more t.log text ∙ ap (λ (s : List ℕ). s ++ text) t.sent_is
             ∙ given_by verb password text (progress_of verb (bytes_received t.log)).accepted
-                (is_served
+            (is_served
             (progress_of verb (bytes_received t.log)).outcome) t.given is;
         within = subst (λ (fed : List ℕ). suc t.given ≤ length (due_frames verb password
             (progress_of verb fed))) (sym same) few;
@@ -439,7 +439,7 @@ talks_heard verb password bytes reads old new before after w feeds is =
     still_within verb password t.given (progress_of verb (bytes_received t.log)) (progress_of verb
     (bytes_received t.log ++ bytes)) w.listens.unsettled
     (accepted_stays verb password (bytes_received t.log) bytes t.given false old t.stands) t.within
-        in
+    in
     record {
       log = t.log ++ heard bytes ∷ [];
       log_is = is;
@@ -505,7 +505,7 @@ settled_by E verb password reads client now None tells s = record {
 settled_by E verb password reads client now (Some outcome) tells s =
     let t = s.talks in
     let settled : outcome_after verb (bytes_received t.log) ≡ Some outcome = sym
-        (tells.told verb password
+    (tells.told verb password
     (bytes_received t.log) t.given false t.stands) in
     let some : IsSome (outcome_after verb (bytes_received t.log)) = rw settled refl in
     let all = t.more true [] (s.all_is, inl some) in
@@ -516,7 +516,7 @@ settled_by E verb password reads client now (Some outcome) tells s =
           (append-nil t.log) all;
       outcome_is =
           sym (tells.stays verb password (bytes_received t.log) t.given false t.stands outcome
-              settled [])
+          settled [])
           ∙ ap (outcome_of verb) (append-nil (bytes_received t.log));
     }
 
