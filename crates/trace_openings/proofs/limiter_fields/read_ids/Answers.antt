@@ -40,7 +40,7 @@ items-preserved c =
       terms = (tt, tt);
       so_far = rw c.in_ok-push.ensures.items (goes_on id_from MAX_GROUPS c.items.ids.items
           c.items.words c.in-Some.word.now c.next.new.self c.in_ok-parse_long.field-0
-              c.next.new.self
+          c.next.new.self
           (all_at id_from MAX_GROUPS c.args.words.now) is more
           (id_is c.in-Some.word.now c.next.new.self c.in_ok-parse_long.field-0
           (sym c.parse_long.ensures ∙ c.in_ok-parse_long.was)) c.items.invariant.so_far);
