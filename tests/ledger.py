@@ -3,8 +3,9 @@
 they receive are killed at random times, and run again on the same ledger until they are whole: no
 meter may get a second command, each command must have its mark in the ledger, no outcome may be
 lost, and SQLite must find each ledger that a kill left whole. Also tested: ledgers and lists that
-are refused, two runs at once, meters that were down, a full disk, and each failing read, write and
-sync. Every wait has a time limit. If the program has no option --ledger, all of it is skipped.
+are refused, two runs at once, meters that were down, the order of one meter's jobs, meters with
+passwords of their own, a full disk, and each failing read, write and sync. Every wait has a time
+limit. If the program has no option --ledger, all of it is skipped.
 
 usage: tests/ledger.py [--long] [--seed N]
 
@@ -32,8 +33,8 @@ import serving
 from counted_meters import COMMANDS, CountedMeters, kind_of
 from journal import SmallDisk, in_folder
 from refusing import Refusing, turns
-from scripted_meters import CROWD, REQUESTS
-from serving import PASSWORD, PATIENCE, TOP, check, test
+from scripted_meters import CROWD, REQUESTS, ScriptedMeter, answers_slowly
+from serving import PASSWORD, PATIENCE, Server, TOP, check, test
 
 HEAD_END = os.environ.get("HEAD_END") or TOP / "crates" / "head_end_cli" / "out" / "head_end_cli"
 
@@ -362,6 +363,51 @@ def a_meter_that_was_down_is_commanded_later(name, folder):
         check(f"{name}: nobody else", not any(later) and max(first) == 1, later)
 
 
+@in_folder
+def jobs_of_a_meter_run_in_order(name, folder):
+    """Jobs of one meter reach it one after the other, in the order of the list."""
+    verbs = ["disconnect", "reconnect", "state", "disconnect", "state", "reconnect", "disconnect"]
+    for workers in WORKERS:
+        meters = [ScriptedMeter(answers_slowly) for _ in range(3)]
+        rows = [(f"m{number}{verb}{turn}", meter, verb) for turn, verb in enumerate(verbs)
+                for number, meter in enumerate(meters)]
+        jobs = [(job, f"127.0.0.1:{meter.port}", verb) for job, meter, verb in rows]
+        ran = run(folder / f"ledger{workers}", text_of(jobs), workers)
+        check(f"{name}, workers {workers}: report",
+              (ran.status, ran.report) == (0, report_of(jobs, ["done 0"] * len(jobs))), ran)
+        for meter in meters:
+            requests = [talk.frames[1] for talk in meter.talked(len(verbs))]
+            check(f"{name}, workers {workers}: order",
+                  requests == [REQUESTS[verb] for verb in verbs], requests)
+            meter.stop()
+
+
+@in_folder
+def each_meter_has_its_password(name, folder):
+    """A campaign whose meters have passwords of their own, in a file; m3 has the common one, and m4
+    gets a wrong one. No password is in the ledger."""
+    path, ledger, words = folder / "passwords", folder / "ledger", ("11111111", "22222222", PASSWORD)
+    path.touch(0o600)
+    path.write_text(f"m2 {words[1]}\nm1 {words[0]}\nm4 wrongword\nother 1\n")
+    servers = [Server("--connections", "1", password=it) for it in (*words, "44444444")]
+    jobs = [(f"m{number}", f"127.0.0.1:{it.port}", "state") for number, it in enumerate(servers, 1)]
+    ran = subprocess.run([*words_of(ledger), "--passwords", str(path)], input=text_of(jobs),
+                         capture_output=True, text=True, timeout=LONGEST)
+    wanted = report_of(jobs, ["done 1", "done 1", "done 1", "rejected 13"])
+    check(f"{name}: report", (ran.returncode, ran.stdout, ran.stderr) == (0, wanted, ""), ran)
+    held = b"".join(it.read_bytes() for it in folder.glob("ledger*"))
+    found = [it for it in (*words, "wrongword") if it.encode() in held]
+    check(f"{name}: no password in the ledger", held and not found, found)
+    for server in servers:
+        check(f"{name}: end", server.ended()[0] == 0)
+    missing = subprocess.run([str(HEAD_END), "run", "--ledger", str(folder / "other"),
+                              "--passwords", str(path)], input=text_of(jobs), text=True,
+                             capture_output=True, timeout=LONGEST,
+                             env={it: os.environ[it] for it in os.environ if it != "METER_PASSWORD"})
+    check(f"{name}: a job without one", missing.returncode == 2 and "job m3:" in missing.stderr
+          and not (folder / "other").exists(), missing)
+
+
 def inside(disk):
     """The command that runs another one in the mount namespace of a disk. (SQLite follows links, so
     it would not open a file by the path from outside.)"""
@@ -462,7 +508,8 @@ def running_meters(count=JOBS):
 
 TESTS = (a_ledger_changes_no_row, killed_campaigns_command_nobody_twice, another_list_is_refused,
          what_is_no_ledger_is_refused, two_runs_at_once_are_refused,
-         a_meter_that_was_down_is_commanded_later, a_full_disk_stops_the_commands,
+         a_meter_that_was_down_is_commanded_later, jobs_of_a_meter_run_in_order,
+         each_meter_has_its_password, a_full_disk_stops_the_commands,
          a_failed_call_commands_nobody_twice)
 
 

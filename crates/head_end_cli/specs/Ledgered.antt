@@ -20,8 +20,8 @@ PrintsTexts (Err fault) written written' = ⊥
 -- The jobs were run with permits of the ledger in the file, and the report of all of them was
 -- printed.
 pub record PrintsRun {D : Type 0} (g : Ghosts D) (held : Image)
-    (tells : List ℕ → Option Forecast) (jobs : List Job) (password : List ℕ)
+    (tells : List ℕ → Option Forecast) (jobs : List Job) (passwords : List (List ℕ))
     (written written' : Option (List ℕ)) : Type 0 where
   pub texts : Result LedgerTexts AllocError
-  pub ran : IsRunOnFile g held tells jobs password texts
+  pub ran : IsRunOnFile g held tells jobs passwords texts
   pub printed : PrintsTexts texts written written'

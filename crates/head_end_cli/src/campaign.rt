@@ -59,7 +59,7 @@ fn limit(matches: &ArgMatches<'_>, name: &str) -> Duration
 }
 
 // Returns the time limits of a connect and of a whole connection.
-pub(crate) fn limits_of(matches: &ArgMatches<'_>) -> TcpLimits
+fn limits_of(matches: &ArgMatches<'_>) -> TcpLimits
     ensures { AreLimits (found_of matches.now) result }
 {
     TcpLimits {
@@ -76,7 +76,7 @@ fn number_of_workers(matches: &ArgMatches<'_>) -> u8
 }
 
 // Returns the number of workers, 1 to 16.
-pub(crate) fn workers(matches: &ArgMatches<'_>) -> u8
+fn workers(matches: &ArgMatches<'_>) -> u8
     ensures { AreWorkers (found_of matches.now) result }
 {
     number_of_workers(matches).clamp(1, 16)
@@ -146,7 +146,7 @@ fn stored_password(
 // that of the environment, or `None` without one. Errors: those of a file without a password, with
 // a line on standard error; `Input` if the password does not have 1 to 32 bytes, with a line if
 // `is_verbose`; `Memory`.
-pub(crate) fn common_password(
+fn common_password(
     rt: &HostRuntime,
     matches: &ArgMatches<'_>,
     is_verbose: bool,

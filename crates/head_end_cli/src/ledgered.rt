@@ -1,19 +1,16 @@
 //! The command `head_end run --ledger FILE`: a campaign that is resumed by its ledger.
-ghost use Rattle.std.specs.Prelude.{◌≡◌, ◌≤◌, string_bytes, IfOk, OnOk, Some};
+ghost use Rattle.std.specs.Prelude.{◌≡◌, string_bytes, IfOk, OnOk};
 ghost use Rattle.std.specs.Io.KnownBytes.{Appends};
 ghost use Rattle.sqlite.specs.WalFiles.{image_at};
-ghost use Rattle.acse_ber.specs.Password.{IsPassword};
 ghost use Rattle.clap.specs.Matches.{found_of};
 ghost use Rattle.head_end_cli.specs.Ledgered.{PrintsRun, PrintsTexts};
 ghost use Rattle.head_end_cli.specs.Options.{AreLimits, AreWorkers};
-ghost use Rattle.head_end_cli.specs.Passwords.{IsCommonPassword};
+ghost use Rattle.head_end_cli.specs.Passwords.{HasPasswords};
 
-use crate::campaign::{common_password, limits_of, workers};
-use crate::load_jobs;
+use crate::campaign::{CampaignPlan, plan_campaign};
 use crate::progress::{CampaignProgress, ProgressWatch};
 use clap::ArgMatches;
-use cosem_axdr::Octets;
-use head_end::{Connector, Jobs, TcpLimits};
+use head_end::Connector;
 use ledger_campaigns::LedgeredPlan;
 use ledger_file_runs::{LedgerReport, run_with_ledger};
 use ledger_runs::LedgerTexts;
@@ -21,71 +18,41 @@ use program::{Fault, print_text};
 use sqlite::{FileFrom, Start};
 use sqlite_disk::Disk;
 use sqlite_ledger::LedgerOpenFault;
-use std::io::{IsTerminal, Write};
+use std::io::Write;
 use std::sync::Wait;
 use std::thread::Threads;
 
-// The jobs and options of a campaign on a ledger, all valid, and the path of the ledger.
+// A campaign whose jobs and options are all valid, and the path of its ledger.
 #[derive(Drop)]
 pub(crate) struct LedgeredCampaign {
-    pub(crate) jobs: Jobs,
-    pub(crate) password: Octets,
-    pub(crate) workers: u8,
-    pub(crate) limits: TcpLimits,
-    pub(crate) is_shown: bool,
+    pub(crate) campaign: CampaignPlan,
     pub(crate) path: String,
-    ghost sized: { IsPassword password },
-    ghost some: { 1 ≤ workers },
-    ghost within_max: { workers ≤ 16 },
 }
 
-// Returns the common password. Errors: `Input` if the command line has passwords by job, with a
-// line on standard error, or no password at all.
-fn required_password(
-    rt: &HostRuntime,
-    matches: &ArgMatches<'_>,
-    is_verbose: bool,
-) -> Result<Octets, Fault>
-    ensures { IfOk result (λ password. IsCommonPassword (found_of matches.now) (Some password)) }
-{
-    if matches.get_str("passwords").is_some() {
-        let _ = eprintln!(rt; "--passwords can't be used with --ledger");
-        return Err(Fault::Input);
-    }
-    match common_password(rt, matches, is_verbose)? {
-        Some(password) => Ok(password),
-        None => Err(Fault::Input),
-    }
-}
-
-// Validates the options and reads the jobs on standard input. If `--verbose` is given, a line on
-// standard error describes the fault.
+// Validates the options and reads the jobs on standard input, and then the passwords of the jobs.
+// If `--verbose` is given, a line on standard error describes the fault.
 pub(crate) fn plan_ledgered(
     rt: &HostRuntime,
     matches: &ArgMatches<'_>,
     path: &str,
 ) -> Result<LedgeredCampaign, Fault>
-    ensures limits { IfOk result (λ plan. AreLimits (found_of matches.now) plan.limits) }
-    ensures workers { IfOk result (λ plan. AreWorkers (found_of matches.now) plan.workers) }
-    ensures password { IfOk result (λ plan. IsCommonPassword (found_of matches.now)
-        (Some plan.password)) }
+    ensures limits { IfOk result (λ plan. AreLimits (found_of matches.now) plan.campaign.limits) }
+    ensures workers { IfOk result (λ plan. AreWorkers (found_of matches.now)
+        plan.campaign.workers) }
+    ensures passwords { IfOk result (λ plan. HasPasswords (found_of matches.now)
+        plan.campaign.jobs plan.campaign.passwords) }
     ensures path { IfOk result (λ plan. string_bytes plan.path ≡ path.now) }
 {
-    let is_verbose = matches.get_flag("verbose");
-    let password = required_password(rt, matches, is_verbose)?;
     let Ok(path) = String::from_str(rt.alloc(), path) else {
-        drop(password);
         return Err(Fault::Memory);
     };
-    let jobs = load_jobs(rt, rt.stdin(), is_verbose)?;
-    Ok(LedgeredCampaign {
-        jobs,
-        password,
-        workers: workers(matches),
-        limits: limits_of(matches),
-        is_shown: matches.get_flag("progress") || rt.stderr().is_terminal(),
-        path,
-    })
+    match plan_campaign(rt, matches) {
+        Ok(campaign) => Ok(LedgeredCampaign { campaign, path }),
+        Err(fault) => {
+            drop(path);
+            Err(fault)
+        }
+    }
 }
 
 // Runs the jobs with permits of the ledger, where `S` stands for what the file holds, and prints
@@ -101,19 +68,21 @@ pub(crate) fn run_on_ledger<S: Start + Send, R: Threads + Wait + Sync, C: Connec
     output: &mut W,
 ) -> Result<(), Fault>
     ensures { OnOk result (PrintsRun ⟦<FileFrom<S> as Disk>⟧ (image_at S.Start)
-        (C.tells connector.now) plan.now.jobs plan.now.password (W.contents output.old)
+        (C.tells connector.now) plan.now.campaign.jobs plan.now.campaign.passwords
+        (W.contents output.old)
         (W.contents output.new)) }
 {
-    let progress = CampaignProgress::new(rt, plan.jobs.len());
+    let campaign = &plan.campaign;
+    let progress = CampaignProgress::new(rt, campaign.jobs.len());
     let watch = ProgressWatch {
         rt,
         progress: &progress,
-        is_shown: plan.is_shown,
+        is_shown: campaign.is_shown,
     };
     let ledgered = LedgeredPlan {
-        jobs: &plan.jobs,
-        password: &plan.password,
-        workers: plan.workers,
+        jobs: &campaign.jobs,
+        passwords: campaign.passwords.as_slice(),
+        workers: campaign.workers,
         watcher: &watch,
     };
     match run_with_ledger(rt, threads, &ledgered, plan.path.as_str(), start, connector) {

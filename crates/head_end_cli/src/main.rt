@@ -158,7 +158,7 @@ fn main(rt: HostRuntime) -> ExitCode {
             exit_code(&rt, done)
         }
         Ok(HeadEndCommand::Ledgered(plan)) => {
-            let connector = TcpConnector::new(rt, plan.limits);
+            let connector = TcpConnector::new(rt, plan.campaign.limits);
             let output = &mut rt.stdout();
             let done = run_on_ledger(&rt, &rt, &connector, &plan, Unknown, output);
             exit_code(&rt, done.map(|_| 0))

@@ -1,7 +1,6 @@
 -- A ledger after one more call.
 use Rattle.std.proofs.Common.{rules, ◌≡◌, ℕ, List, [], ◌∷◌, ◌++◌, refl, ap, sym, ◌∙◌, inl, inr}
-use Rattle.std.proofs.Common.{Some, Ok}
-use Rattle.std.specs.Prelude.{Option, Result, IfOk, IfSome, OnOk, OnSome}
+use Rattle.std.specs.Prelude.{Option, Result, IfOk, OnOk, OnSome}
 use Rattle.turn_lock.specs.declared.known.Known.{Known}
 use Rattle.turn_lock.specs.History.{entry}
 use Rattle.turn_lock.specs.Calls.{Called}

@@ -1,5 +1,6 @@
 pub mod CampaignLemmas
 pub mod DeskLemmas
 pub mod PlaceLemmas
+pub mod RoundLemmas
 pub mod RunLemmas
 pub mod RunningLemmas

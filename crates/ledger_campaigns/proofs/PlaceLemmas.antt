@@ -1,6 +1,6 @@
 -- The lines of all jobs and the uses of their attempts, from the results of the places.
 use Rattle.std.proofs.Common.{arith, ◌≡◌, ◌<◌, ℕ, List, [], ◌∷◌, length, map, slice_index_or}
-use Rattle.std.proofs.Common.{Option, refl, sym, ap, subst, ◌∙◌, zero, suc, inl, inr}
+use Rattle.std.proofs.Common.{Option, sym, ap, subst, ◌∙◌, zero, suc, inl, inr}
 use Rattle.std.proofs.lemmas.List.{get_or-map, length-map}
 use Rattle.std.proofs.lemmas.List.Elements.{All-get_or}
 use Rattle.std.specs.List.{All}
@@ -46,15 +46,15 @@ an_element (x ∷ xs) i below = x
 -- the row of a place, by its index
 row_at : {X : Type 0} (old new : List X) (tells_of : X → List ℕ → Option Forecast)
     (permits_of : X → List ℕ) (row_of : X → Row) (stage_of : X → State) (jobs : List Job)
-    (found : List LedgerEntry) (password : List ℕ) → length old ≡ length jobs
+    (found : List LedgerEntry) (passwords : List (List ℕ)) → length old ≡ length jobs
     → length new ≡ length old
-    → EachChange (λ i o n. IsPlaceRun jobs found password i (tells_of o) (permits_of n) (row_of n)
+    → EachChange (λ i o n. IsPlaceRun jobs found passwords i (tells_of o) (permits_of n) (row_of n)
     (stage_of n)) old new
     → (tells : List ℕ → Option Forecast) → All (λ o. tells_of o ≡ tells) old
     → (i : ℕ) (job : Job) (row : Row) → i < length jobs
     → IsRowFor tells (slice_index_or jobs i job) (entry_at found i)
     (slice_index_or (map row_of new) i row)
-row_at {X} old new tells_of permits_of row_of stage_of jobs found password count same each tells
+row_at {X} old new tells_of permits_of row_of stage_of jobs found passwords count same each tells
     all i job row below =
     let within : i < length old = omega arith in
     let x = an_element old i within in
@@ -72,36 +72,36 @@ row_at {X} old new tells_of permits_of row_of stage_of jobs found password count
 -- the use of its attempt by the job of a place
 use_at : {X : Type 0} (old new : List X) (tells_of : X → List ℕ → Option Forecast)
     (permits_of : X → List ℕ) (row_of : X → Row) (stage_of : X → State) (jobs : List Job)
-    (found : List LedgerEntry) (password : List ℕ) → length old ≡ length jobs
+    (found : List LedgerEntry) (passwords : List (List ℕ)) → length old ≡ length jobs
     → length new ≡ length old
-    → EachChange (λ i o n. IsPlaceRun jobs found password i (tells_of o) (permits_of n) (row_of n)
+    → EachChange (λ i o n. IsPlaceRun jobs found passwords i (tells_of o) (permits_of n) (row_of n)
     (stage_of n)) old new
-    → (i : ℕ) (job : Job) (row : Row) → i < length jobs
+    → (i : ℕ) (job : Job) (password : List ℕ) (row : Row) → i < length jobs
     → IsUse (entry_at found i) (permit_in i (slice_index_or (map permits_of new) i []))
-    (slice_index_or jobs i job) password (slice_index_or (map row_of new) i row)
-    (slice_index_or (map stage_of new) i unused)
-use_at old new tells_of permits_of row_of stage_of jobs found password count same each i job row
-    below =
+    (slice_index_or jobs i job) (slice_index_or passwords i password)
+    (slice_index_or (map row_of new) i row) (slice_index_or (map stage_of new) i unused)
+use_at old new tells_of permits_of row_of stage_of jobs found passwords count same each i job
+    password row below =
     let within : i < length old = omega arith in
     let x = an_element old i within in
     rw (
       get_or-map row_of new i x row (omega arith),
       get_or-map stage_of new i x unused (omega arith),
       get_or-map permits_of new i x [] (omega arith),
-    ) ((each i x within).use_is job)
+    ) ((each i x within).use_is job password)
 
 -- the lines of all jobs
 pub lines_for : {X : Type 0} (old new : List X) (tells_of : X → List ℕ → Option Forecast)
     (permits_of : X → List ℕ) (row_of : X → Row) (stage_of : X → State) (jobs : List Job)
-    (found : List LedgerEntry) (password : List ℕ) → length old ≡ length jobs
+    (found : List LedgerEntry) (passwords : List (List ℕ)) → length old ≡ length jobs
     → length new ≡ length old
-    → EachChange (λ i o n. IsPlaceRun jobs found password i (tells_of o) (permits_of n) (row_of n)
+    → EachChange (λ i o n. IsPlaceRun jobs found passwords i (tells_of o) (permits_of n) (row_of n)
     (stage_of n)) old new
     → (blank lines : List ReportLine) → map (λ (l : ReportLine). l.id) blank
     ≡ map (λ (j : Job). j.id) jobs → Gathers blank (map row_of new) (length blank) lines
     → (tells : List ℕ → Option Forecast) → All (λ o. tells_of o ≡ tells) old
     → AreLinesFor tells jobs found lines
-lines_for old new tells_of permits_of row_of stage_of jobs found password count same each blank
+lines_for old new tells_of permits_of row_of stage_of jobs found passwords count same each blank
     lines names gathers tells all =
     let long : length blank ≡ length jobs = same_length jobs blank names in
     record {
@@ -109,7 +109,7 @@ lines_for old new tells_of permits_of row_of stage_of jobs found password count 
       of_jobs = λ i job line below. record {
         id_is = gathers.ids i line (omega arith) ∙ same_ids jobs blank names i job line below;
         row_is = rw (gathers.rows i line (slice_index_or lines i line).row (omega arith))
-            (row_at old new tells_of permits_of row_of stage_of jobs found password count same each
+            (row_at old new tells_of permits_of row_of stage_of jobs found passwords count same each
             tells all i job (slice_index_or lines i line).row below);
       };
     }
@@ -117,19 +117,19 @@ lines_for old new tells_of permits_of row_of stage_of jobs found password count 
 -- the uses of their attempts by all jobs, by the permits that the port of each place has seen
 pub uses_by : {X : Type 0} (old new : List X) (tells_of : X → List ℕ → Option Forecast)
     (permits_of : X → List ℕ) (row_of : X → Row) (stage_of : X → State) (jobs : List Job)
-    (found : List LedgerEntry) (password : List ℕ) → length old ≡ length jobs
+    (found : List LedgerEntry) (passwords : List (List ℕ)) → length old ≡ length jobs
     → length new ≡ length old
-    → EachChange (λ i o n. IsPlaceRun jobs found password i (tells_of o) (permits_of n) (row_of n)
+    → EachChange (λ i o n. IsPlaceRun jobs found passwords i (tells_of o) (permits_of n) (row_of n)
     (stage_of n)) old new
     → (blank lines : List ReportLine) → map (λ (l : ReportLine). l.id) blank
     ≡ map (λ (j : Job). j.id) jobs → Gathers blank (map row_of new) (length blank) lines
-    → AreUsesBy jobs found password (map permits_of new) lines (map stage_of new)
-uses_by old new tells_of permits_of row_of stage_of jobs found password count same each blank lines
-    names gathers i job line below =
+    → AreUsesBy jobs found passwords (map permits_of new) lines (map stage_of new)
+uses_by old new tells_of permits_of row_of stage_of jobs found passwords count same each blank lines
+    names gathers i job password line below =
     let long : length blank ≡ length jobs = same_length jobs blank names in
     rw (gathers.rows i line (slice_index_or lines i line).row (omega arith))
-    (use_at old new tells_of permits_of row_of stage_of jobs found password count same each i job
-    (slice_index_or lines i line).row below)
+    (use_at old new tells_of permits_of row_of stage_of jobs found passwords count same each i job
+    password (slice_index_or lines i line).row below)
 
 -- a row whose outcome is stored
 came_still : (row : Row) (stored more : Outcome → Type 0)
@@ -161,11 +161,11 @@ use_still MaybeSent asked more job password row stage still also use_is = use_is
 use_still (Came outcome) asked more job password row stage still also use_is = use_is
 
 -- the uses of their attempts by all jobs, by the permits of all ports
-pub uses_all : (jobs : List Job) (found : List LedgerEntry) (password : List ℕ)
+pub uses_all : (jobs : List Job) (found : List LedgerEntry) (passwords : List (List ℕ))
     (seen : List (List ℕ)) (permits : List ℕ) (lines : List ReportLine) (stages : List State)
-    → AreUsesBy jobs found password seen lines stages
+    → AreUsesBy jobs found passwords seen lines stages
     → ((i : ℕ) → i < length jobs → IsIn i (slice_index_or seen i []) → IsIn i permits)
-    → AreUses jobs found password permits lines stages
-uses_all jobs found password seen permits lines stages uses kept i job line below =
+    → AreUses jobs found passwords permits lines stages
+uses_all jobs found passwords seen permits lines stages uses kept i job password line below =
     use_still (entry_at found i) (permit_in i (slice_index_or seen i [])) (permit_in i permits) _
-    password _ _ (kept i below) (λ outcome stored. tt) (uses i job line below)
+    _ _ _ (kept i below) (λ outcome stored. tt) (uses i job password line below)

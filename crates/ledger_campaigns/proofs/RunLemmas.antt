@@ -22,7 +22,7 @@ use Rattle.head_end.specs.Attempts.{State, unused, refused, connected, closed}
 use Rattle.head_end.specs.Campaigns.{EachChange}
 use Rattle.ledger_campaigns.specs.declared.request.LedgerRequest.{LedgerRequest}
 use Rattle.ledger_campaigns.specs.declared.request.LedgerAnswer.{LedgerAnswer}
-use Rattle.ledger_campaigns.specs.Campaigns.{AreUses, AreUsesBy, AreSwitched, Closes, IsLedgeredRun}
+use Rattle.ledger_campaigns.specs.Campaigns.{AreUsesBy, AreSwitched, Closes, IsLedgeredRun}
 use Rattle.ledger_campaigns.specs.Desks.{LedgerCalls, IsLegalHistory, permits_given}
 use Rattle.ledger_campaigns.specs.Uses.{Asked, IsUse, MayAsk, IsSwitching, HasSwitched, permit_in}
 use Rattle.ledger_campaigns.proofs.PlaceLemmas.{an_element, uses_all}
@@ -86,21 +86,21 @@ switched_given (Came outcome) asked job password row stage is (switching, talked
 
 module _ {B : Type 0} (is_honest : B → Type 0) (is_marked : B → ℕ → Type 0) where
   -- the run, by what a port has seen that met all others
-  pub run_by : (jobs : List Job) (password : List ℕ) (start : LedgerState B)
+  pub run_by : (jobs : List Job) (passwords : List (List ℕ)) (start : LedgerState B)
       (now : Option (LedgerState B)) (lines : List ReportLine) (stages : List State)
       (seen : List (List ℕ)) (known : Known LedgerRequest (LedgerAnswer B) (LedgerState B))
       → known.origin ≡ Some start
-      → AreUsesBy jobs start.entries password seen lines stages
+      → AreUsesBy jobs start.entries passwords seen lines stages
       → ((i : ℕ) → i < length jobs → IsIn i (slice_index_or seen i [])
       → IsIn i (permits_given known.seen))
       → IsLegal (IsLegalHistory is_honest is_marked) known
       → IfSome now (Closes is_honest is_marked known)
-      → IsLedgeredRun is_honest is_marked jobs password start now lines stages
-  run_by jobs password start None lines stages seen known origin uses kept legal end =
+      → IsLedgeredRun is_honest is_marked jobs passwords start now lines stages
+  run_by jobs passwords start None lines stages seen known origin uses kept legal end =
       let same : legal.origin ≡ start = cc in
       record {
         permits = permits_given known.seen;
-        uses = uses_all jobs start.entries password seen (permits_given known.seen) lines stages
+        uses = uses_all jobs start.entries passwords seen (permits_given known.seen) lines stages
             uses kept;
         apart = legal.legal_history.apart;
         not_sent = rw (← same) legal.legal_history.not_sent;
@@ -108,12 +108,12 @@ module _ {B : Type 0} (is_honest : B → Type 0) (is_marked : B → ℕ → Type
         all_given = λ place is. is;
         grants = tt;
       }
-  run_by jobs password start (Some ledger) lines stages seen known origin uses kept legal end =
+  run_by jobs passwords start (Some ledger) lines stages seen known origin uses kept legal end =
       let same : legal.origin ≡ start = cc in
       let began : end.start ≡ start = cc in
       record {
         permits = permits_given known.seen;
-        uses = uses_all jobs start.entries password seen (permits_given known.seen) lines stages
+        uses = uses_all jobs start.entries passwords seen (permits_given known.seen) lines stages
             uses kept;
         apart = legal.legal_history.apart;
         not_sent = rw (← same) legal.legal_history.not_sent;
@@ -128,30 +128,31 @@ module _ {B : Type 0} (is_honest : B → Type 0) (is_marked : B → ℕ → Type
       → Grants is_honest is_marked before after permits → AreApart sent
       → ((place : ℕ) → IsIn place sent → IsIn place permits)
       → MakesSafeRuns is_honest is_marked may_leave before after sent)
-      → (jobs : List Job) (password : List ℕ) (start : LedgerState B)
+      → (jobs : List Job) (passwords : List (List ℕ)) (start : LedgerState B)
       (now : Option (LedgerState B)) (lines : List ReportLine) (stages : List State)
       → length lines ≡ length jobs
-      → IsLedgeredRun is_honest is_marked jobs password start now lines stages
+      → IsLedgeredRun is_honest is_marked jobs passwords start now lines stages
       → IfSome now (λ ledger. (sent : List ℕ) → AreApart sent → AreSwitched jobs stages sent
       → MakesSafeRuns is_honest is_marked may_leave start ledger sent)
-  run_safe may_leave law jobs password start None lines stages long run = tt
-  run_safe may_leave law jobs password start (Some ledger) lines stages long run =
+  run_safe may_leave law jobs passwords start None lines stages long run = tt
+  run_safe may_leave law jobs passwords start (Some ledger) lines stages long run =
       λ sent apart switched. law start ledger run.given sent
       run.grants apart (λ place is. run.all_given place
       (let below = (switched place is).0 in
       let job = an_element jobs place below in
       let line = an_element lines place (omega (arith, long, below)) in
       switched_given (entry_at start.entries place) (permit_in place run.permits)
-      (slice_index_or jobs place job) password (slice_index_or lines place line).row
-      (slice_index_or stages place unused) (run.uses place job line below)
+      (slice_index_or jobs place job) (slice_index_or passwords place [])
+      (slice_index_or lines place line).row
+      (slice_index_or stages place unused) (run.uses place job [] line below)
       ((switched place is).1 job)))
 
   -- a run whose places are the elements written to all indexes of a list
   pub taken_run : {X : Type 0} (n : ℕ) (places rest : List X) (stage_of : X → State)
-      (jobs : List Job) (password : List ℕ) (start : LedgerState B)
+      (jobs : List Job) (passwords : List (List ℕ)) (start : LedgerState B)
       (now : Option (LedgerState B)) (lines : List ReportLine) → n ≡ length places
-      → IsLedgeredRun is_honest is_marked jobs password start now lines (map stage_of places)
-      → IsLedgeredRun is_honest is_marked jobs password start now lines
+      → IsLedgeredRun is_honest is_marked jobs passwords start now lines (map stage_of places)
+      → IsLedgeredRun is_honest is_marked jobs passwords start now lines
       (map stage_of (take n (places ++ rest)))
-  taken_run n places rest stage_of jobs password start now lines long run =
+  taken_run n places rest stage_of jobs passwords start now lines long run =
       rw (written n places rest long) run

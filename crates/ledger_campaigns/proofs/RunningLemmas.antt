@@ -1,5 +1,5 @@
 -- The use of an attempt by a job, and the permits that a port has seen.
-use Rattle.std.proofs.Common.{◌≡◌, ◌⊎◌, ℕ, List, [], ◌++◌, Option, Some, None, Ok, Err, refl, inl}
+use Rattle.std.proofs.Common.{◌≡◌, ◌⊎◌, ℕ, List, [], Option, Ok, Err, refl, inl}
 use Rattle.std.proofs.Common.{inr, false}
 use Rattle.std.specs.Prelude.{Result, IfOk}
 use Rattle.turn_lock.specs.History.{StartsWith}
@@ -11,16 +11,12 @@ use Rattle.client_core.specs.declared.job.Verb.{Verb}
 use Rattle.client_core.specs.declared.job.Verb.TheVariants.{Disconnect, Reconnect, ReadState}
 use Rattle.client_core.specs.Standing.{Stands}
 use Rattle.campaign_ledger.specs.Runs.{IsIn}
-use Rattle.head_end.specs.declared.row.Row.{Row}
-use Rattle.head_end.specs.declared.row.Row.TheVariants.{Came, Memory}
+use Rattle.head_end.specs.declared.row.Row.TheVariants.{Came}
 use Rattle.head_end.specs.Attempts.{closed, row_in}
 use Rattle.head_end.specs.Connections.{Forecast, ConnectTells}
-use Rattle.head_end.specs.Conversations.{Speaks, Converses}
 use Rattle.head_end.specs.Logs.{Happening, IsNewLog}
 use Rattle.head_end.specs.Rows.{IsOutcome, IsRow}
 use Rattle.head_end.proofs.JobOutcomes.{connected, tried_closed}
-use Rattle.ledger_campaigns.specs.declared.request.LedgerRequest.{LedgerRequest}
-use Rattle.ledger_campaigns.specs.declared.request.LedgerAnswer.{LedgerAnswer}
 use Rattle.ledger_campaigns.specs.Desks.{LedgerCalls, permits_given}
 use Rattle.ledger_campaigns.specs.Uses.{Asked, MayAsk, IsNewUse, IsToldOutcome, SpeaksIfGiven}
 use Rattle.ledger_campaigns.proofs.DeskLemmas.{given_both, in_first}

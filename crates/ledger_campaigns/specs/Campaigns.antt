@@ -24,13 +24,14 @@ use Rattle.ledger_campaigns.specs.Desks.{LedgerCalls, permits_given}
 use Rattle.ledger_campaigns.specs.Uses.{IsUse, IsRowFor, HasSwitched, permit_in}
 
 -- the result of a place: the row of its job, and the use of its attempt
-pub record IsPlaceRun (jobs : List Job) (found : List LedgerEntry) (password : List ℕ) (place : ℕ)
-    (tells : List ℕ → Option Forecast) (permits : List ℕ) (row : Row) (stage : State)
+pub record IsPlaceRun (jobs : List Job) (found : List LedgerEntry) (passwords : List (List ℕ))
+    (place : ℕ) (tells : List ℕ → Option Forecast) (permits : List ℕ) (row : Row) (stage : State)
     : Type 0 where
   pub row_is : (job : Job) → IsRowFor tells (slice_index_or jobs place job) (entry_at found place)
       row
-  pub use_is : (job : Job) → IsUse (entry_at found place) (permit_in place permits)
-      (slice_index_or jobs place job) password row stage
+  pub use_is : (job : Job) (password : List ℕ) → IsUse (entry_at found place)
+      (permit_in place permits) (slice_index_or jobs place job)
+      (slice_index_or passwords place password) row stage
 
 -- the line of a job
 pub record IsLineFor (tells : List ℕ → Option Forecast) (job : Job) (found : LedgerEntry)
@@ -47,20 +48,22 @@ pub record AreLinesFor (tells : List ℕ → Option Forecast) (jobs : List Job)
       (slice_index_or lines place line)
 
 -- the use of its attempt by each job, by the entries found and the permits given
-abbrev pub AreUses : List Job → List LedgerEntry → List ℕ → List ℕ → List ReportLine → List State
-    → Type 0
-AreUses jobs found password permits lines stages = (place : ℕ) (job : Job) (line : ReportLine)
-    → place < length jobs → IsUse (entry_at found place) (permit_in place permits)
-    (slice_index_or jobs place job) password (slice_index_or lines place line).row
+abbrev pub AreUses : List Job → List LedgerEntry → List (List ℕ) → List ℕ → List ReportLine
+    → List State → Type 0
+AreUses jobs found passwords permits lines stages = (place : ℕ) (job : Job)
+    (password : List ℕ) (line : ReportLine) → place < length jobs
+    → IsUse (entry_at found place) (permit_in place permits) (slice_index_or jobs place job)
+    (slice_index_or passwords place password) (slice_index_or lines place line).row
     (slice_index_or stages place unused)
 
 -- the same, by the permits that the port of each place has seen
-abbrev pub AreUsesBy : List Job → List LedgerEntry → List ℕ → List (List ℕ) → List ReportLine
-    → List State → Type 0
-AreUsesBy jobs found password seen lines stages = (place : ℕ) (job : Job) (line : ReportLine)
-    → place < length jobs
+abbrev pub AreUsesBy : List Job → List LedgerEntry → List (List ℕ) → List (List ℕ)
+    → List ReportLine → List State → Type 0
+AreUsesBy jobs found passwords seen lines stages = (place : ℕ) (job : Job)
+    (password : List ℕ) (line : ReportLine) → place < length jobs
     → IsUse (entry_at found place) (permit_in place (slice_index_or seen place []))
-    (slice_index_or jobs place job) password (slice_index_or lines place line).row
+    (slice_index_or jobs place job) (slice_index_or passwords place password)
+    (slice_index_or lines place line).row
     (slice_index_or stages place unused)
 
 -- the switching commands of these places may have been sent in this run, by the logs of their
@@ -84,11 +87,11 @@ module _ {B : Type 0} (is_honest : B → Type 0) (is_marked : B → ℕ → Type
   -- The permits that a run gave: each place at most one, and none to a place whose command may have
   -- been sent before. The attempts were used with these permits, and the ledger at the end has
   -- given them.
-  pub record IsLedgeredRun (jobs : List Job) (password : List ℕ) (start : LedgerState B)
+  pub record IsLedgeredRun (jobs : List Job) (passwords : List (List ℕ)) (start : LedgerState B)
       (now : Option (LedgerState B)) (lines : List ReportLine) (stages : List State)
       : Type 0 where
     pub permits : List ℕ
-    pub uses : AreUses jobs start.entries password permits lines stages
+    pub uses : AreUses jobs start.entries passwords permits lines stages
     pub apart : AreApart permits
     pub not_sent : (place : ℕ) → IsIn place permits → entry_at start.entries place ≡ NotSent
     pub given : List ℕ

@@ -1,3 +1,4 @@
 pub mod Campaigns
 pub mod Desks
+pub mod Rounds
 pub mod Uses

@@ -1,4 +1,4 @@
-//! Runs many jobs at many meters in parallel, with permits of one ledger.
+//! Runs many jobs at many meters in parallel, in rounds, with permits of one ledger.
 ghost use Rattle.std.specs.Prelude.{◌≡◌, ◌<◌, ◌≤◌, ℕ, List, Option, length, map, slice_index_or};
 ghost use Rattle.std.specs.Prelude.{IfOk, IfSome};
 ghost use Rattle.std.specs.List.{All};
@@ -12,8 +12,10 @@ ghost use Rattle.campaign_ledger.specs.Entries.{entry_at};
 ghost use Rattle.head_end.specs.Attempts.{unused};
 ghost use Rattle.head_end.specs.Campaigns.{EachChange};
 ghost use Rattle.head_end.specs.Connections.{Forecast};
+ghost use Rattle.head_end.specs.Rounds.{AreRounds};
 ghost use Rattle.ledger_campaigns.specs.Campaigns.{IsPlaceRun, AreLinesFor, AreSwitched, AreUses};
 ghost use Rattle.ledger_campaigns.specs.Desks.{permits_given};
+ghost use Rattle.ledger_campaigns.specs.Rounds.{AreUnusedWhenDue, IsDue, IsPlaceRound};
 
 use crate::place::LedgeredPlace;
 use crate::running::{LedgeredJob, run_ledgered_job};
@@ -26,21 +28,27 @@ use std::sync::Wait;
 use std::thread;
 use std::thread::Threads;
 
-// The values that all workers of a campaign share: its jobs and the entries found.
+// The values that all workers of a campaign share: its jobs, the entries found, the password and
+// the round of each job, and the number of rounds.
 #[derive(Drop)]
 pub(crate) struct Course<'a, W: Watcher> {
     pub jobs: &'a [Job],
     pub found: &'a [LedgerEntry],
-    pub password: &'a Octets,
+    pub passwords: &'a [Octets],
+    pub rounds: &'a [usize],
+    pub count: usize,
     pub workers: usize,
     pub watcher: &'a W,
     ghost few: { length jobs.now ≤ 1000 },
     ghost some_workers: { 0 < workers },
-    ghost sized: { IsPassword password.now },
+    ghost sized: { All IsPassword passwords.now },
+    ghost paired: { length passwords.now ≡ length jobs.now },
+    ghost ordered: { AreRounds jobs.now rounds.now count },
 }
 
 impl<'a, W: Watcher> Course<'a, W> {
-    // Runs the jobs of all places.
+    // Runs the jobs of all places, round by round: a job begins when all jobs of the rounds before
+    // its own have ended.
     pub(crate) fn work<R: Threads + Wait + Sync, C: Connector, B: Book + Send>(
         &self,
         rt: &R,
@@ -50,8 +58,31 @@ impl<'a, W: Watcher> Course<'a, W> {
         requires count { length places.old ≡ length self.now.jobs.now }
         requires unused { All (λ place. place.attempt.stage ≡ unused) places.old }
         ensures runs { EachChange (λ i old new. IsPlaceRun self.now.jobs.now self.now.found.now
-            self.now.password.now i (C.tells old.attempt.source.value)
+            self.now.passwords.now i (C.tells old.attempt.source.value)
             (permits_given new.port.known.seen) new.row new.attempt.stage
+            × IsSame old.port new.port) places.old places.new }
+    {
+        'rounds: for round in 0..self.count {
+            self.work_round(rt, alloc, round, places);
+        }
+    }
+
+    // Runs the jobs of a round.
+    fn work_round<R: Threads + Wait + Sync, C: Connector, B: Book + Send>(
+        &self,
+        rt: &R,
+        alloc: Global,
+        round: usize,
+        places: &mut [LedgeredPlace<C, B>],
+    )
+        requires count { length places.old ≡ length self.now.jobs.now }
+        requires unused { AreUnusedWhenDue self.now.rounds.now round
+            (λ place. place.attempt.stage) places.old }
+        ensures runs { EachChange (λ i old new. IsPlaceRound
+            (λ place. C.tells place.attempt.source.value)
+            (λ place. permits_given place.port.known.seen)
+            (λ place. place.row) (λ place. place.attempt.stage) self.now.jobs.now
+            self.now.found.now self.now.passwords.now self.now.rounds.now round i old new
             × IsSame old.port new.port) places.old places.new }
     {
         let course = self;
@@ -61,40 +92,48 @@ impl<'a, W: Watcher> Course<'a, W> {
             self.workers,
             &|i, place|
                 requires { (i < length course.now.jobs.now)
-                    × (place.now.attempt.stage ≡ unused) }
-                ensures { IsPlaceRun course.entry.now.jobs.now course.entry.now.found.now
-                    course.entry.now.password.now i
-                    (C.tells place.entry.now.attempt.source.value)
-                    (permits_given place.exit.now.port.known.seen) place.exit.now.row
-                    place.exit.now.attempt.stage
+                    × (IsDue course.now.rounds.now round i → place.now.attempt.stage ≡ unused) }
+                ensures { IsPlaceRound (λ place. C.tells place.attempt.source.value)
+                    (λ place. permits_given place.port.known.seen)
+                    (λ place. place.row) (λ place. place.attempt.stage)
+                    course.entry.now.jobs.now course.entry.now.found.now
+                    course.entry.now.passwords.now course.entry.now.rounds.now round i
+                    place.entry.now place.exit.now
                     × IsSame place.entry.now.port place.exit.now.port }
             {
-                course.work_place(rt, alloc, i, place);
+                course.work_place(rt, alloc, round, i, place);
             },
         );
     }
 
-    // Runs the job of a place.
+    // Runs the job of a place, if it has this round.
     fn work_place<R: Wait, C: Connector, B: Book>(
         &self,
         rt: &R,
         alloc: Global,
+        round: usize,
         i: usize,
         place: &mut LedgeredPlace<C, B>,
     )
         requires place { i < length self.now.jobs.now }
-        requires unused { place.old.attempt.stage ≡ unused }
-        ensures run { IsPlaceRun self.now.jobs.now self.now.found.now self.now.password.now i
-            (C.tells place.old.attempt.source.value) (permits_given place.new.port.known.seen)
-            place.new.row place.new.attempt.stage }
+        requires unused { IsDue self.now.rounds.now round i
+            → place.old.attempt.stage ≡ unused }
+        ensures run { IsPlaceRound (λ place. C.tells place.attempt.source.value)
+            (λ place. permits_given place.port.known.seen)
+            (λ place. place.row) (λ place. place.attempt.stage) self.now.jobs.now
+            self.now.found.now self.now.passwords.now self.now.rounds.now round i
+            place.old place.new }
         ensures port { IsSame place.old.port place.new.port }
     {
+        if self.rounds[i] != round {
+            return;
+        }
         let job = &self.jobs[i];
         let task = LedgeredJob {
             job,
             place: i as u32,
             found: entry_of(self.found, i),
-            password: self.password,
+            password: &self.passwords[i],
         };
         run_ledgered_job(rt, alloc, &task, place);
         self.watcher.on_job_done(job, place.row);

@@ -7,6 +7,7 @@ ghost use Rattle.campaign_ledger.specs.Runs.{AreApart};
 ghost use Rattle.head_end.specs.Attempts.{unused};
 ghost use Rattle.head_end.specs.Campaigns.{EachChange};
 ghost use Rattle.head_end.specs.Connections.{Forecast};
+ghost use Rattle.head_end.specs.Rounds.{AreRounds};
 ghost use Rattle.ledger_campaigns.specs.Campaigns.{AreLinesFor, AreSwitched, AreUsesBy};
 ghost use Rattle.ledger_campaigns.specs.Campaigns.{IsLedgeredRun};
 ghost use Rattle.ledger_campaigns.specs.Desks.{permits_given};
@@ -16,7 +17,7 @@ use crate::place::{LedgeredPlace, ledgered_places_for};
 use crate::plan::LedgeredPlan;
 use crate::sharing::{close, meet_all, share};
 use campaign_ledger::{Book, Ledger, LedgerEntry, grants_add_up};
-use head_end::{Connector, Report, ReportLine, Watcher, blank_lines};
+use head_end::{Connector, JobRounds, Report, ReportLine, Watcher, blank_lines, rounds_of};
 use std::alloc::{AllocError, Global};
 use std::sync::Wait;
 use std::thread::Threads;
@@ -38,7 +39,8 @@ pub struct LedgeredRun<'a, C: Connector, B: Book> {
 ///
 /// A job with an outcome keeps it. A job whose command may have been sent is not run, and is
 /// unknown. For each other job `run_ledgered_job` asks for the permit of its place before its
-/// command goes out. If the ledger fails, no further command goes out.
+/// command goes out. If the ledger fails, no further command goes out. Jobs of one address are in
+/// different rounds, in the order of the list, and a round begins when the one before it has ended.
 ///
 /// All memory of the report is allocated before the first connection is made: after an error the
 /// ledger is unchanged and dropped.
@@ -59,7 +61,7 @@ pub fn run_ledgered_campaign<
     ensures lines { IfOk result (λ run. AreLinesFor (C.tells connector.now) plan.now.jobs.now
         ledger.entries run.report) }
     ensures run { IfOk result (λ run. IsLedgeredRun B.is_honest B.is_marked plan.now.jobs.now
-        plan.now.password.now ledger run.ledger run.report
+        plan.now.passwords.now ledger run.ledger run.report
         (map (λ place. place.attempt.stage) run.places.items)) }
     ensures safe { IfOk result (λ run. IfSome run.ledger (λ now. (sent : List ℕ) → AreApart sent
         → AreSwitched plan.now.jobs.now (map (λ place. place.attempt.stage) run.places.items) sent
@@ -67,6 +69,7 @@ pub fn run_ledgered_campaign<
 {
     let found = Vec::from_slice(alloc, ledger.entries())?;
     let mut lines = blank_lines(alloc, plan.jobs.as_slice())?;
+    let rounds = rounds_of(alloc, plan.jobs.as_slice())?;
     let (shared, mut port) = share(alloc, ledger)?;
     let mut places = ledgered_places_for(alloc, connector, &mut port, plan.jobs.len())?;
     run_places(
@@ -74,9 +77,11 @@ pub fn run_ledgered_campaign<
         alloc,
         plan,
         found.as_slice(),
+        &rounds,
         places.as_mut_slice(),
         lines.as_mut_slice(),
     );
+    drop(rounds);
     meet_all(&mut port, places.as_mut_slice());
     // (no effect: the contract needs these laws)
     port.has_a_legal_history();
@@ -95,16 +100,18 @@ fn run_places<R: Threads + Wait + Sync, C: Connector, B: Book + Send, W: Watcher
     alloc: Global,
     plan: &LedgeredPlan<'_, W>,
     found: &[LedgerEntry],
+    rounds: &JobRounds,
     places: &mut [LedgeredPlace<C, B>],
     lines: &mut [ReportLine],
 )
     requires count { length places.old ≡ length plan.now.jobs.now }
     requires unused { All (λ place. place.attempt.stage ≡ unused) places.old }
+    requires rounds { AreRounds plan.now.jobs.now rounds.now.of_jobs rounds.now.count }
     requires names { map (λ line. line.id) lines.old ≡ map (λ job. job.id) plan.now.jobs.now }
     ensures lines { (tells : List ℕ → Option Forecast)
         → All (λ place. C.tells place.attempt.source.value ≡ tells) places.old
         → AreLinesFor tells plan.now.jobs.now found.now lines.new }
-    ensures uses { AreUsesBy plan.now.jobs.now found.now plan.now.password.now
+    ensures uses { AreUsesBy plan.now.jobs.now found.now plan.now.passwords.now
         (map (λ place. permits_given place.port.known.seen) places.new) lines.new
         (map (λ place. place.attempt.stage) places.new) }
     ensures ports { EachChange (λ _ old new. IsSame old.port new.port) places.old places.new }
@@ -113,7 +120,9 @@ fn run_places<R: Threads + Wait + Sync, C: Connector, B: Book + Send, W: Watcher
     let course = Course {
         jobs: plan.jobs.as_slice(),
         found,
-        password: plan.password,
+        passwords: plan.passwords,
+        rounds: rounds.of_jobs.as_slice(),
+        count: rounds.count,
         workers: usize::from(plan.workers),
         watcher: plan.watcher,
     };

@@ -20,7 +20,7 @@ use Rattle.ledger_runs.specs.Texts.{IsRunOnLedger}
 -- honest if it returned what was written, and a place is marked if whatever a crash leaves has its
 -- mark.
 pub record IsRunOnFile {D F : Type 0} (g : Ghosts D) (held : Image)
-    (tells : List ℕ → Option Forecast) (jobs : List Job) (password : List ℕ)
+    (tells : List ℕ → Option Forecast) (jobs : List Job) (passwords : List (List ℕ))
     (texts : Result LedgerTexts F) : Type 0 where
   pub start : LedgerState (Held (FileStore D g))
   pub now : Option (LedgerState (Held (FileStore D g)))
@@ -28,5 +28,5 @@ pub record IsRunOnFile {D F : Type 0} (g : Ghosts D) (held : Image)
   pub opened : HasCleanDisk (file_state start.book) → IsOpenedFrom held start.book
   pub run : IsRunOnLedger (λ book. HasCleanDisk (file_state book))
       (λ book place. IsMarked (file_state book).may_leave (pos place))
-      (λ book entries. LeavesEntries (file_state book).may_leave entries) tells jobs password
+      (λ book entries. LeavesEntries (file_state book).may_leave entries) tells jobs passwords
       start now texts

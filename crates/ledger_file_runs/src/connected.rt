@@ -39,7 +39,7 @@ pub(crate) fn run_on_connection<
         (λ book. HasCleanDisk (state T.Store book))
         (λ book place. IsMarked (state T.Store book).may_leave (pos place))
         (λ book entries. LeavesEntries (state T.Store book).may_leave entries)
-        (C.tells connector.now) plan.now.jobs.now plan.now.password.now ledger ended.1 ended.0) }
+        (C.tells connector.now) plan.now.jobs.now plan.now.passwords.now ledger ended.1 ended.0) }
 {
     run_on_ledger(threads, alloc, plan, ledger, connector)
 }

@@ -55,7 +55,7 @@ pub fn run_with_ledger<S: Start + Send, R: Threads + Wait + Sync, C: Connector, 
     connector: &C,
 ) -> Result<LedgerReport, LedgerOpenFault>
     ensures { IfOk result (λ report. IsRunOnFile ⟦<FileFrom<S> as Disk>⟧ (image_at S.Start)
-        (C.tells connector.now) plan.now.jobs.now plan.now.password.now report.texts) }
+        (C.tells connector.now) plan.now.jobs.now plan.now.passwords.now report.texts) }
 {
     match open_ledger_from(rt, path, plan.jobs.as_slice(), start) {
         Ok(ledger) => match run_on_connection(threads, rt.alloc(), plan, ledger, connector) {

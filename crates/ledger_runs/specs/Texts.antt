@@ -19,12 +19,12 @@ module _ {B : Type 0} (is_honest : B → Type 0) (is_marked : B → ℕ → Type
   -- connections, the run is safe, whatever entries the storage held before and a crash leaves. The
   -- report is that of the whole list.
   pub record IsRunOnLedger {F : Type 0} (tells : List ℕ → Option Forecast) (jobs : List Job)
-      (password : List ℕ) (start : LedgerState B) (now : Option (LedgerState B))
+      (passwords : List (List ℕ)) (start : LedgerState B) (now : Option (LedgerState B))
       (texts : Result LedgerTexts F) : Type 0 where
     pub lines : List ReportLine
     pub stages : List State
     pub lines_are : AreLinesFor tells jobs start.entries lines
-    pub run : IsLedgeredRun is_honest is_marked jobs password start now lines stages
+    pub run : IsLedgeredRun is_honest is_marked jobs passwords start now lines stages
     pub safe : IfSome now (λ ledger. (sent : List ℕ) → AreApart sent → AreSwitched jobs stages sent
         → MakesSafeRuns is_honest is_marked may_leave start ledger sent)
     pub text_is : IfOk texts (λ it. it.text ≡ report_text lines)

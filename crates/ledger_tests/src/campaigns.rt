@@ -1,10 +1,10 @@
 //! Campaigns on a ledger: a second run on what the first left commands no meter again, and a ledger
 //! that fails lets no command out.
-use crate::meters::{Meters, jobs_at, password};
+use crate::meters::{Meters, jobs_at};
 use campaign_ledger::{Ledger, LedgerEntry, MemoryBook};
 use client_core::Outcome;
 use cosem_axdr::Octets;
-use head_end::{Jobs, UnwatchedCampaign, report};
+use head_end::{Jobs, UnwatchedCampaign, passwords_for, report};
 use ledger_campaigns::{LedgeredPlan, LedgeredRun, run_ledgered_campaign};
 use std::alloc::{AllocError, Global};
 use std::sync::Wait;
@@ -14,6 +14,9 @@ use std::thread::Threads;
 
 /// Four jobs; there is no meter at the address `none`.
 const ADDRESSES: &[&[u8]] = &[b"a", b"none", b"b", b"c"];
+
+/// Their passwords.
+const PASSWORDS: &[u8] = b"none 1\nb 1\na 123456789\nc 1\n";
 
 /// The command of `b` may have been sent, and `c` has refused.
 const FOUND: [LedgerEntry; 4] = [
@@ -83,10 +86,17 @@ fn run_on<R: Threads + Wait + Sync>(
         drop(ledger);
         return Err(AllocError);
     }
-    let password = password(alloc)?;
+    let passwords = passwords_for(alloc, jobs.as_slice(), PASSWORDS, None);
+    let passwords = match passwords {
+        Ok(passwords) => passwords,
+        Err(_) => {
+            drop(ledger);
+            return Err(AllocError);
+        }
+    };
     let plan = LedgeredPlan {
         jobs,
-        password: &password,
+        passwords: passwords.as_slice(),
         workers: 2,
         watcher: &UnwatchedCampaign,
     };
@@ -110,17 +120,17 @@ fn run_from<R: Threads + Wait + Sync>(
     ended
 }
 
-// The AARQ has 64 bytes, the request 23 and the release 13.
+// The AARQ has 56 bytes and the 9 of the meter's password, the request 23 and the release 13.
 #[test]
 fn a_second_run_commands_nothing_again(rt: HostRuntime) -> Result<(), Fail> {
     let alloc = rt.alloc();
     let received = AtomicU64::new(0);
     let first = run_from(&rt, alloc, &FOUND, 99, &received)?;
     assert!(rt; first.text.as_slice() == REPORT);
-    assert!(rt; received.load(Ordering::SeqCst) == 100);
+    assert!(rt; received.load(Ordering::SeqCst) == 101);
     let second = run_from(&rt, alloc, first.entries.as_slice(), 99, &received)?;
     assert!(rt; second.text.as_slice() == REPORT);
-    assert!(rt; received.load(Ordering::SeqCst) == 100);
+    assert!(rt; received.load(Ordering::SeqCst) == 101);
     drop(first);
     drop(second);
     Ok(())

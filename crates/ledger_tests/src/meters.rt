@@ -1,7 +1,4 @@
 //! Meters that count the bytes they receive.
-ghost use Rattle.std.specs.Prelude.{IfOk};
-ghost use Rattle.acse_ber.specs.Password.{IsPassword};
-
 use client_core::{Job, Verb};
 use cosem_axdr::Octets;
 use counted_io::StreamFault;
@@ -91,11 +88,4 @@ pub(crate) fn jobs_at(alloc: Global, addresses: &[&[u8]]) -> Result<Jobs, AllocE
             Err(error)
         }
     }
-}
-
-/// Returns the password 12345678.
-pub(crate) fn password(alloc: Global) -> Result<Octets, AllocError>
-    ensures { IfOk result IsPassword }
-{
-    Octets::from_slice(alloc, b"12345678")
 }

@@ -1,8 +1,7 @@
-use Rattle.std.proofs.Common.{arith, ◌≡◌, ◌∙◌, Option, Some, length, map, ap}
-use Rattle.turn_lock.specs.declared.known.Known.{Known}
+use Rattle.std.proofs.Common.{arith, ◌≡◌, ◌∙◌, sym, Some, length, map, ap}
 use Rattle.ledger_campaigns.specs.Desks.{permits_given}
 use Rattle.ledger_campaigns.proofs.RunLemmas.{written, told_all, permits_kept, run_by, run_safe}
-use Rattle.ledger_campaigns.proofs.RunLemmas.{taken_run}
+use Rattle.ledger_campaigns.proofs.RunLemmas.{locks_kept, taken_run}
 use Rattle.ledger_campaigns.proofs.run.run_ledgered_campaign.Goals as goal
 
 pub returns-clause-lines : goal.returns-clause-lines
@@ -11,8 +10,8 @@ returns-clause-lines g c =
     (arith, c.run_places.ensures.len, c.as_mut_slice-2.ensures.len) in
     let whole : c.from_vec.result ≡ c.run_places.new.lines =
     c.from_vec.ensures ∙ written c.in_ok-lines.lines.len c.run_places.new.lines _ long in
-    let found : c.as_slice-2.result.now ≡ c.args.ledger.entries =
-    c.as_slice-2.ensures.value ∙ (c.in_ok-found.ensures.items ∙ c.entries.ensures) in
+    let found : c.as_slice-3.result.now ≡ c.args.ledger.entries =
+    c.as_slice-3.ensures.value ∙ (c.in_ok-found.ensures.items ∙ c.entries.ensures) in
     rw whole (rw found at (c.run_places.ensures.lines (g.C.Connector.tells c.args.connector.now)
     (rw c.as_mut_slice.ensures.value (told_all c.in_ok-places.places.items
     (λ p. p.attempt.source.value) c.args.connector.now g.C.Connector.tells
@@ -24,8 +23,8 @@ returns-clause-run g c =
     (arith, c.run_places.ensures.len, c.as_mut_slice-2.ensures.len) in
     let whole : c.from_vec.result ≡ c.run_places.new.lines =
     c.from_vec.ensures ∙ written c.in_ok-lines.lines.len c.run_places.new.lines _ long in
-    let found : c.as_slice-2.result.now ≡ c.args.ledger.entries =
-    c.as_slice-2.ensures.value ∙ (c.in_ok-found.ensures.items ∙ c.entries.ensures) in
+    let found : c.as_slice-3.result.now ≡ c.args.ledger.entries =
+    c.as_slice-3.ensures.value ∙ (c.in_ok-found.ensures.items ∙ c.entries.ensures) in
     let count : c.in_ok-places.places.len ≡ length c.run_places.new.places = omega
     (arith, c.run_places.auto.places, c.as_mut_slice.ensures.len) in
     let met : c.as_mut_slice-3.result.now ≡ c.run_places.new.places =
@@ -38,10 +37,10 @@ returns-clause-run g c =
     ∙ ap (λ k. k.origin) c.in_ok-shared.ensures.known) in
     taken_run g.B.Book.is_honest g.B.Book.is_marked c.in_ok-places.places.len c.meet_all.new.places
     _
-    (λ p. p.attempt.stage) c.args.plan.now.jobs.now c.args.plan.now.password.now c.args.ledger
+    (λ p. p.attempt.stage) c.args.plan.now.jobs.now c.args.plan.now.passwords.now c.args.ledger
     c.close-ledger.result c.from_vec.result (omega (arith, count, ap length same))
     (rw (whole, same) (run_by g.B.Book.is_honest g.B.Book.is_marked c.args.plan.now.jobs.now
-    c.args.plan.now.password.now c.args.ledger c.close-ledger.result c.run_places.new.lines
+    c.args.plan.now.passwords.now c.args.ledger c.close-ledger.result c.run_places.new.lines
     (map (λ p. p.attempt.stage) c.run_places.new.places)
     (map (λ p. permits_given p.port.known.seen) c.run_places.new.places)
     c.meet_all.new.port.known origin (rw found at c.run_places.ensures.uses)
@@ -53,5 +52,18 @@ returns-clause-run g c =
 pub returns-clause-safe : goal.returns-clause-safe
 returns-clause-safe g c =
     run_safe g.B.Book.is_honest g.B.Book.is_marked g.B.Book.may_leave c.grants_add_up.ensures.runs
-    c.args.plan.now.jobs.now c.args.plan.now.password.now c.args.ledger c.close-ledger.result
+    c.args.plan.now.jobs.now c.args.plan.now.passwords.now c.args.ledger c.close-ledger.result
     c.from_vec.result _ (returns-clause-lines g c).count (returns-clause-run g c)
+
+pub meet_all-requires-after_bounds : goal.meet_all-requires-after_bounds
+meet_all-requires-after_bounds g c κs within =
+    let count : c.in_ok-places.places.len ≡ length c.run_places.new.places = omega
+    (arith, c.run_places.auto.places, c.as_mut_slice.ensures.len) in
+    let met : c.as_mut_slice-3.result.now ≡ c.run_places.new.places =
+    c.as_mut_slice-3.ensures.value ∙ written c.in_ok-places.places.len c.run_places.new.places _
+    count in
+    rw met (locks_kept c.as_mut_slice.result.now c.run_places.new.places (λ p. p.port)
+    c.ledgered_places_for.new.port (omega (arith, c.run_places.auto.places))
+    c.run_places.ensures.ports
+    (rw c.as_mut_slice.ensures.value (λ i place below. c.in_ok-places.ensures.ports i place below
+    ∙ sym c.in_ok-places.ensures.lock)))

@@ -8,7 +8,7 @@ returns-clause-lines g c =
     lines_for c.args.places.now c.work.new.places
     (λ p. g.C.Connector.tells p.attempt.source.value) (λ p. permits_given p.port.known.seen)
     (λ p. p.row) (λ p. p.attempt.stage) c.args.plan.now.jobs.now c.args.found.now
-    c.args.plan.now.password.now c.requires.count (omega arith)
+    c.args.plan.now.passwords.now c.requires.count (omega arith)
     (λ i place below. rw (← c.as_slice.ensures.jobs) (c.work.ensures.runs i place below).0)
     c.args.lines.now c.gather.new.lines c.requires.names
     (record {
@@ -22,7 +22,7 @@ returns-clause-uses g c =
     uses_by c.args.places.now c.work.new.places
     (λ p. g.C.Connector.tells p.attempt.source.value) (λ p. permits_given p.port.known.seen)
     (λ p. p.row) (λ p. p.attempt.stage) c.args.plan.now.jobs.now c.args.found.now
-    c.args.plan.now.password.now c.requires.count (omega arith)
+    c.args.plan.now.passwords.now c.requires.count (omega arith)
     (λ i place below. rw (← c.as_slice.ensures.jobs) (c.work.ensures.runs i place below).0)
     c.args.lines.now c.gather.new.lines c.requires.names
     (record {
