@@ -20,9 +20,13 @@ FAULT_INPUT = b"fault: input\n"
 FAULT_LISTEN = b"fault: listen\n"
 FAULT_READ = b"fault: read\n"
 
-# What clap prints if a command that needs a password has none.
+# What is printed if a command that needs a password has none: clap's text, and how it is given.
 NO_PASSWORD = (b"error: the following required arguments were not provided:\n  --password <TEXT>\n\n"
-               b"Usage: %s --password <TEXT>%s\n\nFor more information, try '--help'.\n")
+               b"Usage: %s\n\nFor more information, try '--help'.\n"
+               b"password: expected --password, --password-file or the variable METER_PASSWORD\n")
+# What clap prints if a file follows a command that reads standard input.
+NOT_A_FILE = (b"error: unexpected argument 'jobs' found\n\nUsage: %s\n\n"
+              b"For more information, try '--help'.\n")
 
 # Files of passwords.
 FOLDER = tempfile.TemporaryDirectory(prefix="passwords-")
@@ -127,6 +131,8 @@ LIMITER = (b"normal 4294967295\nemergency 4294967295\nminover 0\nminunder 0\npro
            b"groups\nactions 0 0\nover 0 0\nunder 0 0\n")
 EXPORT = b"xvalue 0\n" + b"".join(b"x" + line + b"\n" for line in LIMITER.splitlines())
 OPENING_2 = OPENING.replace(b"RELAYTRACE 1", b"RELAYTRACE 2").replace(b"scripts ", EXPORT + b"scripts ")
+# The trace of a meter with another name.
+OTHER_TRACE = TRACE.replace(b"device 52454C415931\n", b"device 4D31\n")
 # The same events as a journal.
 JOURNAL = OPENING_2 + b"events -\n" + TRACE.split(b"events 9\n")[1]
 LEFT_OUT = b"standard input: bytes after the last whole line that were left out: %d\n"
@@ -215,6 +221,18 @@ CASES = [
      b"line 2: expected pairs of hexadecimal digits, found an odd number of characters\n" + FAULT_INPUT, 2),
     ("where a letter is no digit", "meter_server_cli", ["apdu", "--verbose"], b"\nC001C10046000060030AFF0300\nC00G\n", b"",
      b"line 3: byte 4: expected a hexadecimal digit\n" + FAULT_INPUT, 2),
+    ("where a line has a blank", "meter_server_cli", ["apdu", "--verbose"], b"\nC0 01\n", b"",
+     b"line 2: byte 3: expected a hexadecimal digit, found a blank\n" + FAULT_INPUT, 2),
+    ("where a line of an even length has a blank", "meter_server_cli", ["apdu", "--verbose"], b"C0 01 C1\n", b"",
+     b"line 1: byte 3: expected a hexadecimal digit, found a blank\n" + FAULT_INPUT, 2),
+    ("where a line ends with a carriage return", "meter_server_cli", ["apdu", "--verbose"], b"C001C10046000060030AFF0300\r\n", b"",
+     b"line 1: expected a line feed at the end, found a carriage return before it\n" + FAULT_INPUT, 2),
+    ("where an odd line ends with a carriage return", "meter_server_cli", ["apdu", "--verbose"], b"C00\r\n", b"",
+     b"line 1: expected a line feed at the end, found a carriage return before it\n" + FAULT_INPUT, 2),
+    ("where an empty line ends with a carriage return", "meter_server_cli", ["apdu", "--verbose"], b"\r\n", b"",
+     b"line 1: expected a line feed at the end, found a carriage return before it\n" + FAULT_INPUT, 2),
+    ("where a carriage return is inside a line", "meter_server_cli", ["apdu", "--verbose"], b"C0\r01\n", b"",
+     b"line 1: byte 3: expected a hexadecimal digit\n" + FAULT_INPUT, 2),
     ("where requests are too long", "meter_server_cli", ["apdu", "--verbose"], b"G\n" + b"\n" * 1048576, b"",
      b"byte 1048577: the input has more than 1,048,576 bytes\n" + FAULT_INPUT, 2),
     ("requests that are right have no message", "meter_server_cli", ["apdu", "--verbose"], b"C001C10046000060030AFF0300\n", b"C401C1001601\n", b"", 0),
@@ -245,16 +263,15 @@ CASES = [
     ("a tab in a session", "meter_server_cli", HEX, AARQ + b"\t", b"", FAULT_INPUT, 2),
     ("1,048,576 characters", "meter_server_cli", HEX, b" " * 1048576, b"", b"", 0),
     ("1,048,577 characters", "meter_server_cli", HEX, b" " * 1048577, b"", FAULT_INPUT, 2),
-    ("a session without a password", "meter_server_cli", ["hex"], b"", b"", None, 2),
+    ("a session without a password", "meter_server_cli", ["hex"], b"", b"", NO_PASSWORD % b"meter_server hex --password <TEXT>", 2),
     ("an empty password", "meter_server_cli", ["hex", "--password", ""], b"", b"", FAULT_INPUT, 2),
     ("a password of 32 bytes", "meter_server_cli", ["hex", "--password", "p" * 32], b"", b"", b"", 0),
     ("a password of 33 bytes", "meter_server_cli", ["hex", "--password", "p" * 33], b"", b"", FAULT_INPUT, 2),
     ("an empty device name", "meter_server_cli", HEX + ["--device", ""], b"", b"", FAULT_INPUT, 2),
     ("a device name of 17 bytes", "meter_server_cli", HEX + ["--device", "d" * 17], b"", b"", FAULT_INPUT, 2),
-    ("a server without a password", "meter_server_cli", ["serve"], b"", b"", NO_PASSWORD % (b"meter_server serve", b""), 2),
+    ("a server without a password", "meter_server_cli", ["serve"], b"", b"", NO_PASSWORD % b"meter_server serve --password <TEXT>", 2),
     ("a server without a password, with other options", "meter_server_cli", ["serve", "--verbose", "--listen", "nowhere"], b"", b"",
-     NO_PASSWORD % (b"meter_server serve", b" --verbose --listen <ADDRESS>"), 2),
-    ("a session takes no file of a password", "meter_server_cli", ["hex", "--password-file", ENDED_FILE], b"", b"", None, 2),
+     NO_PASSWORD % b"meter_server serve --password <TEXT> --verbose --listen <ADDRESS>", 2),
     ("a server's password of 33 bytes", "meter_server_cli", ["serve", "--password", "p" * 33], b"", b"", FAULT_INPUT, 2),
     ("a server's empty device name", "meter_server_cli", SERVE + ["--device", ""], b"", b"", FAULT_INPUT, 2),
     ("a server's device name of 17 bytes", "meter_server_cli", SERVE + ["--device", "d" * 17], b"", b"", FAULT_INPUT, 2),
@@ -268,6 +285,14 @@ CASES = [
     ("no trace to resume from", "meter_server_cli", SERVE + ["--resume", "--listen", "nowhere"], b"", b"", FAULT_INPUT, 2),
     ("why a server does not listen", "meter_server_cli", SERVE + ["--verbose", "--listen", "nowhere"], b"", b"",
      b"nowhere: expected HOST:PORT with a port of at most 65535\n" + FAULT_LISTEN, 3),
+    ("why a server does not listen without a host", "meter_server_cli", SERVE + ["--verbose", "--listen", ":4059"], b"", b"",
+     b":4059: expected HOST:PORT, found no host (0.0.0.0:PORT listens on all addresses)\n" + FAULT_LISTEN, 3),
+    ("a name that the trace does not have", "meter_server_cli", SERVE + ["--resume", "--device", "OTHER", "--listen", "nowhere"], TRACE, b"",
+     b"warning: --device OTHER is not used: --resume takes the name of the trace's meter\n" + FAULT_LISTEN, 3),
+    ("the default name, which the trace does not have", "meter_server_cli", SERVE + ["--resume", "--listen", "nowhere"], OTHER_TRACE, b"", FAULT_LISTEN, 3),
+    ("the default name, if it is given", "meter_server_cli", SERVE + ["--resume", "--device", "RELAY1", "--listen", "nowhere"], OTHER_TRACE, b"",
+     b"warning: --device RELAY1 is not used: --resume takes the name of the trace's meter\n" + FAULT_LISTEN, 3),
+    ("the name that the trace has", "meter_server_cli", SERVE + ["--resume", "--device", "RELAY1", "--listen", "nowhere"], TRACE, b"", FAULT_LISTEN, 3),
     ("that a server's password is empty", "meter_server_cli", ["serve", "--verbose", "--password", ""], b"", b"",
      b"password: must be 1 to 32 bytes\n" + FAULT_INPUT, 2),
     ("that a server's device name is too long", "meter_server_cli", SERVE + ["--verbose", "--device", "d" * 17], b"", b"",
@@ -543,9 +568,12 @@ CASES = [
     ("a ledger without its file", "head_end_cli", ["run", "--password", "12345678", "--ledger"], b"", b"", None, 2),
     ("no worker", "head_end_cli", ["run", "--password", "12345678", "--workers", "0"], b"", b"", None, 2),
     ("17 workers", "head_end_cli", ["run", "--password", "12345678", "--workers", "17"], b"", b"", None, 2),
-    ("a campaign without a password", "head_end_cli", ["run"], b"", b"", NO_PASSWORD % (b"head_end run", b""), 2),
+    ("a campaign without a password", "head_end_cli", ["run"], b"", b"", NO_PASSWORD % b"head_end run [OPTIONS] --password <TEXT> < FILE", 2),
     ("a campaign without a password, with other options", "head_end_cli", ["run", "--progress", "--workers", "2"], b"", b"",
-     NO_PASSWORD % (b"head_end run", b" --progress --workers <N>"), 2),
+     NO_PASSWORD % b"head_end run [OPTIONS] --password <TEXT> < FILE", 2),
+    ("a campaign of a file", "head_end_cli", ["run", "--password-file", ENDED_FILE, "jobs"], b"", b"", NOT_A_FILE % b"head_end run [OPTIONS] < FILE", 2),
+    ("a campaign of a file without a password", "head_end_cli", ["run", "jobs"], b"", b"", NOT_A_FILE % b"head_end run [OPTIONS] --password <TEXT> < FILE", 2),
+    ("a check of a file", "head_end_cli", ["check", "jobs"], b"", b"", NOT_A_FILE % b"head_end check [OPTIONS] < FILE", 2),
     ("a campaign's password of 33 bytes", "head_end_cli", ["run", "--password", "p" * 33], b"", b"", FAULT_INPUT, 2),
     ("help of the head end", "head_end_cli", ["--help"], b"", None, b"", 0),
     ("help of a campaign", "head_end_cli", ["run", "--help"], b"", None, b"", 0),
@@ -557,7 +585,8 @@ CASES = [
     ("the version of the head end", "head_end_cli", ["-V"], b"", b"head_end 0.1.0\n", b"", 0),
 ]
 # The programs that read a file of a password, with words for which a server ends at once.
-READERS = [("a server", "meter_server_cli", ["serve", "--listen", "nowhere"], FAULT_LISTEN, 3), ("a campaign", "head_end_cli", ["run"], b"", 0)]
+READERS = [("a server", "meter_server_cli", ["serve", "--listen", "nowhere"], FAULT_LISTEN, 3),
+           ("a session", "meter_server_cli", ["hex"], b"", 0), ("a campaign", "head_end_cli", ["run"], b"", 0)]
 for reader, crate, words, stderr, status in READERS:
     for what, path in (("with a line end", ENDED_FILE), ("without a line end", WHOLE_FILE),
                        ("of 32 bytes", password_file("32", b"p" * 32 + b"\n"))):

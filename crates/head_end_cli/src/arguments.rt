@@ -106,6 +106,15 @@ fn ledger<'a>(alloc: Global) -> Arg<'a> {
         .action(ArgAction::Set)
 }
 
+// Returns the usage of `run`, whose option `--password` is required unless `has_password`.
+fn usage_of_run(has_password: bool) -> &'static str {
+    if has_password {
+        "head_end run [OPTIONS] < FILE"
+    } else {
+        "head_end run [OPTIONS] --password <TEXT> < FILE"
+    }
+}
+
 // Returns the command `run`. Its option `--password` is required unless `has_password`.
 fn run_command<'a>(alloc: Global, has_password: bool) -> Result<Command<'a>, AllocError> {
     let made = Ok(
@@ -113,6 +122,7 @@ fn run_command<'a>(alloc: Global, has_password: bool) -> Result<Command<'a>, All
             .about(
                 "Runs the jobs on standard input and prints a report: a row for each job, in order",
             )
+            .override_usage(usage_of_run(has_password))
             .after_help(REPORT),
     );
     let made = with_argument(made, password(alloc, !has_password));
@@ -132,6 +142,7 @@ fn check_command<'a>(alloc: Global) -> Result<Command<'a>, AllocError> {
         .about(
             "Counts the jobs on standard input: NAME ADDRESS VERB (disconnect, reconnect or state)",
         )
+        .override_usage("head_end check [OPTIONS] < FILE")
         .arg(verbose(alloc).help("If the list is wrong, report all findings on standard error"))
 }
 

@@ -24,7 +24,9 @@ use crate::warnings::warn;
 use clap::ArgMatches;
 use counted_io::{Counted, read_to_end_within};
 use head_end::{Jobs, JobsFault, TcpConnector, count_jobs, read_jobs};
-use program::{Fault, exit_code, has_option, print_help_or_error, print_text, read_arguments};
+use program::{
+    Fault, exit_code, has_option, print_help_or_missing_password, print_text, read_arguments,
+};
 use sqlite::Unknown;
 use std::env;
 use std::env::VarError;
@@ -145,7 +147,10 @@ fn begin(rt: &HostRuntime) -> Result<HeadEndCommand, Fault> {
     let command = command_line(alloc, has_password).map_err(|_| Fault::Memory)?;
     match command.try_get_matches_from(words.as_slice()) {
         Ok(matches) => begin_command(rt, &matches),
-        Err(error) => Ok(HeadEndCommand::Ended(print_help_or_error(rt, &error)?)),
+        Err(error) => {
+            let status = print_help_or_missing_password(rt, &error)?;
+            Ok(HeadEndCommand::Ended(status))
+        }
     }
 }
 

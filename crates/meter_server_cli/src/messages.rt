@@ -22,8 +22,11 @@ pub(crate) fn why_wrong_input(options: &ServeOptions) -> &'static str {
     }
 }
 
-// Returns why the server cannot listen.
-pub(crate) fn why_not_listening(kind: ErrorKind) -> &'static str {
+// Returns why the server cannot listen on an address.
+pub(crate) fn why_not_listening(address: &str, kind: ErrorKind) -> &'static str {
+    if address.rfind(':') == Some(0) {
+        return "expected HOST:PORT, found no host (0.0.0.0:PORT listens on all addresses)";
+    }
     match kind {
         ErrorKind::AddrInUse => "the address is in use",
         ErrorKind::AddrNotAvailable => "the address is not one of this machine",

@@ -5,10 +5,7 @@ ghost use Rattle.meter_run.specs.Runs.{IsRun};
 ghost use Rattle.meter_server_cli.specs.Endings.{PrintsText};
 
 use crate::ending::{Ends, print_trace, run_fault};
-use crate::journal::{
-    EventOutput, JournalFile, JournaledParts, OpenJournal, RelayFile, ServerEnd, open_journal,
-    run_journaled, with_relay,
-};
+use crate::journal::{JournaledParts, ServerEnd, run_journaled};
 use crate::messages::{why_not_listening, why_wrong_input};
 use cosem_axdr::Octets;
 use counted_io::Monitored;
@@ -17,7 +14,11 @@ use meter_run::{MeterRun, Sources, run_meter};
 use meter_server::{ServeFault, Served};
 use program::Fault;
 use relay_recorder::Recorder;
-use server_commands::{Bounds, ServeOptions, ServePlan, make_plan};
+use server_commands::{Bounds, ServeOptions, ServePlan, has_name, make_plan};
+use server_files::{
+    EventOutput, JournalOptions, OpenJournal, RelayAlone, RelayOptions, RelayedJournal,
+    open_journal, open_outputs,
+};
 use server_io::{
     Closing, Console, ConsoleBlocks, ConsoleEnd, ConsoleMoments, ConsolePresses, ConsoleSources,
     Reading, Sockets, Stopped, StreamLimits,
@@ -199,7 +200,7 @@ fn start_server<R: Threads + Wait + Copy + Drop + Send + 'static>(
 #[derive(Drop)]
 pub(crate) struct Server {
     plan: ServePlan<Stdin>,
-    events: EventOutput,
+    events: EventOutput<HostRuntime>,
     listener: TcpListener,
     address: SocketAddr,
 }
@@ -216,7 +217,8 @@ fn listen_on(
         Err(error) => {
             if is_verbose {
                 let now = LogTime::now(rt);
-                let _ = eprintln!(rt; "{now} {address}: {}", why_not_listening(error.kind()));
+                let why = why_not_listening(address, error.kind());
+                let _ = eprintln!(rt; "{now} {address}: {why}");
             }
             return Err(Fault::Listen);
         }
@@ -243,13 +245,36 @@ fn plan_server(rt: &HostRuntime, options: &ServeOptions) -> Result<ServePlan<Std
     }
 }
 
+// Returns how the journal of these bounds is kept.
+fn journal_options(bounds: &Bounds) -> JournalOptions {
+    JournalOptions {
+        depth: bounds.depth,
+        limit: bounds.journal_limit,
+        kept: bounds.kept_journals,
+    }
+}
+
+// Reports on standard error that the name of the options is not that of the meter, which resumes
+// from a trace.
+fn report_other_name(rt: &HostRuntime, options: &ServeOptions, recorder: &Recorder) {
+    if !options.bounds.resumes || !options.has_device {
+        return;
+    }
+    let name = options.device.as_str();
+    if matches!(has_name(rt.alloc(), recorder, name), Ok(false)) {
+        let _ = eprintln!(rt;
+            "warning: --device {name} is not used: --resume takes the name of the trace's meter"
+        );
+    }
+}
+
 // Opens the journal of the options, if they name one. The meter of the plan then resumes where it
 // ends.
 fn with_journal(
     rt: &HostRuntime,
     options: &ServeOptions,
     plan: ServePlan<Stdin>,
-) -> Result<(ServePlan<Stdin>, Option<OpenJournal>), Fault> {
+) -> Result<(ServePlan<Stdin>, Option<OpenJournal<HostRuntime>>), Fault> {
     let Some(path) = &options.journal else {
         return Ok((plan, None));
     };
@@ -259,7 +284,7 @@ fn with_journal(
         recorder,
         input,
     } = plan;
-    match open_journal(rt, path.as_str(), recorder, &bounds) {
+    match open_journal(rt, path.as_str(), recorder, journal_options(&bounds)) {
         Ok((journal, recorder)) => Ok((
             ServePlan {
                 bounds,
@@ -278,11 +303,15 @@ fn ready(
     rt: &HostRuntime,
     options: &ServeOptions,
     plan: ServePlan<Stdin>,
-    journal: Option<OpenJournal>,
+    journal: Option<OpenJournal<HostRuntime>>,
     listening: (TcpListener, SocketAddr),
 ) -> Result<Server, Fault> {
     let (listener, address) = listening;
-    match with_relay(rt, options, &plan.recorder, journal) {
+    let relay = RelayOptions {
+        path: options.relay.as_deref(),
+        is_verbose: options.bounds.is_verbose,
+    };
+    match open_outputs(rt, relay, plan.recorder.core(), journal) {
         Ok(events) => Ok(Server {
             plan,
             events,
@@ -300,6 +329,7 @@ fn ready(
 // opens the journal, listens, and opens the relay.
 pub(crate) fn begin(rt: &HostRuntime, options: &ServeOptions) -> Result<Server, Fault> {
     let plan = plan_server(rt, options)?;
+    report_other_name(rt, options, &plan.recorder);
     let (plan, journal) = with_journal(rt, options, plan)?;
     match listen_on(rt, options.address.as_str(), options.bounds.is_verbose) {
         Ok(listening) => ready(rt, options, plan, journal, listening),
@@ -322,7 +352,7 @@ fn run_on_journal<
     output: &mut Stdout,
     sockets: &mut Sockets<HostRuntime>,
     recorder: Recorder,
-    parts: JournaledParts<R, JournalFile<F>>,
+    parts: JournaledParts<R, RelayedJournal<F, HostRuntime>>,
     meter: &ClientParameters,
 ) -> (
     Result<Served, ServeFault>,
@@ -342,7 +372,7 @@ fn run_on_relay<F: DurableFile + Send + 'static, R: Threads + Wait + Copy + Drop
     output: &mut Stdout,
     sockets: &mut Sockets<HostRuntime>,
     recorder: Recorder,
-    parts: JournaledParts<R, RelayFile<F>>,
+    parts: JournaledParts<R, RelayAlone<F, HostRuntime>>,
     meter: &ClientParameters,
 ) -> (
     Result<Served, ServeFault>,
@@ -361,7 +391,7 @@ fn serve_and_print<R: Threads + Wait + Copy + Drop + Send + 'static>(
     threads: &R,
     server: (Sockets<HostRuntime>, ConsoleSources<R>, ServerEnd<R>),
     recorder: Recorder,
-    events: EventOutput,
+    events: EventOutput<HostRuntime>,
     meter: &ClientParameters,
 ) -> (Result<(), Fault>, Result<(), Fault>, Result<(), Fault>)
     requires { length recorder.events ≡ 0 }
@@ -370,11 +400,7 @@ fn serve_and_print<R: Threads + Wait + Copy + Drop + Send + 'static>(
     let mut output = rt.stdout();
     let (served, kept, printed) = match events {
         EventOutput::Journal(journal) => {
-            let parts = JournaledParts {
-                sources,
-                journal,
-                end,
-            };
+            let parts = JournaledParts::new(sources, journal, end);
             run_on_journal(
                 rt,
                 threads,
@@ -386,11 +412,7 @@ fn serve_and_print<R: Threads + Wait + Copy + Drop + Send + 'static>(
             )
         }
         EventOutput::Relay(journal) => {
-            let parts = JournaledParts {
-                sources,
-                journal,
-                end,
-            };
+            let parts = JournaledParts::new(sources, journal, end);
             run_on_relay(
                 rt,
                 threads,

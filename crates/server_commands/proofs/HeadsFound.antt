@@ -1,5 +1,5 @@
 -- The lines of a trace, read one after the other from the head of an input.
-use Rattle.std.proofs.Common.{rules, ◌≡◌, ◌⊎◌, ℕ, suc, ◌+◌, ◌<◌, ◌≤◌, ◌^◌, Bool, true, false, ◌==◌, ◌&&◌, ◌||◌, not, nat_lt, nat_le, nat_eq, cond, codes, decimal, List, [], ◌∷◌, ◌++◌, length, take, drop, slice_index, ◌-◌, Option, Some, None, Result, Ok, Err, IfErr, IfSome, IsErrAnd, inl, inr, ⊎_elim, if◌then◌else◌, refl, sym, ap, ◌∙◌, subst, arith}
+use Rattle.std.proofs.Common.{rules, ◌≡◌, ℕ, ◌<◌, ◌≤◌, ◌^◌, Bool, true, false, ◌==◌, ◌&&◌, ◌||◌, not, nat_lt, nat_le, nat_eq, codes, decimal, List, [], ◌∷◌, ◌++◌, length, take, drop, slice_index, ◌-◌, Option, Some, None, Result, Ok, Err, IfErr, IfSome, IsErrAnd, inl, inr, ⊎_elim, if◌then◌else◌, refl, sym, ap, ◌∙◌, subst, arith}
 use Rattle.std.specs.Char.{is_ascii_digit}
 use Rattle.std.specs.Cmp.Lexicographic.{pointwise}
 use Rattle.std.specs.List.{list_all}
@@ -9,7 +9,7 @@ use Rattle.std.proofs.lemmas.Bool.Decides.{nat_tests}
 use Rattle.std.proofs.lemmas.Fmt.{decimal-digits_value, decimal_digit}
 use Rattle.std.proofs.lemmas.List.{append-nil, take_all, length-drop}
 use Rattle.std.proofs.lemmas.Str.Parse.{IsNumeralModel, numerals_by_value}
-use Rattle.wire_bytes.specs.Outcome.{◌>>=◌, ◌>>◌, guard, Fails}
+use Rattle.wire_bytes.specs.Outcome.{Fails}
 use Rattle.wire_bytes.proofs.OutcomeLemmas.{bind_ok, ok_is, guard_ok, chosen, failed}
 use Rattle.trace_words.specs.Labels.{words_after, labelled_value}
 use Rattle.trace_openings.specs.OpeningFields.{version_in, version_from}
@@ -26,9 +26,9 @@ use Rattle.trace_words.specs.Places.{place_of}
 use Rattle.text_lines.proofs.LinesLemmas.{rows_text-rows_of, rows_text-nil}
 use Rattle.text_lines.proofs.NumbersLemmas.{chosen_some}
 use Rattle.text_lines.proofs.WordsLemmas.{line_of-words_of}
-use Rattle.text_lines.specs.Lines.{rows_of, rows_text, unended_of}
+use Rattle.text_lines.specs.Lines.{rows_of, rows_text}
 use Rattle.text_lines.specs.Numbers.{is_decimal, number_of}
-use Rattle.text_lines.specs.Words.{line_of, words_of}
+use Rattle.text_lines.specs.Words.{line_of}
 use Rattle.program.specs.declared.fault.Fault.{Fault}
 use Rattle.program.specs.declared.fault.Fault.TheVariants as program
 use Rattle.program.specs.declared.fault.Fault.TheVariants.{Input}

@@ -87,10 +87,7 @@ line_wrong : (number : ℕ) (line : List ℕ) (lines : List (List ℕ)) (old new
 unfolding requests_from
 line_wrong number [] lines old new wrong adds = absurd adds
 line_wrong number (byte ∷ bytes) lines old new fault.Memory adds = tt
-line_wrong number (byte ∷ bytes) lines old new (fault.Odd at) adds = ap
-    (λ (first : Result (List ℕ) CommandFault). before_others first
-    (requests_from (suc number) lines)) adds
-line_wrong number (byte ∷ bytes) lines old new (fault.Character at byte') adds = ap
+line_wrong number (byte ∷ bytes) lines old new (fault.Line at why) adds = ap
     (λ (first : Result (List ℕ) CommandFault). before_others first
     (requests_from (suc number) lines)) adds
 line_wrong number (byte ∷ bytes) lines old new fault.TooLong adds = adds
@@ -106,9 +103,7 @@ reads_wrong : (text : List ℕ) (old : List (List ℕ)) (number : ℕ) (rest : L
     (wrong : CommandFault) → Left text old number rest
     → ReadsLines number (parts_at 10 rest) (Err wrong) → ReadsLines 1 (parts_at 10 text) (Err wrong)
 reads_wrong text old number rest fault.Memory left wrong = tt
-reads_wrong text old number rest (fault.Odd at) left wrong = left.all ∙ ap (joined old) wrong
-reads_wrong text old number rest (fault.Character at byte) left wrong =
-    left.all ∙ ap (joined old) wrong
+reads_wrong text old number rest (fault.Line at why) left wrong = left.all ∙ ap (joined old) wrong
 reads_wrong text old number rest fault.TooLong left wrong = wrong
 reads_wrong text old number rest (fault.Digit at) left wrong = wrong
 reads_wrong text old number rest fault.OddDigits left wrong = wrong

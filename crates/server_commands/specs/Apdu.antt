@@ -58,10 +58,8 @@ module _ {R W : Type 0}
   AnswersBytes text r w (Err fault.TooLong) r' w' = (max_bytes < length text) × (w' ≡ w)
   AnswersBytes text r w (Err fault.Read) r' w' = (length text ≤ max_bytes)
       × (read_failures r < read_failures r') × (w' ≡ w)
-  AnswersBytes text r w (Err (fault.Odd number)) r' w' = (requests_of text ≡ Err (fault.Odd number))
-      × IsWholeText text r' × (w' ≡ w)
-  AnswersBytes text r w (Err (fault.Character number byte)) r' w' =
-      (requests_of text ≡ Err (fault.Character number byte)) × IsWholeText text r' × (w' ≡ w)
+  AnswersBytes text r w (Err (fault.Line number why)) r' w' =
+      (requests_of text ≡ Err (fault.Line number why)) × IsWholeText text r' × (w' ≡ w)
   AnswersBytes text r w (Err fault.Write) r' w' =
       (requests : List (List ℕ)) × (requests_of text ≡ Ok requests) × IsWholeText text r'
       × (write_failures w < write_failures w')

@@ -10,8 +10,7 @@ use Rattle.session_io.specs.declared.fault.TextFault.TheVariants as text
 -- keep their own faults
 abbrev pub fault_of : CommandFault → Fault
 fault_of fault.TooLong = program.Input
-fault_of (fault.Odd line) = program.Input
-fault_of (fault.Character line byte) = program.Input
+fault_of (fault.Line number why) = program.Input
 fault_of (fault.Digit character) = program.Input
 fault_of fault.OddDigits = program.Input
 fault_of fault.Password = program.Input

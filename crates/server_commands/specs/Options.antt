@@ -2,13 +2,16 @@
 --     IsText       the text of an option
 --     IsNumber     the number of an option
 --     IsFlag       whether an option without a value is given
+--     is_written   whether the words of the command line give an option
 --     IsBounds     the limits and flags of `serve`
 --     default_of   the value of an option that is not given
-use Rattle.std.specs.Prelude.{◌≡◌, ◌<◌, ◌^◌, ℕ, Bool, true, false, codes, List, [], Option, Some, unwrap_or, slice_get}
-use Rattle.std.specs.Option.{option_map}
+use Rattle.std.specs.Prelude.{◌≡◌, ◌<◌, ◌^◌, ℕ, Bool, true, false, codes, List, [], Option, Some, None, unwrap_or, slice_get}
+use Rattle.std.specs.Option.{option_and_then, option_map}
 use Rattle.std.specs.Str.Parse.{IsNumeral, digits_value, without_leading_plus}
-use Rattle.clap.specs.Matches.{first_value, one_text}
+use Rattle.clap.specs.Matches.{first_value, matched_of, one_text}
 use Rattle.clap.specs.declared.parser.matches.Found.{Found}
+use Rattle.clap.specs.declared.parser.matches.ValueSource.{ValueSource}
+use Rattle.clap.specs.declared.parser.matches.ValueSource.TheVariants.{CommandLine, DefaultValue}
 use Rattle.clap.specs.Texts.{items_of}
 use Rattle.clap.specs.declared.builder.arg.Arg.{Arg}
 use Rattle.server_commands.specs.declared.options.Bounds.{Bounds}
@@ -29,6 +32,16 @@ IsNumber bits found name number = (text : List ℕ) → one_text found name ≡ 
 pub record IsFlag (found : Found) (name : List ℕ) (value : Bool) : Type 0 where
   pub given : one_text found name ≡ Some (codes "true") → value ≡ true
   pub absent : one_text found name ≡ Some (codes "false") → value ≡ false
+
+abbrev pub is_of_words : Option ValueSource → Bool
+is_of_words (Some CommandLine) = true
+is_of_words (Some DefaultValue) = false
+is_of_words None = false
+
+-- whether the option of this name has its value from the words of the command line
+abbrev pub is_written : Found → List ℕ → Bool
+is_written found name = is_of_words (option_and_then (λ entry. entry.source)
+    (matched_of found name))
 
 -- the limits and flags of `serve`
 pub record IsBounds (found : Found) (bounds : Bounds) : Type 0 where

@@ -1,31 +1,41 @@
 -- The requests of a text, a line of hexadecimal for each.
+--     request_fault    why a line is not a request
 --     line_request     the request of a line, or the fault of the line
 --     requests_from    the requests of lines, or the fault of the first invalid one
 --     requests_of      the requests of a text
 --     ReadsRequests    the result of reading a text
-use Rattle.std.specs.Prelude.{◌≡◌, ◌+◌, ℕ, suc, List, [], ◌∷◌, ◌++◌, take, drop, ⊤, Result, Ok, Err}
-use Rattle.hex.specs.Hex.{decode_of}
+use Rattle.std.specs.Prelude.{◌≡◌, ◌+◌, ◌==◌, ◌&&◌, ℕ, suc, Bool, not, if◌then◌else◌, Option, Some, None, length, position, slice_index, List, [], ◌∷◌, ◌++◌, take, drop, ⊤, Result, Ok, Err}
+use Rattle.hex.specs.Hex.{decode_of, is_hex_digit}
 use Rattle.hex.specs.declared.error.FromHexError.{FromHexError}
-use Rattle.hex.specs.declared.error.FromHexError.TheVariants as hex_fault
 use Rattle.text_lines.specs.Parts.{parts_at}
 use Rattle.server_commands.specs.declared.telling.CommandFault.{CommandFault}
 use Rattle.server_commands.specs.declared.telling.CommandFault.TheVariants as fault
+use Rattle.server_commands.specs.declared.telling.RequestFault.{RequestFault}
+use Rattle.server_commands.specs.declared.telling.RequestFault.TheVariants.{Odd, Character, Blank, CarriageReturn}
 
--- the fault of the line with this number, which is not pairs of hexadecimal digits; lines and
--- characters are counted from 1
-abbrev pub line_fault : ℕ → FromHexError → CommandFault
-line_fault number (hex_fault.InvalidHexCharacter c index) = fault.Character number (index + 1)
-line_fault number hex_fault.OddLength = fault.Odd number
-line_fault number hex_fault.InvalidStringLength = fault.Odd number
-line_fault number hex_fault.OutOfMemory = fault.Odd number
+-- why a character is not a hexadecimal digit, by its place in the line, counted from 1, and whether
+-- it is the last: a carriage return at the end, a blank, or another character
+abbrev pub character_fault : ℕ → ℕ → Bool → RequestFault
+character_fault character place is_last = if character == 0x0D && is_last then CarriageReturn
+    else if character == 0x20 then Blank place else Character place
 
-abbrev pub request_by : ℕ → Result (List ℕ) FromHexError → Result (List ℕ) CommandFault
-request_by number (Ok bytes) = Ok bytes
-request_by number (Err error) = Err (line_fault number error)
+abbrev pub fault_at : List ℕ → Option ℕ → RequestFault
+fault_at line (Some index) = character_fault (slice_index line index) (index + 1)
+    (index + 1 == length line)
+fault_at line None = Odd
+
+-- why a line is not pairs of hexadecimal digits: its first character that is not a digit, else its
+-- odd number of digits
+abbrev pub request_fault : List ℕ → RequestFault
+request_fault line = fault_at line (position (λ character. not (is_hex_digit character)) line)
+
+abbrev pub request_by : ℕ → List ℕ → Result (List ℕ) FromHexError → Result (List ℕ) CommandFault
+request_by number line (Ok bytes) = Ok bytes
+request_by number line (Err error) = Err (fault.Line number (request_fault line))
 
 -- the request of the line with this number: its pairs of hexadecimal digits, in either case
 unfoldable pub line_request : ℕ → List ℕ → Result (List ℕ) CommandFault
-line_request number line = request_by number (decode_of line)
+line_request number line = request_by number line (decode_of line)
 
 -- a request followed by others; its fault takes precedence over theirs
 abbrev pub before_others : Result (List ℕ) CommandFault → Result (List (List ℕ)) CommandFault
@@ -49,9 +59,8 @@ requests_of text = requests_from 1 (parts_at 10 text)
 abbrev pub ReadsLines : ℕ → List (List ℕ) → Result (List (List ℕ)) CommandFault → Type 0
 ReadsLines number lines (Ok requests) = requests_from number lines ≡ Ok requests
 ReadsLines number lines (Err fault.Memory) = ⊤
-ReadsLines number lines (Err (fault.Odd at)) = requests_from number lines ≡ Err (fault.Odd at)
-ReadsLines number lines (Err (fault.Character at byte)) =
-    requests_from number lines ≡ Err (fault.Character at byte)
+ReadsLines number lines (Err (fault.Line at why)) =
+    requests_from number lines ≡ Err (fault.Line at why)
 ReadsLines number lines (Err wrong) = ⊥
 
 -- the result of reading a text
@@ -68,16 +77,18 @@ abbrev pub pieces_of : List ℕ → List ℕ → List (List ℕ)
 pieces_of [] bytes = []
 pieces_of (count ∷ counts) bytes = take count bytes ∷ pieces_of counts (drop count bytes)
 
+-- why the request of a line was not appended: the fault of the line, or out of memory
+abbrev pub IsRequestFault : ℕ → List ℕ → CommandFault → Type 0
+IsRequestFault number line fault.Memory = ⊤
+IsRequestFault number line (fault.Line at why) = line_request number line ≡ Err (fault.Line at why)
+IsRequestFault number line other = ⊥
+
 -- the result of reading one line: its request was appended, its fault, or out of memory
 abbrev pub AddsRequest : {X : Type 0} → ℕ → List ℕ → List (List ℕ) → Result X CommandFault
     → List (List ℕ) → Type 0
 AddsRequest number line old (Ok done) new = (request : List ℕ)
     × (line_request number line ≡ Ok request) × (new ≡ old ++ request ∷ [])
-AddsRequest number line old (Err fault.Memory) new = ⊤
-AddsRequest number line old (Err (fault.Odd at)) new = line_request number line ≡ Err (fault.Odd at)
-AddsRequest number line old (Err (fault.Character at byte)) new =
-    line_request number line ≡ Err (fault.Character at byte)
-AddsRequest number line old (Err wrong) new = ⊥
+AddsRequest number line old (Err wrong) new = IsRequestFault number line wrong
 
 -- the result of reading a line that may be empty
 abbrev pub AddsLine : {X : Type 0} → ℕ → List ℕ → List (List ℕ) → Result X CommandFault

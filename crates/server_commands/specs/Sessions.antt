@@ -3,8 +3,8 @@
 --     PlaysInput     the effect of serving the bytes of a session, by the result
 --     PlaysBytes     the effect of serving a text that was read, by the result
 --     PlaysText      the effect of judging the options and serving a text, by the result
-use Rattle.std.specs.Prelude.{◌≡◌, ◌⊎◌, ◌≤◌, ◌<◌, ◌+◌, ℕ, not, position, Option, Some, None, List, [], length, Result, Ok, Err}
-use Rattle.std.specs.Io.KnownBytes.{Appends, Consumes, IsAtEnd}
+use Rattle.std.specs.Prelude.{◌≡◌, ◌⊎◌, ◌≤◌, ◌<◌, ◌+◌, ℕ, not, position, Option, Some, None, List, length, Result, Ok, Err}
+use Rattle.std.specs.Io.KnownBytes.{Consumes, IsAtEnd}
 use Rattle.acse_ber.specs.Password.{IsPassword}
 use Rattle.relay_core.specs.World.{IsDeviceName}
 use Rattle.session_io.specs.Hexadecimal.{IsHex, RunsShort, WritesLines, is_taken}
@@ -58,8 +58,7 @@ PlaysBytes device password text before (Err fault.Memory) after =
     WritesNothing before after
     ⊎ ((input : List ℕ) × IsHex text input × RunsShort device password input before after)
 PlaysBytes device password text before (Err fault.TooLong) after = ⊥
-PlaysBytes device password text before (Err (fault.Odd line)) after = ⊥
-PlaysBytes device password text before (Err (fault.Character line byte)) after = ⊥
+PlaysBytes device password text before (Err (fault.Line number why)) after = ⊥
 PlaysBytes device password text before (Err fault.Password) after = ⊥
 PlaysBytes device password text before (Err fault.Device) after = ⊥
 PlaysBytes device password text before (Err fault.Read) after = ⊥
@@ -113,5 +112,4 @@ module _ {R W : Type 0}
       PlaysWhole password device r w (Err fault.OddDigits) r' w'
   PlaysText password device r w (Err fault.Write) r' w' =
       PlaysWhole password device r w (Err fault.Write) r' w'
-  PlaysText password device r w (Err (fault.Odd line)) r' w' = ⊥
-  PlaysText password device r w (Err (fault.Character line byte)) r' w' = ⊥
+  PlaysText password device r w (Err (fault.Line number why)) r' w' = ⊥

@@ -13,8 +13,8 @@ use std::alloc::Global;
 /// lines are skipped; the last line need not be ended.
 ///
 /// The whole text is read and all requests are decoded before anything is written. Errors:
-/// `TooLong` if there are more than 1,048,576 bytes, `Read` if a read fails, `Odd` or `Character`
-/// for the first invalid line, `Write`, `Memory`. After any error but `Write` nothing is written.
+/// `TooLong` if there are more than 1,048,576 bytes, `Read` if a read fails, `Line` for the first
+/// invalid line, `Write`, `Memory`. After any error but `Write` nothing is written.
 pub fn answer_text<R: Reader, W: Writer>(
     alloc: Global,
     reader: &mut R,

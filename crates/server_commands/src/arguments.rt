@@ -25,11 +25,11 @@ Lines of standard input; any other line is skipped:
   moment SECONDS          set the clock to this many seconds after 2000-01-01 00:00:00";
 
 // Returns the option `--password`.
-fn password<'a>(alloc: Global, is_required: bool, help: &'a str) -> Arg<'a> {
+fn password<'a>(alloc: Global, is_required: bool) -> Arg<'a> {
     Arg::new(alloc, "password")
         .long("password")
         .value_name("TEXT")
-        .help(help)
+        .help("Password of the management client, 1 to 32 bytes; default: METER_PASSWORD")
         .required(is_required)
         .action(ArgAction::Set)
 }
@@ -91,19 +91,23 @@ fn verbose<'a>(alloc: Global) -> Arg<'a> {
     )
 }
 
-// Returns the command `hex`.
-fn hex<'a>(alloc: Global) -> Result<Command<'a>, AllocError> {
+// Adds the options for the password of the management client. The option `--password` is required
+// unless `has_password`.
+fn with_password<'a>(
+    alloc: Global,
+    made: Result<Command<'a>, AllocError>,
+    has_password: bool,
+) -> Result<Command<'a>, AllocError> {
+    let made = with_argument(made, password(alloc, !has_password));
+    with_argument(made, password_file(alloc))
+}
+
+// Returns the command `hex`. Its option `--password` is required unless `has_password`.
+fn hex<'a>(alloc: Global, has_password: bool) -> Result<Command<'a>, AllocError> {
     let made = Ok(Command::new(alloc, "hex").about(
         "Serves one client: standard input is its stream in hexadecimal; each frame sent is a line",
     ));
-    let made = with_argument(
-        made,
-        password(
-            alloc,
-            true,
-            "Password of the management client, 1 to 32 bytes",
-        ),
-    );
+    let made = with_password(alloc, made, has_password);
     let made = with_argument(made, device(alloc));
     with_argument(made, verbose(alloc))
 }
@@ -239,15 +243,7 @@ fn with_meter<'a>(
     made: Result<Command<'a>, AllocError>,
     has_password: bool,
 ) -> Result<Command<'a>, AllocError> {
-    let made = with_argument(
-        made,
-        password(
-            alloc,
-            !has_password,
-            "Password of the management client, 1 to 32 bytes; default: METER_PASSWORD",
-        ),
-    );
-    let made = with_argument(made, password_file(alloc));
+    let made = with_password(alloc, made, has_password);
     let made = with_argument(made, device(alloc));
     let made = with_argument(made, listen(alloc));
     let made = with_argument(made, journal(alloc));
@@ -326,13 +322,13 @@ fn program<'a>(alloc: Global) -> Result<Command<'a>, AllocError> {
     Ok(program)
 }
 
-// Returns the program's command with its subcommands. `has_password`: the password of `serve` is in
-// the environment or in a file that the command line names.
+// Returns the program's command with its subcommands. `has_password`: the password of `serve` and
+// `hex` is in the environment or in a file that the command line names.
 pub(crate) fn command_line<'a>(
     alloc: Global,
     has_password: bool,
 ) -> Result<Command<'a>, AllocError> {
     let program = with_subcommand(program(alloc), apdu(alloc));
-    let program = with_subcommand(program, hex(alloc));
+    let program = with_subcommand(program, hex(alloc, has_password));
     with_subcommand(program, serve(alloc, has_password))
 }

@@ -5,9 +5,10 @@ ghost use Rattle.std.specs.Option.{option_map};
 ghost use Rattle.clap.specs.Matches.{first_value, found_of};
 ghost use Rattle.program.specs.Passwords.{HasNoLineEnd};
 ghost use Rattle.server_commands.specs.Asking.{is_of_asking};
-ghost use Rattle.server_commands.specs.Options.{IsText, IsNumber, IsFlag, IsBounds};
+ghost use Rattle.server_commands.specs.Options.{IsText, IsNumber, IsFlag, IsBounds, is_written};
 
 use clap::ArgMatches;
+use clap::parser::ValueSource;
 use program::{Fault, read_password_file};
 use std::alloc::{AllocGlobal, Global};
 use std::env;
@@ -59,6 +60,8 @@ pub struct ServeOptions {
     pub password: String,
     /// The name of the meter, of any length.
     pub device: String,
+    /// Whether the command line gives the name of the meter; else it is the default.
+    pub has_device: bool,
     /// The address that clients connect to.
     pub address: String,
     /// The path of the journal, if the meter has one.
@@ -103,18 +106,25 @@ fn find_text(alloc: Global, matches: &ArgMatches<'_>, name: &str) -> Result<Opti
 }
 
 // Reads the options of `hex`.
-pub(crate) fn hex_options(alloc: Global, matches: &ArgMatches<'_>) -> Result<HexOptions, Fault>
-    ensures password { IfOk result
-        (λ options. IsText (found_of matches.now) (codes "password")
-        (string_bytes options.password)) }
+pub(crate) fn hex_options<R: Env + AllocGlobal + Eprint + Files<File = File>>(
+    rt: &R,
+    matches: &ArgMatches<'_>,
+) -> Result<HexOptions, Fault>
+    ensures password { IfOk result (λ options. (text : List ℕ)
+        → first_value (found_of matches.now) (codes "password") ≡ Some text
+        → string_bytes options.password ≡ text) }
+    ensures of_file { IfOk result (λ options. (path : List ℕ)
+        → first_value (found_of matches.now) (codes "password") ≡ None
+        → first_value (found_of matches.now) (codes "password-file") ≡ Some path
+        → HasNoLineEnd (string_bytes options.password)) }
     ensures device { IfOk result
         (λ options. IsText (found_of matches.now) (codes "device") (string_bytes options.device)) }
     ensures is_verbose { IfOk result
         (λ options. IsFlag (found_of matches.now) (codes "verbose") options.is_verbose) }
     ensures err { IfErr result (λ fault. is_of_asking fault ≡ true) }
 {
-    let password = text_of(alloc, matches, "password")?;
-    let device = text_of(alloc, matches, "device")?;
+    let password = find_password(rt, matches)?;
+    let device = text_of(rt.alloc(), matches, "device")?;
     Ok(HexOptions {
         password,
         device,
@@ -187,6 +197,13 @@ fn seconds_of(matches: &ArgMatches<'_>, name: &str) -> u32
     matches.get_one::<u32>(name).unwrap_or(0)
 }
 
+// Returns whether the words of the command line give an option.
+fn is_written(matches: &ArgMatches<'_>, name: &str) -> bool
+    ensures { result ≡ is_written (found_of matches.now) name.now }
+{
+    matches!(matches.value_source(name), Some(ValueSource::CommandLine))
+}
+
 // Returns whether an option without a value is given.
 fn is_given(matches: &ArgMatches<'_>, name: &str) -> bool
     ensures { IsFlag (found_of matches.now) name.now result }
@@ -225,6 +242,8 @@ pub(crate) fn serve_options<R: Env + AllocGlobal + Eprint + Files<File = File>>(
         → HasNoLineEnd (string_bytes options.password)) }
     ensures device { IfOk result
         (λ options. IsText (found_of matches.now) (codes "device") (string_bytes options.device)) }
+    ensures has_device { IfOk result
+        (λ options. options.has_device ≡ is_written (found_of matches.now) (codes "device")) }
     ensures address { IfOk result
         (λ options. IsText (found_of matches.now) (codes "listen") (string_bytes options.address)) }
     ensures journal { IfOk result (λ options. option_map string_bytes options.journal
@@ -243,6 +262,7 @@ pub(crate) fn serve_options<R: Env + AllocGlobal + Eprint + Files<File = File>>(
     Ok(ServeOptions {
         password,
         device,
+        has_device: is_written(matches, "device"),
         address,
         journal,
         relay,

@@ -1,9 +1,10 @@
 //! Validates the options of `meter_server serve` and makes its meter: a new one, or one that
 //! resumes from a trace.
-ghost use Rattle.std.specs.Prelude.{◌≡◌, ◌≤◌, [], length, true, false, ⊤, IfOk, IfErr, IsErrOf};
+ghost use Rattle.std.specs.Prelude.{◌≡◌, ◌≤◌, [], length, true, false, ⊤, IfOk, IfErr, IsErrOf, IsTrue, ◌↔◌};
 ghost use Rattle.std.specs.String.{string_bytes};
 ghost use Rattle.acse_ber.specs.Password.{IsPassword};
 ghost use Rattle.program.specs.declared.fault.Fault.TheVariants.{Memory};
+ghost use Rattle.relay_core.specs.Opening.{opening_of};
 ghost use Rattle.relay_core.specs.World.{IsDeviceName, new_world};
 ghost use Rattle.relay_recorder.specs.Histories.{StandsForHistory};
 ghost use Rattle.counted_io.specs.Lines.{has_failed_in, left_in};
@@ -19,7 +20,7 @@ use counted_io::Monitored;
 use program::Fault;
 use relay_core::MAX_DEVICE_NAME;
 use relay_recorder::Recorder;
-use std::alloc::Global;
+use std::alloc::{AllocError, Global};
 use std::io::{BufReader, Read};
 use trace_player::resume_recorder;
 
@@ -64,6 +65,17 @@ fn new_recorder(alloc: Global, device: &Octets, depth: u16) -> Result<Recorder, 
         Ok(recorder) => Ok(recorder),
         Err(_) => Err(Fault::Memory),
     }
+}
+
+/// Returns whether a meter has this name. Fails if out of memory.
+pub fn has_name(alloc: Global, recorder: &Recorder, name: &str) -> Result<bool, AllocError>
+    ensures { IfOk result
+        (λ has. IsTrue has ↔ ((opening_of recorder.now.core).device ≡ name.now)) }
+{
+    let opening = recorder.core().to_opening(alloc)?;
+    let has = opening.device.as_slice() == name.as_bytes();
+    drop(opening);
+    Ok(has)
 }
 
 // Returns the recorder that the meter starts with: that of a new meter, or of one that resumes

@@ -5,7 +5,7 @@ ghost use Rattle.server_commands.specs.Asking.{is_of_asking};
 use crate::arguments::command_line;
 use crate::options::{HexOptions, PASSWORD_VARIABLE, ServeOptions, hex_options, serve_options};
 use clap::ArgMatches;
-use program::{Fault, has_option, print_help_or_error, read_arguments};
+use program::{Fault, has_option, print_help_or_missing_password, read_arguments};
 use std::alloc::{AllocGlobal, Global};
 use std::env;
 use std::env::VarError;
@@ -36,13 +36,13 @@ fn parse_command<R: Env + AllocGlobal + Eprint + Files<File = File>>(
     match matches.subcommand() {
         Some(("serve", matches)) => Ok(Work::Serve(serve_options(rt, matches)?)),
         Some(("apdu", matches)) => Ok(Work::Apdu(matches.get_flag("verbose"))),
-        Some(("hex", matches)) => Ok(Work::Hex(hex_options(rt.alloc(), matches)?)),
+        Some(("hex", matches)) => Ok(Work::Hex(hex_options(rt, matches)?)),
         _ => Err(Fault::Input),
     }
 }
 
-// Returns the work of a command line. `has_password`: the password of `serve` is in the environment
-// or in a file that the command line names.
+// Returns the work of a command line. `has_password`: the password is in the environment or in a
+// file that the command line names.
 #[tactic(auto, using(crate::proofs::Faults::texts_told))]
 fn parse_work<R: Env + AllocGlobal + Print + Eprint + Files<File = File>>(
     rt: &R,
@@ -56,12 +56,12 @@ fn parse_work<R: Env + AllocGlobal + Print + Eprint + Files<File = File>>(
     };
     match command.try_get_matches_from(words) {
         Ok(matches) => parse_command(rt, &matches),
-        Err(error) => Ok(Work::Exit(print_help_or_error(rt, &error)?)),
+        Err(error) => Ok(Work::Exit(print_help_or_missing_password(rt, &error)?)),
     }
 }
 
-/// Returns the work of the command line. The password of `serve` is that of its option
-/// `--password`, else that of the file that its option `--password-file` names, else that of the
+/// Returns the work of the command line. The password of `serve` and `hex` is that of the option
+/// `--password`, else that of the file that the option `--password-file` names, else that of the
 /// environment variable METER_PASSWORD.
 ///
 /// Errors: `Memory`; `Input` if a word or the password of the environment is not UTF-8; `Write` if

@@ -1,11 +1,11 @@
 //! Reads the requests of the command `apdu`, one line of hexadecimal for each.
-ghost use Rattle.std.specs.Prelude.{◌≡◌, ◌≤◌, ◌++◌, ◌∷◌, [], length, ◌⊎◌, Ok, Err, IfErr, OnOk, OnErr};
+ghost use Rattle.std.specs.Prelude.{◌≡◌, ◌≤◌, ◌++◌, ◌∷◌, [], length, not, position, ◌⊎◌, Ok, Err, IfErr, OnOk, OnErr};
 ghost use Rattle.hex.specs.declared.error.FromHexError.TheVariants.{OutOfMemory};
-ghost use Rattle.hex.specs.Hex.{decode_of};
-ghost use Rattle.server_commands.specs.Requests.{AddsLine, AddsRequest, ReadsRequests, line_fault, pieces_of, total};
+ghost use Rattle.hex.specs.Hex.{decode_of, is_hex_digit};
+ghost use Rattle.server_commands.specs.Requests.{AddsLine, AddsRequest, IsRequestFault, ReadsRequests, character_fault, pieces_of, request_fault, total};
 
 use crate::lines::cut_line;
-use crate::telling::CommandFault;
+use crate::telling::{CommandFault, RequestFault};
 use hex::FromHexError;
 use std::alloc::{AllocError, Global};
 use std::marker::Model;
@@ -65,18 +65,34 @@ impl Requests {
     }
 }
 
-// Returns the fault of a line with this number whose decoding failed with this error.
-#[tactic(auto, using(crate::proofs::Decoded::place_within))]
-fn line_fault(number: usize, line: &[u8], error: FromHexError) -> CommandFault
-    requires { decode_of line.now ≡ Err error }
-    ensures { result ≡ line_fault number error }
+// Returns the index of the first character of a line that is not a hexadecimal digit.
+fn first_wrong(line: &[u8]) -> Option<usize>
+    ensures { result ≡ position (λ character. not (is_hex_digit character)) line.now }
 {
-    match error {
-        FromHexError::InvalidHexCharacter { index, .. } => {
-            CommandFault::Character(number, index + 1)
-        }
-        FromHexError::OddLength | FromHexError::InvalidStringLength | FromHexError::OutOfMemory =>
-            CommandFault::Odd(number),
+    line.iter()
+        .position(|character| !character.is_ascii_hexdigit())
+}
+
+// Returns why a character of a line is not a digit. `place` is its number, counted from 1.
+fn character_fault(character: u8, place: usize, is_last: bool) -> RequestFault
+    ensures { result ≡ character_fault character place is_last }
+{
+    if character == b'\r' && is_last {
+        RequestFault::CarriageReturn
+    } else if character == b' ' {
+        RequestFault::Blank(place)
+    } else {
+        RequestFault::Character(place)
+    }
+}
+
+// Returns why a line is not pairs of hexadecimal digits.
+fn request_fault(line: &[u8]) -> RequestFault
+    ensures { result ≡ request_fault line.now }
+{
+    match first_wrong(line) {
+        Some(index) => character_fault(line[index], index + 1, index + 1 == line.len()),
+        None => RequestFault::Odd,
     }
 }
 
@@ -92,8 +108,24 @@ fn decode_line(line: &[u8], bytes: &mut Vec<u8>) -> Result<(), FromHexError>
     }
 }
 
+// Returns the fault of the line with this number, whose decoding failed with this error.
+#[tactic(auto, using(crate::proofs::Decoded::request_wrong))]
+fn line_fault(number: usize, line: &[u8], error: FromHexError) -> CommandFault
+    requires { (error ≡ OutOfMemory) ⊎ (decode_of line.now ≡ Err error) }
+    ensures { IsRequestFault number line.now result }
+{
+    match error {
+        FromHexError::OutOfMemory => CommandFault::Memory,
+        FromHexError::OddLength
+        | FromHexError::InvalidStringLength
+        | FromHexError::InvalidHexCharacter { .. } => {
+            CommandFault::Line(number, request_fault(line))
+        }
+    }
+}
+
 // Appends the request of the line with this number. `bytes` is a buffer that calls reuse.
-#[tactic(auto, using(crate::proofs::Decoded::request_added, crate::proofs::Decoded::request_wrong))]
+#[tactic(auto, using(crate::proofs::Decoded::request_added))]
 fn add_request(
     number: usize,
     line: &[u8],
@@ -104,7 +136,6 @@ fn add_request(
 {
     match decode_line(line, bytes) {
         Ok(()) => {}
-        Err(FromHexError::OutOfMemory) => return Err(CommandFault::Memory),
         Err(error) => return Err(line_fault(number, line, error)),
     }
     match requests.push(bytes.as_slice()) {
@@ -131,8 +162,8 @@ fn add_line(
 // Reads the requests of a text, one on each line that is not empty. The last line need not end with
 // the byte 0A.
 //
-// Errors: `Odd` or `Character` for the first line that is not pairs of hexadecimal digits;
-// `Memory`, which can occur at any line.
+// Errors: `Line` for the first line that is not pairs of hexadecimal digits; `Memory`, which can
+// occur at any line.
 pub(crate) fn read_requests(alloc: Global, text: &[u8]) -> Result<Requests, CommandFault>
     requires { length text.now ≤ 1048576 }
     ensures { ReadsRequests text.now result }

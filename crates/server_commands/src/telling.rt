@@ -6,6 +6,23 @@ use program::Fault;
 use session_io::TextFault;
 use thiserror::Error;
 
+/// Why a line of the input of `apdu` is not a request in hexadecimal. Bytes are counted from 1.
+#[derive(Clone, Copy, Debug, PartialEq, Eq, Error)]
+pub enum RequestFault {
+    /// The line has an odd number of digits, and nothing else.
+    #[error("expected pairs of hexadecimal digits, found an odd number of characters")]
+    Odd,
+    /// The byte with this number is not a hexadecimal digit.
+    #[error("byte {0}: expected a hexadecimal digit")]
+    Character(usize),
+    /// The byte with this number is a blank.
+    #[error("byte {0}: expected a hexadecimal digit, found a blank")]
+    Blank(usize),
+    /// The line ends with a carriage return.
+    #[error("expected a line feed at the end, found a carriage return before it")]
+    CarriageReturn,
+}
+
 /// An error of the commands `apdu` and `hex`.
 ///
 /// Lines, bytes and characters are counted from 1. The message is the line that `--verbose` writes.
@@ -14,13 +31,9 @@ pub enum CommandFault {
     /// There are more than 1,048,576 bytes.
     #[error("byte 1048577: the input has more than 1,048,576 bytes")]
     TooLong,
-    /// The line with this number has an odd number of characters.
-    #[error("line {0}: expected pairs of hexadecimal digits, found an odd number of characters")]
-    Odd(usize),
-    /// On the line with the first number, the byte with the second number is not a hexadecimal
-    /// digit.
-    #[error("line {0}: byte {1}: expected a hexadecimal digit")]
-    Character(usize, usize),
+    /// The line with this number is not a request in hexadecimal.
+    #[error("line {0}: {1}")]
+    Line(usize, RequestFault),
     /// In the input of `hex`, the character with this number is neither a hexadecimal digit nor
     /// skipped.
     #[error("byte {0}: expected a hexadecimal digit, a blank or a line end")]

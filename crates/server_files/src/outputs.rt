@@ -1,0 +1,133 @@
+//! The outputs of a meter's events: its journal, its relay, both or none.
+ghost use Rattle.std.specs.Prelude.{◌≡◌, true, is_some, IfOk, IfErr};
+ghost use Rattle.server_files.specs.Faults.{is_of_opening};
+ghost use Rattle.server_files.specs.Outputs.{IsOutputOf};
+
+use crate::journal::OpenJournal;
+use crate::paths::with_suffix;
+use durable_lines::{DurableFile, LockFile, StoredPlace};
+use journal_files::RenewedFile;
+use meter_relay::{OptionalFile, Relay, RelayFault, RelayedFile};
+use program::Fault;
+use relay_core::RelayCore;
+use server_io::{RelayLog, open_relay};
+use std::alloc::AllocGlobal;
+use std::fs::{File, Files};
+use std::time::Clock;
+
+/// The file of a journal, which is renewed when it has grown.
+pub type StoredJournal<R> = RenewedFile<StoredPlace<R>>;
+
+/// The file of a journal, with the relay of the meter if it has one.
+pub type RelayedJournal<F, R> = RelayedFile<F, File, RelayLog<R>>;
+
+/// The file of a meter that has a relay, but no journal.
+pub type RelayAlone<F, R> = RelayedFile<OptionalFile<F>, File, RelayLog<R>>;
+
+/// A file that is given the lines of a meter's events.
+#[derive(Drop)]
+pub struct EventFile<F: DurableFile> {
+    /// The path of the journal, or of the relay if there is no journal.
+    pub path: String,
+    /// The file.
+    pub file: F,
+    /// The lock of the journal, if there is one.
+    pub lock: Option<LockFile>,
+}
+
+/// The outputs of a meter's events.
+#[derive(Drop)]
+pub enum EventOutput<R: Clock + Eprint + Files<File = File> + Drop> {
+    /// Neither a journal nor a relay.
+    None,
+    /// A journal, with the relay of the meter if it has one.
+    Journal(EventFile<RelayedJournal<StoredJournal<R>, R>>),
+    /// A relay alone.
+    Relay(EventFile<RelayAlone<StoredJournal<R>, R>>),
+}
+
+/// The relay that a command line names.
+#[derive(Clone, Copy)]
+pub struct RelayOptions<'a> {
+    /// The path of the relay, if there is one.
+    pub path: Option<&'a str>,
+    /// Whether each change is reported on standard error.
+    pub is_verbose: bool,
+}
+
+// Opens the relay of the options, if they name one, for the meter of this core.
+fn start_relay<R: Clock + Eprint + AllocGlobal + Files<File = File> + Copy + Drop>(
+    rt: &R,
+    options: RelayOptions<'_>,
+    core: &RelayCore,
+) -> Result<Option<Relay<File, RelayLog<R>>>, Fault>
+    ensures is_some { IfOk result (λ relay. is_some relay ≡ is_some options.entry.path) }
+    ensures err { IfErr result (λ fault. is_of_opening fault ≡ true) }
+{
+    let Some(path) = options.path else {
+        return Ok(None);
+    };
+    match open_relay(rt, path, core, options.is_verbose) {
+        Ok(relay) => Ok(Some(relay)),
+        Err(RelayFault::Memory) => Err(Fault::Memory),
+        Err(_) => Err(Fault::Write),
+    }
+}
+
+// Returns a meter's relay as the file of its events.
+fn relay_alone<R: Clock + Eprint + AllocGlobal + Files<File = File> + Drop>(
+    rt: &R,
+    path: &str,
+    relay: Relay<File, RelayLog<R>>,
+) -> Result<EventFile<RelayAlone<StoredJournal<R>, R>>, Fault>
+    ensures { IfErr result (λ fault. is_of_opening fault ≡ true) }
+{
+    match with_suffix(rt.alloc(), path, "") {
+        Ok(path) => Ok(EventFile {
+            path,
+            file: RelayedFile::new(rt.alloc(), OptionalFile::new(None), Some(relay)),
+            lock: None,
+        }),
+        Err(_) => {
+            drop(relay);
+            Err(Fault::Memory)
+        }
+    }
+}
+
+/// Opens the relay of the options, if they name one, for the meter of this core, and connects it to
+/// the journal, if there is one. The relay is given the supply output.
+///
+/// Errors: `Write` if the relay can't be opened or written, with a line on standard error;
+/// `Memory`. After an error the journal is closed.
+pub fn open_outputs<R: Clock + Eprint + AllocGlobal + Files<File = File> + Copy + Drop>(
+    rt: &R,
+    options: RelayOptions<'_>,
+    core: &RelayCore,
+    journal: Option<OpenJournal<R>>,
+) -> Result<EventOutput<R>, Fault>
+    ensures output { IfOk result (IsOutputOf (is_some journal) (is_some options.entry.path)) }
+    ensures err { IfErr result (λ fault. is_of_opening fault ≡ true) }
+{
+    let relay = match start_relay(rt, options, core) {
+        Ok(relay) => relay,
+        Err(fault) => {
+            drop(journal);
+            return Err(fault);
+        }
+    };
+    match journal {
+        Some(OpenJournal { path, file, lock }) => Ok(EventOutput::Journal(EventFile {
+            path,
+            file: RelayedFile::new(rt.alloc(), file, relay),
+            lock: Some(lock),
+        })),
+        None => match relay {
+            Some(relay) => {
+                let path = options.path.unwrap_or("");
+                Ok(EventOutput::Relay(relay_alone(rt, path, relay)?))
+            }
+            None => Ok(EventOutput::None),
+        },
+    }
+}

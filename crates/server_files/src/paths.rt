@@ -1,0 +1,46 @@
+//! The paths of a journal.
+use durable_lines::PlacePaths;
+use std::alloc::{AllocError, Global};
+
+// What follows the path of the journal in that of its lock file.
+pub(crate) const LOCK_SUFFIX: &str = ".lock";
+
+// What follows the path of the journal in that of the draft by which it is replaced.
+const DRAFT_SUFFIX: &str = ".new";
+
+// Returns a path with this suffix.
+pub(crate) fn with_suffix(alloc: Global, path: &str, suffix: &str) -> Result<String, AllocError> {
+    let mut text = String::new(alloc);
+    text.push_str(path)?;
+    text.push_str(suffix)?;
+    Ok(text)
+}
+
+// Returns the path of the folder that a path is in.
+pub(crate) fn folder_of(path: &str) -> &str {
+    match path.rfind('/') {
+        Some(0) => "/",
+        Some(end) => &path[..end],
+        None => ".",
+    }
+}
+
+// Returns the paths of the journals before the last renewals, as many as are kept: that of the
+// journal, a period and a number, counted from 1.
+fn older_paths(alloc: Global, path: &str, count: u16) -> Result<Vec<String>, AllocError> {
+    let mut paths = Vec::new(alloc);
+    for number in 1..=count {
+        paths.push(format!(in alloc; "{path}.{number}")?)?;
+    }
+    Ok(paths)
+}
+
+// Returns the paths of the place of a journal, which keeps this number of files that were
+// replaced.
+pub(crate) fn place_paths(alloc: Global, path: &str, kept: u16) -> Result<PlacePaths, AllocError> {
+    Ok(PlacePaths {
+        path: with_suffix(alloc, path, "")?,
+        draft: with_suffix(alloc, path, DRAFT_SUFFIX)?,
+        older: older_paths(alloc, path, kept)?,
+    })
+}
