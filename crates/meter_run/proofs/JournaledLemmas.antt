@@ -11,6 +11,7 @@ use Rattle.meter_journal.proofs.SavingLemmas.{saved_later}
 use Rattle.meter_run.specs.Journaled.{IsJournaledRun, IsStarted, IsFinished}
 use Rattle.meter_run.specs.Runs.{Given, ServesAll}
 use Rattle.meter_run.proofs.RunLemmas.{AreSilent, run_of, run_seen, run_sessions}
+use Rattle.meter_server.proofs.JournalLemmas.{answered_later}
 use Rattle.meter_server.proofs.ServingAllLemmas.{acted_on, counted_by, ended_map, joined_on}
 use Rattle.meter_server.proofs.SessionLemmas.{journaled_on, sessions_on}
 use Rattle.meter_server.specs.JournaledSessions.{AreAnswered, AreJournaled}
@@ -182,9 +183,9 @@ module _ {F : Type 0} (acts : Type 0) (seen : F → List ℕ) (may_leave : F →
       silent all finished.traces) in
       record {
         run = run;
-        journaled = run_sessions (λ number calls. AreAnswered OnDisk number [] calls) 1 recorder
-            given served text p after (opening_of recorder.core) started.starts refl silent all
-            finished.traces
+        journaled = run_sessions (λ number history. AreAnswered OnDisk number [] history)
+            (answered_later OnDisk) 1 recorder given served text p after (opening_of recorder.core)
+            started.starts refl silent all finished.traces
             (journaled_joined JournalDid OnDisk given served lent p q after finished.end serves
             back waited);
         kept = λ a.

@@ -128,22 +128,26 @@ unfolding run_of
 run_seen first recorder given served text p q o start is silent serves traces =
     traces.yields.seen
 
--- a fact about the calls of each session's port holds for the calls of the run
-pub run_sessions : (Fact : List ℕ → Calls → Type 0) (first : ℕ) (recorder : Recording)
-    (given : Given) (served : Result Served ServeFault) (text : List ℕ) (p q : MeterPort)
-    (o : Opening) → (start : StartsFrom first o p) (is : o ≡ opening_of recorder.core)
+-- a fact about the calls of each session's port in the history that was seen holds for the history
+-- of the run, if it remains when the history is extended without further calls of that port
+pub run_sessions : (Fact : List ℕ → Calls → Type 0)
+    → ((number : List ℕ) (before after : Calls) → StartsWith after before
+    → calls_by number after ≡ calls_by number before → Fact number before → Fact number after)
+    → (first : ℕ) (recorder : Recording) (given : Given) (served : Result Served ServeFault)
+    (text : List ℕ) (p q : MeterPort) (o : Opening)
+    → (start : StartsFrom first o p) (is : o ≡ opening_of recorder.core)
     (silent : AreSilent first q) (serves : ServesAll given p q served)
     (traces : Traces q.known text)
     → ((i : ℕ) → p.known.splits + 3 ≤ i → i < q.known.splits
-    → Fact (child q.known.number i) (calls_by (child q.known.number i) q.known.seen))
+    → Fact (child q.known.number i) q.known.seen)
     → (i : ℕ) → first + 3 ≤ i
     → i < (run_of first recorder given served text p q o start is silent serves
     traces).of_run.ports
-    → Fact (i ∷ []) (calls_by (i ∷ [])
-    (run_of first recorder given served text p q o start is silent serves traces).calls)
+    → Fact (i ∷ [])
+    (run_of first recorder given served text p q o start is silent serves traces).calls
 unfolding run_of calls_of_run
-run_sessions Fact first recorder given served text p q o start is silent serves traces each i from
-    below =
+run_sessions Fact stays first recorder given served text p q o start is silent serves traces each i
+    from below =
     let y = traces.yields in
     let after : p.known.splits + 3 ≤ i = subst (λ (k : ℕ). k + 3 ≤ i) (sym start.splits) from in
     let number : q.known.number ≡ [] = serves.goes.number ∙ start.number in
@@ -151,9 +155,9 @@ run_sessions Fact first recorder given served text p q o start is silent serves 
     let joined : IsAmong (i ∷ []) q.known.joined = subst
     (λ (n : List ℕ). IsAmong (n ++ i ∷ []) q.known.joined) number
     (serves.joined i (omega (arith, after)) below) in
-    let fact : Fact (i ∷ []) (calls_by (i ∷ []) q.known.seen) =
-    subst (λ (n : List ℕ). Fact n (calls_by n q.known.seen)) named (each i after below) in
-    subst (Fact (i ∷ [])) (sym (y.own_calls (i ∷ []) (inr joined))) fact
+    let fact : Fact (i ∷ []) q.known.seen =
+    subst (λ (n : List ℕ). Fact n q.known.seen) named (each i after below) in
+    stays (i ∷ []) q.known.seen y.history y.seen (y.own_calls (i ∷ []) (inr joined)) fact
 
 -- the first port of a lock
 starts_first : (o : Opening) (p : MeterPort) → p.known ≡ first_known o → StartsFrom 0 o p

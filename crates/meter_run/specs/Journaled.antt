@@ -21,17 +21,18 @@ use Rattle.shared_meter.specs.Handed.{MeterPort}
 use Rattle.turn_lock.specs.History.{calls_by}
 use Rattle.turn_lock.specs.declared.call_fault.CallFault.{CallFault}
 
--- A run in which the first port that was split off is the journal's. The calls of each session were
--- answered once their lines were on the disk, all but at most the last one. If the file acts as the
--- crash model says, a crash at any moment of the run leaves a file that holds the lines that it had
--- first, followed by a front of the lines of the run, however often it was renewed.
+-- A run in which the first port that was split off is the journal's. The calls of each session, all
+-- but at most the last one, were answered from a front of the run's own history, once as many lines
+-- as that front has were on the disk. If the file acts as the crash model says, a crash at any
+-- moment of the run leaves a file that holds the lines that it had first, followed by a front of
+-- the lines of the same history, however often it was renewed.
 pub record IsJournaledRun {F : Type 0} (acts : Type 0) (seen : F → List ℕ) (moment : F → ℕ)
     (left_since : F → ℕ → List ℕ → Type 0) (stored : List ℕ → Type 0)
     (Renews : List ℕ → List ℕ → Type 0) (file : F) (recorder : Recording) (given : Given)
     (served : Result Served ServeFault) (text : List ℕ) : Type 0 where
   pub run : IsRunFrom 1 recorder given served text
   pub journaled : (i : ℕ) → 4 ≤ i → i < run.of_run.ports
-      → AreAnswered (λ n. acts → IsStored Renews stored n) (i ∷ []) [] (calls_by (i ∷ []) run.calls)
+      → AreAnswered (λ n. acts → IsStored Renews stored n) (i ∷ []) [] run.calls
   pub kept : acts → (ended : F) × LeavesOnly moment left_since file ended
       (IsSavedFrom Renews 0 (lines_in (seen file)) run.calls)
 

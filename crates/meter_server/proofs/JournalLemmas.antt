@@ -62,6 +62,21 @@ held_seen : (p : MeterPort) (event : Event) (q : MeterPort) → IsHeldBack p eve
 held_seen p event q held =
     subst (λ x. StartsWith x.known.seen p.known.seen) (sym held.1) (starts_refl p.known.seen)
 
+-- the calls of a session are the same in a longer history without further calls of its port
+pub answered_later : (IsDurable : ℕ → Type 0) (number : List ℕ) (before after : Calls)
+    → StartsWith after before → calls_by number after ≡ calls_by number before
+    → AreAnswered IsDurable number [] before → AreAnswered IsDurable number [] after
+answered_later IsDurable number before after longer same are = record {
+  answered = are.answered;
+  unanswered = are.unanswered;
+  all = same ∙ are.all;
+  most = are.most;
+  front = are.front;
+  begins = starts_trans after before are.front longer are.begins;
+  entered = are.entered;
+  on_disk = are.on_disk;
+}
+
 -- there are replies if there are calls
 some_replies : (by : List ℕ) (events : List Event) (replies : List Reply)
     → 0 < length (entries by events replies) → 0 < length replies
@@ -170,19 +185,18 @@ module _ (IsDurable : ℕ → Type 0) where
       let A : List ℕ → Type 0 = λ n. calls_by n q.known.seen ≡ calls_by n mid.known.seen ++ last in
       let same = replied_on (JournalSteps IsDurable) IsSame is_same same_on journal_same p taken
       replies mid replied in
-      let enters = entered (JournalSteps IsDurable) journal_steps p taken replies mid replied in (
-        record {
-          answered = entries by taken replies;
-          unanswered = last;
-          all = subst A same.number adds ∙ ap (λ (calls : Calls). calls ++ last) enters;
-          most = most;
-          history = mid.known.seen;
-          entered = enters;
-          on_disk = λ low. last_on_disk p taken replies mid replied (some_replies by taken replies
-              low);
-        },
-        begins,
-      )
+      let enters = entered (JournalSteps IsDurable) journal_steps p taken replies mid replied in
+      record {
+        answered = entries by taken replies;
+        unanswered = last;
+        all = subst A same.number adds ∙ ap (λ (calls : Calls). calls ++ last) enters;
+        most = most;
+        front = mid.known.seen;
+        begins = begins;
+        entered = enters;
+        on_disk = λ low. last_on_disk p taken replies mid replied (some_replies by taken replies
+            low);
+      }
 
   replied_answered : (p : MeterPort) (events : List Event) (replies : List Reply) (q : MeterPort)
       → RepliesTo (JournalSteps IsDurable) p events replies q → AnswersCalls IsDurable p q
@@ -212,26 +226,27 @@ module _ (IsDurable : ℕ → Type 0) where
       refused_answered (plan_of password) served.seen before result after served.effect
 
   -- the calls of a new port that served a session with a journal, or was returned unused
-  calls_answered : (terms number : List ℕ) (calls : Calls) → HasJournal terms
-      → AreCallsOf (HandsBack IsDurable terms) number calls
-      → AreAnswered IsDurable number [] calls
-  calls_answered terms number calls has c = elim c.returned [
+  calls_answered : (terms number : List ℕ) (history : Calls) → HasJournal terms
+      → AreCallsOf (HandsBack IsDurable terms) number history
+      → AreAnswered IsDurable number [] history
+  calls_answered terms number history has c = elim c.returned [
     | inl unused ↦ record {
       answered = [];
       unanswered = [];
       all = c.calls_are ∙ ap (λ (x : MeterPort). calls_by number x.known.seen) unused ∙ c.fresh;
       most = omega arith;
-      history = [];
+      front = [];
+      begins = (history, refl);
       entered = refl;
       on_disk = λ low. absurd (omega (arith, low));
     }
     | inr session ↦
         let N : List ℕ → Type 0 = λ n. AreAnswered IsDurable n (calls_by n c.lent.known.seen)
-        (calls_by n c.back.known.seen) in
+        c.back.known.seen in
         let E : Calls → Type 0 = λ earlier. AreAnswered IsDurable number earlier
-        (calls_by number c.back.known.seen) in
-        let C : Calls → Type 0 = λ all. AreAnswered IsDurable number [] all in
-        subst C (sym c.calls_are) (subst E c.fresh (subst N c.named (session.2 has).0))
+        c.back.known.seen in
+        answered_later IsDurable number c.back.known.seen history c.seen c.calls_are
+        (subst E c.fresh (subst N c.named (session.2 has)))
   ]
 
   pub are_journaled : (terms : List ℕ) (from : ℕ) (port : MeterPort)

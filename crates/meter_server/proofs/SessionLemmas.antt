@@ -13,7 +13,8 @@ use Rattle.session_io.specs.declared.fault.ServeFault.{ServeFault}
 use Rattle.session_io.specs.declared.fault.ServeFault.TheVariants as fault
 use Rattle.turn_lock.specs.declared.call_fault.CallFault.{CallFault}
 use Rattle.turn_lock.specs.declared.turned.Entry.{Entry}
-use Rattle.turn_lock.specs.History.{calls_by}
+use Rattle.shared_meter.specs.Calls.{Calls}
+use Rattle.turn_lock.specs.History.{StartsWith, calls_by}
 use Rattle.turn_lock.specs.Shown.{IsSame}
 use Rattle.port_threads.specs.Ports.{PortContinues, AreJoined, AreServed, AreCallsOf, child}
 use Rattle.std.proofs.Common.{drop, Option, Some, None}
@@ -22,6 +23,7 @@ use Rattle.meter_server.specs.JournaledSessions.{AreAnswered, AreJournaled, Hand
 use Rattle.meter_server.specs.Ports.{MeterPort, Enters, entries}
 use Rattle.meter_server.specs.ServingAll.{events_by}
 use Rattle.meter_server.specs.Sessions.{AreAsked, AsksThrough, AreSessions}
+use Rattle.meter_server.proofs.JournalLemmas.{answered_later}
 use Rattle.meter_server.proofs.PortLemmas.{ArePortSteps, is_same, same_on, replied_on, entered}
 
 abbrev event_of : Entry Event Reply → Event
@@ -147,10 +149,11 @@ module _ (steps : MeterPort → Event → Result Reply CallFault → MeterPort �
       effect_asks password served.seen before result after served.effect
 
 -- the calls of a new port that served a session, or was returned unused
-calls_asked : (IsDurable : ℕ → Type 0) (terms number : List ℕ) (calls : List (Entry Event Reply))
-    → AreCallsOf (HandsBack IsDurable terms) number calls
-    → AreAsked (drop 1 terms) (map event_of calls)
-calls_asked IsDurable terms number calls c =
+calls_asked : (IsDurable : ℕ → Type 0) (terms number : List ℕ) (history : Calls)
+    → AreCallsOf (HandsBack IsDurable terms) number history
+    → AreAsked (drop 1 terms) (map event_of (calls_by number history))
+calls_asked IsDurable terms number history c =
+    let calls = calls_by number history in
     let A : List Event → Type 0 = λ es. AreAsked (drop 1 terms) es in
     let none : map event_of (calls_by number c.lent.known.seen) ≡ [] = ap (map event_of) c.fresh in
     elim c.returned [
@@ -177,11 +180,14 @@ pub are_sessions : (IsDurable : ℕ → Type 0) (terms : List ℕ) (from : ℕ) 
 are_sessions IsDurable terms from port served i low high =
     calls_asked IsDurable terms (child port.known.number i) _ (served i low high)
 
--- a property of the calls of each port that was split off
-module _ (P : List ℕ → List (Entry Event Reply) → Type 0) where
+-- a property of the calls of each port that was split off in the history: it remains if the history
+-- is extended without further calls of that port
+module _ (P : List ℕ → Calls → Type 0)
+    (stays : (number : List ℕ) (before after : Calls) → StartsWith after before
+    → calls_by number after ≡ calls_by number before → P number before → P number after) where
   abbrev Each : ℕ → MeterPort → Type 0
   Each from port = (i : ℕ) → from ≤ i → i < port.known.splits
-      → P (child port.known.number i) (calls_by (child port.known.number i) port.known.seen)
+      → P (child port.known.number i) port.known.seen
 
   -- no port was split off
   none_each : (from : ℕ) (port : MeterPort) → port.known.splits ≤ from → Each from port
@@ -195,32 +201,39 @@ module _ (P : List ℕ → List (Entry Event Reply) → Type 0) where
       let within : i < p.known.splits = omega (arith, high, splits) in
       let late : from ≤ i = omega (arith, low, same) in
       let number = child p.known.number i in
-      let C : List (Entry Event Reply) → Type 0 = λ calls. P number calls in
-      let N : List ℕ → Type 0 = λ n. P (child n i) (calls_by (child n i) q.known.seen) in
+      let N : List ℕ → Type 0 = λ n. P (child n i) q.known.seen in
       let kept : calls_by number q.known.seen ≡ calls_by number p.known.seen =
       goes.own number (inr (joined i (omega (arith, early, late)) within)) in
-      subst N (sym goes.number) (subst C (sym kept) (each i late within))
+      subst N (sym goes.number)
+      (stays number p.known.seen q.known.seen goes.seen kept (each i late within))
 
-abbrev Asked : List ℕ → List ℕ → List (Entry Event Reply) → Type 0
-Asked password number calls = AreAsked password (map event_of calls)
+abbrev Asked : List ℕ → List ℕ → Calls → Type 0
+Asked password number history = AreAsked password (map event_of (calls_by number history))
+
+asked_later : (password number : List ℕ) (before after : Calls) → StartsWith after before
+    → calls_by number after ≡ calls_by number before → Asked password number before
+    → Asked password number after
+asked_later password number before after longer same asked =
+    subst (λ (calls : Calls). AreAsked password (map event_of calls)) (sym same) asked
 
 pub no_sessions : (password : List ℕ) (from : ℕ) (port : MeterPort) → port.known.splits ≤ from
     → AreSessions password from port
-no_sessions password = none_each (Asked password)
+no_sessions password = none_each (Asked password) (asked_later password)
 
 pub sessions_on : (password : List ℕ) (first from before : ℕ) (p q : MeterPort) → from ≡ before
     → first ≤ from → PortContinues p q → q.known.splits ≡ p.known.splits
     → AreJoined first p → AreSessions password from p → AreSessions password before q
-sessions_on password = each_on (Asked password)
+sessions_on password = each_on (Asked password) (asked_later password)
 
-abbrev Answered : (ℕ → Type 0) → List ℕ → List (Entry Event Reply) → Type 0
-Answered IsDurable number calls = AreAnswered IsDurable number [] calls
+abbrev Answered : (ℕ → Type 0) → List ℕ → Calls → Type 0
+Answered IsDurable number history = AreAnswered IsDurable number [] history
 
 pub no_journaled : {D : Type 0} (journal : Option D) (IsDurable : ℕ → Type 0) (from : ℕ)
     (port : MeterPort) → port.known.splits ≤ from
     → IfSome journal (λ _. AreJournaled IsDurable from port)
 no_journaled None IsDurable from port few = tt
-no_journaled (Some given) IsDurable from port few = none_each (Answered IsDurable) from port few
+no_journaled (Some given) IsDurable from port few =
+    none_each (Answered IsDurable) (answered_later IsDurable) from port few
 
 pub journaled_on : {D : Type 0} (journal : Option D) (IsDurable : ℕ → Type 0)
     (first from before : ℕ) (p q : MeterPort) → from ≡ before
@@ -229,4 +242,5 @@ pub journaled_on : {D : Type 0} (journal : Option D) (IsDurable : ℕ → Type 0
     → IfSome journal (λ _. AreJournaled IsDurable before q)
 journaled_on None IsDurable first from before p q same early goes splits joined so = tt
 journaled_on (Some given) IsDurable first from before p q same early goes splits joined so =
-    each_on (Answered IsDurable) first from before p q same early goes splits joined so
+    each_on (Answered IsDurable) (answered_later IsDurable) first from before p q same early goes
+    splits joined so

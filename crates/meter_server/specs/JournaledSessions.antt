@@ -2,6 +2,7 @@
 --     client_terms    the terms on which a client is served
 --     client_steps    a step of a client's port
 --     AreAnswered     the calls of a session, of which all but at most the last were answered
+--                     from a front of the history that is on the disk
 --     HandsBack       what the session of a client did with its port
 --     AreJournaled    the calls of all sessions
 use Rattle.std.specs.Prelude.{◌≡◌, ℕ, ◌<◌, ◌≤◌, List, [], ◌∷◌, ◌++◌, length, take, drop}
@@ -32,25 +33,24 @@ abbrev pub client_steps : {D : Type 0} → (IsDurable : ℕ → Type 0) → Opti
 client_steps IsDurable None = PortSteps
 client_steps IsDurable (Some journal) = JournalSteps IsDurable
 
--- The calls of the port with this number are the earlier ones, then some that were answered, and at
--- most one that was not. Some history has the earlier and the answered ones as the calls of this
--- port, and its lines are on the disk if any was answered.
-pub record AreAnswered (IsDurable : ℕ → Type 0) (number : List ℕ) (earlier calls : Calls) : Type 0
-  where
-    pub answered : Calls
-    pub unanswered : Calls
-    pub all : calls ≡ (earlier ++ answered) ++ unanswered
-    pub most : length unanswered ≤ 1
-    pub history : Calls
-    pub entered : calls_by number history ≡ earlier ++ answered
-    pub on_disk : 0 < length answered → IsOnDisk IsDurable history
+-- In the history, the calls of the port with this number are the earlier ones, then some that were
+-- answered, and at most one that was not. A front of the same history has the earlier and the
+-- answered ones as the calls of this port, and its lines are on the disk if any was answered.
+pub record AreAnswered (IsDurable : ℕ → Type 0) (number : List ℕ) (earlier history : Calls)
+    : Type 0 where
+  pub answered : Calls
+  pub unanswered : Calls
+  pub all : calls_by number history ≡ (earlier ++ answered) ++ unanswered
+  pub most : length unanswered ≤ 1
+  pub front : Calls
+  pub begins : StartsWith history front
+  pub entered : calls_by number front ≡ earlier ++ answered
+  pub on_disk : 0 < length answered → IsOnDisk IsDurable front
 
--- the new calls of a port were answered once they were on the disk; the history that it knows
--- begins with the one that is on the disk
+-- the new calls of a port were answered once they were on the disk
 abbrev pub AnswersCalls : (IsDurable : ℕ → Type 0) → (p q : MeterPort) → Type 0
-AnswersCalls IsDurable p q = (are : AreAnswered IsDurable p.known.number
-    (calls_by p.known.number p.known.seen) (calls_by p.known.number q.known.seen))
-    × StartsWith q.known.seen are.history
+AnswersCalls IsDurable p q = AreAnswered IsDurable p.known.number
+    (calls_by p.known.number p.known.seen) q.known.seen
 
 -- a session on these terms made its calls through this port
 abbrev pub HandsBack : (IsDurable : ℕ → Type 0) → (terms : List ℕ) → (p q : MeterPort) → Type 0
@@ -61,5 +61,4 @@ HandsBack IsDurable terms p q = IsSame p q × AsksThrough (drop 1 terms) p q
 -- on the disk
 abbrev pub AreJournaled : (IsDurable : ℕ → Type 0) → (from : ℕ) → MeterPort → Type 0
 AreJournaled IsDurable from port = (i : ℕ) → from ≤ i → i < port.known.splits
-    → AreAnswered IsDurable (child port.known.number i) []
-    (calls_by (child port.known.number i) port.known.seen)
+    → AreAnswered IsDurable (child port.known.number i) [] port.known.seen

@@ -9,6 +9,7 @@ use Rattle.turn_lock.specs.Shown.{ShownPort, IsSame}
 use Rattle.port_threads.specs.Ports.{PortContinues, AreJoined, AreServed, Returns, child}
 use Rattle.port_threads.specs.Sessions.{IsEmpty, AreHeld, IsOpen, IsEnded, KeepsPorts}
 use Rattle.port_threads.proofs.Going.{among_at, goes_refl, goes_trans, goes_split, goes_joins}
+use Rattle.port_threads.proofs.Going.{starts_trans}
 
 -- a port that was returned is the one that was lent
 pub returned_same : {E R O : Type 0} (did : ShownPort E R O → ShownPort E R O → Type 0)
@@ -118,6 +119,7 @@ module _ {H E R O : Type 0} (port_of : H → ShownPort E R O) (terms_of : H → 
           named = c.named;
           fresh = c.fresh;
           returned = c.returned;
+          seen = starts_trans c.back.known.seen p.known.seen q.known.seen c.seen goes.seen;
           calls_are = goes.own number (inr e.among) ∙ c.calls_are;
         };
   }
@@ -135,6 +137,7 @@ module _ {H E R O : Type 0} (port_of : H → ShownPort E R O) (terms_of : H → 
       named = named;
       fresh = fresh;
       returned = returned;
+      seen = joins.other_seen;
       calls_are = joins.other_calls number (inl (sym same));
     };
   }

@@ -50,18 +50,20 @@ abbrev pub Returns : {E R O : Type 0} → (ShownPort E R O → ShownPort E R O �
     → ShownPort E R O → ShownPort E R O → Type 0
 Returns did p q = (q ≡ p) ⊎ did p q
 
--- these are the calls of a port with this number, which was new and did this work
+-- A port with this number was new and did this work. The history begins with all that it has seen,
+-- and its calls in the history are those that it made.
 pub record AreCallsOf {E R O : Type 0} (did : ShownPort E R O → ShownPort E R O
-    → Type 0) (number : List ℕ) (calls : List (Entry E R)) : Type 0 where
+    → Type 0) (number : List ℕ) (history : List (Entry E R)) : Type 0 where
   pub lent : ShownPort E R O
   pub back : ShownPort E R O
   pub named : lent.known.number ≡ number
   pub fresh : calls_by number lent.known.seen ≡ []
   pub returned : Returns did lent back
-  pub calls_are : calls ≡ calls_by number back.known.seen
+  pub seen : StartsWith history back.known.seen
+  pub calls_are : calls_by number history ≡ calls_by number back.known.seen
 
 -- each port that was split off, from the count `from` on, did this work, and its calls are known
 abbrev pub AreServed : {E R O : Type 0} → (ShownPort E R O → ShownPort E R O → Type 0) → ℕ
     → ShownPort E R O → Type 0
 AreServed did from p = (i : ℕ) → from ≤ i → i < p.known.splits
-    → AreCallsOf did (child p.known.number i) (calls_by (child p.known.number i) p.known.seen)
+    → AreCallsOf did (child p.known.number i) p.known.seen

@@ -51,7 +51,7 @@ module _ {H E R O : Type 0} (lent : H → ShownPort E R O) (terms_of : H → Lis
   -- the port with this number was joined in, and its calls are those of a session on these terms
   pub record IsEnded (p : ShownPort E R O) (number : List ℕ) : Type 0 where
     pub among : IsAmong number p.known.joined
-    pub served : AreCallsOf (did terms) number (calls_by number p.known.seen)
+    pub served : AreCallsOf (did terms) number p.known.seen
 
   -- each port that was split off, from the count `from` on, was joined in or is that of an open
   -- session
