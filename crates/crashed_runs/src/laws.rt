@@ -1,17 +1,24 @@
-//! The law of runs that a crash ends.
-ghost use Rattle.std.specs.Prelude.{◌≡◌, ℕ, List, Ok};
+//! The laws of runs that a crash ends.
+ghost use Rattle.std.specs.Prelude.{◌≡◌, ℕ, List, Ok, Result};
+ghost use Rattle.crashed_runs.specs.Answers.{ContinuesAnswers, HasAnsweredLines};
 ghost use Rattle.crashed_runs.specs.Fronts.{ContinuesFront, run_events};
 ghost use Rattle.durable_lines.specs.Lines.{lines_in, IsText};
 ghost use Rattle.journal_files.specs.Journals.{Continues, changing};
 ghost use Rattle.journal_files.specs.Renewals.{IsRenewedAs};
 ghost use Rattle.meter_journal.specs.Saving.{IsSavedFrom};
+ghost use Rattle.meter_run.specs.Journaled.{IsJournaledRun};
+ghost use Rattle.meter_run.specs.Runs.{Given};
+ghost use Rattle.meter_server.specs.declared.serving_all.Served.{Served};
 ghost use Rattle.relay_recorder.specs.Recording.{Recording};
 ghost use Rattle.relay_recorder.specs.declared.trace.Trace.{Trace};
+ghost use Rattle.session_io.specs.declared.fault.ServeFault.{ServeFault};
 ghost use Rattle.shared_meter.specs.Calls.{Calls};
 ghost use Rattle.trace_player.specs.Journals.{IsJournal};
 ghost use Rattle.trace_player.specs.Resuming.{world_of};
 ghost use Rattle.trace_player.specs.Traces.{trace_of};
 ghost use Rattle.trace_player.specs.Written.{AreTraced};
+
+use durable_lines::DurableFile;
 
 /// Proves which meter is resumed after a crash. A run began with a journal, and made these calls; a
 /// crash left a file that holds a front of their lines, at least `from`, however often the journal
@@ -24,4 +31,27 @@ pub fn crashed_run_is_resumed()
         → IsSavedFrom IsRenewedAs from (lines_in began) calls left
         → (resumed : Continues device left recorder)
         → ContinuesFront from calls (world_of trace) (world_of resumed.trace) }
+{}
+
+/// Proves that a crash undoes no answer. A run with a journal was made on a file that acts as the
+/// crash model says, and a crash at any moment of it left these bytes. They hold a front of the
+/// run's lines, as many as each front of its history from which a session was answered. A meter
+/// that is resumed from them answers as the one that made the first calls of the run, and these
+/// have each answered call of each session that may change the meter.
+///
+/// That the crash left as many lines is a premise: `IsJournaledRun` says that they were on the disk
+/// when the answer was written, and the crash model that a crash leaves what was synced.
+pub fn answered_calls_are_resumed<F: DurableFile>()
+    ensures { (file : F) (recorder : Recording) (given : Given)
+        (served : Result Served ServeFault) (text : List ℕ)
+        → (run : IsJournaledRun F.acts_as_file F.seen F.moment F.left_since F.stored IsRenewedAs
+        file recorder given served text) → (acts : F.acts_as_file) → (left : List ℕ)
+        → (crash : F.left_since (run.kept acts).0 (F.moment file) left)
+        → HasAnsweredLines run.journaled ((run.kept acts).1.each left crash).0
+        → (device : List ℕ) (trace : Trace) (after : Recording)
+        → IsText (F.seen file) → IsJournal (F.seen file) → trace_of (F.seen file) ≡ Ok trace
+        → AreTraced (changing (run_events run.run.calls))
+        → (resumed : Continues device left after)
+        → ContinuesAnswers run.journaled ((run.kept acts).1.each left crash).0 (world_of trace)
+        (world_of resumed.trace) }
 {}

@@ -1,10 +1,10 @@
 //! Runs of a meter with a journal that a crash ends: which meter is resumed from the journal.
 //!
 //! `meter_run::run_journaled_meter` says which lines a file holds after a crash at any moment, and
-//! `journal_files::resume_journal` what a meter continues that is resumed from a file. The law of
-//! this crate joins both.
+//! `journal_files::resume_journal` what a meter continues that is resumed from a file. The laws of
+//! this crate join both.
 #![tactic(auto)]
 
 mod laws;
 
-pub use laws::crashed_run_is_resumed;
+pub use laws::{answered_calls_are_resumed, crashed_run_is_resumed};

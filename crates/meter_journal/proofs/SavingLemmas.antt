@@ -49,7 +49,7 @@ plain_drop (suc n) (line ∷ lines) plain = plain_drop n lines plain.1
 
 -- ---- the lines of a history
 
-lines_append : (calls more : Calls)
+pub lines_append : (calls more : Calls)
     → lines_of_calls (calls ++ more) ≡ lines_of_calls calls ++ lines_of_calls more
 lines_append [] more = refl
 lines_append (call ∷ calls) more =
