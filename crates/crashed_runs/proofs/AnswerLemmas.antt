@@ -79,6 +79,7 @@ longer_front : (a r b s : Calls) → a ++ r ≡ b ++ s → StartsWith b a ⊎ St
 longer_front [] r b s same = inl (b, refl)
 longer_front (c ∷ a) r [] s same = inr (c ∷ a, refl)
 longer_front (c ∷ a) r (d ∷ b) s same =
+    let lists : c ∷ (a ++ r) ≡ d ∷ (b ++ s) = same in
     let first : c ≡ d = cc in
     let rest : a ++ r ≡ b ++ s = cc in
     elim (longer_front a r b s rest) [
