@@ -566,6 +566,7 @@ def wrong_passwords_are_refused(name):
 
 # The time at the head of a line of the log.
 TIME = r"\d{4}-\d\d-\d\dT\d\d:\d\d:\d\d\.\d{3}Z"
+NO_JOURNAL = "no journal: if the server is killed, its trace and the meter's state are lost"
 
 
 def the_log_reports_each_client(name):
@@ -587,7 +588,7 @@ def the_log_reports_each_client(name):
     reasons = ("connected", "association refused: wrong password (diagnostic 13)", "session ended: the client closed the connection; 0 requests, 0 refused",
                "connected", "associated as the management client", "session ended: the client closed the connection; 3 requests, 1 refused",
                "connected", "associated as the public client", "session ended: the client closed the connection; 1 requests, 1 refused")
-    wanted = [f"{TIME} listening on 127\\.0\\.0\\.1:\\d+"]
+    wanted = [f"{TIME} listening on 127\\.0\\.0\\.1:\\d+", f"{TIME} {NO_JOURNAL}"]
     wanted += [f"{TIME} client {i // 3 + 1}, 127\\.0\\.0\\.1:\\d+: {re.escape(reason)}" for i, reason in enumerate(reasons)]
     lines = errors.splitlines()
     check(f"{name}: lines", status == 0 and len(lines) == len(wanted) and all(map(re.fullmatch, wanted, lines)), errors)
@@ -669,6 +670,35 @@ def a_silent_client_is_closed(name):
     check(f"{name}: end", status == 0 and len(played(trace)) == 1 and "session ended: a read failed or timed out" in errors, status, errors)
 
 
+def lines_on_a_terminal(*words):
+    """The lines that a server without clients prints on a terminal."""
+    ours, theirs = os.openpty()
+    try:
+        made = subprocess.run([str(SERVER), "serve", "--listen", "127.0.0.1:0", "--password", PASSWORD, "--stop-with-input",
+                               *words], input=b"", stdout=subprocess.PIPE, stderr=theirs, timeout=PATIENCE)
+        os.set_blocking(ours, False)
+        text = b""
+        try:
+            while more := os.read(ours, 65_536):
+                text += more
+        except BlockingIOError:
+            pass
+    finally:
+        os.close(theirs)
+        os.close(ours)
+    return made.returncode, text.decode().splitlines()
+
+
+def a_server_without_a_journal_says_so(name):
+    status, lines = lines_on_a_terminal()
+    check(f"{name}: on a terminal", status == 0 and len(lines) == 1 and re.fullmatch(f"{TIME} {NO_JOURNAL}", lines[0]), lines)
+    with tempfile.TemporaryDirectory() as folder:
+        made = lines_on_a_terminal("--journal", f"{folder}/journal")
+    check(f"{name}: not with a journal", made == (0, []), made)
+    status, _, errors = run_with("--listen", "127.0.0.1:0", "--password", PASSWORD, "--stop-with-input")
+    check(f"{name}: not into a file", (status, errors) == (0, ""), errors)
+
+
 def main():
     for executable in (SERVER, PLAYER):
         if not os.access(executable, os.X_OK):
@@ -678,7 +708,7 @@ def main():
                      a_client_whose_stream_cannot_be_set_up_is_turned_away,
                      console_lines_act_beside_clients, a_console_that_is_not_read_is_a_fault, a_limit_of_connections_ends_the_server, the_end_of_input_ends_the_server,
                      an_address_in_use_is_a_fault, a_meter_goes_on_from_its_trace, a_wrong_trace_is_not_gone_on_from, wrong_passwords_are_refused,
-                     the_log_reports_each_client,
+                     the_log_reports_each_client, a_server_without_a_journal_says_so,
                      the_environment_has_the_password, a_file_has_the_password, a_client_may_vanish_in_mid_frame, a_silent_client_is_closed):
         test(function)
     print(f"{passed} passed, {failed} failed")

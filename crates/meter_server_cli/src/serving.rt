@@ -25,7 +25,7 @@ use server_io::{
 };
 use session_log::LogTime;
 use std::alloc::{AllocError, Global};
-use std::io::{BufReader, Stdin, Stdout, Write};
+use std::io::{BufReader, IsTerminal, Stdin, Stdout, Write};
 use std::net::{SocketAddr, TcpListener};
 use std::sync::atomic::AtomicBool;
 use std::sync::{Arc, Wait};
@@ -325,6 +325,18 @@ fn ready(
     }
 }
 
+// Says that a server without a journal loses its trace if it is killed, if somebody reads it:
+// standard error is a terminal, or `--verbose` is given.
+fn report_no_journal(rt: &HostRuntime, options: &ServeOptions) {
+    if options.journal.is_some() || !(options.bounds.is_verbose || rt.stderr().is_terminal()) {
+        return;
+    }
+    let now = LogTime::now(rt);
+    let _ = eprintln!(rt;
+        "{now} no journal: if the server is killed, its trace and the meter's state are lost"
+    );
+}
+
 // Prepares a server up to the first client: validates the options, reads the trace to resume from,
 // opens the journal, listens, and opens the relay.
 pub(crate) fn begin(rt: &HostRuntime, options: &ServeOptions) -> Result<Server, Fault> {
@@ -332,7 +344,10 @@ pub(crate) fn begin(rt: &HostRuntime, options: &ServeOptions) -> Result<Server, 
     report_other_name(rt, options, &plan.recorder);
     let (plan, journal) = with_journal(rt, options, plan)?;
     match listen_on(rt, options.address.as_str(), options.bounds.is_verbose) {
-        Ok(listening) => ready(rt, options, plan, journal, listening),
+        Ok(listening) => {
+            report_no_journal(rt, options);
+            ready(rt, options, plan, journal, listening)
+        }
         Err(fault) => {
             drop(plan);
             drop(journal);
