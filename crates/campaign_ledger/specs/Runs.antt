@@ -15,7 +15,7 @@ abbrev pub IsIn : ℕ → List ℕ → Type 0
 IsIn place [] = ⊥
 IsIn place (first ∷ places) = (place ≡ first) ⊎ IsIn place places
 
--- no place occurs twice
+-- whether no place occurs twice
 abbrev pub AreApart : List ℕ → Type 0
 AreApart [] = ⊤
 AreApart (place ∷ places) = (¬ IsIn place places) × AreApart places

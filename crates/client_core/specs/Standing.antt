@@ -13,7 +13,7 @@ use Rattle.client_core.specs.Texts.{aarq_frame, request_frame, release_frame, te
 use Rattle.client_core.specs.Outcomes.{progress_of, outcome_after, outcome_of, due_frames}
 use Rattle.client_core.specs.Steps.{progress_after_bytes}
 
--- the messages that are left after this number of them was returned
+-- whether these are the messages that are left after this number of them was returned
 abbrev pub AreLeft : Verb → List ℕ → ℕ → Option (List ℕ) → Option (List ℕ) → Option (List ℕ)
     → Type 0
 AreLeft verb password zero aarq request release =

@@ -13,7 +13,7 @@ use Rattle.head_end.specs.Jobs.{is_name}
 use Rattle.head_end.specs.declared.passwords.PasswordsFault.{PasswordsFault}
 use Rattle.head_end.specs.declared.passwords.PasswordsFault.TheVariants as fault
 
--- a name and a password, each of 1 to 32 visible bytes
+-- whether these words are a name and a password, each of 1 to 32 visible bytes
 abbrev pub are_password_words : List (List ℕ) → Bool
 are_password_words (name ∷ password ∷ []) = is_name 32 name && is_name 32 password
 are_password_words _ = false

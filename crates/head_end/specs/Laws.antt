@@ -28,7 +28,7 @@ line_by job None = record { id = job.id; row = Came Unknown }
 abbrev pub line_for : (List ℕ → Option Forecast) → Job → ReportLine
 line_for tells job = line_by job (tells job.address)
 
--- the reads of the connections to all the jobs' meters are predicted
+-- whether the reads of the connections to all the jobs' meters are predicted
 abbrev pub AreTold : (List ℕ → Option Forecast) → List Job → Type 0
 AreTold tells [] = ⊤
 AreTold tells (job ∷ jobs) = IsSome (tells job.address) × AreTold tells jobs

@@ -44,7 +44,7 @@ abbrev pub IsTurn : (turns workers : ℕ) → List ℕ → ℕ → ℕ → Type 
 IsTurn turns workers rounds round slot = (place_at turns workers slot < length rounds)
     × (slice_index_or rounds (place_at turns workers slot) 0 ≡ round)
 
--- the attempts of the jobs of a round are unused
+-- whether the attempts of the jobs of a round are unused
 abbrev pub AreWaiting : {X : Type 0} → (turns workers : ℕ) → List ℕ → ℕ → (X → State) → List X
     → Type 0
 AreWaiting {X} turns workers rounds round stage_of slots = (slot : ℕ) (x : X)

@@ -26,7 +26,7 @@ pub record IsLine (tells : List ℕ → Option Forecast) (job : Job) (line : Rep
   pub id_is : line.id ≡ job.id
   pub row_is : IsRow tells job line.row
 
--- line i is that of job i, and there are as many lines as jobs
+-- whether line i is that of job i, and there are as many lines as jobs
 abbrev pub AreLines : (List ℕ → Option Forecast) → List Job → List ReportLine → Type 0
 AreLines tells [] [] = ⊤
 AreLines tells (job ∷ jobs) (line ∷ lines) = IsLine tells job line × AreLines tells jobs lines

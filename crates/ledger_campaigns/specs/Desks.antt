@@ -34,10 +34,11 @@ pub record DeskState (B : Type 0) : Type 0 where
   pub ledger : LedgerState B
   pub start : LedgerState B
 
--- a call on a shared ledger, and the calls of all ports, oldest first
+-- a call on a shared ledger
 abbrev pub LedgerCall : Type 0 → Type 0
 LedgerCall B = Entry LedgerRequest (LedgerAnswer B)
 
+-- the calls of all ports, oldest first
 abbrev pub LedgerCalls : Type 0 → Type 0
 LedgerCalls B = List (LedgerCall B)
 
@@ -97,7 +98,7 @@ module _ {B : Type 0} (is_honest : B → Type 0) (is_marked : B → ℕ → Type
   IsAnswer (Record place outcome) Recorded = ⊤
   IsAnswer request (Failed fault) = ⊤
 
-  -- each call has an answer that its request may have
+  -- whether each call has an answer that its request may have
   abbrev pub AreAnswered : LedgerCalls B → Type 0
   AreAnswered calls = AllByRecursion (λ (call : LedgerCall B).
       IsAnswer call.event call.reply) calls

@@ -66,7 +66,8 @@ abbrev pub client_events : Bool → List Arrival → Bool → List NetworkEvent
 client_events true arrivals has_more = arrival_events arrivals has_more
 client_events false arrivals has_more = []
 
--- clients are met if some may be waiting, and there may be more only after the maximum
+-- whether the clients were accepted: if some may be waiting, and there may be more only after the
+-- maximum
 abbrev pub AreMet : Bool → List Arrival → Bool → Type 0
 AreMet true arrivals has_more = has_more ≡ true → length arrivals ≡ max_accepted
 AreMet false arrivals has_more = (arrivals ≡ []) × (has_more ≡ false)

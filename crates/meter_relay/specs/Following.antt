@@ -22,7 +22,7 @@ pub record Follows {W L : Type 0} (contents : W → Option (List ℕ)) (before :
   pub core : StandsFor relay.core (world_after events w)
   pub given : Appends before (contents relay.output) (relay_text w events)
 
--- the events that lines are read as, in order
+-- whether these are the events that lines are read as, in order
 abbrev pub AreEventsOf : List (List ℕ) → List Event → Type 0
 AreEventsOf [] events = events ≡ []
 AreEventsOf (line ∷ lines) [] = ⊥

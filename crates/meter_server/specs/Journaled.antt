@@ -55,7 +55,7 @@ pub record IsWritten (IsDurable : ℕ → Type 0) (p : MeterPort) (events : List
       ++ entries p.known.number events replies
   pub on_disk : IsOnDisk IsDurable history
 
--- each reply has the history up to it on the disk
+-- whether each reply has the history up to it on the disk
 abbrev pub AreWritten : (IsDurable : ℕ → Type 0) → MeterPort → List Event → List Reply → MeterPort
     → Type 0
 AreWritten IsDurable p events replies q = (n : ℕ) → 0 < n → n ≤ length replies

@@ -18,7 +18,8 @@ pub record AsksThrough (password : List ℕ) (p q : MeterPort) : Type 0 where
   pub are : AreAsked password asked
   pub entered : events_by p.known.number q ≡ events_by p.known.number p ++ asked
 
--- the calls of each port that was split off, from the count `from` on, are those of a session
+-- whether the calls of each port that was split off, from the count `from` on, are those of a
+-- session
 abbrev pub AreSessions : (password : List ℕ) (from : ℕ) → MeterPort → Type 0
 AreSessions password from port = (i : ℕ) → from ≤ i → i < port.known.splits
     → AreAsked password (events_by (child port.known.number i) port)

@@ -4,8 +4,8 @@ use Rattle.circular_buffer.specs.Buffer.{Buffer}
 use Rattle.relay_events.specs.declared.event.Event.{Event}
 use Rattle.relay_core.specs.declared.relay.RelayCore.{RelayCore}
 
--- The current core, the core before the kept events, the kept events (oldest first), and how many
--- may be kept.
+-- The current core, the core before the kept events, the kept events (oldest first), and the
+-- maximum number of kept events.
 pub record Recording : Type 0 where
   pub core : RelayCore
   pub opening : RelayCore

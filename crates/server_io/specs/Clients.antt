@@ -1,4 +1,4 @@
--- What contracts refer to in the sockets to which clients connect.
+-- The view that contracts have of a listening socket.
 use Rattle.std.specs.Prelude.{Bool}
 use Rattle.server_io.specs.declared.listening.Sockets.{Sockets}
 

@@ -12,7 +12,7 @@ use Rattle.shared_meter.specs.Thresholds.{threshold_read}
 abbrev pub IsAhead : ℕ → List Event → Type 0
 IsAhead place ahead = (ahead ≡ []) ⊎ ((place % 64 ≡ 0) × (ahead ≡ threshold_read ∷ []))
 
--- the events of blocks, the first of which has this index
+-- whether these are the events of blocks, the first of which has this index
 abbrev pub AreOfBlocks : ℕ → List Samples → List Event → Type 0
 AreOfBlocks place [] events = events ≡ []
 AreOfBlocks place (block ∷ blocks) events =
@@ -26,8 +26,8 @@ AllBlocks told events =
     IfSome told (λ blocks. (without_reads events ≡ map event.Samples blocks)
     × AreOfBlocks 0 blocks events)
 
--- the events of the blocks that are left, the first of which has this index; a block that waits
--- for the reply to its read comes first
+-- whether these are the events of the blocks that are left, the first of which has this index; a
+-- block that waits for the reply to its read comes first
 abbrev pub AreLeft : ℕ → (waiting : Option Samples) → List Samples → List Event → Type 0
 AreLeft place None blocks events = AreOfBlocks place blocks events
 AreLeft place (Some block) blocks events =

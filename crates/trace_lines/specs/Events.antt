@@ -76,7 +76,7 @@ event_parts Button = inr (inr (inr (inr (inl tt))))
 event_parts (Moment now) = inr (inr (inr (inr (inr (inl now)))))
 event_parts (Samples block) = samples_parts block.import block.export
 
--- export samples, as many as there are import samples
+-- whether there are as many export samples as import samples
 abbrev pub AreEven : List ℕ → Option (List ℕ) → Type 0
 AreEven imports None = Unit {0}
 AreEven imports (Some exports) = length imports ≡ length exports

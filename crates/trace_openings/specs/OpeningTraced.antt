@@ -18,7 +18,7 @@ use Rattle.script_steps.specs.declared.step.Script.{Script}
 use Rattle.script_steps.specs.declared.step.Step.{Step}
 use Rattle.script_steps.specs.declared.step.Step.TheVariants.{WriteNormal, WriteEmergency, WriteProfile}
 
--- group ids of 16 bits
+-- whether all group ids have 16 bits
 abbrev pub AreIds : List ℕ → Type 0
 AreIds ids = Each (λ id. id ≤ 65535) ids
 

@@ -43,7 +43,7 @@ pub record IsView (found : Found) (view : TraceView) : Type 0 where
   pub with_events : IsSet found (codes "events") view.with_events
   pub format : IsFormat found view.format
 
--- an upper bound that is not below the lower one, if there are both
+-- whether the upper bound is not below the lower one, if there are both
 abbrev pub AreInOrder : Option ℕ → Option ℕ → Type 0
 AreInOrder (Some first) (Some last) = first ≤ last
 AreInOrder _ _ = Unit {0}

@@ -16,6 +16,7 @@ struct CalendarDate {
     day: u8,
 }
 
+// The number of seconds of a day.
 const SECONDS_OF_DAY: u32 = 86_400;
 
 // 1 January 2000, as the number of days since 1 January of the year 0.
