@@ -4,7 +4,8 @@ use Rattle.server_files.specs.declared.outputs.EventOutput.{EventOutput}
 use Rattle.server_files.specs.declared.outputs.EventOutput.TheVariants as output
 
 -- the output of a meter, by whether it has a journal and whether it has a relay
-abbrev pub IsOutputOf : {R : Type 0} → (has_journal has_relay : Bool) → EventOutput R → Type 0
+abbrev pub IsOutputOf : {R F : Type 0} → (has_journal has_relay : Bool) → EventOutput R F
+    → Type 0
 IsOutputOf false false output.None = ⊤
 IsOutputOf false true (output.Relay file) = ⊤
 IsOutputOf true has_relay (output.Journal file) = ⊤
