@@ -79,6 +79,7 @@ longer_front : (a r b s : Calls) → a ++ r ≡ b ++ s → StartsWith b a ⊎ St
 longer_front [] r b s same = inl (b, refl)
 longer_front (c ∷ a) r [] s same = inr (c ∷ a, refl)
 longer_front (c ∷ a) r (d ∷ b) s same =
+    let lists : c ∷ (a ++ r) ≡ d ∷ (b ++ s) = same in
     let first : c ≡ d = cc in
     let rest : a ++ r ≡ b ++ s = cc in
     elim (longer_front a r b s rest) [
@@ -92,8 +93,10 @@ changes_kept : (number : List ℕ) (calls a b rest : Calls) → StartsWith calls
     → StartsWith (changes_by number b) (changes_by number a)
 changes_kept number calls a b rest starts all enough =
     elim (longer_front a starts.0 b rest (sym starts.1 ∙ all)) [
-      | inl longer ↦ (changes_by number longer.0,
-          ap (changes_by number) longer.1 ∙ changes_append number a longer.0)
+      | inl longer ↦ (
+        changes_by number longer.0,
+        ap (changes_by number) longer.1 ∙ changes_append number a longer.0,
+      )
       | inr shorter ↦
           let lines : length (lines_of_calls a)
           ≡ length (lines_of_calls b ++ lines_of_calls shorter.0) =

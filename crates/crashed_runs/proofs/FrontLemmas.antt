@@ -1,7 +1,7 @@
 -- A front of the lines of a run is that of a front of its calls.
 use Rattle.std.proofs.Common.{◌≡◌, ℕ, zero, suc, ◌≤◌, Bool, true, false, List, [], ◌∷◌, ◌++◌, length}
-use Rattle.std.proofs.Common.{take, Ok, refl, sym, ap, ◌∙◌, subst, arith}
-use Rattle.std.specs.Prelude.{filter, not, if◌then◌else◌}
+use Rattle.std.proofs.Common.{take, Ok, refl, sym, ap, subst, arith}
+use Rattle.std.specs.Prelude.{not, if◌then◌else◌}
 use Rattle.crashed_runs.specs.Fronts.{ContinuesFront, run_events}
 use Rattle.durable_lines.specs.Holding.{Holds}
 use Rattle.durable_lines.specs.Lines.{lines_in, IsText}
@@ -19,7 +19,6 @@ use Rattle.relay_recorder.specs.declared.trace.Trace.{Trace}
 use Rattle.shared_meter.specs.Calls.{Calls}
 use Rattle.shared_meter.specs.Pending.{lines_of_calls}
 use Rattle.text_lines.specs.Words.{line_of}
-use Rattle.trace_lines.specs.Traced.{IsTraced}
 use Rattle.trace_lines.specs.Writing.{event_row}
 use Rattle.trace_player.specs.Journals.{IsJournal}
 use Rattle.trace_player.specs.Resuming.{world_of}

@@ -3,7 +3,7 @@
 --     AnswerSessions       the calls of each session, all but at most the last one were answered
 --     HasAnsweredLines     a number of lines that includes those of each answered call
 --     ContinuesAnswers     a meter that continues a front of a run with all answered calls
-use Rattle.std.specs.Prelude.{ℕ, ◌<◌, ◌≤◌, not, List, [], ◌∷◌, filter, length}
+use Rattle.std.specs.Prelude.{ℕ, ◌<◌, ◌≤◌, not, [], ◌∷◌, filter, length}
 use Rattle.crashed_runs.specs.Fronts.{ContinuesFront}
 use Rattle.meter_server.specs.JournaledSessions.{AreAnswered}
 use Rattle.relay_core.specs.World.{World}

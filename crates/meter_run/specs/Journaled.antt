@@ -18,6 +18,7 @@ use Rattle.relay_core.specs.declared.opening.Opening.{Opening}
 use Rattle.relay_recorder.specs.Recording.{Recording}
 use Rattle.session_io.specs.declared.fault.ServeFault.{ServeFault}
 use Rattle.shared_meter.specs.Handed.{MeterPort}
+use Rattle.turn_lock.specs.History.{calls_by}
 use Rattle.turn_lock.specs.declared.call_fault.CallFault.{CallFault}
 
 -- A run in which the first port that was split off is the journal's. The calls of each session, all
