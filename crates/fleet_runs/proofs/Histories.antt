@@ -37,7 +37,7 @@ extends_more m m' m'' told told' first then_ = record {
 
 -- ---- the meter at a place
 
--- the meter at a place is there after a call, and its history goes on
+-- the meter at a place is there after a call, and its history is extended
 record ExtendsAt (told : List Exchange) (m : MeterState) (new : FleetState) (place : ℕ) : Type 0
   where
     pub meter : MeterState

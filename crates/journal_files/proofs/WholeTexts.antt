@@ -48,7 +48,7 @@ stops : (line : List ℕ) (parts : Lines) → has_zero line ≡ true
 stops line [] zero = refl
 stops line (part ∷ parts) zero = rw zero refl
 
--- a line without one goes on
+-- a line without one is followed by the lines of the rest
 goes : (line : List ℕ) (parts : Lines) → 0 < length parts → has_zero line ≡ false
     → lines_before (all_but_last (line ∷ parts)) ≡ line ∷ lines_before (all_but_last parts)
 goes line parts some none =

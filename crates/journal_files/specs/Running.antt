@@ -1,4 +1,4 @@
--- What a journal tells that was renewed while its meter ran.
+-- The lines of a journal that was renewed while its meter ran.
 --     event_lines    the lines of events
 --     HoldsRun       the file of a journal holds the lines of a run
 use Rattle.std.specs.Prelude.{ℕ, List, map}
