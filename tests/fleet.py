@@ -101,6 +101,15 @@ def is_closed(client):
         return True
 
 
+def associates(fleet, meter):
+    """Whether a new connection to a meter associates."""
+    with fleet.connect(meter) as client:
+        try:
+            return ask(client, AARQ, AARE)
+        except (ConnectionResetError, BrokenPipeError):
+            return False
+
+
 def talk(fleet, meter, *exchanges):
     """Whether a new association with a meter has these answers."""
     with fleet.connect(meter) as client:
@@ -123,8 +132,11 @@ def a_ninth_is_closed(fleet):
         check("a ninth is closed with no byte sent", is_closed(ninth))
     check("the eight go on", all(ask(it, STATE, DISCONNECTED) for it in clients))
     clients.pop().close()
-    with fleet.connect(5) as again:
-        check("a place that is free is taken", ask(again, AARQ, AARE))
+    # The fleet may accept the next connection before it has seen this end.
+    end = time.monotonic() + PATIENCE
+    while not (taken := associates(fleet, 5)) and time.monotonic() < end:
+        time.sleep(0.01)
+    check("a place that is free is taken", taken)
     for client in clients:
         client.close()
 
