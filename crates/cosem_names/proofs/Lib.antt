@@ -1,3 +1,4 @@
 pub mod Judged
+pub mod Names
 pub mod Results
 pub mod SeveralRead
