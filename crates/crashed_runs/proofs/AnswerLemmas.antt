@@ -43,7 +43,7 @@ with_first : (has : Bool) (call : Call) (all front rest : Calls) → all ≡ fro
 with_first true call all front rest same = ap (λ (calls : Calls). call ∷ calls) same
 with_first false call all front rest same = same
 
-changing_append : (front rest : Calls)
+pub changing_append : (front rest : Calls)
     → changing_calls (front ++ rest) ≡ changing_calls front ++ changing_calls rest
 changing_append [] rest = refl
 changing_append (call ∷ front) rest =
@@ -87,15 +87,23 @@ longer_front (c ∷ a) r (d ∷ b) s same =
       | inr starts ↦ inr (starts.0, λ i. first i ∷ starts.1 i)
     ]
 
--- a front with as many lines as another has all its changing calls
-changes_kept : (number : List ℕ) (calls a b rest : Calls) → StartsWith calls a
-    → calls ≡ b ++ rest → length (lines_of_calls a) ≤ length (lines_of_calls b)
-    → StartsWith (changes_by number b) (changes_by number a)
-changes_kept number calls a b rest starts all enough =
+pub no_changing : (calls : Calls) → length (lines_of_calls calls) ≡ 0 → changing_calls calls ≡ []
+no_changing [] none = refl
+no_changing (call ∷ calls) none =
+    no_change (is_read call.event) true call (line_of (event_row call.event))
+    (lines_of_calls calls) calls refl none (no_changing calls)
+
+-- a front with as many lines as another has all that a selection of calls without lines has of it
+pub selection_kept : (select : Calls → Calls)
+    → ((front rest : Calls) → select (front ++ rest) ≡ select front ++ select rest)
+    → ((calls : Calls) → length (lines_of_calls calls) ≡ 0 → select calls ≡ [])
+    → (calls a b rest : Calls) → StartsWith calls a → calls ≡ b ++ rest
+    → length (lines_of_calls a) ≤ length (lines_of_calls b) → StartsWith (select b) (select a)
+selection_kept select appends nothing calls a b rest starts all enough =
     elim (longer_front a starts.0 b rest (sym starts.1 ∙ all)) [
       | inl longer ↦ (
-        changes_by number longer.0,
-        ap (changes_by number) longer.1 ∙ changes_append number a longer.0,
+        select longer.0,
+        ap select longer.1 ∙ appends a longer.0,
       )
       | inr shorter ↦
           let lines : length (lines_of_calls a)
@@ -108,12 +116,19 @@ changes_kept number calls a b rest starts all enough =
             enough,
             length-append (lines_of_calls b) (lines_of_calls shorter.0),
           ) in
-          let same : changes_by number a ≡ changes_by number b =
-          ap (changes_by number) shorter.1 ∙ changes_append number b shorter.0
-          ∙ ap (λ (cs : Calls). changes_by number b ++ cs) (no_changes number shorter.0 none)
-          ∙ append-nil (changes_by number b) in
-          ([], sym same ∙ sym (append-nil (changes_by number a)))
+          let same : select a ≡ select b =
+          ap select shorter.1 ∙ appends b shorter.0
+          ∙ ap (λ (cs : Calls). select b ++ cs) (nothing shorter.0 none)
+          ∙ append-nil (select b) in
+          ([], sym same ∙ sym (append-nil (select a)))
     ]
+
+-- a front with as many lines as another has all its changing calls
+changes_kept : (number : List ℕ) (calls a b rest : Calls) → StartsWith calls a
+    → calls ≡ b ++ rest → length (lines_of_calls a) ≤ length (lines_of_calls b)
+    → StartsWith (changes_by number b) (changes_by number a)
+changes_kept number =
+    selection_kept (changes_by number) (changes_append number) (no_changes number)
 
 -- no answered call has to be kept if there is none
 if_answered : (kept answered : Calls)

@@ -1,11 +1,12 @@
 //! The laws of runs that a crash ends.
-ghost use Rattle.std.specs.Prelude.{◌≡◌, ℕ, List, Ok, Result};
+ghost use Rattle.std.specs.Prelude.{◌≡◌, ◌≤◌, ℕ, List, Ok, Result, length};
 ghost use Rattle.crashed_runs.specs.Answers.{ContinuesAnswers, HasAnsweredLines};
 ghost use Rattle.crashed_runs.specs.Fronts.{ContinuesFront, run_events};
-ghost use Rattle.durable_lines.specs.Lines.{lines_in, IsText};
+ghost use Rattle.crashed_runs.specs.Saves.{AreSaves, ContinuesAnswered, Stand};
+ghost use Rattle.durable_lines.specs.Lines.{lines_in, IsSettled, IsText};
 ghost use Rattle.journal_files.specs.Journals.{Continues, changing};
 ghost use Rattle.journal_files.specs.Renewals.{IsRenewedAs};
-ghost use Rattle.meter_journal.specs.Saving.{IsSavedFrom};
+ghost use Rattle.meter_journal.specs.Saving.{IsSaved, IsSavedFrom};
 ghost use Rattle.meter_run.specs.Journaled.{IsJournaledRun};
 ghost use Rattle.meter_run.specs.Runs.{Given};
 ghost use Rattle.meter_server.specs.declared.serving_all.Served.{Served};
@@ -13,10 +14,12 @@ ghost use Rattle.relay_recorder.specs.Recording.{Recording};
 ghost use Rattle.relay_recorder.specs.declared.trace.Trace.{Trace};
 ghost use Rattle.session_io.specs.declared.fault.ServeFault.{ServeFault};
 ghost use Rattle.shared_meter.specs.Calls.{Calls};
+ghost use Rattle.shared_meter.specs.Pending.{lines_of_calls};
 ghost use Rattle.trace_player.specs.Journals.{IsJournal};
 ghost use Rattle.trace_player.specs.Resuming.{world_of};
 ghost use Rattle.trace_player.specs.Traces.{trace_of};
 ghost use Rattle.trace_player.specs.Written.{AreTraced};
+ghost use Rattle.turn_lock.specs.History.{StartsWith};
 
 use durable_lines::DurableFile;
 
@@ -53,5 +56,28 @@ pub fn answered_calls_are_resumed<F: DurableFile>()
         → AreTraced (changing (run_events run.run.calls))
         → (resumed : Continues device left after)
         → ContinuesAnswers run.journaled ((run.kept acts).1.each left crash).0 (world_of trace)
+        (world_of resumed.trace) }
+{}
+
+/// Proves that a crash after a save undoes no call that the save has put on the disk. A journal
+/// began with these bytes. A save returned `Ok`, and the file then held a number of lines of the
+/// history, as the clauses `saved` and `settled` of [`save`](meter_journal::save) say. Any number
+/// of saves came next, whatever they returned, and a crash at any moment since then left these
+/// bytes. Take any front of the history with at most as many lines, such as the one that a session
+/// was answered from once these lines were on the disk. A meter that is resumed from the bytes
+/// answers as the one that made the first calls of the history, and these have each call of the
+/// front that may change the meter.
+pub fn saved_calls_are_resumed<F: DurableFile>()
+    ensures { (saves : ℕ) (device began left : List ℕ) (trace : Trace) (answered : Calls)
+        (old new : Stand F) (after : Recording)
+        → IsText began → IsJournal began → trace_of began ≡ Ok trace
+        → AreTraced (changing (run_events new.calls))
+        → IsSettled F.seen F.may_leave F.stored old.file
+        → IsSaved IsRenewedAs (lines_in began) old.count old.calls (F.seen old.file)
+        → StartsWith old.calls answered → length (lines_of_calls answered) ≤ old.count
+        → AreSaves F.moment F.left_since IsRenewedAs (lines_in began) saves old new
+        → F.left_since new.file (F.moment old.file) left
+        → (resumed : Continues device left after)
+        → ContinuesAnswered old.count answered new.calls (world_of trace)
         (world_of resumed.trace) }
 {}

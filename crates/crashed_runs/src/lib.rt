@@ -7,4 +7,4 @@
 
 mod laws;
 
-pub use laws::{answered_calls_are_resumed, crashed_run_is_resumed};
+pub use laws::{answered_calls_are_resumed, crashed_run_is_resumed, saved_calls_are_resumed};

@@ -9,6 +9,10 @@ mod fronts;
 #[cfg(test)]
 mod meters;
 #[cfg(test)]
+mod renewing;
+#[cfg(test)]
 mod saving;
+#[cfg(test)]
+mod settling;
 #[cfg(test)]
 mod waiting;

@@ -22,7 +22,7 @@ impl FailureAction for Nothing {
 
 /// Runs the worker of a journal that is asked to stop, through a port. Returns the journal's handle
 /// and the result of the work, as far as there was memory for them.
-fn run_journal<W: Wait>(
+pub(crate) fn run_journal<W: Wait>(
     rt: &W,
     alloc: Global,
     file: MemoryFile,

@@ -1,0 +1,122 @@
+-- A crash after a save leaves the lines that it has put on the disk, whatever saves came next.
+use Rattle.std.proofs.Common.{◌≡◌, ℕ, zero, suc, ◌≤◌, List, [], ◌++◌, length, Ok, sym, ap, subst}
+use Rattle.std.proofs.Common.{◌∙◌, arith, le_refl, append-nil, append_assoc}
+use Rattle.crashed_runs.specs.Answers.{changing_calls}
+use Rattle.crashed_runs.specs.Fronts.{run_events}
+use Rattle.crashed_runs.specs.Saves.{AreSaves, ContinuesAnswered, IsSave, Stand}
+use Rattle.crashed_runs.proofs.AnswerLemmas.{changing_append, no_changing, selection_kept}
+use Rattle.crashed_runs.proofs.FrontLemmas.{front_continues}
+use Rattle.durable_lines.specs.CrashModel.{LeavesOnly}
+use Rattle.durable_lines.specs.Lines.{lines_in, IsSettled, IsText}
+use Rattle.durable_lines.proofs.Moments.{begin, leaves_as, leaves_then}
+use Rattle.journal_files.specs.Journals.{Continues, changing}
+use Rattle.journal_files.specs.Renewals.{IsRenewedAs}
+use Rattle.meter_journal.specs.Saving.{IsSaved, IsSavedFrom}
+use Rattle.meter_journal.proofs.SavingLemmas.{saved_later}
+use Rattle.relay_recorder.specs.Recording.{Recording}
+use Rattle.relay_recorder.specs.declared.trace.Trace.{Trace}
+use Rattle.shared_meter.specs.Calls.{Calls}
+use Rattle.shared_meter.specs.Pending.{lines_of_calls}
+use Rattle.trace_player.specs.Journals.{IsJournal}
+use Rattle.trace_player.specs.Resuming.{world_of}
+use Rattle.trace_player.specs.Traces.{trace_of}
+use Rattle.trace_player.specs.Written.{AreTraced}
+use Rattle.turn_lock.specs.History.{StartsWith}
+
+starts_self : (calls : Calls) → StartsWith calls calls
+starts_self calls = ([], sym (append-nil calls))
+
+starts_then : (long mid short : Calls) → StartsWith long mid → StartsWith mid short
+    → StartsWith long short
+starts_then long mid short one two = (
+  two.0 ++ one.0,
+  one.1 ∙ ap (λ (cs : Calls). cs ++ one.0) two.1 ∙ append_assoc short two.0 one.0,
+)
+
+module _ {F : Type 0} (moment : F → ℕ) (left_since : F → ℕ → List ℕ → Type 0)
+    (Renews : List ℕ → List ℕ → Type 0) (first : List (List ℕ)) where
+  -- what is known after saves
+  pub record Stays (old new : Stand F) : Type 0 where
+    pub longer : StartsWith new.calls old.calls
+    pub more : old.count ≤ new.count
+    pub leaves : LeavesOnly moment left_since old.file new.file
+        (IsSavedFrom Renews old.count first new.calls)
+
+  -- before any further save
+  stays_still : (old : Stand F) (may_leave : List ℕ → Type 0) (bytes : List ℕ)
+      → ((c : List ℕ) → left_since old.file (moment old.file) c → may_leave c)
+      → ((c : List ℕ) → may_leave c → c ≡ bytes) → IsSaved Renews first old.count old.calls bytes
+      → Stays old old
+  stays_still old may_leave bytes only_now durable saved = record {
+    longer = starts_self old.calls;
+    more = le_refl old.count;
+    leaves = begin moment left_since old.file (IsSavedFrom Renews old.count first old.calls)
+        may_leave only_now
+        (λ c now. (
+          old.count,
+          le_refl old.count,
+          subst (IsSaved Renews first old.count old.calls) (sym (durable c now)) saved,
+        ));
+  }
+
+  -- after one more
+  stays_on : (old mid new : Stand F) → Stays old mid
+      → IsSave moment left_since Renews first mid new → Stays old new
+  stays_on old mid new stays save = record {
+    longer = starts_then new.calls mid.calls old.calls save.longer stays.longer;
+    more = omega (arith, stays.more, save.more);
+    leaves = leaves_then moment left_since old.file mid.file new.file
+        (IsSavedFrom Renews old.count first new.calls)
+        (leaves_as moment left_since old.file mid.file
+        (IsSavedFrom Renews old.count first mid.calls)
+        (IsSavedFrom Renews old.count first new.calls)
+        (λ c from. (
+          from.0,
+          from.1,
+          saved_later Renews first from.0 mid.calls new.calls c save.longer from.2,
+        ))
+        stays.leaves)
+        (leaves_as moment left_since mid.file new.file
+        (IsSavedFrom Renews mid.count first new.calls)
+        (IsSavedFrom Renews old.count first new.calls)
+        (λ c from. (from.0, omega (arith, from.1, stays.more), from.2)) save.any_moment);
+  }
+
+  pub stays_after : (saves : ℕ) (old new : Stand F)
+      → AreSaves moment left_since Renews first saves old new → Stays old old → Stays old new
+  stays_after zero old new same stays = subst (λ (s : Stand F). Stays old s) (sym same) stays
+  stays_after (suc saves) old new more stays =
+      stays_on old more.0 new (stays_after saves old more.0 more.1 stays) more.2
+
+  -- a crash after saves leaves the lines that the file held before them
+  pub crash_leaves : {seen : F → List ℕ} {may_leave : F → List ℕ → Type 0}
+      {stored : List ℕ → Type 0} (saves : ℕ) (old new : Stand F) (c : List ℕ)
+      → ((c : List ℕ) → left_since old.file (moment old.file) c → may_leave old.file c)
+      → IsSettled seen may_leave stored old.file
+      → IsSaved Renews first old.count old.calls (seen old.file)
+      → AreSaves moment left_since Renews first saves old new
+      → left_since new.file (moment old.file) c
+      → StartsWith new.calls old.calls × IsSavedFrom Renews old.count first new.calls c
+  crash_leaves {seen} {may_leave} {stored} saves old new c only_now settled saved are crash =
+      let stays = stays_after saves old new are (stays_still old (may_leave old.file)
+      (seen old.file) only_now settled.durable saved) in
+      (stays.longer, stays.leaves.each c crash)
+
+-- a meter that is resumed from a file with the lines of a front has all its changing calls
+pub answered_continue : (count : ℕ) (device began left : List ℕ) (trace : Trace)
+    (answered short calls : Calls) (recorder : Recording) → IsText began → IsJournal began
+    → trace_of began ≡ Ok trace → AreTraced (changing (run_events calls))
+    → StartsWith short answered → length (lines_of_calls answered) ≤ count
+    → StartsWith calls short × IsSavedFrom IsRenewedAs count (lines_in began) calls left
+    → (resumed : Continues device left recorder)
+    → ContinuesAnswered count answered calls (world_of trace) (world_of resumed.trace)
+answered_continue count device began left trace answered short calls recorder text journal told fit
+    begins enough saved resumed =
+    let found = front_continues count device began left trace calls recorder text journal told fit
+    saved.1 resumed in
+    record {
+      continues = found;
+      kept = selection_kept changing_calls changing_append no_changing calls answered found.front
+          found.rest (starts_then calls short answered saved.0 begins) found.all
+          (omega (arith, enough, found.enough));
+    }

@@ -1,0 +1,44 @@
+-- Saves of a journal, one after another, and what a crash after an answer leaves of them.
+--     Stand                a file, and how many lines of a history it holds
+--     IsSave               what a save promises, whatever it returned
+--     AreSaves             a number of saves, one after another
+--     ContinuesAnswered    a meter that continues a front of a run with all calls of a shorter one
+use Rattle.std.specs.Prelude.{◌≡◌, ℕ, zero, suc, ◌≤◌, List}
+use Rattle.crashed_runs.specs.Answers.{changing_calls}
+use Rattle.crashed_runs.specs.Fronts.{ContinuesFront}
+use Rattle.durable_lines.specs.CrashModel.{LeavesOnly}
+use Rattle.meter_journal.specs.Saving.{IsSavedFrom}
+use Rattle.relay_core.specs.World.{World}
+use Rattle.shared_meter.specs.Calls.{Calls}
+use Rattle.turn_lock.specs.History.{StartsWith}
+
+-- A file, and the number of lines of a history that it holds.
+pub record Stand (F : Type 0) : Type 0 where
+  pub file : F
+  pub calls : Calls
+  pub count : ℕ
+
+-- A save of a file that held lines of a history. A crash at any moment of it leaves at least these
+-- lines. If the save returned an error, the number of lines that it counts stays.
+pub record IsSave {F : Type 0} (moment : F → ℕ) (left_since : F → ℕ → List ℕ → Type 0)
+    (Renews : List ℕ → List ℕ → Type 0) (first : List (List ℕ)) (old new : Stand F) : Type 0 where
+  pub longer : StartsWith new.calls old.calls
+  pub more : old.count ≤ new.count
+  pub any_moment : LeavesOnly moment left_since old.file new.file
+      (IsSavedFrom Renews old.count first new.calls)
+
+-- whether this number of saves came one after another
+abbrev pub AreSaves : {F : Type 0} → (moment : F → ℕ) → (left_since : F → ℕ → List ℕ → Type 0)
+    → (Renews : List ℕ → List ℕ → Type 0) → (first : List (List ℕ)) → (saves : ℕ)
+    → (old new : Stand F) → Type 0
+AreSaves moment left_since Renews first zero old new = new ≡ old
+AreSaves {F = F} moment left_since Renews first (suc saves) old new = (between : Stand F)
+    × AreSaves moment left_since Renews first saves old between
+    × IsSave moment left_since Renews first between new
+
+-- The meter in the second world answers as the one after the first calls of a run. Of the calls
+-- that may change the meter, those of the shorter history are among these, before any other.
+pub record ContinuesAnswered (count : ℕ) (answered calls : Calls) (origin resumed : World) : Type 0
+  where
+    pub continues : ContinuesFront count calls origin resumed
+    pub kept : StartsWith (changing_calls continues.front) (changing_calls answered)
