@@ -1,11 +1,11 @@
 #!/usr/bin/env python3
-"""Tests `head_end run --ledger FILE`. Campaigns of 300 jobs against scripted meters that count what
-they receive are killed at random times, and run again on the same ledger until they are whole: no
-meter may get a second command, each command must have its mark in the ledger, no outcome may be
-lost, and SQLite must find each ledger that a kill left whole. Also tested: ledgers and lists that
-are refused, two runs at once, meters that were down, the order of one meter's jobs, meters with
-passwords of their own, a full disk, and each failing read, write and sync. Every wait has a time
-limit. If the program has no option --ledger, all of it is skipped.
+"""Tests `head_end run --ledger FILE` and `head_end status`. Campaigns of 300 jobs against scripted
+meters that count what they receive are killed at random times, and run again on the same ledger
+until they are whole: no meter may get a second command, each command must have its mark in the
+ledger, no outcome may be lost, and SQLite must find each ledger that a kill left whole. Also
+tested: ledgers and lists that are refused, two runs at once, meters that were down, the order of
+one meter's jobs, meters with passwords of their own, a full disk, and each failing read, write and
+sync. Every wait has a time limit. If the program has no option --ledger, all of it is skipped.
 
 usage: tests/ledger.py [--long] [--seed N]
 
@@ -408,6 +408,63 @@ def each_meter_has_its_password(name, folder):
           and not (folder / "other").exists(), missing)
 
 
+def state_of(found):
+    """What `status` prints for the entries of a ledger."""
+    kinds = [found.outcomes.get(place, "unknown" if place in found.begun else "not sent")
+             for place in range(len(found.jobs))]
+    counts = collections.Counter(re.sub(" [0-9]+$", "", kind) for kind in kinds)
+    words = ("done", "refused", "rejected", "unknown", "not sent")
+    lines = [f"jobs {len(kinds)}", *(f"{word} {counts[word]}" for word in words),
+             *(f"{' '.join(job)} sent, no answer"
+               for job, kind in zip(found.jobs, kinds) if kind == "unknown")]
+    return "".join(f"{line}\n" for line in lines)
+
+
+def status(ledger):
+    ran = subprocess.run([str(HEAD_END), "status", "--ledger", str(ledger)], capture_output=True,
+                         stdin=subprocess.DEVNULL, text=True, timeout=LONGEST)
+    return Ran(ran.returncode, ran.stdout, ran.stderr)
+
+
+@in_folder
+def the_state_is_that_of_the_ledger(name, folder):
+    """`status` prints what SQLite reads, of campaigns that were killed and of whole ones."""
+    with running_meters(60) as meters:
+        for number in range(1, 6):
+            choose = random.Random(f"{seed} state {number}")
+            campaign, ledger = campaign_of(meters, choose), folder / f"ledger{number}"
+            for kill_after in (0.02, 0.05, 0.1, None):
+                run(ledger, campaign.text, 4, kill_after)
+                found = entries(ledger)
+                ran = status(ledger)
+                if found is None:
+                    check(f"{name} {number}: no ledger", is_refused(ran), ran)
+                    continue
+                check(f"{name} {number}: text", ran == (0, state_of(found), ""), ran)
+                check(f"{name} {number}: unchanged", entries(ledger) == found)
+            campaign.take_commands()
+
+
+@in_folder
+def what_has_no_state_is_refused(name, folder):
+    (folder / "text").write_text("a report\n" * 1000)
+    (folder / "empty").write_text("")
+    with contextlib.closing(sqlite3.connect(folder / "other")) as database:
+        database.execute("CREATE TABLE meter (name TEXT)")
+        database.commit()
+    (folder / "folder").mkdir()
+    files = {"text": ("not a ledger", "input", 2), "empty": ("not a ledger", "input", 2),
+             "other": ("not a ledger", "input", 2), "folder": ("can't open the file", "read", 3),
+             "missing": ("can't open the file", "read", 3)}
+    before = {it.name: it.read_bytes() for it in folder.iterdir() if it.is_file()}
+    for what, (reason, word, code) in files.items():
+        ran = status(folder / what)
+        check(f"{name}: {what}", ran == (code, "", f"ledger: {reason}\nfault: {word}\n"), ran)
+    after = {it.name: it.read_bytes() for it in folder.iterdir() if it.is_file()
+             and not it.name.endswith((".lock", "-wal", "-shm"))}
+    check(f"{name}: unchanged", before == after, sorted(after))
+
+
 def inside(disk):
     """The command that runs another one in the mount namespace of a disk. (SQLite follows links, so
     it would not open a file by the path from outside.)"""
@@ -509,7 +566,8 @@ def running_meters(count=JOBS):
 TESTS = (a_ledger_changes_no_row, killed_campaigns_command_nobody_twice, another_list_is_refused,
          what_is_no_ledger_is_refused, two_runs_at_once_are_refused,
          a_meter_that_was_down_is_commanded_later, jobs_of_a_meter_run_in_order,
-         each_meter_has_its_password, a_full_disk_stops_the_commands,
+         each_meter_has_its_password, the_state_is_that_of_the_ledger,
+         what_has_no_state_is_refused, a_full_disk_stops_the_commands,
          a_failed_call_commands_nobody_twice)
 
 

@@ -1,6 +1,7 @@
--- What `run --ledger` prints.
+-- What `run --ledger` and `status` print.
 --     PrintsTexts       the report is printed, unless out of memory
 --     PrintsRun         the jobs were run with permits of the ledger, and the report is printed
+--     PrintsStatus      the state of a campaign is printed
 use Rattle.std.specs.Prelude.{ℕ, List, Option, Result, Ok, Err}
 use Rattle.std.specs.Io.KnownBytes.{Appends}
 use Rattle.std.specs.declared.alloc.AllocError.{AllocError}
@@ -10,8 +11,10 @@ use Rattle.client_core.specs.declared.job.Job.{Job}
 use Rattle.head_end.specs.Connections.{Forecast}
 use Rattle.ledger_runs.specs.declared.running.LedgerTexts.{LedgerTexts}
 use Rattle.ledger_file_runs.specs.Files.{IsRunOnFile}
+use Rattle.ledger_reports.specs.declared.line.LedgerLine.{LedgerLine}
+use Rattle.ledger_reports.specs.Status.{status_text}
 
--- the report of the texts was printed
+-- whether the report of the texts was printed
 abbrev pub PrintsTexts : {F : Type 0} → Result LedgerTexts F → Option (List ℕ) → Option (List ℕ)
     → Type 0
 PrintsTexts (Ok texts) written written' = Appends written written' texts.text
@@ -25,3 +28,8 @@ pub record PrintsRun {D : Type 0} (g : Ghosts D) (held : Image)
   pub texts : Result LedgerTexts AllocError
   pub ran : IsRunOnFile g held tells jobs passwords texts
   pub printed : PrintsTexts texts written written'
+
+-- whether the state of a campaign was printed, by the lines that were read of its ledger
+abbrev pub PrintsStatus : Option (List ℕ) → Option (List ℕ) → Type 0
+PrintsStatus written written' = (lines : List LedgerLine)
+    × Appends written written' (status_text lines)

@@ -146,6 +146,23 @@ fn check_command<'a>(alloc: Global) -> Result<Command<'a>, AllocError> {
         .arg(verbose(alloc).help("If the list is wrong, report all findings on standard error"))
 }
 
+// Returns the option `--ledger` of `status`.
+fn ledger_to_read<'a>(alloc: Global) -> Arg<'a> {
+    Arg::new(alloc, "ledger")
+        .long("ledger")
+        .value_name("FILE")
+        .help("Ledger of the campaign, which no run has open; nothing in it is changed")
+        .required(true)
+        .action(ArgAction::Set)
+}
+
+// Returns the command `status`.
+fn status_command<'a>(alloc: Global) -> Result<Command<'a>, AllocError> {
+    Command::new(alloc, "status")
+        .about("Prints the state of the campaign of a ledger, and the jobs that need a second look")
+        .arg(ledger_to_read(alloc))
+}
+
 // Returns the program without its commands.
 fn program<'a>(alloc: Global) -> Result<Command<'a>, AllocError> {
     let program = Command::new(alloc, "head_end")
@@ -161,5 +178,6 @@ fn program<'a>(alloc: Global) -> Result<Command<'a>, AllocError> {
 /// the environment or in a file that the command line names.
 pub fn command_line<'a>(alloc: Global, has_password: bool) -> Result<Command<'a>, AllocError> {
     let program = with_subcommand(program(alloc), check_command(alloc));
-    with_subcommand(program, run_command(alloc, has_password))
+    let program = with_subcommand(program, run_command(alloc, has_password));
+    with_subcommand(program, status_command(alloc))
 }

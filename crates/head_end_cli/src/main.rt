@@ -1,5 +1,5 @@
 //! The program `head_end`: `head_end check` counts the jobs of a list, `head_end run` runs them and
-//! prints the report.
+//! prints the report, and `head_end status` prints the state of the campaign of a ledger.
 //!
 //! The jobs, the campaign and the report are those of the crate `head_end`; this one has the
 //! command line, the standard streams and the exit status.
@@ -11,6 +11,7 @@ mod findings;
 mod ledgered;
 mod passwords;
 mod progress;
+mod status;
 mod telling;
 mod text_filter;
 mod warnings;
@@ -19,6 +20,7 @@ use crate::arguments::command_line;
 use crate::campaign::{CampaignPlan, PASSWORD_VARIABLE};
 use crate::findings::report_findings;
 use crate::ledgered::{LedgeredCampaign, plan_ledgered, run_on_ledger};
+use crate::status::print_status;
 use crate::telling::{ListFault, input_fault, jobs_fault};
 use crate::warnings::warn;
 use clap::ArgMatches;
@@ -123,7 +125,7 @@ fn begin_run(rt: &HostRuntime, matches: &ArgMatches<'_>) -> Result<HeadEndComman
     }
 }
 
-// Runs `check`, or prepares the campaign of `run`.
+// Runs `check` or `status`, or prepares the campaign of `run`.
 fn begin_command(rt: &HostRuntime, matches: &ArgMatches<'_>) -> Result<HeadEndCommand, Fault> {
     match matches.subcommand() {
         Some(("check", matches)) => {
@@ -131,6 +133,11 @@ fn begin_command(rt: &HostRuntime, matches: &ArgMatches<'_>) -> Result<HeadEndCo
             Ok(HeadEndCommand::Ended(0))
         }
         Some(("run", matches)) => begin_run(rt, matches),
+        Some(("status", matches)) => {
+            let path = matches.get_str("ledger").unwrap_or("");
+            print_status(rt, path, &mut rt.stdout())?;
+            Ok(HeadEndCommand::Ended(0))
+        }
         _ => Err(Fault::Input),
     }
 }

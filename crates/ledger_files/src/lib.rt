@@ -5,6 +5,7 @@
 #![tactic(auto)]
 
 mod laws;
+mod reading;
 
 ghost use Rattle.std.specs.Prelude.{◌≡◌, length, IfOk, false};
 ghost use Rattle.sqlite.specs.State.{HasCleanDisk};
@@ -16,6 +17,7 @@ ghost use Rattle.ledger_files.specs.Opened.{IsOpenedFrom};
 use campaign_ledger::{Ledger, LedgerFault};
 use client_core::Job;
 pub use laws::the_next_run_finds_what_was_left;
+pub use reading::read_ledger;
 use sqlite::{Connection, FileFrom, FileStore, Start, Unknown};
 use sqlite_ledger::{LedgerOpenFault, SqliteBook, open_book};
 use std::fs::OpenOptions;

@@ -1,5 +1,5 @@
-//! Tests of `campaign_ledger` and `ledger_campaigns`: runs on a book in memory, whose entries the
-//! next run finds.
+//! Tests of `campaign_ledger`, `ledger_campaigns` and `ledger_reports`: runs on a book in memory,
+//! whose entries the next run finds, and the state of a ledger as text.
 #![tactic(auto)]
 
 #[cfg(test)]
@@ -8,3 +8,5 @@ mod campaigns;
 mod ledgers;
 #[cfg(test)]
 mod meters;
+#[cfg(test)]
+mod states;

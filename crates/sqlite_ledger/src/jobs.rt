@@ -1,7 +1,10 @@
 //! The jobs of a campaign, as a ledger has them.
+use crate::open_fault::LedgerOpenFault;
 use client_core::{Job, Verb};
+use cosem_axdr::Octets;
 use sqlite::types::ValueRef;
 use sqlite::{Alter, Error, Row, Transaction};
+use std::alloc::Global;
 
 const INSERT_JOB: &str = "INSERT INTO job (place, name, address, verb) VALUES (?1, ?2, ?3, ?4)";
 
@@ -11,6 +14,16 @@ fn verb_word(verb: Verb) -> &'static str {
         Verb::Disconnect => "disconnect",
         Verb::Reconnect => "reconnect",
         Verb::ReadState => "state",
+    }
+}
+
+// Returns the verb of a word, or `None` if it names none.
+fn verb_of(word: &str) -> Option<Verb> {
+    match word {
+        "disconnect" => Some(Verb::Disconnect),
+        "reconnect" => Some(Verb::Reconnect),
+        "state" => Some(Verb::ReadState),
+        _ => None,
     }
 }
 
@@ -58,4 +71,21 @@ pub(crate) fn are_rows_of(rows: &[Row], jobs: &[Job]) -> Result<bool, Error> {
         place = place.saturating_add(1);
     }
     Ok(true)
+}
+
+// Returns the job of a row of the table `job`. Fails with `NotALedger` if the row is not that of
+// this place, or has another word than a verb.
+pub(crate) fn read_job(alloc: Global, row: &Row, place: usize) -> Result<Job, LedgerOpenFault> {
+    let at: u32 = row.get(0)?;
+    let name: String = row.get(1)?;
+    let address: String = row.get(2)?;
+    let word: String = row.get(3)?;
+    match verb_of(word.as_str()) {
+        Some(verb) if at as usize == place => Ok(Job {
+            id: Octets::from_slice(alloc, name.as_bytes())?,
+            address: Octets::from_slice(alloc, address.as_bytes())?,
+            verb,
+        }),
+        _ => Err(LedgerOpenFault::NotALedger),
+    }
 }

@@ -1,15 +1,19 @@
 //! What a ledger's file has: its jobs, its marks and its outcomes.
-ghost use Rattle.std.specs.Prelude.{◌≡◌, length, OnOk, vec_len};
+ghost use Rattle.std.specs.Prelude.{◌≡◌, length, IfOk, OnOk, vec_len};
 ghost use Rattle.sqlite.specs.State.{HasCleanDisk, IsUnchanged};
 ghost use Rattle.sqlite.specs.Given.{IsPlain};
 ghost use Rattle.sqlite.specs.Listing.{understood};
 ghost use Rattle.sqlite.specs.Held.{state};
 ghost use Rattle.sqlite_ledger.specs.Schema.{ledger_schema};
 
-use crate::jobs::are_rows_of;
+use crate::jobs::{are_rows_of, read_job};
+use crate::open_fault::LedgerOpenFault;
+use crate::schema::is_ledger_schema;
 use campaign_ledger::LedgerEntry;
 use client_core::{Job, Outcome};
+use ledger_reports::LedgerLine;
 use sqlite::{Alter, Connection, Error, Row};
+use std::alloc::Global;
 
 const SELECT_JOBS: &str = "SELECT place, name, address, verb FROM job ORDER BY place";
 
@@ -27,13 +31,22 @@ fn select<S: Alter>(conn: &mut Connection<S>, query: &str) -> Result<Vec<Row>, E
     conn.query_all(query, &[])
 }
 
+// Returns the rows of the table `job`, in the order of the places.
+fn select_jobs<S: Alter>(conn: &mut Connection<S>) -> Result<Vec<Row>, Error>
+    ensures clean { HasCleanDisk (state S.Store conn.new) → HasCleanDisk (state S.Store conn.old) }
+    ensures unchanged { HasCleanDisk (state S.Store conn.new) → conn.old.schema ≡ ledger_schema
+        → OnOk result (IsUnchanged (state S.Store conn.old) (state S.Store conn.new)) }
+{
+    select(conn, SELECT_JOBS)
+}
+
 // Returns whether the file has these jobs.
 pub(crate) fn has_jobs<S: Alter>(conn: &mut Connection<S>, jobs: &[Job]) -> Result<bool, Error>
     ensures clean { HasCleanDisk (state S.Store conn.new) → HasCleanDisk (state S.Store conn.old) }
     ensures unchanged { HasCleanDisk (state S.Store conn.new) → conn.old.schema ≡ ledger_schema
         → OnOk result (IsUnchanged (state S.Store conn.old) (state S.Store conn.new)) }
 {
-    let rows = select(conn, SELECT_JOBS)?;
+    let rows = select_jobs(conn)?;
     are_rows_of(&rows, jobs)
 }
 
@@ -97,4 +110,55 @@ pub(crate) fn read_outcomes<S: Alter>(
 {
     let rows = select(conn, SELECT_OUTCOMES)?;
     enter_outcomes(entries, &rows)
+}
+
+// Returns the lines of the rows of the table `job`, with these entries.
+fn lines_of(
+    alloc: Global,
+    rows: &[Row],
+    entries: &[LedgerEntry],
+) -> Result<Vec<LedgerLine>, LedgerOpenFault> {
+    let mut lines = Vec::with_capacity(alloc, rows.len())?;
+    for (row, entry) in rows.iter().zip(entries) {
+        let job = read_job(alloc, row, lines.len())?;
+        if lines.push(LedgerLine { job, entry: *entry }).is_err() {
+            return Err(LedgerOpenFault::Memory);
+        }
+    }
+    Ok(lines)
+}
+
+// Returns the lines of the ledger of a connection whose schema is a ledger's.
+fn read_known<S: Alter>(
+    alloc: Global,
+    conn: &mut Connection<S>,
+) -> Result<Vec<LedgerLine>, LedgerOpenFault>
+    ensures clean { HasCleanDisk (state S.Store conn.new) → HasCleanDisk (state S.Store conn.old) }
+    ensures unchanged { HasCleanDisk (state S.Store conn.new) → conn.old.schema ≡ ledger_schema
+        → OnOk result (IsUnchanged (state S.Store conn.old) (state S.Store conn.new)) }
+{
+    let rows = select_jobs(conn)?;
+    let mut entries = vec![in alloc; LedgerEntry::NotSent; rows.len()]?;
+    read_marks(conn, &mut entries)?;
+    read_outcomes(conn, &mut entries)?;
+    lines_of(alloc, &rows, &entries)
+}
+
+/// Returns the lines of the ledger of a connection, in the order of its jobs, and changes nothing.
+///
+/// Errors: `NotALedger` for a database with other tables, or with a job that is none; `File` and
+/// `Memory`.
+pub fn read_lines<S: Alter>(
+    alloc: Global,
+    conn: &mut Connection<S>,
+) -> Result<Vec<LedgerLine>, LedgerOpenFault>
+    ensures clean { HasCleanDisk (state S.Store conn.new) → HasCleanDisk (state S.Store conn.old) }
+    ensures schema { IfOk result (λ _. conn.old.schema ≡ ledger_schema) }
+    ensures unchanged { HasCleanDisk (state S.Store conn.new)
+        → OnOk result (IsUnchanged (state S.Store conn.old) (state S.Store conn.new)) }
+{
+    if !is_ledger_schema(conn.schema()) {
+        return Err(LedgerOpenFault::NotALedger);
+    }
+    read_known(alloc, conn)
 }

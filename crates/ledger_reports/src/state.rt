@@ -1,0 +1,139 @@
+//! The state of a campaign: how many of its jobs have each standing, and the jobs that need a
+//! second look.
+ghost use Rattle.std.specs.Prelude.{◌≡◌, ◌++◌, ◌≤◌, length, IfOk, OnOk};
+ghost use Rattle.ledger_reports.specs.Status.{count_of, count_line, has_standing, counts_text};
+ghost use Rattle.ledger_reports.specs.Status.{look_text, unanswered_text, second_looks, verb_word};
+ghost use Rattle.ledger_reports.specs.Status.{followed_by_blank, status_text};
+
+use crate::line::LedgerLine;
+use campaign_ledger::LedgerEntry;
+use client_core::{Job, Outcome, Verb};
+use cosem_axdr::Octets;
+use itoa::Buffer;
+use std::alloc::{AllocError, Global};
+
+/// The standing of a job, by its entry in the ledger.
+#[derive(Clone, Copy, Debug, PartialEq, Eq)]
+pub enum Standing {
+    Done,
+    Refused,
+    Rejected,
+    /// The command may have been sent, and no valid answer came.
+    Unknown,
+    NotSent,
+}
+
+/// Returns the state of a campaign by the lines of its ledger: the lines `jobs N`, `done N`,
+/// `refused N`, `rejected N`, `unknown N` and `not sent N`, and then a line
+/// `NAME ADDRESS VERB sent, no answer` for each job whose command may have been sent and that has
+/// no valid answer, in the order of the jobs. Each line is ended by the byte 0A.
+pub fn status(alloc: Global, lines: &[LedgerLine]) -> Result<Octets, AllocError>
+    ensures { IfOk result (λ text. text ≡ status_text lines.now) }
+{
+    let mut out = Octets::new(alloc);
+    put_counts(lines, &mut out)?;
+    put_second_looks(lines, &mut out)?;
+    Ok(out)
+}
+
+// Appends the number of the jobs and the number of each standing.
+fn put_counts(lines: &[LedgerLine], out: &mut Octets) -> Result<(), AllocError>
+    ensures { OnOk result (out.new ≡ out.old ++ counts_text lines.now) }
+{
+    put_count_line(b"jobs ", lines.len(), out)?;
+    put_count_line(b"done ", count(lines, Standing::Done), out)?;
+    put_count_line(b"refused ", count(lines, Standing::Refused), out)?;
+    put_count_line(b"rejected ", count(lines, Standing::Rejected), out)?;
+    put_count_line(b"unknown ", count(lines, Standing::Unknown), out)?;
+    put_count_line(b"not sent ", count(lines, Standing::NotSent), out)
+}
+
+// Appends a line with a word and a number.
+fn put_count_line(word: &[u8], number: usize, out: &mut Octets) -> Result<(), AllocError>
+    ensures { OnOk result (out.new ≡ out.old ++ count_line word.now number) }
+{
+    let mut buffer = Buffer::new();
+    out.extend_from_slice(word)?;
+    out.extend_from_slice(buffer.format(number).as_bytes())?;
+    out.push(b'\n')
+}
+
+// Returns the number of jobs with this standing.
+fn count(lines: &[LedgerLine], standing: Standing) -> usize
+    ensures count { result ≡ count_of standing lines.now }
+    ensures within_max { result ≤ length lines.now }
+{
+    let mut count = 0;
+    'lines: for line in lines {
+        if has_standing(standing, line.entry) {
+            count += 1;
+        }
+    }
+    count
+}
+
+// Returns whether a job with this entry has this standing.
+fn has_standing(standing: Standing, entry: LedgerEntry) -> bool
+    ensures { result ≡ has_standing standing entry }
+{
+    match entry {
+        LedgerEntry::NotSent => matches!(standing, Standing::NotSent),
+        LedgerEntry::MaybeSent => matches!(standing, Standing::Unknown),
+        LedgerEntry::Came(Outcome::Done(_)) => matches!(standing, Standing::Done),
+        LedgerEntry::Came(Outcome::Refused(_)) => matches!(standing, Standing::Refused),
+        LedgerEntry::Came(Outcome::Rejected(_)) => matches!(standing, Standing::Rejected),
+        LedgerEntry::Came(Outcome::Unknown) => matches!(standing, Standing::Unknown),
+    }
+}
+
+// Appends the lines of the jobs that need a second look.
+#[tactic(auto, unfolding(crate::specs::Status::second_looks))]
+fn put_second_looks(lines: &[LedgerLine], out: &mut Octets) -> Result<(), AllocError>
+    ensures { OnOk result (out.new ≡ out.old ++ second_looks lines.now) }
+{
+    'lines: for line in lines {
+        put_second_look(line, out)?;
+    }
+    Ok(())
+}
+
+// Appends the line of a job, if it needs a second look.
+fn put_second_look(line: &LedgerLine, out: &mut Octets) -> Result<(), AllocError>
+    ensures { OnOk result (out.new ≡ out.old ++ look_text line.now) }
+{
+    match line.entry {
+        LedgerEntry::NotSent => Ok(()),
+        LedgerEntry::MaybeSent => put_unanswered(&line.job, out),
+        LedgerEntry::Came(Outcome::Unknown) => put_unanswered(&line.job, out),
+        LedgerEntry::Came(_) => Ok(()),
+    }
+}
+
+// Appends a word and a blank.
+fn put_word(word: &[u8], out: &mut Octets) -> Result<(), AllocError>
+    ensures { OnOk result (out.new ≡ out.old ++ followed_by_blank word.now) }
+{
+    out.extend_from_slice(word)?;
+    out.push(b' ')
+}
+
+// Appends the line of a job whose command may have been sent and that has no valid answer.
+fn put_unanswered(job: &Job, out: &mut Octets) -> Result<(), AllocError>
+    ensures { OnOk result (out.new ≡ out.old ++ unanswered_text job.now) }
+{
+    put_word(job.id.as_slice(), out)?;
+    put_word(job.address.as_slice(), out)?;
+    put_word(verb_word(job.verb), out)?;
+    out.extend_from_slice(b"sent, no answer\n")
+}
+
+// Returns the word of a verb in a list of jobs.
+fn verb_word(verb: Verb) -> &'static [u8]
+    ensures { result.now ≡ verb_word verb }
+{
+    match verb {
+        Verb::Disconnect => b"disconnect",
+        Verb::Reconnect => b"reconnect",
+        Verb::ReadState => b"state",
+    }
+}

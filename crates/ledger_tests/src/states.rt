@@ -1,0 +1,64 @@
+//! The state of a campaign as text.
+use campaign_ledger::LedgerEntry;
+use client_core::{Job, Outcome, Verb};
+use cosem_axdr::Octets;
+use ledger_reports::{LedgerLine, status};
+use std::alloc::{AllocError, Global};
+use std::test::Fail;
+
+/// A job with each entry that a ledger may have.
+const LINES: &[(&[u8], &[u8], Verb, LedgerEntry)] = &[
+    (
+        b"m1",
+        b"h:1",
+        Verb::Disconnect,
+        LedgerEntry::Came(Outcome::Done(0)),
+    ),
+    (
+        b"m2",
+        b"h:2",
+        Verb::Disconnect,
+        LedgerEntry::Came(Outcome::Refused(2)),
+    ),
+    (
+        b"m3",
+        b"h:3",
+        Verb::Disconnect,
+        LedgerEntry::Came(Outcome::Rejected(13)),
+    ),
+    (b"m4", b"h:4", Verb::Reconnect, LedgerEntry::MaybeSent),
+    (
+        b"m5",
+        b"h:5",
+        Verb::ReadState,
+        LedgerEntry::Came(Outcome::Unknown),
+    ),
+    (b"m6", b"h:6", Verb::Disconnect, LedgerEntry::NotSent),
+];
+
+/// Their state.
+const STATE: &[u8] = b"jobs 6\ndone 1\nrefused 1\nrejected 1\nunknown 2\nnot sent 1\n\
+m4 h:4 reconnect sent, no answer\nm5 h:5 state sent, no answer\n";
+
+/// Returns the lines.
+fn lines(alloc: Global) -> Result<Vec<LedgerLine>, AllocError> {
+    let mut lines = Vec::new(alloc);
+    for (id, address, verb, entry) in LINES {
+        let job = Job {
+            id: Octets::from_slice(alloc, *id)?,
+            address: Octets::from_slice(alloc, *address)?,
+            verb: *verb,
+        };
+        lines.push(LedgerLine { job, entry: *entry })?;
+    }
+    Ok(lines)
+}
+
+#[test]
+fn a_state_has_each_count_and_each_second_look(rt: HostRuntime) -> Result<(), Fail> {
+    let lines = lines(rt.alloc())?;
+    let text = status(rt.alloc(), lines.as_slice());
+    drop(lines);
+    assert!(rt; text?.as_slice() == STATE);
+    Ok(())
+}
