@@ -11,6 +11,9 @@
 - action: no function has a name of BAD_FUNCTIONS, such as `turns`, that does not say what it does,
   or is a bare participle, such as `judged_trace`.
 - behind: no name of src/ or specs/ has the part `behind`.
+- constant: each constant of a .rt file has a comment of its own, directly above it.
+- own: each definition of specs/ has a comment of its own: none stands for two.
+- whether: the comment of a predicate of specs/ (its result is Bool or Type 0) begins with "whether".
 - twice: no struct, enum or trait has the name of one in another crate (the tests' crates aside).
 
 tests/prose_counts.txt has the allowed counts; a folder that it does not name has none.
@@ -52,6 +55,9 @@ ACTED = re.compile(r"(?:told|shown|begun|asked|planned|prepared|judged|renewed|r
 BEHIND = re.compile(r"(?:\w+_)?behind(?:_\w+)?(?=\b)")
 WRAPLESS = re.compile(r"\s*(?:(?:pub(?:\([a-z]+\))? |ghost )*use |#!?\[)")
 TYPE = re.compile(r"\s*(?:pub(?:\([a-z]+\))? )?(?:struct|enum|trait) ([A-Z]\w*)")
+CONSTANT = re.compile(r"\s*(?:pub(?:\([a-z]+\))? )?const ([A-Z]\w*)\s*:")
+DEFINITION = re.compile(r"(?:abbrev|unfoldable|opaque)(?: pub)? (\S+) :")
+PREDICATE = re.compile(r"(?<!: Type 0 )→ (?:Bool|Type 0)$")
 LEANING = re.compile(r"(The same\b|Same as\b|As (above|before)\b|See above\b|Likewise\b|Ditto\b)")
 
 
@@ -154,6 +160,51 @@ def behind_lines(path, lines):
             yield number, f"name `{found[0]}`, write `after`, `rest` or what follows"
 
 
+def comment_above(lines, number, mark):
+    """The comment directly above a line, without its mark; lines with attributes do not count."""
+    above = []
+    while number > 1 and re.match(r"\s*#\[", lines[number - 2]):
+        number -= 1
+    while number > 1 and lines[number - 2].lstrip().startswith(mark):
+        number -= 1
+        above.insert(0, lines[number - 1].strip().lstrip(mark + "/!").strip())
+    return " ".join(above)
+
+
+def constant_lines(path, lines):
+    """The constants without a comment directly above."""
+    for number, line in enumerate(lines, 1) if path.endswith(".rt") else ():
+        found = CONSTANT.match(line)
+        if found and not comment_above(lines, number, "//"):
+            yield number, f"constant `{found[1]}` has no comment directly above it"
+
+
+def definitions_in(path, lines):
+    """The definitions of a file of specs/, each with its line, type and comment."""
+    is_read = "/specs/" in path and path.endswith(".antt")
+    for number, line in enumerate(lines, 1) if is_read else ():
+        found, end = DEFINITION.match(line), number
+        if found:
+            while end < len(lines) and lines[end].startswith(" "):
+                end += 1
+            typed = " ".join(it.strip() for it in lines[number - 1:end])
+            yield number, found[1], typed, comment_above(lines, number, "--")
+
+
+def own_lines(path, lines):
+    """The definitions without a comment of their own."""
+    for number, name, _, comment in definitions_in(path, lines):
+        if not comment:
+            yield number, f"`{name}` has no comment directly above it"
+
+
+def whether_lines(path, lines):
+    """The predicates with a comment that does not say whether something holds."""
+    for number, name, typed, comment in definitions_in(path, lines):
+        if PREDICATE.search(typed) and comment and not comment.lower().startswith("whether"):
+            yield number, f"predicate `{name}`, begin its comment with `whether`"
+
+
 def types_in(path, lines):
     """The types that a file declares, each with its line."""
     is_source = path.endswith(".rt") and "/src/" in path and "_tests/" not in path
@@ -183,6 +234,9 @@ def places_in(path, text, patterns):
     yield from (("clause", *it) for it in clause_lines(path, lines))
     yield from (("action", *it) for it in action_lines(path, lines))
     yield from (("behind", *it) for it in behind_lines(path, lines))
+    yield from (("constant", *it) for it in constant_lines(path, lines))
+    yield from (("own", *it) for it in own_lines(path, lines))
+    yield from (("whether", *it) for it in whether_lines(path, lines))
 
 
 def folder_of(path):
@@ -224,15 +278,23 @@ PLANTED = {
     "length": ("crates/one/src/long.rt", "// " + "a" * COLUMNS),
     "phrase": ("docs/PAGE.md", "A call that finds no memory is " + "told."),
     "alone": ("crates/one/src/alone.rt", "/// The same for a list.\nfn list() {}"),
-    "participle": ("crates/one/specs/Participle.antt", "abbrev pub " + "told : ℕ"),
+    "participle": ("crates/one/specs/Participle.antt", "-- a number\nabbrev pub " + "told : ℕ"),
     "twice": ("crates/two/src/twice.rt", "pub struct Clean;"),
     "clause": ("crates/one/src/clause.rt", "    ensures " + "some { IsSome result }"),
     "action": ("crates/one/src/action.rt", "fn " + "turns(&mut self)"),
+    "constant": ("crates/one/src/constant.rt", "// Both.\n"
+                                               "const A: u8 = 1;\n\nconst B: u8 = 2;"),
+    "own": ("crates/one/specs/Own.antt", "-- both\nabbrev pub one : ℕ\none = 1\n\n"
+                                         "abbrev pub two : ℕ"),
+    "whether": ("crates/one/specs/Whether.antt", "-- a number is small\nabbrev pub is_small : ℕ\n"
+                                                 "    → Bool"),
     "behind": ("crates/one/src/behind.rt", "    let rest_" + "behind = 1;"),
 }
 CLEAN = {
     "crates/one/src/clean.rt": "ghost use " + "a" * COLUMNS + ";\n/// The number of lists.\n"
                                "pub struct Clean {}\nfn give_turns()\n    ensures found { x }",
+    "crates/one/src/constants.rt": "// The size.\n#[cfg(one)]\npub const SIZE: u8 = 1;",
+    "crates/one/specs/Clean.antt": "-- whether a number\n-- is small\nabbrev pub is_small : ℕ → Bool",
     "docs/CLEAN.md": "| " + "a" * 120 + " |\n\n    " + "b" * 120 + "\n\nA call returns a number.",
 }
 

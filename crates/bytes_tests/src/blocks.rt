@@ -260,6 +260,7 @@ fn another_number_ends_the_joining(rt: HostRuntime) -> Result<(), Fail> {
     Ok(())
 }
 
+// The longest value that blocks can join: 8,192 bytes.
 const LONGEST: [u8; 8192] = [0xAB; 8192];
 
 /// A byte added to 8,192 bytes.

@@ -207,6 +207,7 @@ fn is_wrong(alloc: Global, header: [u8; 8], fault: WrapperFault) -> Result<bool,
     Ok(fed? && is_so)
 }
 
+// Headers that are rejected, each with its fault.
 const WRONG: [([u8; 8], WrapperFault); 5] = [
     (
         [0x00, 0x02, 0x00, 0x10, 0x00, 0x01, 0x00, 0x00],

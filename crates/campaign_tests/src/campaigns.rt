@@ -17,6 +17,7 @@ use std::sync::atomic::{AtomicU64, Ordering};
 use std::test::Fail;
 use std::thread::Threads;
 
+// The expected report of the five jobs.
 const REPORT: &[u8] = b"m1 done 0\nm2 rejected 13\nm3 unknown\nm4 refused 2\nm5 unknown\n";
 
 /// The four meters, and a name at whose address there is none.
@@ -167,6 +168,7 @@ fn row_of(alloc: Global, name: &[u8]) -> Result<Row, AllocError> {
     row
 }
 
+// The four meters, each with the outcome of its job.
 const ROWS: &[(&[u8], Outcome)] = &[
     (b"m1", Outcome::Done(0)),
     (b"m2", Outcome::Rejected(13)),

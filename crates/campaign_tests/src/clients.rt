@@ -186,6 +186,7 @@ fn goes(alloc: Global, verb: Verb, steps: &[Step]) -> Result<bool, AllocError> {
     taken
 }
 
+// A disconnection: which texts the client sends, and when it has none.
 const EACH_TEXT: &[Step] = &[
     Step::Gives(&AARQ),
     Step::GivesNone,
@@ -209,6 +210,7 @@ fn each_text_is_given_once(rt: HostRuntime) {
 /// A verb, its request, a response, and what the response means.
 type Asked = (Verb, &'static [u8], &'static [u8], Outcome);
 
+// Each verb with its request, a response, and the outcome of that response.
 const EACH_VERB: &[Asked] = &[
     (
         Verb::Disconnect,
@@ -260,6 +262,7 @@ fn each_verb_has_its_request(rt: HostRuntime) {
     assert!(rt; matches!(are_asked(rt.alloc(), EACH_VERB), Ok(true)));
 }
 
+// An association that the meter rejects with diagnostic 13.
 const REJECTION: &[Step] = &[
     Step::Gives(&AARQ),
     Step::Comes(1, &REFUSING),
@@ -267,6 +270,7 @@ const REJECTION: &[Step] = &[
     Step::Tells(Some(Outcome::Rejected(13))),
 ];
 
+// An association without the conformance bit of GET.
 const NO_GET: &[Step] = &[
     Step::Comes(1, &WITHOUT_GET),
     Step::Tells(Some(Outcome::Rejected(0))),
@@ -278,6 +282,7 @@ fn a_rejection_has_no_request(rt: HostRuntime) {
     assert!(rt; matches!(goes(rt.alloc(), Verb::ReadState, NO_GET), Ok(true)));
 }
 
+// Payloads from port 16, before and after one from port 1.
 const OTHER_PORTS: &[Step] = &[
     Step::Comes(16, &REFUSING),
     Step::Comes(1, &ACCEPTING),
@@ -292,6 +297,7 @@ fn frames_of_other_ports_are_skipped(rt: HostRuntime) {
     assert!(rt; matches!(goes(rt.alloc(), Verb::Disconnect, OTHER_PORTS), Ok(true)));
 }
 
+// Two responses that arrive byte by byte.
 const BYTE_BY_BYTE: &[Step] = &[
     Step::EachByte(&OPENED),
     Step::EachByte(&REFUSED),
@@ -303,6 +309,7 @@ fn answers_come_in_any_cut(rt: HostRuntime) {
     assert!(rt; matches!(goes(rt.alloc(), Verb::Disconnect, BYTE_BY_BYTE), Ok(true)));
 }
 
+// A response whose header has version 2.
 const WRONG_HEADER: &[Step] = &[
     Step::Comes(1, &ACCEPTING),
     Step::Bytes(&[0x00, 0x02, 0x00, 0x01, 0x00, 0x01, 0x00, 0x00]),

@@ -13,12 +13,16 @@ use lane_sampler::Block;
 use relay_core::{Event, Events, LimiterOpening, Lines, Opening, Parts, RelayCore, Reply, run};
 use std::alloc::{AllocError, Global};
 
+// The logical name of the disconnect control.
 const DISCONNECT_CONTROL: Obis = Obis([0, 0, 96, 3, 10, 255]);
 
+// The logical name of the script table.
 const SCRIPT_TABLE: Obis = Obis([0, 0, 10, 0, 106, 255]);
 
+// The logical name of the limiter of the import.
 const IMPORT_LIMITER: Obis = Obis([0, 0, 17, 0, 0, 255]);
 
+// The logical name of the limiter of the export.
 const EXPORT_LIMITER: Obis = Obis([0, 1, 17, 0, 0, 255]);
 
 /// Actions of a limiter: script 1 over the threshold, none under it.
@@ -28,8 +32,10 @@ const OVER_1: &[u8] = b"\x02\x02\x02\x02\x09\x06\x00\x00\x0A\x00\x6A\xFF\x12\x00
 /// An attribute by its class, its object's name and its number.
 type Place = (u16, Obis, u8);
 
+// The attribute control_mode of the disconnect control.
 const MODE: Place = (70, DISCONNECT_CONTROL, 4);
 
+// The attribute scripts of the script table.
 const SCRIPTS: Place = (9, SCRIPT_TABLE, 2);
 
 fn new_core(alloc: Global) -> Result<RelayCore, AllocError> {

@@ -8,6 +8,7 @@ use relay_recorder::Recorder;
 use std::alloc::{AllocError, Global};
 use std::process::Abort;
 
+// The logical name of the disconnect control.
 const DISCONNECT_CONTROL: Obis = Obis([0, 0, 96, 3, 10, 255]);
 
 fn new_recorder(rt: &impl Abort, alloc: Global, capacity: u16) -> Result<Recorder, AllocError> {

@@ -239,6 +239,7 @@ fn are_answered(alloc: Global, frames: Frames, end: SessionEnd) -> Result<bool, 
     answered
 }
 
+// A public client reads control_state.
 const STATE_READ: Frames = &[
     PUBLIC,
     (
@@ -261,6 +262,7 @@ fn a_public_client_reads_the_state(rt: HostRuntime) {
     );
 }
 
+// A GET before an association, and its exception response.
 const NO_ASSOCIATION: Frames = &[(
     "000100100001000DC001C10046000060030AFF0300",
     "0001000100100003D80101",
@@ -276,6 +278,7 @@ fn no_call_is_allowed_before_an_association(rt: HostRuntime) {
     );
 }
 
+// Frames of another client and to another port, between those of the public client.
 const OTHER_CLIENT: Frames = &[
     PUBLIC,
     (
@@ -360,6 +363,7 @@ fn an_opening_of_537_bytes_is_answered(rt: HostRuntime) {
     assert!(rt; matches!(is_long_opening_answered(rt.alloc()), Ok(true)));
 }
 
+// AARQs of the management client with a wrong password and without one, and their AAREs.
 const WRONG_PASSWORD: Frames = &[
     (
         "00010001000100386036A1090607608574050801018A0207808B0760857405080201AC0A800831323334353637\
@@ -382,6 +386,7 @@ fn a_wrong_password_is_refused(rt: HostRuntime) {
     );
 }
 
+// A management client releases its association and then sends a GET.
 const RELEASED: Frames = &[
     MANAGEMENT,
     ("00010001000100056203800100", "00010001000100056303800100"),
@@ -401,6 +406,7 @@ fn a_release_ends_the_association(rt: HostRuntime) {
     );
 }
 
+// A GET of a list from a client without the conformance bit for lists.
 const LIST_WITHOUT_BIT: Frames = &[
     MANAGEMENT,
     ("0001000100010004C003C100", "0001000100010003D80202"),
@@ -416,6 +422,7 @@ fn a_list_wants_its_bit(rt: HostRuntime) {
     );
 }
 
+// A SET, an ACTION in blocks, a GET, and the last block once more.
 const ACTION_BLOCKS: Frames = &[
     MANAGEMENT,
     (
@@ -450,6 +457,7 @@ fn an_action_comes_in_blocks(rt: HostRuntime) {
     );
 }
 
+// A SET in blocks.
 const SET_BLOCKS: Frames = &[
     MANAGEMENT,
     (
@@ -480,6 +488,7 @@ fn a_set_comes_in_blocks(rt: HostRuntime) {
     );
 }
 
+// A GET of object_list from a client with a PDU of 64 bytes and without block transfer.
 const LONG_LIST: Frames = &[
     (
         "000100100001001F601DA109060760857405080101BE10040E01000000065F1F04000000100040",

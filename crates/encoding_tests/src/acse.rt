@@ -56,6 +56,7 @@ const INITIATE_ERROR_AARE: [u8; 33] = [
     0x01,
 ];
 
+// The verdict on the AARQ of the public client.
 const PUBLIC_ACCEPTED: Verdict = Verdict::Accepted {
     level: Level::Public,
     bits: 0x1E19,
@@ -327,6 +328,7 @@ const REORDERED_AARQ: [u8; 34] = [
     0x01, 0x01,
 ];
 
+// An AARQ whose application context name is empty.
 const EMPTY_CONTEXT: [u8; 10] = [0x60, 0x08, 0xA1, 0x02, 0x06, 0x00, 0xBE, 0x02, 0x04, 0x00];
 
 static IN_OTHER_ORDERS: [Judged; 3] = [
@@ -569,6 +571,7 @@ fn a_clients_aarq_is_made(rt: HostRuntime) -> Result<(), Fail> {
     Ok(())
 }
 
+// An AARE that accepts the association.
 const ACCEPTING: Aare = Aare {
     result: 0,
     diagnostic: 0,
@@ -578,12 +581,14 @@ const ACCEPTING: Aare = Aare {
     },
 };
 
+// An AARE that rejects the association with diagnostic 14.
 const REFUSING: Aare = Aare {
     result: 1,
     diagnostic: 14,
     info: Info::Absent,
 };
 
+// An AARE that rejects the association with an InitiateError.
 const INITIATE_ERROR: Aare = Aare {
     result: 1,
     diagnostic: 1,

@@ -10,24 +10,34 @@ use cosem_names::{
 use std::alloc::{AllocError, Global};
 use std::test::Fail;
 
+// The logical name of the disconnect control.
 const DISCONNECT_CONTROL_NAME: Obis = Obis([0, 0, 96, 3, 10, 255]);
 
+// The logical name of the current association.
 const ASSOCIATION: Obis = Obis([0, 0, 40, 0, 0, 255]);
 
+// The logical name of the script table.
 const SCRIPT_TABLE_NAME: Obis = Obis([0, 0, 10, 0, 106, 255]);
 
+// The logical name of the last single action schedule.
 const LAST_SCHEDULE_NAME: Obis = Obis([0, 3, 15, 0, 1, 255]);
 
+// The logical name of the register of the import.
 const IMPORT_REGISTER: Obis = Obis([1, 0, 1, 7, 0, 255]);
 
+// The logical name of the register of the export.
 const EXPORT_REGISTER: Obis = Obis([1, 0, 2, 7, 0, 255]);
 
+// The logical name of the limiter of the import.
 const IMPORT_LIMITER: Obis = Obis([0, 0, 17, 0, 0, 255]);
 
+// The logical name of the limiter of the export.
 const EXPORT_LIMITER: Obis = Obis([0, 1, 17, 0, 0, 255]);
 
+// The logical name of the device name.
 const DEVICE_NAME: Obis = Obis([0, 0, 42, 0, 0, 255]);
 
+// A logical name that no object has.
 const UNKNOWN: Obis = Obis([0, 0, 96, 3, 11, 255]);
 
 fn attribute_of(class: u16, name: Obis, number: u8) -> AttrRef {
@@ -70,16 +80,19 @@ fn names_have_their_class(rt: HostRuntime) {
     tables_are_told();
 }
 
+// No access.
 const NOTHING: Rights = Rights {
     read: false,
     write: false,
 };
 
+// Access to read only.
 const READ: Rights = Rights {
     read: true,
     write: false,
 };
 
+// Access to read and to write.
 const WRITTEN: Rights = Rights {
     read: true,
     write: true,

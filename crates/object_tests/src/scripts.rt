@@ -192,6 +192,7 @@ fn a_table_is_read_and_written_back(rt: HostRuntime) -> Result<(), Fail> {
     Ok(())
 }
 
+// Steps of `TABLE`: the script, the place of the step, and the step, if there is one.
 const STEPS_OF_THE_TABLE: [(u16, u8, Option<Step>); 3] = [
     (3, 0, Some(Step::WriteMode(ControlMode::Mode0))),
     (3, 1, Some(Step::Disconnect)),
@@ -213,6 +214,7 @@ fn a_new_table_has_no_script(rt: HostRuntime) {
     drop(table);
 }
 
+// The last two steps of the last script of a full table.
 const STEPS_OF_A_FULL_TABLE: [(u16, u8, Option<Step>); 2] = [
     (16, 6, Some(Step::Disconnect)),
     (16, 7, Some(Step::WriteMinUnder(Which::Export, 15))),
@@ -457,6 +459,7 @@ fn one_step(alloc: Global, step: &str) -> Option<Step> {
     found
 }
 
+// The texts of steps, in hexadecimal, each with the step that is read.
 const READ_STEPS: [(&str, Step); 8] = [
     // Thresholds and durations.
     (

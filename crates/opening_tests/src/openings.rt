@@ -414,6 +414,7 @@ const VERSIONS: &[Other] = &[
     Other::WrongAt(16, 1, b"RELAYTRACE 2\n"),
 ];
 
+// Version 1, with which line 16 of `SET_METER` is rejected.
 const OLDER: &[Other] = &[Other::WrongAt(16, 1, b"RELAYTRACE 1\n")];
 
 #[test]
@@ -422,6 +423,7 @@ fn the_version_is_1_or_2(rt: HostRuntime) {
     assert!(rt; matches!(hold(rt.alloc(), SET_METER, OLDER), Ok(true)));
 }
 
+// Other lines for the device name.
 const DEVICES: &[Other] = &[
     Other::Read(2, b"device 00\ndevice 000102030405060708090A0B0C0D0E0F\n"),
     Other::Wrong(
@@ -449,6 +451,7 @@ const MODES: &[Other] = &[
     Other::WrongAt(4, 3, b"state 0\n"),
 ];
 
+// Mode 0, which is rejected in state 2.
 const MODE_IN_STATE_2: &[Other] = &[Other::Wrong(4, b"mode 0\n")];
 
 #[test]
@@ -457,6 +460,7 @@ fn mode_0_goes_with_state_1_alone(rt: HostRuntime) {
     assert!(rt; matches!(hold(rt.alloc(), SET_METER, MODE_IN_STATE_2), Ok(true)));
 }
 
+// Other lines for the value of the import.
 const VALUES: &[Other] = &[
     Other::Wrong(
         5,
@@ -499,6 +503,7 @@ fn an_emergency_profile_has_three_words(rt: HostRuntime) {
     assert!(rt; matches!(hold(rt.alloc(), NEW_METER, PROFILES), Ok(true)));
 }
 
+// Other lines for the groups of a limiter.
 const GROUPS: &[Other] = &[
     Other::Read(
         12,
@@ -559,6 +564,7 @@ const GREATEST_RUNS: &[Other] = &[
     Other::Read(14, b"over 1 0\n"),
 ];
 
+// The greatest value of the export, with which line 25 of `SET_METER` is rejected.
 const GREATEST_EXPORT: &[Other] = &[Other::WrongAt(25, 16, b"xvalue 4294967295\n")];
 
 // Returns whether a new meter with the greatest value is read, and these lines hold of it.
@@ -602,6 +608,7 @@ fn a_script_table_is_read_as_it_is_written(rt: HostRuntime) {
     assert!(rt; matches!(hold(rt.alloc(), NEW_METER, SCRIPTS), Ok(true)));
 }
 
+// Other lines for the schedules.
 const SCHEDULES: &[Other] = &[
     Other::Wrong(
         17,
@@ -650,6 +657,7 @@ fn lines_of_the_export_limiter_begin_with_an_x(rt: HostRuntime) {
     assert!(rt; matches!(hold(rt.alloc(), SET_METER, EXPORTS), Ok(true)));
 }
 
+// Lines with the number of events, each with the number that is read.
 const EVENT_COUNTS: &[(&[u8], Option<u32>)] = &[
     (b"events 0\n", Some(0)),
     (b"events 65536\n", Some(65_536)),
@@ -677,6 +685,7 @@ fn there_are_up_to_65536_events(rt: HostRuntime) {
 // The result of reading the second line of two events.
 type Second = (Version, &'static [u8], Result<(), TraceFault>);
 
+// Texts of two events, each with the result of reading the second.
 const SECONDS: &[Second] = &[
     (Version::Two, b"button\npairs 1 2\n", Ok(())),
     (
@@ -703,6 +712,7 @@ fn events_are_read_line_by_line(rt: HostRuntime) {
     assert!(rt; are_seconds(rt.alloc(), SECONDS));
 }
 
+// The rest of a trace after its last event, and the result of reading its end.
 const ENDS: &[(&[u8], Result<(), TraceFault>)] = &[
     (b"", Ok(())),
     (b"\n", Err(TraceFault::Line(1))),

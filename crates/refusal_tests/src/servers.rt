@@ -94,11 +94,11 @@ impl Observer for Answered {}
 
 /// Accepts clients that ask for an association and close their connections.
 #[derive(Drop)]
-struct Door {
+struct ClientListener {
     clients: Arc<Clients, Global>,
 }
 
-impl Listener for Door {
+impl Listener for ClientListener {
     type Input = &'static [u8];
 
     type Output = Answered;
@@ -136,14 +136,14 @@ impl ButtonSource for Still {
 fn serve<R: Threads + Wait + Copy + Send + 'static>(
     rt: &R,
     alloc: Global,
-    door: &mut Door,
+    listener: &mut ClientListener,
     port: Port<Kept>,
     password: &Octets,
 ) -> (Port<Kept>, Result<Served, ServeFault>)
     requires { IsPassword password.now }
     ensures { result.0.lock ≡ port.lock }
 {
-    match serve_all(rt, alloc, door, Still, Still, Still, port, password, 2) {
+    match serve_all(rt, alloc, listener, Still, Still, Still, port, password, 2) {
         Ok((port, served)) => (port, Ok(served)),
         Err((port, fault)) => (port, Err(fault)),
     }
@@ -155,13 +155,13 @@ type Evening = (Result<Served, ServeFault>, Option<u16>);
 fn serve_new<R: Threads + Wait + Abort + Copy + Send + 'static>(
     rt: &R,
     alloc: Global,
-    door: &mut Door,
+    listener: &mut ClientListener,
     password: &Octets,
 ) -> Result<Evening, AllocError>
     requires { IsPassword password.now }
 {
     let (shared, port) = new_lock(rt, alloc)?;
-    let (port, served) = serve(rt, alloc, door, port, password);
+    let (port, served) = serve(rt, alloc, listener, port, password);
     Ok((served, kept(shared, port)))
 }
 
@@ -174,11 +174,11 @@ fn open<R: Threads + Wait + Abort + Copy + Send + 'static>(
 ) -> Result<Evening, AllocError>
     requires { IsPassword password.now }
 {
-    let mut door = Door {
+    let mut listener = ClientListener {
         clients: Arc::try_clone(clients)?,
     };
-    let evening = serve_new(rt, alloc, &mut door, password);
-    drop(door);
+    let evening = serve_new(rt, alloc, &mut listener, password);
+    drop(listener);
     evening
 }
 

@@ -94,18 +94,18 @@ pub(crate) fn client(
 
 /// A listener that accepts the clients of a list, in order, and then fails.
 #[derive(Drop)]
-pub(crate) struct Door {
+pub(crate) struct ClientListener {
     clients: VecDeque<Client>,
     pub(crate) accepted: u64,
     pub(crate) has_failed: bool,
     ghost fits: { accepted + deque_len clients < 2 ^ 64 },
 }
 
-impl Door {
-    pub(crate) fn new(clients: VecDeque<Client>) -> Door
+impl ClientListener {
+    pub(crate) fn new(clients: VecDeque<Client>) -> ClientListener
         ensures { (result.accepted ≡ 0) × (result.has_failed ≡ false) }
     {
-        Door {
+        ClientListener {
             clients,
             accepted: 0,
             has_failed: false,
@@ -113,14 +113,14 @@ impl Door {
     }
 }
 
-impl Listener for Door {
+impl Listener for ClientListener {
     type Input = Cursor<Vec<u8>>;
 
     type Output = Answered;
 
-    ghost has_failed = { λ door. IsTrue door.has_failed };
+    ghost has_failed = { λ listener. IsTrue listener.has_failed };
 
-    ghost accepted = { λ door. Some door.accepted };
+    ghost accepted = { λ listener. Some listener.accepted };
 
     fn accept(&mut self) -> Result<Option<Client>, ListenFault> {
         match self.clients.pop_front() {

@@ -4,7 +4,7 @@ ghost use Rattle.acse_ber.specs.Password.{IsPassword};
 ghost use Rattle.run_tests.specs.ListedRuns.{IsListedRun};
 ghost use Rattle.session_io.specs.declared.fault.ServeFault.TheVariants.{Listen};
 
-use crate::clients::{Client, Door, Line, client};
+use crate::clients::{Client, ClientListener, Line, client};
 use crate::sources::{ListedBlocks, ListedMoments, ListedPresses};
 use crate::traces::{Lines, is_merged};
 use cosem_axdr::Octets;
@@ -30,7 +30,7 @@ fn run_lists<R: Threads + Wait + Copy + Send + 'static>(
     rt: &R,
     alloc: Global,
     recorder: Recorder,
-    door: &mut Door,
+    listener: &mut ClientListener,
     lists: Lists,
     password: &Octets,
     limit: u32,
@@ -47,10 +47,18 @@ fn run_lists<R: Threads + Wait + Copy + Send + 'static>(
         }) served.served)) }
     ensures limit { IfOk result.served (λ served. served.served + served.turned_away ≡ limit) }
     ensures counted { IfOk result.served (λ served.
-        door.new.accepted ≡ door.old.accepted + (served.served + served.turned_away)) }
-    ensures failed { IsErrOf result.served Listen → IsTrue door.new.has_failed }
+        listener.new.accepted ≡ listener.old.accepted + (served.served + served.turned_away)) }
+    ensures failed { IsErrOf result.served Listen → IsTrue listener.new.has_failed }
 {
-    run_meter(rt, alloc, recorder, door, lists, password, u64::from(limit))
+    run_meter(
+        rt,
+        alloc,
+        recorder,
+        listener,
+        lists,
+        password,
+        u64::from(limit),
+    )
 }
 
 /// Returns a recorder of a new meter RELAY1 that has taken no event.
@@ -83,7 +91,7 @@ fn ended(run: MeterRun, expected: &[Lines; 6]) -> Ended {
 fn run<R: Threads + Wait + Abort + Copy + Send + 'static>(
     rt: &R,
     alloc: Global,
-    door: &mut Door,
+    listener: &mut ClientListener,
     lists: Lists,
     limit: u32,
     expected: &[Lines; 6],
@@ -96,7 +104,7 @@ fn run<R: Threads + Wait + Abort + Copy + Send + 'static>(
     ) {
         (Ok(recorder), Ok(password)) => {
             assert!(*rt; password.len() == 8);
-            let run = run_lists(rt, alloc, recorder, door, lists, &password, limit);
+            let run = run_lists(rt, alloc, recorder, listener, lists, &password, limit);
             drop(password);
             Ok(ended(run, expected))
         }
@@ -199,11 +207,11 @@ fn add_client(
 }
 
 /// Returns a listener that accepts the management client and then the public one.
-fn door_of_two(alloc: Global, line: &Arc<Line, Global>) -> Result<Door, Fail> {
+fn listener_of_two(alloc: Global, line: &Arc<Line, Global>) -> Result<ClientListener, Fail> {
     let mut clients = VecDeque::new(alloc);
     add_client(alloc, &mut clients, line, WRITES_MODE, MODE_WRITTEN)?;
     add_client(alloc, &mut clients, line, READS_STATE, STATE_READ)?;
-    Ok(Door::new(clients))
+    Ok(ClientListener::new(clients))
 }
 
 /// The lines of the trace that come from the run: the head of the events, and the events of each
@@ -226,14 +234,14 @@ static ALL_LINES: [Lines; 6] = [
 fn run_two<R: Threads + Wait + Abort + Copy + Send + 'static>(
     rt: &R,
     alloc: Global,
-    door: &mut Door,
+    listener: &mut ClientListener,
     limit: u32,
 ) -> Result<Ended, Fail>
     requires { 0 < limit }
 {
     let mut lists = no_lists(alloc);
     match fill(alloc, &mut lists) {
-        Ok(()) => Ok(run(rt, alloc, door, lists, limit, &ALL_LINES)?),
+        Ok(()) => Ok(run(rt, alloc, listener, lists, limit, &ALL_LINES)?),
         Err(fail) => {
             drop(lists);
             Err(fail)
@@ -245,15 +253,15 @@ fn run_two<R: Threads + Wait + Abort + Copy + Send + 'static>(
 fn lists_are_handed_in_whole(rt: HostRuntime) -> Result<(), Fail> {
     let alloc = rt.alloc();
     let line = Arc::new(alloc, Line::new())?;
-    let mut door = door_of_two(alloc, &line)?;
-    let (served, is_traced) = run_two(&rt, alloc, &mut door, 2)?;
+    let mut listener = listener_of_two(alloc, &line)?;
+    let (served, is_traced) = run_two(&rt, alloc, &mut listener, 2)?;
     let all = Served {
         served: 2,
         turned_away: 0,
     };
     assert!(rt; served == Ok(all));
     assert!(rt; is_traced);
-    assert!(rt; (door.accepted, door.has_failed) == (2, false));
+    assert!(rt; (listener.accepted, listener.has_failed) == (2, false));
     // Both answers to an AARQ have 51 bytes; the answers to the requests have 12 and 14.
     assert!(rt; line.counts() == (51 + 12 + 51 + 14, 0, 2));
     Ok(())
@@ -263,11 +271,11 @@ fn lists_are_handed_in_whole(rt: HostRuntime) -> Result<(), Fail> {
 fn a_listener_that_fails_ends_the_run(rt: HostRuntime) -> Result<(), Fail> {
     let alloc = rt.alloc();
     let line = Arc::new(alloc, Line::new())?;
-    let mut door = door_of_two(alloc, &line)?;
-    let (served, is_traced) = run_two(&rt, alloc, &mut door, 3)?;
+    let mut listener = listener_of_two(alloc, &line)?;
+    let (served, is_traced) = run_two(&rt, alloc, &mut listener, 3)?;
     assert!(rt; served == Err(ServeFault::Listen));
     assert!(rt; is_traced);
-    assert!(rt; (door.accepted, door.has_failed) == (2, true));
+    assert!(rt; (listener.accepted, listener.has_failed) == (2, true));
     assert!(rt; line.counts() == (51 + 12 + 51 + 14, 0, 2));
     Ok(())
 }

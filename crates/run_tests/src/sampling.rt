@@ -23,16 +23,19 @@ struct Thresholds {
     export: u32,
 }
 
+// The thresholds that are written before block 1.
 const FIRST: Thresholds = Thresholds {
     import: 100,
     export: 200,
 };
 
+// The thresholds that are written before block 33.
 const SECOND: Thresholds = Thresholds {
     import: 300,
     export: 400,
 };
 
+// The thresholds that are written before block 97.
 const THIRD: Thresholds = Thresholds {
     import: 500,
     export: 600,
@@ -132,6 +135,7 @@ struct Found {
     is_as_expected: bool,
 }
 
+// The findings before the first event.
 const NOTHING: Found = Found {
     in_force: FIRST,
     read: None,

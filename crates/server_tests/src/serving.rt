@@ -10,7 +10,7 @@ mod sources;
 
 use crate::ports::{WRITE_MODE, new_lock};
 use crate::talks::{MANAGEMENT, PUBLIC, Texts, talk};
-use callers::{Caller, Door, Line};
+use callers::{Caller, CallerListener, ClientResults};
 use cosem_axdr::Octets;
 use lane_sampler::Block;
 use loopback::Loopback;
@@ -31,10 +31,10 @@ use turn_lock::{Port, Shared};
 /// The public client's GET of control_state, and its response.
 const READ_STATE: (&str, &str) = ("C001C10046000060030AFF0300", "C401C1001601");
 
-/// The number of bytes of the response to an association, and of that together with the response to
-/// a GET of the state.
+// The number of bytes of the response to an association.
 const OPENED: u64 = 51;
 
+// The number of bytes of the responses to an association and to a GET of the state.
 const READ_ONCE: u64 = 65;
 
 /// What the sources give.
@@ -45,6 +45,7 @@ struct Given {
     press: Option<()>,
 }
 
+// Sources that give nothing.
 const NOTHING: Given = Given {
     block: None,
     moment: None,
@@ -62,6 +63,7 @@ struct Kinds {
     others: u16,
 }
 
+// No event of any kind.
 const NO_KINDS: Kinds = Kinds {
     writes: 0,
     blocks: 0,
@@ -228,7 +230,7 @@ fn told(served: u64, turned_away: u64) -> Result<Served, ServeFault> {
 }
 
 /// Returns a client that sends and expects these texts, and does not wait.
-fn client(line: &Arc<Line, Global>, texts: Texts) -> Result<Caller, AllocError> {
+fn client(line: &Arc<ClientResults, Global>, texts: Texts) -> Result<Caller, AllocError> {
     match (Arc::try_clone(line), Arc::try_clone(line)) {
         (Ok(line), Ok(other)) => {
             let Texts { asked, answered } = texts;
@@ -251,7 +253,7 @@ fn client(line: &Arc<Line, Global>, texts: Texts) -> Result<Caller, AllocError> 
 }
 
 /// Returns a client that associates and reads the state `reads` times, and does not wait.
-fn caller(alloc: Global, line: &Arc<Line, Global>, reads: usize) -> Result<Caller, Fail> {
+fn caller(alloc: Global, line: &Arc<ClientResults, Global>, reads: usize) -> Result<Caller, Fail> {
     let texts = talk(alloc, PUBLIC, 16, &[READ_STATE, READ_STATE][..reads.min(2)])?;
     Ok(client(line, texts)?)
 }
@@ -260,9 +262,9 @@ fn caller(alloc: Global, line: &Arc<Line, Global>, reads: usize) -> Result<Calle
 /// until another line has received `other_sent` bytes or is closed.
 fn waiting_caller(
     alloc: Global,
-    line: &Arc<Line, Global>,
+    line: &Arc<ClientResults, Global>,
     (reads, waits_at): (usize, usize),
-    other: &Arc<Line, Global>,
+    other: &Arc<ClientResults, Global>,
     other_sent: u64,
 ) -> Result<Caller, Fail> {
     let other = Arc::try_clone(other)?;
@@ -281,9 +283,12 @@ fn waiting_caller(
 }
 
 /// Returns a listener without clients.
-fn new_door(alloc: Global, line: &Arc<Line, Global>) -> Result<Door, AllocError> {
+fn new_listener(
+    alloc: Global,
+    line: &Arc<ClientResults, Global>,
+) -> Result<CallerListener, AllocError> {
     let line = Arc::try_clone(line)?;
-    Ok(Door {
+    Ok(CallerListener {
         without_stream: 0,
         callers: Vec::new(alloc),
         line,
@@ -292,8 +297,8 @@ fn new_door(alloc: Global, line: &Arc<Line, Global>) -> Result<Door, AllocError>
 }
 
 /// Adds a client, if there is one, to a listener.
-fn add(door: &mut Door, caller: Result<Caller, Fail>) -> Result<(), Fail> {
-    match door.callers.push(caller?) {
+fn add(listener: &mut CallerListener, caller: Result<Caller, Fail>) -> Result<(), Fail> {
+    match listener.callers.push(caller?) {
         Ok(()) => Ok(()),
         Err(refused) => {
             drop(refused);
@@ -303,21 +308,21 @@ fn add(door: &mut Door, caller: Result<Caller, Fail>) -> Result<(), Fail> {
 }
 
 /// Returns the result of serving a listener's clients, once they have been added.
-fn serve_door<R: Threads + Wait + Abort + Copy + Send + 'static>(
+fn serve_listener<R: Threads + Wait + Abort + Copy + Send + 'static>(
     rt: &R,
     alloc: Global,
-    mut door: Door,
+    mut listener: CallerListener,
     added: Result<(), Fail>,
     given: Given,
     limit: u64,
 ) -> Result<Evening, Fail> {
     if let Err(fail) = added {
-        drop(door);
+        drop(listener);
         drop(given);
         return Err(fail);
     }
-    let evening = serve(rt, alloc, &mut door, given, limit);
-    drop(door);
+    let evening = serve(rt, alloc, &mut listener, given, limit);
+    drop(listener);
     Ok(evening?)
 }
 
@@ -325,30 +330,36 @@ fn serve_door<R: Threads + Wait + Abort + Copy + Send + 'static>(
 /// was answered.
 fn add_two_that_wait(
     alloc: Global,
-    door: &mut Door,
-    one: &Arc<Line, Global>,
-    two: &Arc<Line, Global>,
+    listener: &mut CallerListener,
+    one: &Arc<ClientResults, Global>,
+    two: &Arc<ClientResults, Global>,
 ) -> Result<(), Fail> {
-    add(door, waiting_caller(alloc, one, (2, 60), two, READ_ONCE))?;
-    add(door, waiting_caller(alloc, two, (1, 39), one, READ_ONCE))
+    add(
+        listener,
+        waiting_caller(alloc, one, (2, 60), two, READ_ONCE),
+    )?;
+    add(
+        listener,
+        waiting_caller(alloc, two, (1, 39), one, READ_ONCE),
+    )
 }
 
 fn serve_two_that_wait<R: Threads + Wait + Abort + Copy + Send + 'static>(
     rt: &R,
     alloc: Global,
-    one: &Arc<Line, Global>,
-    two: &Arc<Line, Global>,
+    one: &Arc<ClientResults, Global>,
+    two: &Arc<ClientResults, Global>,
 ) -> Result<Evening, Fail> {
-    let mut door = new_door(alloc, one)?;
-    let added = add_two_that_wait(alloc, &mut door, one, two);
-    serve_door(rt, alloc, door, added, NOTHING, 2)
+    let mut listener = new_listener(alloc, one)?;
+    let added = add_two_that_wait(alloc, &mut listener, one, two);
+    serve_listener(rt, alloc, listener, added, NOTHING, 2)
 }
 
 #[test]
 fn serves_two_sessions_side_by_side(rt: HostRuntime) -> Result<(), Fail> {
     let alloc = rt.alloc();
-    let one = Arc::new(alloc, Line::new())?;
-    let two = Arc::new(alloc, Line::new())?;
+    let one = Arc::new(alloc, ClientResults::new())?;
+    let two = Arc::new(alloc, ClientResults::new())?;
     let came = serve_two_that_wait(&rt, alloc, &one, &two);
     let outcomes = (one.outcome(), two.outcome());
     drop(one);
@@ -363,36 +374,39 @@ fn serves_two_sessions_side_by_side(rt: HostRuntime) -> Result<(), Fail> {
 /// answered, and must receive nothing.
 fn add_nine(
     alloc: Global,
-    door: &mut Door,
-    eight: &Arc<Line, Global>,
-    ninth: &Arc<Line, Global>,
+    listener: &mut CallerListener,
+    eight: &Arc<ClientResults, Global>,
+    ninth: &Arc<ClientResults, Global>,
 ) -> Result<(), Fail> {
     let mut last = caller(alloc, ninth, 0)?;
     last.answers = Vec::new(alloc);
-    add(door, Ok(last))?;
+    add(listener, Ok(last))?;
     for _ in 0..8 {
-        add(door, waiting_caller(alloc, eight, (0, 39), ninth, u64::MAX))?;
+        add(
+            listener,
+            waiting_caller(alloc, eight, (0, 39), ninth, u64::MAX),
+        )?;
     }
-    door.sent = 8 * OPENED;
+    listener.sent = 8 * OPENED;
     Ok(())
 }
 
 fn serve_nine<R: Threads + Wait + Abort + Copy + Send + 'static>(
     rt: &R,
     alloc: Global,
-    eight: &Arc<Line, Global>,
-    ninth: &Arc<Line, Global>,
+    eight: &Arc<ClientResults, Global>,
+    ninth: &Arc<ClientResults, Global>,
 ) -> Result<Evening, Fail> {
-    let mut door = new_door(alloc, eight)?;
-    let added = add_nine(alloc, &mut door, eight, ninth);
-    serve_door(rt, alloc, door, added, NOTHING, 9)
+    let mut listener = new_listener(alloc, eight)?;
+    let added = add_nine(alloc, &mut listener, eight, ninth);
+    serve_listener(rt, alloc, listener, added, NOTHING, 9)
 }
 
 #[test]
 fn turns_the_ninth_away(rt: HostRuntime) -> Result<(), Fail> {
     let alloc = rt.alloc();
-    let eight = Arc::new(alloc, Line::new())?;
-    let ninth = Arc::new(alloc, Line::new())?;
+    let eight = Arc::new(alloc, ClientResults::new())?;
+    let ninth = Arc::new(alloc, ClientResults::new())?;
     let came = serve_nine(&rt, alloc, &eight, &ninth);
     let outcomes = (eight.outcome(), ninth.outcome());
     drop(eight);
@@ -407,15 +421,15 @@ fn turns_the_ninth_away(rt: HostRuntime) -> Result<(), Fail> {
 fn serve_one<R: Threads + Wait + Abort + Copy + Send + 'static>(
     rt: &R,
     alloc: Global,
-    line: &Arc<Line, Global>,
+    line: &Arc<ClientResults, Global>,
     only: Caller,
     given: Given,
     limit: u64,
 ) -> Result<Evening, Fail> {
-    match new_door(alloc, line) {
-        Ok(mut door) => {
-            let added = add(&mut door, Ok(only));
-            serve_door(rt, alloc, door, added, given, limit)
+    match new_listener(alloc, line) {
+        Ok(mut listener) => {
+            let added = add(&mut listener, Ok(only));
+            serve_listener(rt, alloc, listener, added, given, limit)
         }
         Err(error) => {
             drop(only);
@@ -429,7 +443,7 @@ fn serve_one<R: Threads + Wait + Abort + Copy + Send + 'static>(
 fn serve_opening<R: Threads + Wait + Abort + Copy + Send + 'static>(
     rt: &R,
     alloc: Global,
-    line: &Arc<Line, Global>,
+    line: &Arc<ClientResults, Global>,
 ) -> Result<Evening, Fail> {
     let only = caller(alloc, line, 0)?;
     serve_one(rt, alloc, line, only, NOTHING, 2)
@@ -439,18 +453,18 @@ fn serve_opening<R: Threads + Wait + Abort + Copy + Send + 'static>(
 fn serve_without_stream<R: Threads + Wait + Abort + Copy + Send + 'static>(
     rt: &R,
     alloc: Global,
-    line: &Arc<Line, Global>,
+    line: &Arc<ClientResults, Global>,
 ) -> Result<Evening, Fail> {
-    let mut door = new_door(alloc, line)?;
-    door.without_stream = 1;
-    let added = add(&mut door, caller(alloc, line, 0));
-    serve_door(rt, alloc, door, added, NOTHING, 2)
+    let mut listener = new_listener(alloc, line)?;
+    listener.without_stream = 1;
+    let added = add(&mut listener, caller(alloc, line, 0));
+    serve_listener(rt, alloc, listener, added, NOTHING, 2)
 }
 
 #[test]
 fn turns_away_a_client_whose_stream_cannot_be_set_up(rt: HostRuntime) -> Result<(), Fail> {
     let alloc = rt.alloc();
-    let line = Arc::new(alloc, Line::new())?;
+    let line = Arc::new(alloc, ClientResults::new())?;
     let came = serve_without_stream(&rt, alloc, &line);
     let outcome = line.outcome();
     drop(line);
@@ -463,7 +477,7 @@ fn turns_away_a_client_whose_stream_cannot_be_set_up(rt: HostRuntime) -> Result<
 #[test]
 fn ends_where_the_listener_fails(rt: HostRuntime) -> Result<(), Fail> {
     let alloc = rt.alloc();
-    let line = Arc::new(alloc, Line::new())?;
+    let line = Arc::new(alloc, ClientResults::new())?;
     let came = serve_opening(&rt, alloc, &line);
     let outcome = line.outcome();
     drop(line);
@@ -474,7 +488,7 @@ fn ends_where_the_listener_fails(rt: HostRuntime) -> Result<(), Fail> {
 }
 
 /// Returns the management client, which writes mode 2.
-fn writing_caller(alloc: Global, line: &Arc<Line, Global>) -> Result<Caller, Fail> {
+fn writing_caller(alloc: Global, line: &Arc<ClientResults, Global>) -> Result<Caller, Fail> {
     let texts = talk(alloc, MANAGEMENT, 1, &[WRITE_MODE])?;
     Ok(client(line, texts)?)
 }
@@ -483,7 +497,7 @@ fn writing_caller(alloc: Global, line: &Arc<Line, Global>) -> Result<Caller, Fai
 fn serve_all_actors<R: Threads + Wait + Abort + Copy + Send + 'static>(
     rt: &R,
     alloc: Global,
-    line: &Arc<Line, Global>,
+    line: &Arc<ClientResults, Global>,
 ) -> Result<Evening, Fail> {
     let only = writing_caller(alloc, line)?;
     match Block::from_slice(alloc, &[10, 20]) {
@@ -505,7 +519,7 @@ fn serve_all_actors<R: Threads + Wait + Abort + Copy + Send + 'static>(
 #[test]
 fn hands_all_to_one_meter(rt: HostRuntime) -> Result<(), Fail> {
     let alloc = rt.alloc();
-    let line = Arc::new(alloc, Line::new())?;
+    let line = Arc::new(alloc, ClientResults::new())?;
     let came = serve_all_actors(&rt, alloc, &line);
     let outcome = line.outcome();
     drop(line);
@@ -546,12 +560,12 @@ fn receives(alloc: Global, client: &mut TcpStream, text: &[u8]) -> Result<bool, 
 fn serve_client<R: Threads + Wait + Abort + Copy + Send + 'static>(
     rt: &R,
     alloc: Global,
-    door: &mut Loopback,
+    listener: &mut Loopback,
     client: &mut TcpStream,
     texts: &Texts,
 ) -> Result<(Result<Served, ServeFault>, bool), Fail> {
     send(client, texts.asked.as_slice())?;
-    let (served, _) = serve(rt, alloc, door, NOTHING, 1)?;
+    let (served, _) = serve(rt, alloc, listener, NOTHING, 1)?;
     let is_answered = receives(alloc, client, texts.answered.as_slice())?;
     Ok((served, is_answered))
 }
@@ -561,11 +575,11 @@ fn serve_client<R: Threads + Wait + Abort + Copy + Send + 'static>(
 fn serve_reading<R: Threads + Wait + Abort + Copy + Send + 'static>(
     rt: &R,
     alloc: Global,
-    door: &mut Loopback,
+    listener: &mut Loopback,
     client: &mut TcpStream,
 ) -> Result<(Result<Served, ServeFault>, bool), Fail> {
     let texts = talk(alloc, PUBLIC, 16, &[READ_STATE])?;
-    let came = serve_client(rt, alloc, door, client, &texts);
+    let came = serve_client(rt, alloc, listener, client, &texts);
     drop(texts);
     came
 }
@@ -573,11 +587,11 @@ fn serve_reading<R: Threads + Wait + Abort + Copy + Send + 'static>(
 #[test]
 fn serves_over_the_network(rt: HostRuntime) -> Result<(), Fail> {
     let alloc = rt.alloc();
-    let mut door = Loopback(TcpListener::bind(&rt, "127.0.0.1:0")?);
-    let mut client = TcpStream::connect(&rt, door.0.local_addr()?)?;
-    let came = serve_reading(&rt, alloc, &mut door, &mut client);
+    let mut listener = Loopback(TcpListener::bind(&rt, "127.0.0.1:0")?);
+    let mut client = TcpStream::connect(&rt, listener.0.local_addr()?)?;
+    let came = serve_reading(&rt, alloc, &mut listener, &mut client);
     drop(client);
-    drop(door);
+    drop(listener);
     let (served, is_answered) = came?;
     assert!(rt; served == told(1, 0));
     assert!(rt; is_answered);

@@ -129,6 +129,7 @@ pub(crate) const AMPLE: Plan = Plan {
     events: 1_000,
 };
 
+/// The plan in which the input arrives byte by byte and nothing fails.
 pub(crate) const BY_BYTES: Plan = Plan { piece: 1, ..AMPLE };
 
 /// The result of a session.
@@ -322,8 +323,10 @@ fn texts_of(alloc: Global, talk: &Talk) -> Result<Texts, Fail> {
     }
 }
 
+/// The AARQ of the public client, and its AARE.
 pub(crate) const PUBLIC: (&str, &str) = (PUBLIC_AARQ, PUBLIC_AARE);
 
+/// The AARQ of the management client, and its AARE.
 pub(crate) const MANAGEMENT: (&str, &str) = (MANAGEMENT_AARQ, MANAGEMENT_AARE);
 
 /// What a session shows, the password of the management client, what is sent and answered (in

@@ -11,10 +11,13 @@ use std::process::Abort;
 /// supply is on.
 type Step = (Trigger, ResultCode, (ControlState, u8, bool));
 
+// The state disconnected: the state, its number, and whether the supply is on.
 const DISCONNECTED: (ControlState, u8, bool) = (ControlState::Disconnected, 0, false);
 
+// The state connected: the state, its number, and whether the supply is on.
 const CONNECTED: (ControlState, u8, bool) = (ControlState::Connected, 1, true);
 
+// The state ready for reconnection: the state, its number, and whether the supply is on.
 const READY: (ControlState, u8, bool) = (ControlState::ReadyForReconnection, 2, false);
 
 fn in_mode(rt: &impl Abort, mode: ControlMode) -> DisconnectControl {

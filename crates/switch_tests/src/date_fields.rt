@@ -5,6 +5,7 @@ use std::process::Abort;
 /// 26 March 2028, a Sunday.
 const DATE: [u8; 5] = [0x07, 0xEC, 3, 26, 7];
 
+// Sunday 26 March 2028, 12:30:15, as a date-time.
 const DATE_TIME: [u8; 12] = [0x07, 0xEC, 3, 26, 7, 12, 30, 15, 0, 0, 60, 0x80];
 
 /// Returns the fault that a byte causes at its place in a date-time.

@@ -12,6 +12,7 @@ const MARCH_26: u32 = 890_956_800;
 /// The number of seconds of a day.
 const DAY: u32 = 86_400;
 
+// A time in which no field is specified.
 const ANY_TIME: [u8; 4] = [0xFF, 0xFF, 0xFF, 0xFF];
 
 fn entry(time: [u8; 4], date: [u8; 5]) -> Result<EntryPattern, PatternFault> {
@@ -36,8 +37,10 @@ fn check_days(rt: &impl Abort, rows: &[([u8; 5], u32, bool)]) {
     }
 }
 
+// The last Sunday of March, of any year.
 const LAST_SUNDAY: [u8; 5] = [0xFF, 0xFF, 3, 0xFE, 7];
 
+// The first Sunday of March from day 25 on, of any year.
 const SUNDAY_FROM_THE_25TH: [u8; 5] = [0xFF, 0xFF, 3, 25, 7];
 
 static SUNDAY_25_MARCH_2028: [u8; 5] = [0x07, 0xEC, 3, 25, 7];
@@ -70,8 +73,10 @@ fn a_week_that_began_in_1999(rt: HostRuntime) {
     check_days(&rt, &DAYS_AT_THE_TURN);
 }
 
+// The second last day of any month.
 const SECOND_LAST: [u8; 5] = [0xFF, 0xFF, 0xFF, 0xFD, 0xFF];
 
+// The last day of any month.
 const LAST: [u8; 5] = [0xFF, 0xFF, 0xFF, 0xFE, 0xFF];
 
 static LAST_DAYS_OF_MARCH: [([u8; 5], u32, bool); 4] = [
@@ -114,6 +119,7 @@ fn is_plain(date: [u8; 5]) -> Result<bool, PatternFault> {
     Ok(entry(ANY_TIME, date)?.date_is_plain())
 }
 
+// Dates, each with whether its year, month and day are all plain numbers.
 const PLAIN: [([u8; 5], bool); 7] = [
     ([0x07, 0xEC, 3, 25, 7], true),
     ([0x07, 0xEC, 3, 25, 0xFF], true),
@@ -135,6 +141,7 @@ fn are_same(one: [u8; 4], other: [u8; 4]) -> Result<bool, PatternFault> {
     Ok(read_time(&one)?.same_time(&read_time(&other)?))
 }
 
+// The time 12:00:00.00.
 const NOON: [u8; 4] = [12, 0, 0, 0];
 
 static TIMES: [([u8; 4], [u8; 4], bool); 5] = [

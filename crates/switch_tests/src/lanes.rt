@@ -5,8 +5,10 @@ use std::alloc::Global;
 use std::process::Abort;
 use std::test::Fail;
 
+// The mask of no value.
 const NONE: [u64; 4] = [0; 4];
 
+// The mask of all 256 values.
 const ALL: [u64; 4] = [u64::MAX; 4];
 
 // Returns 0, 40, 80 and so on: value 125 is 5000.
@@ -208,6 +210,7 @@ fn made_of_pairs(alloc: Global, import: &[u32], export: &[u32]) -> Result<usize,
     Ok(len)
 }
 
+// One value more than a block can have.
 const LONG: [u32; 257] = [0; 257];
 
 // Import values, export values, and the length of their block, or the fault.

@@ -3,7 +3,7 @@
 mod guests;
 
 use crate::locks::{close, start};
-use guests::{Closed, Door, Hall, NONE_CLOSED};
+use guests::{Closed, GuestListener, Hall, NONE_CLOSED};
 use port_threads::{Accepted, serve_connections};
 use std::alloc::{AllocError, Global};
 use std::sync::{Arc, Wait};
@@ -26,11 +26,11 @@ fn told(served: u64, turned_away: u64, has_failed: bool, has_starved: bool) -> A
 fn serve<R: Threads + Wait + Copy + Send + 'static>(
     rt: &R,
     alloc: Global,
-    door: &mut Door,
+    listener: &mut GuestListener,
     limit: u64,
 ) -> Result<(Accepted, Option<u64>), AllocError> {
     let (shared, mut port) = start(alloc, 100)?;
-    let accepted = serve_connections(rt, alloc, door, &mut port, limit);
+    let accepted = serve_connections(rt, alloc, listener, &mut port, limit);
     let count = close(shared, port);
     Ok((accepted?, count))
 }
@@ -44,9 +44,9 @@ fn spend<R: Threads + Wait + Copy + Send + 'static>(
     closed: Closed,
     limit: u64,
 ) -> Result<Evening, AllocError> {
-    let mut door = Door::new(Arc::try_clone(hall)?, guests, closed);
-    let served = serve(rt, alloc, &mut door, limit);
-    drop(door);
+    let mut listener = GuestListener::new(Arc::try_clone(hall)?, guests, closed);
+    let served = serve(rt, alloc, &mut listener, limit);
+    drop(listener);
     let (accepted, count) = served?;
     Ok((accepted, hall.content(), count))
 }
@@ -87,9 +87,9 @@ fn long_evening<R: Threads + Wait + Copy + Send + 'static>(
     guests: u64,
 ) -> Result<Evening, AllocError> {
     let hall = Arc::new(alloc, Hall::new(1))?;
-    let mut door = Door::one_by_one(Arc::try_clone(&hall)?, guests);
-    let served = serve(rt, alloc, &mut door, guests);
-    drop(door);
+    let mut listener = GuestListener::one_by_one(Arc::try_clone(&hall)?, guests);
+    let served = serve(rt, alloc, &mut listener, guests);
+    drop(listener);
     let (accepted, count) = served?;
     let content = hall.content();
     drop(hall);
@@ -111,9 +111,9 @@ fn relay_evening<R: Threads + Wait + Copy + Send + 'static>(
     guests: u64,
 ) -> Result<Evening, AllocError> {
     let hall = Arc::new(alloc, Hall::new(1))?;
-    let mut door = Door::after_the_first(Arc::try_clone(&hall)?, guests);
-    let served = serve(rt, alloc, &mut door, guests);
-    drop(door);
+    let mut listener = GuestListener::after_the_first(Arc::try_clone(&hall)?, guests);
+    let served = serve(rt, alloc, &mut listener, guests);
+    drop(listener);
     let (accepted, count) = served?;
     let content = hall.content();
     drop(hall);

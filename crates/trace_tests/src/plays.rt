@@ -367,6 +367,7 @@ fn a_trace_is_played(rt: HostRuntime) {
     assert!(rt; prints(rt.alloc(), PAIRS, 3, PAIRS_OUTPUT));
 }
 
+// The expected line of a block of one sample in a run that has fired.
 const FIRED: Asked = Asked::Prints(b"1: sampled 0 0; state 1; supply on\n");
 
 #[test]
@@ -377,8 +378,10 @@ fn a_run_is_taken_up(rt: HostRuntime) {
     assert!(rt; is_so_with_run(alloc, b"over 42949672950 0", Asked::WrongAt(14)));
 }
 
+// A GET of control_state and of an object that does not exist.
 const LIST: &[u8] = b"getlist 1 2 70 000060030AFF 3 0 70 000060030BFF 3 0";
 
+// The result of `LIST`: a value and a code.
 const VALUES: Asked = Asked::Prints(b"1: values 2 value 1601 code 4; state 1; supply on\n");
 
 #[test]
@@ -394,6 +397,7 @@ fn a_line_that_is_missing_is_told(rt: HostRuntime) {
     assert!(rt; is_wrong_at(alloc, b"", 1));
 }
 
+// Lines with a wrong number of events, each with the line of the fault.
 const EVENT_COUNTS: &[Wrong] = &[
     (TRACE, 21, b"events 8", 30),
     (TRACE, 21, b"events 10", 31),
@@ -405,6 +409,7 @@ fn another_number_of_events_is_told(rt: HostRuntime) {
     assert!(rt; are_wrong(rt.alloc(), EVENT_COUNTS));
 }
 
+// Lines that replace those of a trace, each with the line of the fault.
 const OTHER_LINES: &[Wrong] = &[
     (TRACE, 24, b"press", 24),
     (TRACE, 28, b"pairs 0 5001", 28),

@@ -6,6 +6,7 @@ use relay_core::{Event, RelayCore, Reply};
 use std::alloc::{AllocError, Global};
 use wire_bytes::Listed;
 
+// A device name of the greatest length, 16 bytes.
 const NAME: &[u8] = b"ABCDEFGHIJKLMNOP";
 
 /// Returns whether a meter can have the first `length` bytes of a name, 1 to 16.

@@ -6,21 +6,21 @@ use std::sync::Arc;
 use std::sync::atomic::{AtomicBool, AtomicU64, Ordering};
 use std::{io, thread};
 
-/// The number of attempts of a wait.
-const ASKED: u64 = 1_000_000;
+/// The maximum number of attempts of a wait.
+const MAX_ATTEMPTS: u64 = 1_000_000;
 
 /// The results of one client or several, shared with other threads.
 #[derive(Drop)]
-pub(super) struct Line {
+pub(super) struct ClientResults {
     sent: AtomicU64,
     ended: AtomicU64,
     is_closed: AtomicBool,
     went_wrong: AtomicBool,
 }
 
-impl Line {
-    pub(super) fn new() -> Line {
-        Line {
+impl ClientResults {
+    pub(super) fn new() -> ClientResults {
+        ClientResults {
             sent: AtomicU64::new(0),
             ended: AtomicU64::new(0),
             is_closed: AtomicBool::new(false),
@@ -43,8 +43,8 @@ impl Line {
 
     /// Waits until another line has received `sent` bytes or is closed. Returns false if neither
     /// happens.
-    fn wait_for(&self, other: &Line, sent: u64) -> bool {
-        for _ in 0..ASKED {
+    fn wait_for(&self, other: &ClientResults, sent: u64) -> bool {
+        for _ in 0..MAX_ATTEMPTS {
             if other.is_closed.load(Ordering::SeqCst) || other.sent.load(Ordering::SeqCst) >= sent {
                 return true;
             }
@@ -59,26 +59,26 @@ impl Line {
 /// `other_sent` bytes or is closed.
 #[derive(Drop)]
 pub(super) struct Caller {
-    pub(super) line: Arc<Line, Global>,
+    pub(super) line: Arc<ClientResults, Global>,
     pub(super) asks: Vec<u8>,
     pub(super) answers: Vec<u8>,
     pub(super) waits_at: usize,
-    pub(super) other: Arc<Line, Global>,
+    pub(super) other: Arc<ClientResults, Global>,
     pub(super) other_sent: u64,
 }
 
 /// What a client sends.
 #[derive(Drop)]
-pub(super) struct Asking {
-    line: Arc<Line, Global>,
+pub(super) struct ClientInput {
+    line: Arc<ClientResults, Global>,
     bytes: Vec<u8>,
     at: usize,
     waits_at: usize,
-    other: Arc<Line, Global>,
+    other: Arc<ClientResults, Global>,
     other_sent: u64,
 }
 
-impl Read for Asking {
+impl Read for ClientInput {
     fn read(&mut self, buffer: &mut [u8]) -> io::Result<usize> {
         if self.at == self.waits_at && !self.line.wait_for(&self.other, self.other_sent) {
             return Ok(0);
@@ -98,15 +98,15 @@ impl Read for Asking {
 }
 
 /// The responses that a client expects. Its line is closed when this is dropped.
-pub(super) struct Answered {
-    line: Arc<Line, Global>,
+pub(super) struct ExpectedResponses {
+    line: Arc<ClientResults, Global>,
     expected: Vec<u8>,
     at: usize,
 }
 
-impl Drop for Answered {
+impl Drop for ExpectedResponses {
     fn drop(self) {
-        let Answered {
+        let ExpectedResponses {
             line,
             expected: _,
             at: _,
@@ -115,7 +115,7 @@ impl Drop for Answered {
     }
 }
 
-impl Write for Answered {
+impl Write for ExpectedResponses {
     fn write(&mut self, bytes: &[u8]) -> io::Result<usize> {
         let end = self.at.saturating_add(bytes.len());
         match self.expected.as_slice().get(self.at..end) {
@@ -135,7 +135,7 @@ impl Write for Answered {
     }
 }
 
-impl Observer for Answered {
+impl Observer for ExpectedResponses {
     fn on_session_end(&self, end: &Result<SessionEnd, ServeFault>) {
         if *end == Ok(SessionEnd::Closed) {
             self.line.ended.fetch_add(1, Ordering::SeqCst);
@@ -144,7 +144,7 @@ impl Observer for Answered {
 }
 
 impl Caller {
-    fn call(self) -> Option<(Asking, Answered)> {
+    fn call(self) -> Option<(ClientInput, ExpectedResponses)> {
         let Caller {
             line,
             asks,
@@ -153,12 +153,12 @@ impl Caller {
             other,
             other_sent,
         } = self;
-        let answered = Answered {
+        let answered = ExpectedResponses {
             line: Arc::try_clone(&line).ok()?,
             expected: answers,
             at: 0,
         };
-        let asking = Asking {
+        let asking = ClientInput {
             line,
             bytes: asks,
             at: 0,
@@ -174,19 +174,19 @@ impl Caller {
 /// waits until its line has received `sent` bytes. First come clients whose streams cannot be set
 /// up.
 #[derive(Drop)]
-pub(super) struct Door {
+pub(super) struct CallerListener {
     pub(super) without_stream: u64,
     pub(super) callers: Vec<Caller>,
-    pub(super) line: Arc<Line, Global>,
+    pub(super) line: Arc<ClientResults, Global>,
     pub(super) sent: u64,
 }
 
-impl Listener for Door {
-    type Input = Asking;
+impl Listener for CallerListener {
+    type Input = ClientInput;
 
-    type Output = Answered;
+    type Output = ExpectedResponses;
 
-    fn accept(&mut self) -> Result<Option<(Asking, Answered)>, ListenFault> {
+    fn accept(&mut self) -> Result<Option<(ClientInput, ExpectedResponses)>, ListenFault> {
         if self.without_stream > 0 {
             self.without_stream -= 1;
             return Ok(None);

@@ -159,7 +159,7 @@ pub(super) const NONE_CLOSED: Closed = Closed {
 /// A listener that accepts some guests, the last of them once all others have arrived, and then
 /// fails.
 #[derive(Drop)]
-pub(super) struct Door {
+pub(super) struct GuestListener {
     hall: Arc<Hall, Global>,
     guests: u64,
     closed: Closed,
@@ -168,10 +168,10 @@ pub(super) struct Door {
     pace: Pace,
 }
 
-impl Door {
+impl GuestListener {
     /// Makes a listener of this number of guests, which first closes these connections.
-    pub(super) fn new(hall: Arc<Hall, Global>, guests: u64, closed: Closed) -> Door {
-        Door {
+    pub(super) fn new(hall: Arc<Hall, Global>, guests: u64, closed: Closed) -> GuestListener {
+        GuestListener {
             hall,
             guests,
             closed,
@@ -182,18 +182,18 @@ impl Door {
     }
 
     /// Makes a listener of this number of guests, each of whom comes after the one before has left.
-    pub(super) fn one_by_one(hall: Arc<Hall, Global>, guests: u64) -> Door {
-        let mut door = Door::new(hall, guests, NONE_CLOSED);
-        door.pace = Pace::OneByOne;
-        door
+    pub(super) fn one_by_one(hall: Arc<Hall, Global>, guests: u64) -> GuestListener {
+        let mut listener = GuestListener::new(hall, guests, NONE_CLOSED);
+        listener.pace = Pace::OneByOne;
+        listener
     }
 
     /// Makes a listener of this number of guests. The last comes after the first has left, and all
     /// but the first wait for it.
-    pub(super) fn after_the_first(hall: Arc<Hall, Global>, guests: u64) -> Door {
-        let mut door = Door::new(hall, guests, NONE_CLOSED);
-        door.pace = Pace::AfterTheFirst;
-        door
+    pub(super) fn after_the_first(hall: Arc<Hall, Global>, guests: u64) -> GuestListener {
+        let mut listener = GuestListener::new(hall, guests, NONE_CLOSED);
+        listener.pace = Pace::AfterTheFirst;
+        listener
     }
 
     // Waits until it is time for the next guest.
@@ -218,7 +218,7 @@ impl Door {
     }
 }
 
-impl ConnectionSource<Port<Counter>> for Door {
+impl ConnectionSource<Port<Counter>> for GuestListener {
     type Connection = Guest;
 
     fn accept(&mut self, _alloc: Global) -> Result<Arrival<Guest>, ListenFault> {
