@@ -67,7 +67,9 @@ def destinations(room):
     ran = run("sha256sum", "--check", "--strict", "--quiet", RECORD, cwd=root)
     yield "DESTDIR: the digests", ran.returncode == 0
     wanted = {*(f"bin/{it}" for it in COMMANDS), "share/doc/wesplina/LICENSE",
-              "share/doc/wesplina/docs/SERVICE.md", "share/systemd/meter_server.service"}
+              "share/doc/wesplina/docs/SERVICE.md", "share/systemd/meter_server.service",
+              "share/doc/wesplina/examples/client/read_and_switch.py",
+              "share/doc/wesplina/crates/trace_player_cli/stdin"}
     shared = {str(it.relative_to(TOP)) for it in (TOP / "share").rglob("*") if it.is_file()}
     yield "DESTDIR: programs, licence, documents and share", wanted | shared <= files
     unit = (root / "share/systemd/meter_server.service").read_text()
