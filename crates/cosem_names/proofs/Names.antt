@@ -1,8 +1,9 @@
--- Logical names are equal exactly if the numbers of their bytes are equal.
-use Rattle.std.proofs.Common.{ℕ, List, [], ◌∷◌, get_or, drop, nat_eq, bytes_eq, ◌≡◌, ◌<◌, zero, suc, refl, sym, ◌∙◌, ap, arith}
+-- Logical names are equal exactly if the numbers of their bytes are equal, and rows of attributes
+-- are of one class and number exactly if both, as one number, are equal.
+use Rattle.std.proofs.Common.{ℕ, List, [], ◌∷◌, get_or, drop, nat_eq, bytes_eq, ◌&&◌, ◌+◌, ◌*◌, ◌≡◌, ◌<◌, zero, suc, refl, sym, ◌∙◌, ap, arith}
 use Rattle.std.specs.Int.{w64, to_be_bytes, from_be_bytes}
 use Rattle.std.proofs.lemmas.Nat.{be_bytes_8}
-use Rattle.std.proofs.lemmas.Bool.Decides.{same_from_decides, Decides-eqb}
+use Rattle.std.proofs.lemmas.Bool.Decides.{same_from_decides, Decides-and, Decides-eqb}
 use Rattle.std.proofs.lemmas.Slice.Eq.{bytes_eq-Decides}
 
 -- two bytes 0 and six bytes
@@ -37,3 +38,25 @@ compared_as_numbers one other m n is_m is_n of_m of_n =
           (is_m ∙ ap (λ (text : List ℕ). from_be_bytes w64 (0 ∷ 0 ∷ text)) same ∙ sym is_n)),
     )
     (bytes_eq-Decides one other)
+
+-- equal numbers have equal last bytes and equal numbers before them
+one_gives_both : (class one other_class other : ℕ) → one < 256 → other < 256
+    → class * 256 + one ≡ other_class * 256 + other
+    → (class ≡ other_class) × (one ≡ other)
+one_gives_both class one other_class other is_byte is_other_byte same =
+    (omega arith, omega arith)
+
+-- a class and a byte are equal exactly if they are equal as one number
+pub compared_as_one : (class one other_class other : ℕ) → one < 256 → other < 256
+    → nat_eq (class * 256 + one) (other_class * 256 + other)
+    ≡ (nat_eq class other_class && nat_eq one other)
+compared_as_one class one other_class other is_byte is_other_byte =
+    same_from_decides (nat_eq (class * 256 + one) (other_class * 256 + other))
+    (nat_eq class other_class && nat_eq one other) (
+      (λ yes. one_gives_both class one other_class other is_byte is_other_byte
+          ((Decides-eqb (class * 256 + one) (other_class * 256 + other)).0 yes)),
+      (λ both. (Decides-eqb (class * 256 + one) (other_class * 256 + other)).1
+          (ap (λ n. n * 256 + one) both.0 ∙ ap (λ n. other_class * 256 + n) both.1)),
+    )
+    (Decides-and (nat_eq class other_class) (nat_eq one other) (Decides-eqb class other_class)
+    (Decides-eqb one other))

@@ -31,7 +31,7 @@ fn class_attribute(class: ClassId, number: u8) -> Option<Attribute>
     ATTRIBUTES
         .iter()
         .copied()
-        .find(|row| row.class == class && row.number == number)
+        .find(|row| row.is_of(class, number))
 }
 
 // Returns the row of a method of a class, or `None` if the class has no method of this number.

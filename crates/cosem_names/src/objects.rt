@@ -1,5 +1,7 @@
 //! The table of the meter's objects: classes, versions, logical names, attributes, methods and
 //! access modes (IEC 62056-6-2).
+ghost use Rattle.std.specs.Prelude.{◌≡◌, ◌==◌, ◌&&◌, ◌+◌, ◌*◌};
+
 use crate::name::{ClassId, Obis};
 
 /// The access mode of an attribute (IEC 62056-6-2, Association LN, object_list).
@@ -79,6 +81,26 @@ pub struct Attribute {
     pub public: Access,
     /// The access mode for the management client.
     pub management: Access,
+}
+
+impl Attribute {
+    // Returns whether this is the row of an attribute of a class. Class and number are compared as
+    // one number, so the compiler makes a search of the table one jump.
+    #[inline(always)]
+    #[tactic(auto, using(crate::proofs::Names::compared_as_one))]
+    pub(crate) fn is_of(self, class: ClassId, number: u8) -> bool
+        ensures { result ≡ (self.class.0 == class.0 && self.number == number) }
+    {
+        key(self.class, self.number) == key(class, number)
+    }
+}
+
+// Returns the number of a class and the number of one of its attributes as one number.
+#[inline(always)]
+fn key(class: ClassId, number: u8) -> u32
+    ensures { result ≡ class.0 * 256 + number }
+{
+    u32::from(class.0) * 256 + u32::from(number)
 }
 
 /// A method of an interface class, and which levels may execute it.
