@@ -14,10 +14,12 @@ usage: tests/campaign_ledgers.py [--long] [--short] [--seed N]
   --seed N   the seed of the random choices; the times are never the same twice"""
 
 import argparse
+import contextlib
 import fcntl
 import importlib.machinery
 import importlib.util
 import os
+import pathlib
 import random
 import shutil
 import signal
@@ -102,10 +104,20 @@ class Long:
                 return False
         return True
 
+    def holders(self):
+        """The processes that have the record open: number, command, state and kernel function."""
+        found, record = [], self.path.with_name("jobs.campaign")
+        for process in pathlib.Path("/proc").glob("[0-9]*"):
+            with contextlib.suppress(OSError):
+                if any(it.samefile(record) for it in (process / "fd").iterdir() if it.exists()):
+                    words = (process / "cmdline").read_bytes().replace(b"\0", b" ").decode()
+                    state = (process / "stat").read_text().rsplit(")", 1)[1].split()[0]
+                    found.append((process.name, words, state, (process / "wchan").read_text()))
+        return found
+
     def follow(self):
         """Adds what the meters received. Fails if one got a second command."""
         received = self.meters.take_counts()
-        assert received is not None, "the meters do not answer"
         for place, it in enumerate(received):
             self.commands[place] += sum(it[verb] for verb in COMMANDS)
         twice = [place for place, count in enumerate(self.commands) if count > 1]
@@ -215,7 +227,8 @@ def until_whole(name, campaign, choose, words_of):
             process.wait(LONGEST)
         started.remove(process)
         # (the processes that a killed campaign started run on, and hold the lock)
-        assert wait_until(campaign.is_free, LONGEST), "what the campaign started does not end"
+        assert wait_until(campaign.is_free, 3 * LONGEST), \
+            f"what the campaign started does not end: {campaign.holders()}"
         campaign.follow()
         if status == 0:
             ran = status, campaign.output.read_text(), campaign.errors.read_text()

@@ -12,6 +12,7 @@ import time
 from scripted_meters import CROWD, NAMES, STAGES, TEXTS, loopback_address
 from serving import PATIENCE
 
+LONG_PATIENCE = 15 * PATIENCE  # for the last clients, whose machine may stand still for a while
 DELAYS = (0, 0, 0.001, 0.004, 0.012)  # the times before an answer, in seconds
 COMMANDS = ("disconnect", "reconnect")
 
@@ -42,9 +43,15 @@ class CountedMeters:
 
     def take_counts(self):
         """For each meter the frames that it received since the last call, counted by name, once no
-        client is connected. None if the process does not answer."""
+        client is connected. Fails if clients stay connected, and shows which."""
         self.pipe.send("counts")
-        return self.pipe.recv() if self.pipe.poll(PATIENCE) else None
+        if self.pipe.poll(LONG_PATIENCE):
+            return self.pipe.recv()
+        self.pipe.send("clients")
+        found = "the meters do not answer"
+        while self.pipe.poll(PATIENCE):
+            found = self.pipe.recv()
+        raise AssertionError(f"clients stay connected: {found}")
 
     def stop(self):
         self.process.kill()
@@ -63,6 +70,8 @@ class Answered:
         client has closed the connection."""
         try:
             piece = self.stream.recv(4096)
+        except BlockingIOError:
+            return []
         except OSError:
             piece = b""
         self.text += piece
@@ -85,12 +94,18 @@ class Process:
         self.counts = [collections.Counter() for _ in places or listeners]
         self.clients, self.pending, self.number = {}, [], 0
         self.choose, self.is_asked = random.Random(), False
+        for _, listener in self.listeners.values():
+            listener.setblocking(False)
         for one in (*self.listeners, pipe.fileno()):
             self.poll.register(one, select.EPOLLIN)
 
     def accept(self, number):
         meter, listener = self.listeners[number]
-        stream, _ = listener.accept()
+        try:
+            stream, _ = listener.accept()
+        except OSError:  # the client has gone
+            return
+        stream.setblocking(False)
         if self.places:
             meter = self.places[stream.getsockname()[0]]
         stream.setsockopt(socket.IPPROTO_TCP, socket.TCP_NODELAY, 1)
@@ -129,6 +144,14 @@ class Process:
                 self.close(client)
         return max(0, self.pending[0][0] - time.monotonic()) if self.pending else -1
 
+    def obey(self, command):
+        if command == "counts":
+            self.is_asked = True
+        else:  # the clients that are connected: the meter of each, and its TCP state
+            self.is_asked = False
+            self.pipe.send([(it.meter, it.stage, it.text, tcp_state(it.stream))
+                            for it in self.clients.values()])
+
     def run(self):
         while True:
             for number, _ in self.poll.poll(self.answer()):
@@ -137,11 +160,16 @@ class Process:
                 elif number in self.clients:
                     self.hear(self.clients[number])
                 elif number == self.pipe.fileno():
-                    self.is_asked = self.pipe.recv() == "counts"
+                    self.obey(self.pipe.recv())
             if self.is_asked and not self.clients:
                 self.pipe.send(self.counts)
                 self.counts = [collections.Counter() for _ in self.counts]
                 self.is_asked = False
+
+
+def tcp_state(stream):
+    """The state of a connection by the numbers of Linux (1 is established, 8 is close wait)."""
+    return stream.getsockopt(socket.IPPROTO_TCP, socket.TCP_INFO, 1)[0]
 
 
 def serve(listeners, places, others, pipe):
