@@ -19,7 +19,7 @@ FLEET = os.environ.get("METER_FLEET") or CRATES / "meter_fleet_cli" / "out" / "m
 HEAD_END = os.environ.get("HEAD_END") or CRATES / "head_end_cli" / "out" / "head_end_cli"
 
 PASSWORD = "12345678"
-PATIENCE = 20  # the time limit of each wait, in seconds
+PATIENCE = 60  # the time limit of each wait, in seconds
 METERS = 300
 
 # Frames of the management client at port 1 and their answers (IEC 62056-4-7, IEC 62056-5-3; class

@@ -19,7 +19,7 @@ SERVER = os.environ.get("METER_SERVER") or TOP / "crates" / "meter_server_cli" /
 PLAYER = os.environ.get("TRACE_PLAYER") or TOP / "crates" / "trace_player_cli" / "out" / "trace_player_cli"
 
 PASSWORD = "12345678"
-PATIENCE = 20  # the time limit of each wait, in seconds
+PATIENCE = 60  # the time limit of each wait, in seconds
 MANAGEMENT, PUBLIC = 1, 16
 SESSIONS = 8
 
