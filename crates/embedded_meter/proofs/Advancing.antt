@@ -10,8 +10,8 @@ use Rattle.session_core.specs.declared.session.Session.{Session}
 use Rattle.embedded_meter.specs.Dialogues.{Dialogue, asks_ahead, sends_ahead}
 use Rattle.embedded_meter.specs.Progress.{Advances}
 use Rattle.embedded_meter.specs.Working.{SameAhead, IsDue, weight}
-use Rattle.embedded_meter.specs.declared.under_way.UnderWay.{UnderWay}
-use Rattle.embedded_meter.specs.declared.under_way.UnderWay.TheVariants.{Asked, Answered, Due}
+use Rattle.embedded_meter.specs.declared.pending.Pending.{Pending}
+use Rattle.embedded_meter.specs.declared.pending.Pending.TheVariants.{Asked, Answered, Due}
 
 map_both : {A B : Type 0} (f : A → B) (xs ys : List A) → map f (xs ++ ys) ≡ map f xs ++ map f ys
 map_both f [] ys = refl
@@ -66,8 +66,8 @@ advances_on old d new r r' r'' given first then_ = record {
 -- the meter applied the event that was requested
 pub advances_asked : (s : Session) (event : Event) (reply : Reply) (r r' : Recording)
     → Continues r r' event reply → r'.capacity ≡ r.capacity
-    → Advances (record { session = s; under_way = Asked event }) r []
-    (record { session = s; under_way = Answered reply }) r'
+    → Advances (record { session = s; pending = Asked event }) r []
+    (record { session = s; pending = Answered reply }) r'
 advances_asked s event reply r r' continues capacity = record {
   told = (event, reply) ∷ [];
   histories = continues.histories;
@@ -85,29 +85,29 @@ advances_kept old new r r' e e' =
     (subst (λ (q : Recording). Advances old r [] old q) (sym e') (advances_none old r))
 
 -- the meter applied the pending event, and its reply is pending now
-pub applied : (old : Dialogue) (s : Session) (u u' : UnderWay) (event : Event) (reply : Reply)
+pub applied : (old : Dialogue) (s : Session) (u u' : Pending) (event : Event) (reply : Reply)
     (r r' : Recording)
-    → record { session = s; under_way = u } ≡ old → u ≡ Asked event → u' ≡ Answered reply
+    → record { session = s; pending = u } ≡ old → u ≡ Asked event → u' ≡ Answered reply
     → Continues r r' event reply → r'.capacity ≡ r.capacity
-    → Advances old r [] (record { session = s; under_way = u' }) r'
-    × (weight (record { session = s; under_way = u' }) < weight old)
+    → Advances old r [] (record { session = s; pending = u' }) r'
+    × (weight (record { session = s; pending = u' }) < weight old)
 applied old s u u' event reply r r' is asked answered continues capacity =
-    subst (λ (d : Dialogue). Advances d r [] (record { session = s; under_way = u' }) r'
-    × (weight (record { session = s; under_way = u' }) < weight d)) is
-    (subst (λ (v : UnderWay). Advances (record { session = s; under_way = v }) r []
-    (record { session = s; under_way = u' }) r'
-    × (weight (record { session = s; under_way = u' }) < weight
-    (record { session = s; under_way = v }))) (sym asked)
-    (subst (λ (v : UnderWay). Advances (record { session = s; under_way = Asked event }) r []
-    (record { session = s; under_way = v }) r'
-    × (weight (record { session = s; under_way = v }) < load_of s + load_of s + 1)) (sym answered)
+    subst (λ (d : Dialogue). Advances d r [] (record { session = s; pending = u' }) r'
+    × (weight (record { session = s; pending = u' }) < weight d)) is
+    (subst (λ (v : Pending). Advances (record { session = s; pending = v }) r []
+    (record { session = s; pending = u' }) r'
+    × (weight (record { session = s; pending = u' }) < weight
+    (record { session = s; pending = v }))) (sym asked)
+    (subst (λ (v : Pending). Advances (record { session = s; pending = Asked event }) r []
+    (record { session = s; pending = v }) r'
+    × (weight (record { session = s; pending = v }) < load_of s + load_of s + 1)) (sym answered)
     (advances_asked s event reply r r' continues capacity, omega arith)))
 
 -- a frame is pending
-pub due_by : (old : Dialogue) (s : Session) (u : UnderWay) (frame : List ℕ)
-    → record { session = s; under_way = u } ≡ old → u ≡ Due frame → IsDue old
+pub due_by : (old : Dialogue) (s : Session) (u : Pending) (frame : List ℕ)
+    → record { session = s; pending = u } ≡ old → u ≡ Due frame → IsDue old
 due_by old s u frame is due = record {
   frame = frame;
-  is = ap (λ (d : Dialogue). d.under_way)
+  is = ap (λ (d : Dialogue). d.pending)
       (sym is) ∙ due;
 }

@@ -10,23 +10,23 @@ use Rattle.relay_events.specs.declared.reply.Reply.{Reply}
 use Rattle.session_core.specs.Remaining.{still_asks, still_sends, still_ends, is_asking}
 use Rattle.session_core.specs.declared.end.SessionEnd.{SessionEnd}
 use Rattle.session_core.specs.declared.session.Session.{Session}
-use Rattle.embedded_meter.specs.declared.under_way.UnderWay.{UnderWay}
-use Rattle.embedded_meter.specs.declared.under_way.UnderWay.TheVariants.{Nothing, Asked, Answered, Due}
+use Rattle.embedded_meter.specs.declared.pending.Pending.{Pending}
+use Rattle.embedded_meter.specs.declared.pending.Pending.TheVariants.{Nothing, Asked, Answered, Due}
 
 -- a session, and what is pending
 pub record Dialogue : Type 0 where
   pub session : Session
-  pub under_way : UnderWay
+  pub pending : Pending
 
 -- the pending event comes before those of the session
-abbrev pub asks_first : UnderWay → List Event → List Event
+abbrev pub asks_first : Pending → List Event → List Event
 asks_first Nothing events = events
 asks_first (Asked event) events = event ∷ events
 asks_first (Answered reply) events = events
 asks_first (Due frame) events = events
 
 -- the pending reply comes before later ones; the pending frame is sent before those of the session
-abbrev pub sends_first : UnderWay → (List Reply → List (List ℕ)) → List Reply → List (List ℕ)
+abbrev pub sends_first : Pending → (List Reply → List (List ℕ)) → List Reply → List (List ℕ)
 sends_first Nothing sends replies = sends replies
 sends_first (Asked event) sends replies = sends replies
 sends_first (Answered reply) sends replies = sends (reply ∷ replies)
@@ -34,18 +34,18 @@ sends_first (Due frame) sends replies = frame ∷ sends replies
 
 -- the events that are still to be applied
 abbrev pub asks_ahead : Dialogue → List ℕ → List Event
-asks_ahead d more = asks_first d.under_way (still_asks d.session more)
+asks_ahead d more = asks_first d.pending (still_asks d.session more)
 
 -- the frames that are still to be sent
 abbrev pub sends_ahead : Dialogue → List ℕ → List Reply → List (List ℕ)
-sends_ahead d more = sends_first d.under_way (still_sends d.session more)
+sends_ahead d more = sends_first d.pending (still_sends d.session more)
 
 -- how the session will end
 abbrev pub ends_ahead : Dialogue → List ℕ → SessionEnd
 ends_ahead d more = still_ends d.session more
 
 -- whether the session awaits a reply
-abbrev pub awaits_reply : UnderWay → Bool
+abbrev pub awaits_reply : Pending → Bool
 awaits_reply Nothing = false
 awaits_reply (Asked event) = true
 awaits_reply (Answered reply) = true
@@ -53,4 +53,4 @@ awaits_reply (Due frame) = false
 
 -- the invariant of every dialogue
 pub record IsDialogue (d : Dialogue) : Type 0 where
-  pub agrees : is_asking d.session ≡ awaits_reply d.under_way
+  pub agrees : is_asking d.session ≡ awaits_reply d.pending

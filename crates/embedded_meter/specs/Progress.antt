@@ -16,7 +16,7 @@ use Rattle.session_core.specs.declared.end.SessionEnd.{SessionEnd}
 use Rattle.embedded_meter.specs.Dialogues.{Dialogue, asks_ahead, sends_ahead, ends_ahead}
 use Rattle.embedded_meter.specs.declared.given.Given.{Given}
 use Rattle.embedded_meter.specs.declared.given.Given.TheVariants.{Frame, NoRoom, Wait, End}
-use Rattle.embedded_meter.specs.declared.under_way.UnderWay.TheVariants.{Due}
+use Rattle.embedded_meter.specs.declared.pending.Pending.TheVariants.{Due}
 
 -- what a session with this password does, whatever its input is, is still to be done
 pub record Owes (password : List ℕ) (d : Dialogue) : Type 0 where
@@ -75,7 +75,7 @@ pub record GivesFrame (old : Dialogue) (r : Recording) (buffer : List ℕ) (coun
 -- a frame must be sent, and is longer than the buffer
 pub record KeepsFrame (count : ℕ) (buffer : List ℕ) (d : Dialogue) : Type 0 where
   pub frame : List ℕ
-  pub due : d.under_way ≡ Due frame
+  pub due : d.pending ≡ Due frame
   pub counted : count ≡ length frame
   pub longer : length buffer < count
 

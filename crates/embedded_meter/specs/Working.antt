@@ -10,12 +10,12 @@ use Rattle.relay_recorder.specs.Recording.{Recording}
 use Rattle.session_core.specs.Remaining.{load_of}
 use Rattle.embedded_meter.specs.Dialogues.{Dialogue, asks_ahead, sends_ahead, ends_ahead}
 use Rattle.embedded_meter.specs.Progress.{Advances, IsIdle, IsOver, KeepsFrame}
-use Rattle.embedded_meter.specs.declared.connection.Rest.{Rest}
-use Rattle.embedded_meter.specs.declared.connection.Rest.TheVariants as rest
+use Rattle.embedded_meter.specs.declared.connection.NextNeed.{NextNeed}
+use Rattle.embedded_meter.specs.declared.connection.NextNeed.TheVariants as rest
 use Rattle.embedded_meter.specs.declared.given.Given.{Given}
 use Rattle.embedded_meter.specs.declared.given.Given.TheVariants as given
-use Rattle.embedded_meter.specs.declared.under_way.UnderWay.{UnderWay}
-use Rattle.embedded_meter.specs.declared.under_way.UnderWay.TheVariants.{Nothing, Asked, Answered, Due}
+use Rattle.embedded_meter.specs.declared.pending.Pending.{Pending}
+use Rattle.embedded_meter.specs.declared.pending.Pending.TheVariants.{Nothing, Asked, Answered, Due}
 
 -- the session will still do the same
 pub record SameAhead (old new : Dialogue) : Type 0 where
@@ -27,20 +27,20 @@ pub record SameAhead (old new : Dialogue) : Type 0 where
 -- an event is pending
 pub record IsAsked (d : Dialogue) : Type 0 where
   pub event : Event
-  pub is : d.under_way ≡ Asked event
+  pub is : d.pending ≡ Asked event
 
 -- a reply is pending
 pub record IsAnswered (d : Dialogue) : Type 0 where
   pub reply : Reply
-  pub is : d.under_way ≡ Answered reply
+  pub is : d.pending ≡ Answered reply
 
 -- a frame is pending
 pub record IsDue (d : Dialogue) : Type 0 where
   pub frame : List ℕ
-  pub is : d.under_way ≡ Due frame
+  pub is : d.pending ≡ Due frame
 
 -- 1 if an event is pending, which is one step from its reply, otherwise 0
-abbrev pub steps_in : UnderWay → ℕ
+abbrev pub steps_in : Pending → ℕ
 steps_in Nothing = 0
 steps_in (Asked event) = 1
 steps_in (Answered reply) = 0
@@ -48,16 +48,16 @@ steps_in (Due frame) = 0
 
 -- the amount of work that is left: each step lowers it
 abbrev pub weight : Dialogue → ℕ
-weight d = load_of d.session + load_of d.session + steps_in d.under_way
+weight d = load_of d.session + load_of d.session + steps_in d.pending
 
 -- the state in which no step is left
-abbrev pub Leaves : Rest → Dialogue → Type 0
+abbrev pub Leaves : NextNeed → Dialogue → Type 0
 Leaves rest.Due d = IsDue d
 Leaves rest.Wait d = IsIdle d
 Leaves (rest.End end) d = IsOver end d
 
 -- the session was asked for its next event, frame or end
-abbrev pub AsksBy : {E : Type 0} → Dialogue → Result (Option Rest) E → Dialogue → Type 0
+abbrev pub AsksBy : {E : Type 0} → Dialogue → Result (Option NextNeed) E → Dialogue → Type 0
 AsksBy old (Ok None) new = SameAhead old new × (weight new < weight old)
 AsksBy old (Ok (Some rest)) new = SameAhead old new × Leaves rest new
 AsksBy old (Err error) new = SameAhead old new
@@ -81,14 +81,14 @@ AnswersBy old (Ok done) new = SameAhead old new × (weight new < weight old)
 AnswersBy old (Err error) new = new ≡ old
 
 -- one step was done: `None` if there may be a further one
-abbrev pub WorksBy : {E : Type 0} → Dialogue → Recording → Result (Option Rest) E → Dialogue
+abbrev pub WorksBy : {E : Type 0} → Dialogue → Recording → Result (Option NextNeed) E → Dialogue
     → Recording → Type 0
 WorksBy old r (Ok None) new r' = Advances old r [] new r' × (weight new < weight old)
 WorksBy old r (Ok (Some rest)) new r' = Advances old r [] new r' × Leaves rest new
 WorksBy old r (Err error) new r' = Advances old r [] new r'
 
 -- steps were done until none was left
-abbrev pub RestsBy : {E : Type 0} → Dialogue → Recording → Result Rest E → Dialogue → Recording
+abbrev pub RestsBy : {E : Type 0} → Dialogue → Recording → Result NextNeed E → Dialogue → Recording
     → Type 0
 RestsBy old r (Ok rest) new r' = Advances old r [] new r' × Leaves rest new
 RestsBy old r (Err error) new r' = Advances old r [] new r'
@@ -97,8 +97,8 @@ RestsBy old r (Err error) new r' = Advances old r [] new r'
 pub record TakesFrame (old : Dialogue) (buffer : List ℕ) (count : ℕ) (new : Dialogue)
     (buffer' : List ℕ) : Type 0 where
   pub frame : List ℕ
-  pub due : old.under_way ≡ Due frame
-  pub now : new ≡ record old { under_way = Nothing }
+  pub due : old.pending ≡ Due frame
+  pub now : new ≡ record old { pending = Nothing }
   pub counted : count ≡ length frame
   pub written : buffer' ≡ frame ++ drop count buffer
 

@@ -1,10 +1,10 @@
 //! A client's session at a meter without threads. If out of memory, what is pending stays pending.
 ghost use Rattle.std.specs.Prelude.{◌≡◌, IfOk, OnOk, OnErr};
 ghost use Rattle.acse_ber.specs.Password.{IsPassword};
-ghost use Rattle.embedded_meter.specs.declared.under_way.UnderWay.TheVariants.{Nothing};
+ghost use Rattle.embedded_meter.specs.declared.pending.Pending.TheVariants.{Nothing};
 
 use crate::given::Given;
-use crate::under_way::UnderWay;
+use crate::pending::Pending;
 use cosem_axdr::Octets;
 use relay_recorder::Recorder;
 use session_core::{Next, Session, SessionEnd};
@@ -14,7 +14,7 @@ use std::mem::replace;
 
 // What a session needs from its caller after the meter has applied its requests.
 #[derive(Clone, Copy)]
-pub(crate) enum Rest {
+pub(crate) enum NextNeed {
     // A frame must be sent.
     Due,
     // The session needs more input.
@@ -23,33 +23,33 @@ pub(crate) enum Rest {
     End(SessionEnd),
 }
 
-// A session of a client, with its pending event, reply or frame (`under_way`).
+// A session of a client, with its pending event, reply or frame (`pending`).
 #[derive(Drop)]
 pub(crate) struct ClientSession {
     session: Session,
-    under_way: UnderWay,
+    pending: Pending,
 }
 
 // Replaces the pending item, and drops the old one.
-fn put(under_way: &mut UnderWay, next: UnderWay)
-    ensures { under_way.new ≡ next }
+fn put(pending: &mut Pending, next: Pending)
+    ensures { pending.new ≡ next }
 {
-    *under_way = next;
+    *pending = next;
 }
 
 impl Model for ClientSession {
     ghost use Rattle.std.specs.Coded.{codes};
     ghost use Rattle.session_core.specs.contracts.session.Session as session_row;
-    ghost use Rattle.embedded_meter.specs.contracts.under_way.UnderWay as under_way_row;
+    ghost use Rattle.embedded_meter.specs.contracts.pending.Pending as pending_row;
     ghost use Rattle.embedded_meter.specs.Dialogues.{Dialogue, IsDialogue};
 
     ghost Value = { Dialogue };
 
-    ghost coded = { Prim.hlevel (codes, session_row.the_row.coded, under_way_row.the_row.coded) };
+    ghost coded = { Prim.hlevel (codes, session_row.the_row.coded, pending_row.the_row.coded) };
 
-    ghost view = { λ c. record { session = c.session; under_way = c.under_way } };
+    ghost view = { λ c. record { session = c.session; pending = c.pending } };
 
-    ghost invariant = { λ c. IsDialogue (record { session = c.session; under_way = c.under_way }) };
+    ghost invariant = { λ c. IsDialogue (record { session = c.session; pending = c.pending }) };
 }
 
 impl ClientSession {
@@ -64,7 +64,7 @@ impl ClientSession {
     {
         Ok(ClientSession {
             session: Session::new(alloc, password)?,
-            under_way: UnderWay::Nothing,
+            pending: Pending::Nothing,
         })
     }
 
@@ -96,14 +96,14 @@ impl ClientSession {
             buffer.new }
     {
         match self.settle(alloc, recorder)? {
-            Rest::Due => Ok(self.give(buffer)),
-            Rest::Wait => Ok(Given::Wait),
-            Rest::End(end) => Ok(Given::End(end)),
+            NextNeed::Due => Ok(self.give(buffer)),
+            NextNeed::Wait => Ok(Given::Wait),
+            NextNeed::End(end) => Ok(Given::End(end)),
         }
     }
 
     // Applies the requests of the session to the meter, up to the next frame.
-    fn settle(&mut self, alloc: Global, recorder: &mut Recorder) -> Result<Rest, AllocError>
+    fn settle(&mut self, alloc: Global, recorder: &mut Recorder) -> Result<NextNeed, AllocError>
         ensures { RestsBy self.old recorder.old result self.new recorder.new }
     {
         'work: loop {
@@ -115,32 +115,36 @@ impl ClientSession {
 
     // Does one step: from the session to the meter, from the meter to the session, or to a frame.
     // Returns `None` if there may be a further step.
-    fn work(&mut self, alloc: Global, recorder: &mut Recorder) -> Result<Option<Rest>, AllocError>
+    fn work(
+        &mut self,
+        alloc: Global,
+        recorder: &mut Recorder,
+    ) -> Result<Option<NextNeed>, AllocError>
         ensures { WorksBy self.old recorder.old result self.new recorder.new }
     {
-        match &self.under_way {
-            UnderWay::Nothing => {
+        match &self.pending {
+            Pending::Nothing => {
                 if self.serve_short(alloc, recorder)? {
-                    return Ok(Some(Rest::Due));
+                    return Ok(Some(NextNeed::Due));
                 }
                 self.ask(alloc)
             }
-            UnderWay::Asked(_) => {
+            Pending::Asked(_) => {
                 self.apply(alloc, recorder)?;
                 Ok(None)
             }
-            UnderWay::Answered(_) => {
+            Pending::Answered(_) => {
                 self.answer(alloc)?;
                 Ok(None)
             }
-            UnderWay::Due(_) => Ok(Some(Rest::Due)),
+            Pending::Due(_) => Ok(Some(NextNeed::Due)),
         }
     }
 
     // Serves a short request at the front, up to the frame with its answer. Returns false if there
     // is none; nothing has changed then. On an error the event or the reply stays pending.
     fn serve_short(&mut self, alloc: Global, recorder: &mut Recorder) -> Result<bool, AllocError>
-        requires { self.now.under_way ≡ Nothing }
+        requires { self.now.pending ≡ Nothing }
         ensures { ServesBy self.old recorder.old result self.new recorder.new }
     {
         let Some((level, request)) = self.session.next_short() else {
@@ -149,39 +153,39 @@ impl ClientSession {
         let reply = match recorder.apply(alloc, request.event(level)) {
             Ok(reply) => reply,
             Err(fault) => {
-                put(&mut self.under_way, UnderWay::Asked(request.event(level)));
+                put(&mut self.pending, Pending::Asked(request.event(level)));
                 return Err(fault);
             }
         };
         match self.session.answer_short(alloc, &reply) {
             Ok(frame) => {
                 drop(reply);
-                put(&mut self.under_way, UnderWay::Due(frame));
+                put(&mut self.pending, Pending::Due(frame));
                 Ok(true)
             }
             Err(fault) => {
-                put(&mut self.under_way, UnderWay::Answered(reply));
+                put(&mut self.pending, Pending::Answered(reply));
                 Err(fault)
             }
         }
     }
 
     // Asks the session for its next event, frame or end. Returns `None` if it is an event.
-    fn ask(&mut self, alloc: Global) -> Result<Option<Rest>, AllocError>
-        requires { self.now.under_way ≡ Nothing }
+    fn ask(&mut self, alloc: Global) -> Result<Option<NextNeed>, AllocError>
+        requires { self.now.pending ≡ Nothing }
         ensures { AsksBy self.old result self.new }
     {
         match self.session.next(alloc)? {
             Next::Ask(event) => {
-                put(&mut self.under_way, UnderWay::Asked(event));
+                put(&mut self.pending, Pending::Asked(event));
                 Ok(None)
             }
             Next::Send(frame) => {
-                put(&mut self.under_way, UnderWay::Due(frame));
-                Ok(Some(Rest::Due))
+                put(&mut self.pending, Pending::Due(frame));
+                Ok(Some(NextNeed::Due))
             }
-            Next::Wait => Ok(Some(Rest::Wait)),
-            Next::End(end) => Ok(Some(Rest::End(end))),
+            Next::Wait => Ok(Some(NextNeed::Wait)),
+            Next::End(end) => Ok(Some(NextNeed::End(end))),
         }
     }
 
@@ -190,12 +194,12 @@ impl ClientSession {
         requires { IsAsked self.now }
         ensures { AppliesBy self.old recorder.old result self.new recorder.new }
     {
-        let UnderWay::Asked(event) = &self.under_way else {
+        let Pending::Asked(event) = &self.pending else {
             unreachable!()
         };
         let event = event.try_copy(alloc)?;
         let reply = recorder.apply(alloc, event)?;
-        let asked = replace(&mut self.under_way, UnderWay::Answered(reply));
+        let asked = replace(&mut self.pending, Pending::Answered(reply));
         drop(asked);
         Ok(())
     }
@@ -205,13 +209,13 @@ impl ClientSession {
         requires { IsAnswered self.now }
         ensures { AnswersBy self.old result self.new }
     {
-        let UnderWay::Answered(reply) = replace(&mut self.under_way, UnderWay::Nothing) else {
+        let Pending::Answered(reply) = replace(&mut self.pending, Pending::Nothing) else {
             unreachable!()
         };
         match self.session.answer(alloc, reply) {
             Ok(()) => Ok(()),
             Err((fault, reply)) => {
-                put(&mut self.under_way, UnderWay::Answered(reply));
+                put(&mut self.pending, Pending::Answered(reply));
                 Err(fault)
             }
         }
@@ -223,7 +227,7 @@ impl ClientSession {
         requires { IsDue self.now }
         ensures { GivesDue self.old buffer.old result self.new buffer.new }
     {
-        let UnderWay::Due(frame) = &self.under_way else {
+        let Pending::Due(frame) = &self.pending else {
             unreachable!()
         };
         let count = frame.len();
@@ -231,7 +235,7 @@ impl ClientSession {
             return Given::NoRoom(count);
         }
         buffer[..count].copy_from_slice(frame.as_slice());
-        put(&mut self.under_way, UnderWay::Nothing);
+        put(&mut self.pending, Pending::Nothing);
         Given::Frame(count)
     }
 }

@@ -8,9 +8,9 @@
 mod connection;
 mod fault;
 mod given;
+mod pending;
 mod supply_meter;
 mod traces;
-mod under_way;
 
 pub use fault::MeterFault;
 pub use given::{Fired, Given, Tick};

@@ -7,7 +7,7 @@ use Rattle.std.specs.Io.KnownBytes.{Appends}
 use Rattle.embedded_meter.specs.Dialogues.{Dialogue}
 use Rattle.embedded_meter.specs.MeterStates.{MeterState, dialogue_at}
 use Rattle.embedded_meter.specs.Progress.{IsIdle, IsOver}
-use Rattle.embedded_meter.specs.declared.under_way.UnderWay.TheVariants.{Due}
+use Rattle.embedded_meter.specs.declared.pending.Pending.TheVariants.{Due}
 use Rattle.fleet_links.specs.Serving.{Serves}
 use Rattle.fleet_links.specs.Streams.{StreamState}
 use Rattle.fleet_links.specs.declared.link.LinkEnd.TheVariants.{Closed, Ended, TooLong, Memory}
@@ -27,7 +27,7 @@ max_steps = 1024
 -- a frame must be sent that is longer than the buffer for it
 pub record NeedsRoom (room : ℕ) (d : Dialogue) : Type 0 where
   pub frame : List ℕ
-  pub due : d.under_way ≡ Due frame
+  pub due : d.pending ≡ Due frame
   pub longer : room < length frame
 
 -- only if memory runs out, bytes that were read are not fed, or a frame that was taken is not sent

@@ -5,8 +5,8 @@ use Rattle.session_core.proofs.Tasks.{asks_or_ends}
 use Rattle.session_core.specs.declared.session.Session.{Session}
 use Rattle.session_core.specs.declared.end.SessionEnd.{SessionEnd}
 use Rattle.embedded_meter.specs.Dialogues.{Dialogue, awaits_reply}
-use Rattle.embedded_meter.specs.declared.under_way.UnderWay.{UnderWay}
-use Rattle.embedded_meter.specs.declared.under_way.UnderWay.TheVariants.{Nothing}
+use Rattle.embedded_meter.specs.declared.pending.Pending.{Pending}
+use Rattle.embedded_meter.specs.declared.pending.Pending.TheVariants.{Nothing}
 use Rattle.embedded_meter.proofs.connection.ClientSession.ask.Goals as goal
 
 -- a session that is over awaits no reply
@@ -16,9 +16,9 @@ over_silent s end true asks over = absurd (asks_or_ends s end asks over.over)
 over_silent s end false asks over = asks
 
 -- nothing is pending
-nothing_awaited : (u : UnderWay) (d : Dialogue) (s : Session)
-    → record { session = s; under_way = u } ≡ d → d.under_way ≡ Nothing → awaits_reply u ≡ false
-nothing_awaited u d s e nothing = ap (λ (x : Dialogue). awaits_reply x.under_way) e
+nothing_awaited : (u : Pending) (d : Dialogue) (s : Session)
+    → record { session = s; pending = u } ≡ d → d.pending ≡ Nothing → awaits_reply u ≡ false
+nothing_awaited u d s e nothing = ap (λ (x : Dialogue). awaits_reply x.pending) e
     ∙ ap awaits_reply nothing
 
 pub invariant_of-self : goal.invariant_of-self

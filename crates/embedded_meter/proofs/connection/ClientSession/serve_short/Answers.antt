@@ -6,7 +6,7 @@ use Rattle.embedded_meter.proofs.connection.ClientSession.serve_short.Goals as g
 pub returns-in-Err : goal.returns-in-Err
 returns-in-Err c =
     rw (c.put.ensures, c.event-in-Err.ensures) (asked_short c.args.self.now
-    c.self.inside.session c.next_short.new.self c.self.inside.under_way
+    c.self.inside.session c.next_short.new.self c.self.inside.pending
     (short_event c.in-Some.level c.in-Some.request) c.args.recorder.now c.apply.new.self
     c.self.view_is c.requires c.in-Some.ensures.asks c.in-Err.ensures.err)
 
@@ -14,7 +14,7 @@ pub returns-in-Ok-answer_short : goal.returns-in-Ok-answer_short
 returns-in-Ok-answer_short c =
     rw c.put-in-Ok-answer_short.ensures (
       framed_short c.args.self.now c.self.inside.session c.next_short.new.self
-          c.answer_short.new.self c.self.inside.under_way
+          c.answer_short.new.self c.self.inside.pending
           (short_event c.in-Some.level c.in-Some.request) c.in-Ok.reply c.in-Ok-answer_short.frame
           c.args.recorder.now c.apply.new.self c.self.view_is c.requires c.in-Some.ensures.asks
           (rw c.event.ensures at c.in-Ok.ensures.history) c.apply.ensures.capacity
@@ -26,6 +26,6 @@ pub returns-in-Err-answer_short : goal.returns-in-Err-answer_short
 returns-in-Err-answer_short c =
     rw (c.put-in-Err-answer_short.ensures, c.in-Err-answer_short.ensures.err)
     (replied_short c.args.self.now c.self.inside.session c.next_short.new.self
-    c.self.inside.under_way (short_event c.in-Some.level c.in-Some.request) c.in-Ok.reply
+    c.self.inside.pending (short_event c.in-Some.level c.in-Some.request) c.in-Ok.reply
     c.args.recorder.now c.apply.new.self c.self.view_is c.requires c.in-Some.ensures.asks
     (rw c.event.ensures at c.in-Ok.ensures.history) c.apply.ensures.capacity)
