@@ -132,7 +132,7 @@ fn feed_each(alloc: Global, client: &mut Client, bytes: &[u8]) -> Result<bool, A
 }
 
 /// Returns whether exactly these bytes are sent next.
-fn gives(client: &mut Client, bytes: &[u8]) -> bool {
+fn is_sent_next(client: &mut Client, bytes: &[u8]) -> bool {
     match client.to_send() {
         Some(text) => {
             let same = text.as_slice() == bytes;
@@ -144,7 +144,7 @@ fn gives(client: &mut Client, bytes: &[u8]) -> bool {
 }
 
 /// Returns whether nothing is sent.
-fn gives_none(client: &mut Client) -> bool {
+fn has_nothing_to_send(client: &mut Client) -> bool {
     match client.to_send() {
         Some(text) => {
             drop(text);
@@ -155,23 +155,23 @@ fn gives_none(client: &mut Client) -> bool {
 }
 
 /// Applies a step to a client. Returns whether what the step expects holds.
-fn takes(alloc: Global, client: &mut Client, step: Step) -> Result<bool, AllocError> {
+fn apply_step(alloc: Global, client: &mut Client, step: Step) -> Result<bool, AllocError> {
     match step {
         Step::Comes(from, payload) => feed(alloc, client, from, payload)?,
         Step::Bytes(bytes) => client.feed(alloc, bytes)?,
         Step::EachByte(bytes) => return feed_each(alloc, client, bytes),
         Step::Ends => client.ended(),
-        Step::Gives(bytes) => return Ok(gives(client, bytes)),
-        Step::GivesNone => return Ok(gives_none(client)),
+        Step::Gives(bytes) => return Ok(is_sent_next(client, bytes)),
+        Step::GivesNone => return Ok(has_nothing_to_send(client)),
         Step::Tells(outcome) => return Ok(client.outcome() == outcome),
     }
     Ok(true)
 }
 
 /// Returns whether all the steps hold of a client.
-fn takes_all(alloc: Global, client: &mut Client, steps: &[Step]) -> Result<bool, AllocError> {
+fn apply_steps(alloc: Global, client: &mut Client, steps: &[Step]) -> Result<bool, AllocError> {
     for step in steps {
-        if !takes(alloc, client, *step)? {
+        if !apply_step(alloc, client, *step)? {
             return Ok(false);
         }
     }
@@ -179,9 +179,9 @@ fn takes_all(alloc: Global, client: &mut Client, steps: &[Step]) -> Result<bool,
 }
 
 /// Returns whether all the steps hold of a new client of a verb.
-fn goes(alloc: Global, verb: Verb, steps: &[Step]) -> Result<bool, AllocError> {
+fn follows_steps(alloc: Global, verb: Verb, steps: &[Step]) -> Result<bool, AllocError> {
     let mut client = client_of(alloc, verb)?;
-    let taken = takes_all(alloc, &mut client, steps);
+    let taken = apply_steps(alloc, &mut client, steps);
     drop(client);
     taken
 }
@@ -204,7 +204,12 @@ const EACH_TEXT: &[Step] = &[
 
 #[test]
 fn each_text_is_given_once(rt: HostRuntime) {
-    assert!(rt; matches!(goes(rt.alloc(), Verb::Disconnect, EACH_TEXT), Ok(true)));
+    assert!(rt;
+        matches!(
+            follows_steps(rt.alloc(), Verb::Disconnect, EACH_TEXT),
+            Ok(true)
+        )
+    );
 }
 
 /// A verb, its request, a response, and what the response means.
@@ -245,7 +250,7 @@ fn is_asked(alloc: Global, asked: &Asked) -> Result<bool, AllocError> {
         Step::Gives(request),
         Step::Tells(Some(outcome)),
     ];
-    goes(alloc, verb, steps.as_slice())
+    follows_steps(alloc, verb, steps.as_slice())
 }
 
 fn are_asked(alloc: Global, rows: &[Asked]) -> Result<bool, AllocError> {
@@ -278,8 +283,13 @@ const NO_GET: &[Step] = &[
 
 #[test]
 fn a_rejection_has_no_request(rt: HostRuntime) {
-    assert!(rt; matches!(goes(rt.alloc(), Verb::Disconnect, REJECTION), Ok(true)));
-    assert!(rt; matches!(goes(rt.alloc(), Verb::ReadState, NO_GET), Ok(true)));
+    assert!(rt;
+        matches!(
+            follows_steps(rt.alloc(), Verb::Disconnect, REJECTION),
+            Ok(true)
+        )
+    );
+    assert!(rt; matches!(follows_steps(rt.alloc(), Verb::ReadState, NO_GET), Ok(true)));
 }
 
 // Payloads from port 16, before and after one from port 1.
@@ -294,7 +304,12 @@ const OTHER_PORTS: &[Step] = &[
 
 #[test]
 fn frames_of_other_ports_are_skipped(rt: HostRuntime) {
-    assert!(rt; matches!(goes(rt.alloc(), Verb::Disconnect, OTHER_PORTS), Ok(true)));
+    assert!(rt;
+        matches!(
+            follows_steps(rt.alloc(), Verb::Disconnect, OTHER_PORTS),
+            Ok(true)
+        )
+    );
 }
 
 // Two responses that arrive byte by byte.
@@ -306,7 +321,12 @@ const BYTE_BY_BYTE: &[Step] = &[
 
 #[test]
 fn answers_come_in_any_cut(rt: HostRuntime) {
-    assert!(rt; matches!(goes(rt.alloc(), Verb::Disconnect, BYTE_BY_BYTE), Ok(true)));
+    assert!(rt;
+        matches!(
+            follows_steps(rt.alloc(), Verb::Disconnect, BYTE_BY_BYTE),
+            Ok(true)
+        )
+    );
 }
 
 // A response whose header has version 2.
@@ -318,7 +338,12 @@ const WRONG_HEADER: &[Step] = &[
 
 #[test]
 fn a_wrong_header_ends_all(rt: HostRuntime) {
-    assert!(rt; matches!(goes(rt.alloc(), Verb::Disconnect, WRONG_HEADER), Ok(true)));
+    assert!(rt;
+        matches!(
+            follows_steps(rt.alloc(), Verb::Disconnect, WRONG_HEADER),
+            Ok(true)
+        )
+    );
 }
 
 /// Returns whether `Debug` shows only the verb of a client and whether its connection has ended,

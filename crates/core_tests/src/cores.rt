@@ -106,7 +106,7 @@ fn code_of(core: &mut RelayCore, alloc: Global, event: &Event) -> Result<u8, All
 }
 
 /// Returns whether a core's reply to a write of encoded Data is Success.
-fn takes(
+fn is_write_accepted(
     core: &mut RelayCore,
     alloc: Global,
     place: Place,
@@ -125,7 +125,7 @@ fn takes_all(
     writes: &[(Place, &[u8])],
 ) -> Result<bool, AllocError> {
     for (place, bytes) in writes {
-        if !takes(core, alloc, *place, bytes)? {
+        if !is_write_accepted(core, alloc, *place, bytes)? {
             return Ok(false);
         }
     }

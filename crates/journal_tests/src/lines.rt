@@ -104,7 +104,7 @@ fn take<W: Wait>(
 }
 
 /// Returns whether the lines after the first `taken` are these, and `count` is the number of all.
-fn takes<W: Wait>(
+fn are_next_lines<W: Wait>(
     rt: &W,
     alloc: Global,
     port: &mut Port<Kept>,
@@ -127,12 +127,13 @@ fn ask<W: Wait>(rt: &W, alloc: Global, port: &mut Port<Kept>, event: Event) -> b
 fn changing_events_are_noted_and_taken_once(rt: HostRuntime) -> Result<(), Fail> {
     let alloc = rt.alloc();
     let (shared, mut port) = new_journal(alloc, 100)?;
-    let none = count(&rt, alloc, &mut port) == Some(0) && takes(&rt, alloc, &mut port, 0, b"", 0);
+    let none = count(&rt, alloc, &mut port) == Some(0)
+        && are_next_lines(&rt, alloc, &mut port, 0, b"", 0);
     let are_replies = ask(&rt, alloc, &mut port, write_mode())
         && ask(&rt, alloc, &mut port, read_mode())
         && ask(&rt, alloc, &mut port, Event::Button);
     let two = count(&rt, alloc, &mut port) == Some(2)
-        && takes(
+        && are_next_lines(
             &rt,
             alloc,
             &mut port,
@@ -141,8 +142,8 @@ fn changing_events_are_noted_and_taken_once(rt: HostRuntime) -> Result<(), Fail>
             2,
         );
     let third = ask(&rt, alloc, &mut port, Event::Moment(5))
-        && takes(&rt, alloc, &mut port, 2, b"moment 5\n", 3)
-        && takes(&rt, alloc, &mut port, 3, b"", 3);
+        && are_next_lines(&rt, alloc, &mut port, 2, b"moment 5\n", 3)
+        && are_next_lines(&rt, alloc, &mut port, 3, b"", 3);
     drop(port);
     drop(shared);
     assert!(rt; none && are_replies);
@@ -157,7 +158,7 @@ fn lines_are_not_taken_from_another_place(rt: HostRuntime) -> Result<(), Fail> {
     let (shared, mut port) = new_journal(alloc, 100)?;
     let is_reply = ask(&rt, alloc, &mut port, Event::Button);
     let other = take(&rt, alloc, &mut port, 1).is_none();
-    let still = takes(&rt, alloc, &mut port, 0, b"button\n", 1);
+    let still = are_next_lines(&rt, alloc, &mut port, 0, b"button\n", 1);
     let again = take(&rt, alloc, &mut port, 0).is_none();
     drop(port);
     drop(shared);

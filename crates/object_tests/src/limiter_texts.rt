@@ -364,7 +364,7 @@ fn is_filled(alloc: Global, limiter: &mut Limiter, full: &str) -> [bool; 4] {
 }
 
 /// Swaps the group ids of a limiter that has none, writes an empty list, then `full`.
-fn trade(rt: &impl Abort, alloc: Global, limiter: &mut Limiter, full: &str) {
+fn check_swapped_ids(rt: &impl Abort, alloc: Global, limiter: &mut Limiter, full: &str) {
     let attribute = LimiterAttribute::ThresholdNormal;
     assert!(*rt; write(alloc, limiter, attribute, "0600000BB8"));
     assert!(*rt; is_traded(alloc, limiter));
@@ -376,7 +376,7 @@ fn trade(rt: &impl Abort, alloc: Global, limiter: &mut Limiter, full: &str) {
 fn group_ids_are_traded(rt: HostRuntime) -> Result<(), Fail> {
     let full = ids_text(rt.alloc(), 32, "12FFFF")?;
     let mut limiter = Limiter::new(rt.alloc());
-    trade(&rt, rt.alloc(), &mut limiter, full.as_str());
+    check_swapped_ids(&rt, rt.alloc(), &mut limiter, full.as_str());
     drop(limiter);
     drop(full);
     Ok(())

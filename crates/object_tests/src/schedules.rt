@@ -268,7 +268,11 @@ fn check_copy(rt: &impl Abort, alloc: Global, schedule: &ActionSchedule) -> Resu
 }
 
 /// Swaps the entries of a schedule with those of a new one, and copies that.
-fn trade(rt: &impl Abort, alloc: Global, first: &mut ActionSchedule) -> Result<(), AllocError> {
+fn check_swapped_entries(
+    rt: &impl Abort,
+    alloc: Global,
+    first: &mut ActionSchedule,
+) -> Result<(), AllocError> {
     let mut second = ActionSchedule::new(alloc);
     first.swap_entries(&mut second);
     check_written(rt, alloc, first, &OF_A_NEW_SCHEDULE[2..]);
@@ -282,7 +286,7 @@ fn entries_are_traded_and_copied(rt: HostRuntime) {
     let alloc = rt.alloc();
     let mut first = ActionSchedule::new(alloc);
     assert!(rt; is_prepared(alloc, &mut first, 3, LAST_SECOND_AS_A_TIME));
-    assert!(rt; trade(&rt, alloc, &mut first).is_ok());
+    assert!(rt; check_swapped_entries(&rt, alloc, &mut first).is_ok());
     drop(first);
 }
 

@@ -38,7 +38,7 @@ static OPENING: Lines = &[
 ];
 
 /// Takes a line from the first list whose next line it is. Returns whether there is one.
-fn takes(lists: &[Lines; 6], taken: &mut [usize; 6], line: &str) -> bool {
+fn take_line(lists: &[Lines; 6], taken: &mut [usize; 6], line: &str) -> bool {
     for i in 0..6 {
         if let Some(next) = lists[i].get(taken[i]) {
             if *next == line {
@@ -70,7 +70,7 @@ pub(crate) fn is_merged(text: &[u8], lists: &[Lines; 6]) -> bool {
     for (place, line) in text.lines().enumerate() {
         let is_expected = match OPENING.get(place) {
             Some(expected) => *expected == line,
-            None => takes(lists, &mut taken, line),
+            None => take_line(lists, &mut taken, line),
         };
         if !is_expected {
             return false;

@@ -79,7 +79,7 @@ fn kept(shared: Shared<Kept>, port: Port<Kept>) -> Option<u16>
 
 /// Returns whether a session of the management client through a port answers the first text with
 /// the second, and ends so.
-fn gives<W: Wait>(
+fn has_answer<W: Wait>(
     rt: &W,
     alloc: Global,
     port: Port<Kept>,
@@ -139,9 +139,9 @@ fn serve_two<R: Wait + Abort>(
         Ok(two) => {
             let end = Ok(SessionEnd::Closed);
             let texts = (first.asked.as_slice(), first.answered.as_slice());
-            let (mut one, is_first_so) = gives(rt, alloc, one, texts, password, end);
+            let (mut one, is_first_so) = has_answer(rt, alloc, one, texts, password, end);
             let texts = (second.asked.as_slice(), second.answered.as_slice());
-            let (two, is_second_so) = gives(rt, alloc, two, texts, password, end);
+            let (two, is_second_so) = has_answer(rt, alloc, two, texts, password, end);
             one.join(two);
             Ok((is_first_so, is_second_so, kept(shared, one)))
         }
@@ -226,7 +226,7 @@ fn serve_one_turn<R: Wait + Abort>(
 {
     let (shared, port) = new_lock(rt, alloc, 1)?;
     let end = Err(ServeFault::Exhausted);
-    let (port, has_stopped) = gives(rt, alloc, port, texts, password, end);
+    let (port, has_stopped) = has_answer(rt, alloc, port, texts, password, end);
     Ok((has_stopped, kept(shared, port)))
 }
 

@@ -56,7 +56,7 @@ fn run(alloc: Global, text: &str, failing: (u32, u32)) -> Result<Ran, AllocError
 }
 
 /// Returns whether a text has these lines as its output and this result.
-fn gives(
+fn has_output(
     alloc: Global,
     text: &str,
     lines: &str,
@@ -101,7 +101,7 @@ static TEXTS: [Played; 10] = [
 
 fn play_all(rt: &impl Abort, alloc: Global, texts: &[Played]) -> Result<(), AllocError> {
     for (text, lines, expected) in texts {
-        assert!(rt; gives(alloc, text, lines, *expected)?, "to {text}");
+        assert!(rt; has_output(alloc, text, lines, *expected)?, "to {text}");
     }
     Ok(())
 }
@@ -120,7 +120,7 @@ fn opened(alloc: Global) -> Result<String, AllocError> {
 /// Returns whether the output for a text is the lines of both answers.
 fn gives_both_lines(alloc: Global, text: &str) -> Result<bool, AllocError> {
     let lines = format!(in alloc; "{PUBLIC_AARE}\n{PUBLIC_STATE}\n")?;
-    let is_so = gives(alloc, text, lines.as_str(), Ok(()));
+    let is_so = has_output(alloc, text, lines.as_str(), Ok(()));
     drop(lines);
     is_so
 }
@@ -140,7 +140,7 @@ fn gives_101_lines(alloc: Global) -> Result<bool, AllocError> {
     let text = repeated(alloc, PUBLIC_AARQ, PUBLIC_GET, "", 100)?;
     let lines = repeated(alloc, PUBLIC_AARE, PUBLIC_STATE, "\n", 100)?;
     let is_long = text.len() == 4_278;
-    let is_so = gives(alloc, text.as_str(), lines.as_str(), Ok(()));
+    let is_so = has_output(alloc, text.as_str(), lines.as_str(), Ok(()));
     drop(text);
     drop(lines);
     Ok(is_long && is_so?)
@@ -183,7 +183,7 @@ static FAILING: [((u32, u32), HexFault, usize); 4] = [
 ];
 
 /// Returns whether a text fails with this fault after `size` bytes were written.
-fn fails(
+fn has_fault(
     alloc: Global,
     text: &str,
     failing: (u32, u32),
@@ -198,7 +198,7 @@ fn fails(
 
 fn check_failing(rt: &impl Abort, alloc: Global, text: &str) -> Result<(), AllocError> {
     for (failing, fault, size) in &FAILING {
-        let is_so = fails(alloc, text, *failing, *fault, *size)?;
+        let is_so = has_fault(alloc, text, *failing, *fault, *size)?;
         assert!(rt; is_so, "at {failing:?}");
     }
     Ok(())

@@ -215,13 +215,13 @@ impl Talk {
     }
 
     /// Returns whether the talk has its answers, in one piece and byte by byte.
-    fn goes(&self, alloc: Global) -> Result<bool, AllocError> {
-        self.goes_so_far(alloc, self.input.len())
+    fn has_answers(&self, alloc: Global) -> Result<bool, AllocError> {
+        self.has_first_answers(alloc, self.input.len())
     }
 
     /// Returns whether the first `size` bytes have the answers to the whole requests in them, in
     /// one piece and byte by byte.
-    fn goes_so_far(&self, alloc: Global, size: usize) -> Result<bool, AllocError> {
+    fn has_first_answers(&self, alloc: Global, size: usize) -> Result<bool, AllocError> {
         let (sent, answered) = last_end(self.ends.as_slice(), size);
         let end = if sent == size {
             SessionEnd::Closed
@@ -258,7 +258,7 @@ impl Talk {
         Ok(
             self.ends.len().checked_sub(1) == Some(answers)
                 && self.ends_in(alloc, last)?
-                && self.goes(alloc)?,
+                && self.has_answers(alloc)?,
         )
     }
 }
@@ -498,7 +498,7 @@ fn check_cuts(
     talk.ask_all(alloc, pairs)?;
     assert!(rt; talk.ends.len().checked_sub(1) == Some(pairs.len()));
     for size in 0..=talk.input.len() {
-        assert!(rt; talk.goes_so_far(alloc, size)?, "after {size} bytes");
+        assert!(rt; talk.has_first_answers(alloc, size)?, "after {size} bytes");
     }
     Ok(())
 }
