@@ -35,9 +35,9 @@ from campaigns import CAMPAIGN, SSHD_PATH, Shell, stop_campaigns, started
 from counted_meters import COMMANDS, CountedMeters, kind_of
 from journal import in_folder
 from ledger import HEAD_END, any_verb, entries, first_differences, has_ledger, report_of, text_of
-from one_node_slurm import LONG_PATIENCE, Slurm, missing_commands, wait_until
+from one_node_slurm import LONG_PATIENCE, Slurm, missing_commands
 from scripted_meters import CROWD
-from serving import PASSWORD, check, test
+from serving import PASSWORD, check, test, wait_until
 
 JOBS, PARTS, LINES = 150, 3, 1_000  # a part of 50 jobs is filled up with empty lines
 KILLED, LONG_KILLED, KILLED_JOBS = 4, 50, 90

@@ -25,10 +25,11 @@ import time
 sys.dont_write_bytecode = True  # importing the modules of tests/ leaves no files
 
 import serving
-from one_node_slurm import LONG_PATIENCE, Slurm, missing_commands, wait_until
+from one_node_slurm import LONG_PATIENCE, Slurm, missing_commands
 from scripted_meters import AARQ, CROWD, HOLDING, RELEASE, REQUESTS, SCRIPTS, Crowd, ScriptedMeter, Unheard, answers_slowly, answers_the_release, does_it, \
     loopback_address
-from serving import MODE, PASSWORD, PATIENCE, PLAYER, SERVER, TOP, Client, Server, check, played, shown_of, test
+from serving import (MODE, PASSWORD, PATIENCE, PLAYER, SERVER, TOP, Client, Server, check, played,
+                     shown_of, test, wait_until)
 
 HEAD_END = os.environ.get("HEAD_END") or TOP / "crates" / "head_end_cli" / "out" / "head_end_cli"
 CAMPAIGN = TOP / "bin" / "campaign"
@@ -707,12 +708,8 @@ class Shell:
             return False
 
     def answers(self):
-        end = time.monotonic() + PATIENCE
-        while self.process.poll() is None and time.monotonic() < end:
-            if self.logs_in():
-                return True
-            time.sleep(0.1)
-        return False
+        return wait_until(lambda: self.process.poll() is not None or self.logs_in(), pause=0.1) \
+            and self.process.poll() is None
 
     def stop(self):
         if self.process:

@@ -10,9 +10,8 @@ import socket
 import time
 
 from scripted_meters import CROWD, NAMES, STAGES, TEXTS, loopback_address
-from serving import PATIENCE
+from serving import PATIENCE, wait_until
 
-LONG_PATIENCE = 15 * PATIENCE  # for the last clients, whose machine may stand still for a while
 DELAYS = (0, 0, 0.001, 0.004, 0.012)  # the times before an answer, in seconds
 COMMANDS = ("disconnect", "reconnect")
 
@@ -45,11 +44,11 @@ class CountedMeters:
         """For each meter the frames that it received since the last call, counted by name, once no
         client is connected. Fails if clients stay connected, and shows which."""
         self.pipe.send("counts")
-        if self.pipe.poll(LONG_PATIENCE):
+        if wait_until(self.pipe.poll, 5 * PATIENCE):
             return self.pipe.recv()
         self.pipe.send("clients")
         found = "the meters do not answer"
-        while self.pipe.poll(PATIENCE):
+        while wait_until(self.pipe.poll):
             found = self.pipe.recv()
         raise AssertionError(f"clients stay connected: {found}")
 

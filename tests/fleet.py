@@ -13,6 +13,8 @@ import sys
 import threading
 import time
 
+from serving import wait_until
+
 TOP = pathlib.Path(__file__).resolve().parent.parent
 CRATES = TOP / "crates"
 FLEET = os.environ.get("METER_FLEET") or CRATES / "meter_fleet_cli" / "out" / "meter_fleet_cli"
@@ -133,10 +135,7 @@ def a_ninth_is_closed(fleet):
     check("the eight go on", all(ask(it, STATE, DISCONNECTED) for it in clients))
     clients.pop().close()
     # The fleet may accept the next connection before it has seen this end.
-    end = time.monotonic() + PATIENCE
-    while not (taken := associates(fleet, 5)) and time.monotonic() < end:
-        time.sleep(0.01)
-    check("a place that is free is taken", taken)
+    check("a place that is free is taken", wait_until(lambda: associates(fleet, 5)))
     for client in clients:
         client.close()
 
@@ -261,10 +260,7 @@ def hostile_clients_disturb_nobody(fleet):
     check("all sessions are free again", all(ask(it, AARQ, AARE) for it in clients))
     for client in clients:
         client.close()
-    end = time.monotonic() + PATIENCE
-    while files_of(process) > before and time.monotonic() < end:
-        time.sleep(0.05)
-    check("no descriptor is leaked", files_of(process) <= before)
+    check("no descriptor is leaked", wait_until(lambda: files_of(process) <= before))
     print(f"hostile clients: {answers} answers to the good ones, the slowest in {slowest:.3f} s, "
           f"resident at most {most} KiB")
 

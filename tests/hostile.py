@@ -21,8 +21,8 @@ sys.dont_write_bytecode = True  # importing the modules of tests/ leaves no file
 import serving
 from campaigns import HEAD_END, run_head_end
 from scripted_meters import ScriptedMeter, drips, is_silent, is_silent_later
-from serving import (ACTIVE, DEVICE, DISCONNECT, LIMITER, MANAGEMENT, MODE, NORMAL, OBJECTS, PATIENCE, PLAYER, PUBLIC, RECONNECT, REFUSED, REGISTER, SERVER, SESSIONS,
-                     STATE, Client, Server, Vanished, again_served, check, played, stands_in, test)
+from serving import (ACTIVE, DEVICE, DISCONNECT, LIMITER, MODE, NORMAL, OBJECTS, PATIENCE, PLAYER, PUBLIC, RECONNECT, REFUSED, REGISTER, SERVER, SESSIONS,
+                     STATE, Client, Server, Vanished, again_served, check, played, stands_in, test, wait_until)
 
 ROUNDS = 30
 HUNDRED = 100
@@ -50,12 +50,8 @@ class Watch:
     def has_no_more(self):
         """Whether, within the time limit, there are no more threads and descriptors than at the
         start."""
-        end = time.monotonic() + PATIENCE
-        while time.monotonic() < end:
-            if all(now <= first for now, first in zip(self.now()[:2], self.first[:2])):
-                return True
-            time.sleep(0.02)
-        return False
+        return wait_until(lambda: all(now <= first
+                                      for now, first in zip(self.now()[:2], self.first[:2])))
 
 
 def one_more(server):

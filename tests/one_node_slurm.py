@@ -8,9 +8,8 @@ import shutil
 import signal
 import socket
 import subprocess
-import time
 
-from serving import PATIENCE
+from serving import PATIENCE, wait_until
 
 LONG_PATIENCE = 6 * PATIENCE  # for waits on Slurm, which starts tasks every few seconds
 PATH = os.environ.get("PATH", "") + ":/usr/sbin:/usr/local/sbin"
@@ -56,14 +55,6 @@ def free_ports(count):
     for it in taken:
         it.close()
     return ports
-
-
-def wait_until(condition, seconds=PATIENCE):
-    """Waits until the condition holds, and returns whether it does."""
-    end = time.monotonic() + seconds
-    while not condition() and time.monotonic() < end:
-        time.sleep(0.05)
-    return condition()
 
 
 class Slurm:

@@ -5,10 +5,9 @@ import os
 import pathlib
 import subprocess
 import tempfile
-import time
 from typing import NamedTuple
 
-from serving import PATIENCE, TOP
+from serving import PATIENCE, TOP, wait_until
 
 SOURCE = TOP / "tests" / "refusing.c"
 TARGET = "--target=x86_64-unknown-linux-gnu"
@@ -64,9 +63,7 @@ class Refusing:
 
     def wait_for_end_of_input(self):
         """Waits until the program has read the end of its standard input, or has failed to."""
-        end = time.monotonic() + PATIENCE
-        while not self.report.exists() and time.monotonic() < end:
-            time.sleep(0.001)
+        wait_until(self.report.exists, pause=0.001)
 
     def counts(self):
         """The counts of the last program; zeros if it was killed."""

@@ -11,12 +11,12 @@ import resource
 import subprocess
 import sys
 import tempfile
-import time
 
 sys.dont_write_bytecode = True  # importing the modules of tests/ leaves no files
 
 import serving
-from serving import DISCONNECT, MODE, PASSWORD, PATIENCE, RECONNECT, SERVER, STATE, Server, check, run_with, test
+from serving import (DISCONNECT, MODE, PASSWORD, RECONNECT, SERVER, STATE, Server, check, run_with,
+                     test, wait_until)
 
 OFF = "supply off: execute 1 70 000060030AFF 1 0F00"
 ON = "supply on: execute 1 70 000060030AFF 2 0F00"
@@ -44,9 +44,7 @@ class RelayedServer(Server):
 
 def text_when(path, wanted):
     """The text of a file once it is this one, or when the time limit has passed."""
-    end = time.monotonic() + PATIENCE
-    while path.read_text() != wanted and time.monotonic() < end:
-        time.sleep(0.01)
+    wait_until(lambda: path.read_text() == wanted)
     return path.read_text()
 
 

@@ -9,7 +9,7 @@ import struct
 import threading
 import time
 
-from serving import AARE, PATIENCE, REFUSED
+from serving import AARE, PATIENCE, REFUSED, wait_until
 
 # The frames of the head end, from port 1 to port 1, with the password 12345678 (IEC 62056-4-7, IEC
 # 62056-5-3).
@@ -118,9 +118,7 @@ class ScriptedMeter:
 
     def talked(self, times):
         """The talks, once there are `count`."""
-        end = time.monotonic() + PATIENCE
-        while len(self.talks) < times and time.monotonic() < end:
-            time.sleep(0.005)
+        wait_until(lambda: len(self.talks) >= times)
         return self.talks
 
     def stop(self):

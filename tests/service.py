@@ -18,21 +18,13 @@ from pathlib import Path
 sys.dont_write_bytecode = True
 sys.path.insert(0, str(Path(__file__).resolve().parent))
 import serving
-from serving import DISCONNECT, MODE, PASSWORD, PATIENCE, STATE, check
+from serving import DISCONNECT, MODE, PASSWORD, PATIENCE, STATE, check, wait_until
 
 TOP = Path(__file__).resolve().parent.parent
 SERVICE = TOP / "bin" / "meter_service"
 UNIT = TOP / "share" / "systemd" / "meter_server.service"
 RUNIT = TOP / "share" / "runit" / "meter_server"
 ENVIRONMENT = {**os.environ, "METER_PASSWORD": PASSWORD}
-
-
-def waits_for(holds):
-    """Whether a condition holds within the time limit."""
-    end = time.monotonic() + PATIENCE
-    while not holds() and time.monotonic() < end:
-        time.sleep(0.02)
-    return holds()
 
 
 class Service(serving.Server):
@@ -217,7 +209,7 @@ def a_killed_service_is_recovered(name, folder):
     service.process.wait()
     client.close()
     check(f"{name}: the server ends in order",
-          waits_for(lambda: (folder / "next.trace").read_text().endswith("\n")))
+          wait_until(lambda: (folder / "next.trace").read_text().endswith("\n")))
     service = Service(folder)
     client = service.client()
     check(f"{name}: the next run resumes from its trace", client.get(STATE) == "value 1600")
@@ -317,7 +309,7 @@ def commands_of_runit(name, folder, service, port):
     log, traces = service / "log" / "main" / "current", folder / "state" / "traces"
 
     def logged(words, times):
-        return waits_for(lambda: log.exists() and log.read_text().count(words) >= times)
+        return wait_until(lambda: log.exists() and log.read_text().count(words) >= times)
 
     def sv(*words):
         return subprocess.run(["sv", *words, service], capture_output=True).returncode == 0
@@ -341,7 +333,7 @@ def commands_of_runit(name, folder, service, port):
     (folder / "state" / "running").touch()
     subprocess.run(["sv", "start", service], capture_output=True)
     check(f"{name}: what a person must decide stays down",
-          logged("left no trace", 1) and waits_for(lambda: is_down(service)))
+          logged("left no trace", 1) and wait_until(lambda: is_down(service)))
     (folder / "state" / "running").unlink()
     subprocess.run(["sv", "start", service], capture_output=True)
     check(f"{name}: starts again", logged("listening on", 3))

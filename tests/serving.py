@@ -39,6 +39,16 @@ REFUSED = "6117" + NAMING + "A203020101A305A1030201"
 RELEASED = "6303800100"
 
 
+def wait_until(holds, seconds=PATIENCE, pause=0.01):
+    """Waits until a condition holds, and returns whether it does. The limit is a number of pauses,
+    not a time: the clock of a virtual machine that stood still for a while jumps."""
+    for _ in range(round(seconds / pause)):
+        if holds():
+            return True
+        time.sleep(pause)
+    return holds()
+
+
 class Vanished(Exception):
     """The server closed the connection or sent nothing within the time limit."""
 
@@ -195,9 +205,7 @@ class Server:
 
     def wait_for(self, words, times=1):
         """Waits until standard error has these words `count` times, or has ended."""
-        end = time.monotonic() + PATIENCE
-        while self.errors.count(words) < times and self.reader.is_alive() and time.monotonic() < end:
-            time.sleep(0.005)
+        wait_until(lambda: self.errors.count(words) >= times or not self.reader.is_alive())
         return self.errors.count(words) >= times
 
     def say(self, *lines):
@@ -223,17 +231,19 @@ class Server:
         try:
             if self.process.stdin and not self.process.stdin.closed:
                 self.end_input()
-            end = time.monotonic() + PATIENCE
-            output = b""
+            pieces = []
             os.set_blocking(self.process.stdout.fileno(), False)
-            while time.monotonic() < end:
+
+            def has_ended():
                 is_over = self.process.poll() is not None
-                output += self.process.stdout.read() or b""
-                if is_over:
-                    self.reader.join(PATIENCE)
-                    return self.process.returncode, output.decode(), self.errors.decode()
-                time.sleep(0.005)
-            return "does not end", output.decode(), self.errors.decode()
+                pieces.append(self.process.stdout.read() or b"")
+                return is_over
+
+            status = "does not end"
+            if wait_until(has_ended):
+                self.reader.join(PATIENCE)
+                status = self.process.returncode
+            return status, b"".join(pieces).decode(), self.errors.decode()
         finally:
             self.stop()
 
@@ -398,13 +408,18 @@ def a_client_whose_stream_cannot_be_set_up_is_turned_away(name):
 def again_served(server):
     """Connects a client once a session is free: the server frees ended sessions when it accepts the
     next client."""
-    end = time.monotonic() + PATIENCE
-    while time.monotonic() < end:
+    found = []
+
+    def is_served():
         try:
-            return server.client()
+            found.append(server.client())
         except (Vanished, OSError):
-            time.sleep(0.02)
-    raise Vanished
+            return False
+        return True
+
+    if not wait_until(is_served, pause=0.02):
+        raise Vanished
+    return found[0]
 
 
 # What the server reports of the lines of the test below: the first one of each reason.
@@ -424,10 +439,8 @@ def console_lines_act_beside_clients(name):
     client.set(MODE, "1604")
     client.execute(DISCONNECT)
     server.say("moment 100", "nonsense", "samples 10 20", "set 1 70 000060030AFF 4 0 1600", "pairs 30 40", "button", "button 2", "moment 100\r", "x" * 20_000, "samples")
-    end = time.monotonic() + PATIENCE
-    while client.get(REGISTER) != "value 060000001E" and time.monotonic() < end:
-        time.sleep(0.01)
-    check(f"{name}: the last sample", client.get(REGISTER) == "value 060000001E")
+    has_last = wait_until(lambda: client.get(REGISTER) == "value 060000001E")
+    check(f"{name}: the last sample", has_last)
     client.close()
     server.say_bytes(b"moment 200\nmoment 300")  # the last line has no line end
     status, trace, errors = server.ended()
@@ -614,13 +627,9 @@ def the_environment_has_the_password(name):
 def shown_of(process):
     """The command line and the environment that /proc shows of a process. They are empty until its
     program has begun."""
-    end = time.monotonic() + PATIENCE
-    while time.monotonic() < end:
-        shown = [pathlib.Path(f"/proc/{process.pid}/{it}").read_bytes() for it in ("cmdline", "environ")]
-        if all(shown):
-            break
-        time.sleep(0.005)
-    return b"".join(shown)
+    files = [pathlib.Path(f"/proc/{process.pid}/{it}") for it in ("cmdline", "environ")]
+    wait_until(lambda: all(it.read_bytes() for it in files))
+    return b"".join(it.read_bytes() for it in files)
 
 
 def a_file_has_the_password(name):
