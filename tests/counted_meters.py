@@ -153,17 +153,18 @@ class Process:
 
     def run(self):
         while True:
-            for number, _ in self.poll.poll(self.answer()):
+            pause = self.answer()
+            if self.is_asked and not self.clients:
+                self.pipe.send(self.counts)
+                self.counts = [collections.Counter() for _ in self.counts]
+                self.is_asked = False
+            for number, _ in self.poll.poll(pause):
                 if number in self.listeners:
                     self.accept(number)
                 elif number in self.clients:
                     self.hear(self.clients[number])
                 elif number == self.pipe.fileno():
                     self.obey(self.pipe.recv())
-            if self.is_asked and not self.clients:
-                self.pipe.send(self.counts)
-                self.counts = [collections.Counter() for _ in self.counts]
-                self.is_asked = False
 
 
 def tcp_state(stream):
