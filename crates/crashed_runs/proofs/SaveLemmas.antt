@@ -1,9 +1,10 @@
 -- A crash after a save leaves the lines that it has put on the disk, whatever saves came next.
 use Rattle.std.proofs.Common.{◌≡◌, ℕ, zero, suc, ◌≤◌, List, [], ◌++◌, length, Ok, sym, ap, subst}
+use Rattle.std.proofs.Common.{Result, Err, IfOk}
 use Rattle.std.proofs.Common.{◌∙◌, arith, le_refl, append-nil, append_assoc}
 use Rattle.crashed_runs.specs.Answers.{changing_calls}
 use Rattle.crashed_runs.specs.Fronts.{run_events}
-use Rattle.crashed_runs.specs.Saves.{AreSaves, ContinuesAnswered, IsSave, Stand}
+use Rattle.crashed_runs.specs.Saves.{AreSaves, ContinuesAnswered, IsSave, Stand, count_after}
 use Rattle.crashed_runs.proofs.AnswerLemmas.{changing_append, no_changing, selection_kept}
 use Rattle.crashed_runs.proofs.FrontLemmas.{front_continues}
 use Rattle.durable_lines.specs.CrashModel.{LeavesOnly}
@@ -12,15 +13,19 @@ use Rattle.durable_lines.proofs.Moments.{begin, leaves_as, leaves_then}
 use Rattle.journal_files.specs.Journals.{Continues, changing}
 use Rattle.journal_files.specs.Renewals.{IsRenewedAs}
 use Rattle.meter_journal.specs.Saving.{IsSaved, IsSavedFrom}
+use Rattle.meter_journal.specs.declared.fault.JournalFault.{JournalFault}
+use Rattle.meter_journal.specs.declared.saving.Saved.{Saved}
 use Rattle.meter_journal.proofs.SavingLemmas.{saved_later}
 use Rattle.relay_recorder.specs.Recording.{Recording}
 use Rattle.relay_recorder.specs.declared.trace.Trace.{Trace}
-use Rattle.shared_meter.specs.Calls.{Calls}
+use Rattle.shared_meter.specs.Calls.{Calls, IsLegal}
+use Rattle.shared_meter.specs.Handed.{MeterPort}
 use Rattle.shared_meter.specs.Pending.{lines_of_calls}
 use Rattle.trace_player.specs.Journals.{IsJournal}
 use Rattle.trace_player.specs.Resuming.{world_of}
 use Rattle.trace_player.specs.Traces.{trace_of}
 use Rattle.trace_player.specs.Written.{AreTraced}
+use Rattle.turn_lock.specs.Calls.{Watches}
 use Rattle.turn_lock.specs.History.{StartsWith}
 
 starts_self : (calls : Calls) → StartsWith calls calls
@@ -119,4 +124,31 @@ answered_continue count device began left trace answered short calls recorder te
       kept = selection_kept changing_calls changing_append no_changing calls answered found.front
           found.rest (starts_then calls short answered saved.0 begins) found.all
           (omega (arith, enough, found.enough));
+    }
+
+-- a save counts at least the lines that the file held before
+counts_more : (taken lines : ℕ) (result : Result Saved JournalFault)
+    → IfOk result (λ saved. saved.count ≡ lines) → taken ≤ lines → taken ≤ count_after taken result
+counts_more taken lines (Ok saved) counted within = omega (arith, counted, within)
+counts_more taken lines (Err fault) counted within = le_refl taken
+
+-- a call of `save` is a save
+pub save_counts : {F : Type 0} (seen : F → List ℕ) (moment : F → ℕ)
+    (left_since : F → ℕ → List ℕ → Type 0) (Renews : List ℕ → List ℕ → Type 0)
+    (first : List (List ℕ)) (old new : F) (p q : MeterPort) (taken : ℕ)
+    (result : Result Saved JournalFault) → Watches IsLegal p.known q.known
+    → IfOk result (λ saved. saved.count ≡ length (lines_of_calls q.known.seen))
+    → IsSaved Renews first taken p.known.seen (seen old)
+    → LeavesOnly moment left_since old new (IsSavedFrom Renews taken first q.known.seen)
+    → IsSave moment left_since Renews first
+    (record { file = old; calls = p.known.seen; count = taken })
+    (record { file = new; calls = q.known.seen; count = count_after taken result })
+save_counts seen moment left_since Renews first old new p q taken result watches counted saved
+    leaves =
+    let later = saved_later Renews first taken p.known.seen q.known.seen (seen old)
+    watches.sees.seen saved in
+    record {
+      longer = watches.sees.seen;
+      more = counts_more taken (length (lines_of_calls q.known.seen)) result counted later.within;
+      any_moment = leaves;
     }

@@ -1,13 +1,16 @@
 -- Saves of a journal, one after another, and what a crash after an answer leaves of them.
 --     Stand                a file, and how many lines of a history it holds
 --     IsSave               what a save promises, whatever it returned
+--     count_after          the number of lines that are counted after a save
 --     AreSaves             a number of saves, one after another
 --     ContinuesAnswered    a meter that continues a front of a run with all calls of a shorter one
-use Rattle.std.specs.Prelude.{◌≡◌, ℕ, zero, suc, ◌≤◌, List}
+use Rattle.std.specs.Prelude.{◌≡◌, ℕ, zero, suc, ◌≤◌, List, Result, Ok, Err}
 use Rattle.crashed_runs.specs.Answers.{changing_calls}
 use Rattle.crashed_runs.specs.Fronts.{ContinuesFront}
 use Rattle.durable_lines.specs.CrashModel.{LeavesOnly}
 use Rattle.meter_journal.specs.Saving.{IsSavedFrom}
+use Rattle.meter_journal.specs.declared.fault.JournalFault.{JournalFault}
+use Rattle.meter_journal.specs.declared.saving.Saved.{Saved}
 use Rattle.relay_core.specs.World.{World}
 use Rattle.shared_meter.specs.Calls.{Calls}
 use Rattle.turn_lock.specs.History.{StartsWith}
@@ -26,6 +29,11 @@ pub record IsSave {F : Type 0} (moment : F → ℕ) (left_since : F → ℕ → 
   pub more : old.count ≤ new.count
   pub any_moment : LeavesOnly moment left_since old.file new.file
       (IsSavedFrom Renews old.count first new.calls)
+
+-- the number of lines that are counted after a save: those that it reports, or the earlier ones
+abbrev pub count_after : (before : ℕ) → Result Saved JournalFault → ℕ
+count_after before (Ok saved) = saved.count
+count_after before (Err fault) = before
 
 -- whether this number of saves came one after another
 abbrev pub AreSaves : {F : Type 0} → (moment : F → ℕ) → (left_since : F → ℕ → List ℕ → Type 0)

@@ -1,27 +1,38 @@
 //! The laws of runs that a crash ends.
-ghost use Rattle.std.specs.Prelude.{◌≡◌, ◌≤◌, ℕ, List, Ok, Result, length};
+ghost use Rattle.std.specs.Prelude.{◌≡◌, ◌≤◌, ℕ, IfOk, List, Ok, Result, length};
 ghost use Rattle.crashed_runs.specs.Answers.{ContinuesAnswers, HasAnsweredLines};
 ghost use Rattle.crashed_runs.specs.Fronts.{ContinuesFront, run_events};
-ghost use Rattle.crashed_runs.specs.Saves.{AreSaves, ContinuesAnswered, Stand};
+ghost use Rattle.crashed_runs.specs.Saves.{AreSaves, ContinuesAnswered, IsSave, Stand};
+ghost use Rattle.crashed_runs.specs.Saves.{count_after};
+ghost use Rattle.durable_lines.specs.CrashModel.{LeavesOnly};
 ghost use Rattle.durable_lines.specs.Lines.{lines_in, IsSettled, IsText};
 ghost use Rattle.journal_files.specs.Journals.{Continues, changing};
 ghost use Rattle.journal_files.specs.Renewals.{IsRenewedAs};
 ghost use Rattle.meter_journal.specs.Saving.{IsSaved, IsSavedFrom};
+ghost use Rattle.meter_journal.specs.declared.fault.JournalFault.{JournalFault};
+ghost use Rattle.meter_journal.specs.declared.saving.Saved.{Saved};
 ghost use Rattle.meter_run.specs.Journaled.{IsJournaledRun};
 ghost use Rattle.meter_run.specs.Runs.{Given};
 ghost use Rattle.meter_server.specs.declared.serving_all.Served.{Served};
 ghost use Rattle.relay_recorder.specs.Recording.{Recording};
 ghost use Rattle.relay_recorder.specs.declared.trace.Trace.{Trace};
 ghost use Rattle.session_io.specs.declared.fault.ServeFault.{ServeFault};
-ghost use Rattle.shared_meter.specs.Calls.{Calls};
+ghost use Rattle.shared_meter.specs.Calls.{Calls, IsLegal};
+ghost use Rattle.shared_meter.specs.Handed.{MeterPort};
 ghost use Rattle.shared_meter.specs.Pending.{lines_of_calls};
 ghost use Rattle.trace_player.specs.Journals.{IsJournal};
 ghost use Rattle.trace_player.specs.Resuming.{world_of};
 ghost use Rattle.trace_player.specs.Traces.{trace_of};
 ghost use Rattle.trace_player.specs.Written.{AreTraced};
+ghost use Rattle.turn_lock.specs.Calls.{Watches};
 ghost use Rattle.turn_lock.specs.History.{StartsWith};
 
 use durable_lines::DurableFile;
+use meter_journal::{JournalFault, Saved, save};
+use shared_meter::Kept;
+use std::alloc::Global;
+use std::sync::Wait;
+use turn_lock::Port;
 
 /// Proves which meter is resumed after a crash. A run began with a journal, and made these calls; a
 /// crash left a file that holds a front of their lines, at least `from`, however often the journal
@@ -81,3 +92,41 @@ pub fn saved_calls_are_resumed<F: DurableFile>()
         → ContinuesAnswered old.count answered new.calls (world_of trace)
         (world_of resumed.trace) }
 {}
+
+/// Proves that a call of [`save`](meter_journal::save) is one of the saves of
+/// [`saved_calls_are_resumed`], whatever it returned. The premises are the clauses `watches`,
+/// `count` and `any_moment` of its contract, for a file that held `taken` lines of the history.
+pub fn each_call_of_save_is_a_save<F: DurableFile>()
+    ensures { (first : List (List ℕ)) (old new : F) (p q : MeterPort) (taken : ℕ)
+        (result : Result Saved JournalFault) → Watches IsLegal p.known q.known
+        → IfOk result (λ saved. saved.count ≡ length (lines_of_calls q.known.seen))
+        → IsSaved F.renews first taken p.known.seen (F.seen old)
+        → LeavesOnly F.moment F.left_since old new (IsSavedFrom F.renews taken first q.known.seen)
+        → IsSave F.moment F.left_since F.renews first
+        (record { file = old; calls = p.known.seen; count = taken })
+        (record { file = new; calls = q.known.seen; count = count_after taken result }) }
+{}
+
+// Calls `save`: its clauses are the premises of `each_call_of_save_is_a_save`. No program calls it.
+fn save_as_one_of_the_saves<F: DurableFile, W: Wait>(
+    rt: &W,
+    alloc: Global,
+    port: &mut Port<Kept>,
+    file: &mut F,
+    taken: u64,
+    room: Vec<u8>,
+) -> Result<Saved, JournalFault>
+    requires { F.acts_as_file → IsSettled F.seen F.may_leave F.stored file.old }
+    ensures { F.acts_as_file → (first : List (List ℕ))
+        → IsSaved F.renews first taken port.old.known.seen (F.seen file.old)
+        → IsSave F.moment F.left_since F.renews first
+        (record { file = file.old; calls = port.old.known.seen; count = taken })
+        (record {
+          file = file.new;
+          calls = port.new.known.seen;
+          count = count_after taken result;
+        }) }
+{
+    each_call_of_save_is_a_save::<F>();
+    save(rt, alloc, port, file, taken, room)
+}

@@ -7,4 +7,7 @@
 
 mod laws;
 
-pub use laws::{answered_calls_are_resumed, crashed_run_is_resumed, saved_calls_are_resumed};
+pub use laws::{
+    answered_calls_are_resumed, crashed_run_is_resumed, each_call_of_save_is_a_save,
+    saved_calls_are_resumed,
+};
