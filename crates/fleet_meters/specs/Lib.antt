@@ -1,3 +1,4 @@
 pub mod Clients
 pub mod Fleets
 pub mod Places
+pub mod Terms

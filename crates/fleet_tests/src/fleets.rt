@@ -13,7 +13,7 @@ use std::process::Abort;
 use std::test::Fail;
 
 /// The trace of a new meter in mode 1.
-const TRACE: &[u8] = b"RELAYTRACE 1
+pub(crate) const TRACE: &[u8] = b"RELAYTRACE 1
 device 52454C415931
 state 1
 mode 1

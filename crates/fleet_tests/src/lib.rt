@@ -10,3 +10,5 @@ mod addresses;
 mod fleets;
 #[cfg(test)]
 mod talk;
+#[cfg(test)]
+mod terms;
