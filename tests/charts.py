@@ -164,6 +164,31 @@ def range_rows(room):
     yield "a refused range: no file", not (room / "none.svg").exists()
 
 
+def visible_part(svg, name):
+    """The visible part of the width of the chart that the last stretch of this name takes."""
+    group, edge = finds(svg, name), next(svg.iter(f"{SVG}clipPath"))[0]
+    paths = [] if group is None else [*group.iter(f"{SVG}path")]
+    if not paths:
+        return 0
+    left, width = float(edge.get("x")), float(edge.get("width"))
+    places = [min(float(it), left + width) for it in re.findall(r"[ML] ([\d.]+)", paths[-1].get("d"))]
+    return (max(places) - min(places)) / width
+
+
+def last_rows(room):
+    """The state that the last event leads to is visible, and so is that of a trace without events."""
+    trace = room / "last.trace"
+    trace.write_text(rows.trace_text(rows.NEW_METER, [f"set 1 {rows.SWITCH} 4 0 1601", f"execute 1 {rows.SWITCH} 1 0F00"]))
+    svg = part_of(trace, room / "last.svg")
+    yield "the last event's state", round(visible_part(svg, "state-0"), 3) == 0.333
+    svg = part_of(trace, room / "last.svg", "--to", "1")
+    yield "no state of an event that is not drawn", (visible_part(svg, "state-0"), round(visible_part(svg, "state-1"), 3)) == (0, 1)
+    trace.write_text(rows.trace_text(rows.NEW_METER, []))
+    svg = part_of(trace, room / "last.svg")
+    yield "no event: the state and the supply", all(round(visible_part(svg, it), 3) == 1 for it in ("state-1", "supply"))
+    yield "no event: the ticks", [it for it in texts(svg) if it.isdecimal()] == ["0", "1"]
+
+
 def sampler_rows(room):
     """The sampler's read and a client's have other labels."""
     trace = room / "sampler.trace"
@@ -224,7 +249,7 @@ def all_rows(room, browser):
     trace = room / "long.trace"
     trace.write_text(rows.trace_text(rows.NEW_METER, long_trace()))
     yield from judged("long", trace, room, long_rows, browser)
-    for rows_of in (part_rows, range_rows, sampler_rows, command_rows):
+    for rows_of in (part_rows, range_rows, last_rows, sampler_rows, command_rows):
         yield from rows_of(room)
     yield from wrong_rows(room)
 
