@@ -5,10 +5,9 @@ ghost use Rattle.relay_core.specs.Opening.{IsFitOpening};
 
 use counted_io::Monitored;
 use meter_server::{BlockSource, ButtonSource, MomentSource};
-use program::Fault;
 use relay_core::{Event, Reply};
 use relay_recorder::{Recorder, Trace};
-use server_commands::read_head;
+use server_commands::{PlanFault, read_head};
 use server_io::{
     Console, ConsoleEnd, ConsoleSources, Ended, EventSink, LineBuffer, Reading, console_event,
     run_console, start,
@@ -314,13 +313,13 @@ fn input_of(alloc: Global, bytes: &[u8]) -> io::Result<Input<'_>> {
 }
 
 /// Applies the moment 4 to a meter that resumes from the trace at the head of an input.
-fn resumed(alloc: Global, input: &mut Input) -> Result<Seen, Fault> {
+fn resumed(alloc: Global, input: &mut Input) -> Result<Seen, PlanFault> {
     let trace = read_head(alloc, input)?;
     let seen = resume_from(alloc, &trace);
     drop(trace);
     match seen {
         Ok(seen) => Ok(seen),
-        Err(_) => Err(Fault::Memory),
+        Err(_) => Err(PlanFault::Memory),
     }
 }
 
@@ -334,15 +333,37 @@ fn a_meter_goes_on_from_a_trace(rt: HostRuntime) -> Result<(), Fail> {
 }
 
 #[test]
-fn another_head_is_wrong(rt: HostRuntime) -> Result<(), Fail> {
-    for bytes in [
-        b"".as_slice(),
-        b"button\n",
-        b"RELAYTRACE 1\nbutton\n",
-        &TRACE[..300],
+fn the_first_wrong_line_of_a_head_is_found(rt: HostRuntime) -> Result<(), Fail> {
+    for (bytes, number) in [
+        (b"".as_slice(), 1),
+        (b"button\n", 1),
+        (b"RELAYTRACE 1", 1),
+        (b"RELAYTRACE 1\nbutton\n", 2),
+        (&TRACE[..300], 22),
+        (
+            b"RELAYTRACE 1\ndevice 52454C415931\nstate 1\nmode 7\nvalue 0\n",
+            4,
+        ),
     ] {
         let mut input = input_of(rt.alloc(), bytes)?;
-        assert!(rt; matches!(resumed(rt.alloc(), &mut input), Err(Fault::Input)));
+        assert!(rt;
+            matches!(
+            resumed(rt.alloc(), &mut input),
+            Err(PlanFault::Line(found)) if found == number
+        )
+        );
     }
+    Ok(())
+}
+
+#[test]
+fn a_journal_is_no_trace_to_resume_from(rt: HostRuntime) -> Result<(), Fail> {
+    // (the number of its events, `4`, is the byte 297 of the trace)
+    let mut text = Vec::new(rt.alloc());
+    text.extend_from_slice(&TRACE[..297])?;
+    text.extend_from_slice(b"-")?;
+    text.extend_from_slice(&TRACE[298..])?;
+    let mut input = input_of(rt.alloc(), text.as_slice())?;
+    assert!(rt; matches!(resumed(rt.alloc(), &mut input), Err(PlanFault::Journal)));
     Ok(())
 }

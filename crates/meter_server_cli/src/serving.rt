@@ -6,7 +6,7 @@ ghost use Rattle.meter_server_cli.specs.Endings.{PrintsText};
 
 use crate::ending::{Ends, print_trace, run_fault};
 use crate::journal::{JournaledParts, ServerEnd, run_journaled};
-use crate::messages::{why_not_listening, why_wrong_input};
+use crate::messages::why_not_listening;
 use cosem_axdr::Octets;
 use counted_io::Monitored;
 use durable_lines::DurableFile;
@@ -237,10 +237,10 @@ fn plan_server(rt: &HostRuntime, options: &ServeOptions) -> Result<ServePlan<Std
     match make_plan(rt.alloc(), rt.stdin(), options) {
         Ok(plan) => Ok(plan),
         Err(fault) => {
-            if options.bounds.is_verbose && fault == Fault::Input {
-                let _ = eprintln!(rt; "{}", why_wrong_input(options));
+            if options.bounds.is_verbose {
+                let _ = eprintln!(rt; "{fault}");
             }
-            Err(fault)
+            Err(fault.fault())
         }
     }
 }

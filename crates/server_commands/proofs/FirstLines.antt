@@ -1,16 +1,18 @@
 -- The first line of a text, as it is read from an input.
-use Rattle.std.proofs.Common.{◌≡◌, ℕ, ◌+◌, ◌<◌, ◌≤◌, Bool, true, false, ◌==◌, if◌then◌else◌, cond, List, [], ◌∷◌, ◌++◌, length, length-append, map, drop, get_or, Option, Some, None, refl, sym, ap, ◌∙◌, subst, arith}
+use Rattle.std.proofs.Common.{◌≡◌, ℕ, ◌+◌, ◌<◌, ◌≤◌, Bool, true, false, ◌==◌, if◌then◌else◌, cond, List, [], ◌∷◌, ◌++◌, length, length-append, map, drop, get_or, Option, Some, None, Err, IsErrOf, refl, sym, ap, ◌∙◌, subst, arith}
 use Rattle.std.proofs.lemmas.Bool.{eqb-true}
 use Rattle.std.proofs.lemmas.List.{append_assoc, drop_all, drop_more}
 use Rattle.std.specs.Io.BufRead.{take_through, drop_through, DropsThrough}
 use Rattle.std.specs.List.{onto_first}
 use Rattle.std.specs.Prelude.{IfSome}
-use Rattle.counted_io.specs.Lines.{ReadsLine}
+use Rattle.counted_io.specs.Lines.{IsLineFault, ReadsLine}
+use Rattle.counted_io.specs.declared.fault.InputFault.{InputFault}
+use Rattle.counted_io.specs.declared.fault.InputFault.TheVariants.{TooLong, Read, Memory}
 use Rattle.trace_words.specs.Rows.{Row}
 use Rattle.text_lines.specs.Lines.{all_but_last, last_of, lines_of, unended_of, rows_of}
 use Rattle.text_lines.specs.Parts.{parts_at}
 use Rattle.text_lines.specs.Words.{words_of}
-use Rattle.server_commands.specs.Heads.{Ahead, IsLine}
+use Rattle.server_commands.specs.Heads.{Ahead, IsLine, IsReadFault}
 
 -- equal lists have equal heads and tails
 heads : {X : Type 0} (x y : X) (xs ys : List X) → x ∷ xs ≡ y ∷ ys → x ≡ y
@@ -247,6 +249,22 @@ line_fits text rest row rows old left limit ahead over within =
       length-append old ahead.still,
       length-append front behind,
     )
+
+-- a line that is not read because it is too long
+pub long_line : {X : Type 0} (limit : ℕ) (left : Option (List ℕ)) (line : List ℕ) (failed : Bool)
+    (given : InputFault) → IsErrOf {T = X} (Err given) TooLong
+    → IsLineFault limit left line failed given
+    → IfSome left (λ all. limit < length line + length (take_through 10 all))
+long_line limit left line failed given is cause =
+    let same : given ≡ TooLong = cc in
+    subst (IsLineFault limit left line failed) same cause
+
+-- the fault of a line that is not read
+pub unread_line : (limit : ℕ) (left : Option (List ℕ)) (line : List ℕ) (failed : Bool)
+    (given : InputFault) → IsLineFault limit left line failed given → IsReadFault failed given
+unread_line limit left line failed TooLong cause = tt
+unread_line limit left line failed Read cause = cause
+unread_line limit left line failed Memory cause = tt
 
 -- ---- several lines
 

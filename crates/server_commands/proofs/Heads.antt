@@ -1,5 +1,5 @@
 -- A text that grows by what is read.
-use Rattle.std.proofs.Common.{ℕ, List, [], ◌++◌, Option, ap, sym, ◌∙◌}
+use Rattle.std.proofs.Common.{ℕ, List, [], ◌++◌, Option, Result, Ok, Err, OnOk, ap, sym, ◌∙◌}
 use Rattle.std.proofs.lemmas.List.{append_assoc, append-nil}
 use Rattle.std.specs.Io.KnownBytes.{Consumes}
 use Rattle.std.proofs.KnownBytes.{Consumes-trans}
@@ -15,6 +15,12 @@ grows_on a b c l m n first then = record {
   added = then.added ∙ ap (λ (xs : List ℕ). xs ++ then.bytes) first.added
       ∙ append_assoc a first.bytes then.bytes;
 }
+
+-- one read followed by another that may fail
+pub grows_after : {X F : Type 0} (result : Result X F) (a b c : List ℕ) (l m n : Option (List ℕ))
+    → Grows a l b m → OnOk result (Grows b m c n) → OnOk result (Grows a l c n)
+grows_after (Ok x) a b c l m n first then = grows_on a b c l m n first then
+grows_after (Err fault) a b c l m n first then = tt
 
 -- no read at all
 pub grows_none : (a : List ℕ) (l : Option (List ℕ)) → Consumes l l [] → Grows a l a l

@@ -1,7 +1,8 @@
 -- The lines of a trace, read one after the other from the head of an input.
-use Rattle.std.proofs.Common.{rules, ◌≡◌, ℕ, ◌<◌, ◌≤◌, ◌^◌, Bool, true, false, ◌==◌, ◌&&◌, ◌||◌, not, nat_lt, nat_le, nat_eq, codes, decimal, List, [], ◌∷◌, ◌++◌, length, take, drop, slice_index, ◌-◌, Option, Some, None, Result, Ok, Err, IfErr, IfSome, IsErrAnd, inl, inr, ⊎_elim, if◌then◌else◌, refl, sym, ap, ◌∙◌, subst, arith}
+use Rattle.std.proofs.Common.{rules, ◌≡◌, ℕ, ◌<◌, ◌≤◌, ◌^◌, Bool, true, false, ◌==◌, ◌&&◌, ◌||◌, not, nat_lt, nat_le, nat_eq, codes, decimal, List, [], ◌∷◌, ◌++◌, length, take, drop, slice_index, ◌-◌, Option, Some, None, Result, Ok, Err, IfOk, IfErr, IsErrAnd, ⊎_elim, if◌then◌else◌, refl, sym, ap, ◌∙◌, subst, arith}
 use Rattle.std.specs.Char.{is_ascii_digit}
 use Rattle.std.specs.Cmp.Lexicographic.{pointwise}
+use Rattle.std.specs.Io.KnownBytes.{Consumes}
 use Rattle.std.specs.List.{list_all}
 use Rattle.std.specs.Str.Parse.{digits_value}
 use Rattle.std.proofs.lemmas.Bool.{eqb-true, and_parts}
@@ -9,8 +10,8 @@ use Rattle.std.proofs.lemmas.Bool.Decides.{nat_tests}
 use Rattle.std.proofs.lemmas.Fmt.{decimal-digits_value, decimal_digit}
 use Rattle.std.proofs.lemmas.List.{append-nil, take_all, length-drop}
 use Rattle.std.proofs.lemmas.Str.Parse.{IsNumeralModel, numerals_by_value}
-use Rattle.wire_bytes.specs.Outcome.{Fails}
-use Rattle.wire_bytes.proofs.OutcomeLemmas.{bind_ok, ok_is, guard_ok, chosen, failed}
+use Rattle.relay_core.specs.Opening.{IsFitOpening}
+use Rattle.wire_bytes.proofs.OutcomeLemmas.{bind_ok, ok_is, guard_ok, chosen}
 use Rattle.trace_words.specs.Labels.{words_after, labelled_value}
 use Rattle.trace_openings.specs.OpeningFields.{version_in, version_from}
 use Rattle.trace_words.specs.Reading.{number_in, last_as}
@@ -19,7 +20,8 @@ use Rattle.trace_words.specs.declared.fault.RowFault.TheVariants.{Wrong}
 use Rattle.trace_words.specs.declared.version.Version.{Version}
 use Rattle.trace_words.specs.declared.version.Version.TheVariants.{One, Two}
 use Rattle.trace_words.specs.declared.fault.TraceFault.{TraceFault}
-use Rattle.trace_words.specs.declared.fault.TraceFault.TheVariants.{Memory, TooLong}
+use Rattle.trace_words.specs.declared.fault.TraceFault.TheVariants as trace_fault
+use Rattle.trace_words.specs.declared.fault.TraceFault.TheVariants.{TooLong}
 use Rattle.relay_recorder.specs.declared.trace.Trace.{Trace}
 use Rattle.trace_player.specs.Traces.{max_bytes, trace_from, trace_of}
 use Rattle.trace_words.specs.Places.{place_of}
@@ -29,11 +31,10 @@ use Rattle.text_lines.proofs.WordsLemmas.{line_of-words_of}
 use Rattle.text_lines.specs.Lines.{rows_of, rows_text}
 use Rattle.text_lines.specs.Numbers.{is_decimal, number_of}
 use Rattle.text_lines.specs.Words.{line_of}
-use Rattle.program.specs.declared.fault.Fault.{Fault}
-use Rattle.program.specs.declared.fault.Fault.TheVariants as program
-use Rattle.program.specs.declared.fault.Fault.TheVariants.{Input}
 use Rattle.server_commands.proofs.Laid.{laid_out}
-use Rattle.server_commands.specs.Heads.{Ahead, HasHead, IsHeadFault, head_fault, IsLaidOut, IsLine, first_line}
+use Rattle.server_commands.specs.Heads.{Ahead, Grows, HasHead, HasNoTrace, IsHeadFault, IsTextFault, IsLaidOut, IsLine, TakesHead, first_line, rows_from_count}
+use Rattle.server_commands.specs.declared.plan_fault.PlanFault.{PlanFault}
+use Rattle.server_commands.specs.declared.plan_fault.PlanFault.TheVariants as plan
 
 -- ---- the first line
 
@@ -151,12 +152,9 @@ version_line bytes row version line told =
 
 -- ---- from the first line to the last
 
--- the lines from that of the number of events on, and those after the first
-abbrev pub from_count : {text : List ℕ} → IsLaidOut text → List Row
-from_count laid = laid.events_row ∷ (laid.events ++ [])
-
+-- the lines after the first
 abbrev pub behind_first : {text : List ℕ} → IsLaidOut text → List Row
-behind_first laid = laid.opening ++ from_count laid
+behind_first laid = laid.opening ++ rows_from_count laid
 
 -- before the first read all lines are still to be read
 pub ahead_new : (text rest now : List ℕ) (left : Option (List ℕ)) (laid : IsLaidOut text) → now ≡ []
@@ -190,20 +188,13 @@ line_cut bytes old new start row same long line =
     subst (λ (bs : List ℕ). IsLine bs row) (sym (whole ∙ cut)) line
 
 -- the fault of a call that is returned
-pub same_fault : {X : Type 0} (result : Result X Fault) (fault given : Fault)
+pub same_fault : {X F : Type 0} (result : Result X F) (fault given : F)
     → IsErrAnd result (λ f. f ≡ fault) → result ≡ Err given → fault ≡ given
 same_fault (Ok x) fault given is e = absurd is
-same_fault (Err f) fault given is e = let same : f ≡ given = cc in sym is ∙ same
-
--- why no trace is read if the fault of a call is returned
-pub fault_on : {X : Type 0} (result : Result X Fault) (fault : Fault) (failed : Bool)
-    → IsErrAnd result (λ f. f ≡ fault) → IsHeadFault failed fault
-    → IfErr result (IsHeadFault failed)
-fault_on (Ok x) fault failed is cause = absurd is
-fault_on (Err f) fault failed is cause = subst (IsHeadFault failed) (sym is) cause
+same_fault {X} {F} (Err f) fault given is e = let same : f ≡ given = cc in sym is ∙ same
 
 -- after the last line the whole text has been read
-pub ahead_end : (text rest so_far : List ℕ) (left : Option (List ℕ))
+ahead_end : (text rest so_far : List ℕ) (left : Option (List ℕ))
     → Ahead text rest [] so_far left → so_far ≡ text
 ahead_end text rest so_far left ahead =
     let none : [] ++ [] ≡ ahead.still =
@@ -212,6 +203,15 @@ ahead_end text rest so_far left ahead =
     ∙ ap (λ (bytes : List ℕ). rows_text (rows_of ahead.still) ++ bytes) (sym ahead.ended)
     ∙ rows_text-rows_of ahead.still in
     sym (ahead.whole ∙ ap (λ (bytes : List ℕ). so_far ++ bytes) (sym none) ∙ append-nil so_far)
+
+-- after the last of several lines
+pub all_read : {F : Type 0} (result : Result Bool F) (text rest so_far : List ℕ)
+    (left : Option (List ℕ))
+    → IfOk result (λ is_read. (is_read ≡ true) × Ahead text rest [] so_far left)
+    → IfOk result (λ is_read. (is_read ≡ true) × (so_far ≡ text))
+all_read (Ok is_read) text rest so_far left told =
+    (told.0, ahead_end text rest so_far left told.1)
+all_read (Err fault) text rest so_far left told = tt
 
 -- a text that is read as a trace is not too long
 small_text : (text : List ℕ) (trace : Trace) → trace_of text ≡ Ok trace → length text ≤ max_bytes
@@ -226,7 +226,7 @@ small_text text trace e = ⊎_elim
 
 -- an input that does not begin with the lines of a trace has no trace at its head
 pub no_head : (left : Option (List ℕ)) → ((text rest : List ℕ) → left ≡ Some (text ++ rest)
-    → length text ≤ max_bytes → IsLaidOut text → ⊥) → IfSome left (λ bytes. ¬ (HasHead bytes))
+    → length text ≤ max_bytes → IsLaidOut text → ⊥) → HasNoTrace left
 no_head None never = tt
 no_head (Some bytes) never = λ head.
     never head.text head.rest (ap (λ (b : List ℕ). Some b) head.cut)
@@ -234,23 +234,81 @@ no_head (Some bytes) never = λ head.
     (laid_out head.text head.trace head.counted head.told)
 
 -- nor has an input whose first lines are not a trace
-pub wrong_head : (left : Option (List ℕ)) (read : List ℕ) (fault : TraceFault)
+wrong_head : (left : Option (List ℕ)) (read : List ℕ) (fault : TraceFault)
     → ((text rest : List ℕ) → left ≡ Some (text ++ rest) → IsLaidOut text → read ≡ text)
-    → Fails Memory fault (trace_of read) → (fault ≡ Memory → ⊥)
-    → IfSome left (λ bytes. ¬ (HasHead bytes))
-wrong_head None read fault is fails other = tt
-wrong_head (Some bytes) read fault is (inl memory) other = absurd (other memory)
-wrong_head (Some bytes) read fault is (inr e) other = λ head.
+    → trace_of read ≡ Err fault → HasNoTrace left
+wrong_head None read fault is e = tt
+wrong_head (Some bytes) read fault is e = λ head.
     let same : read ≡ head.text = is head.text head.rest (ap (λ (b : List ℕ). Some b) head.cut)
     (laid_out head.text head.trace head.counted head.told) in
     let told : trace_of read ≡ Ok head.trace = ap trace_of same ∙ head.told in
     absurd cc
 
--- the fault `Input` does not mean out of memory
-pub not_memory : {X : Type 0} (fault : TraceFault) (told : Fault) → told ≡ head_fault fault
-    → failed X told ≡ failed X Input → fault ≡ Memory → ⊥
-not_memory fault told is e memory =
-    let input : told ≡ Input = cc in
-    let other : head_fault fault ≡ program.Memory = ap head_fault memory in
-    let both : Input ≡ program.Memory = sym input ∙ is ∙ other in
-    absurd cc
+-- what was read of an input: a text, and whether it has the lines of a trace
+record ReadsHead (left left' : Option (List ℕ)) (text : List ℕ) (counted : Bool) : Type 0 where
+  read : Consumes left left' text
+  whole : (bytes rest : List ℕ) → left ≡ Some (bytes ++ rest) → IsLaidOut bytes
+      → (counted ≡ true) × (text ≡ bytes)
+
+-- why what was read of an input is no trace
+wrong_read : (left left' : Option (List ℕ)) (text : List ℕ) (counted failed : Bool) (f : PlanFault)
+    → ReadsHead left left' text counted → IsTextFault text counted f → IsHeadFault left failed f
+wrong_read left left' text counted failed (plan.Line number) reads told = (
+  wrong_head left text (trace_fault.Line number)
+      (λ bytes rest is laid. (reads.whole bytes rest is laid).1) told,
+  record { text = text; left' = left'; read = reads.read; told = told },
+)
+wrong_read left left' text counted failed plan.Journal reads told = (
+  no_head left (λ bytes rest is small laid.
+      let all : counted ≡ true = (reads.whole bytes rest is laid).0 in
+      let none : counted ≡ false = told.0 in absurd cc),
+  record { text = text; left' = left'; read = reads.read; told = (refl, told.1) },
+)
+wrong_read left left' text counted failed plan.TooLong reads told =
+    wrong_head left text TooLong (λ bytes rest is laid. (reads.whole bytes rest is laid).1) told
+wrong_read left left' text counted failed plan.Memory reads told = tt
+wrong_read left left' text counted failed plan.Password reads told = absurd told
+wrong_read left left' text counted failed plan.Device reads told = absurd told
+wrong_read left left' text counted failed plan.Depth reads told = absurd told
+wrong_read left left' text counted failed plan.Read reads told = absurd told
+
+-- a text that was read onto an empty one, as it is seen
+reads_head : (left left' : Option (List ℕ)) (none text seen : List ℕ) (counted : Bool) → none ≡ []
+    → Grows none left text left' → seen ≡ text
+    → ((bytes rest : List ℕ) → left ≡ Some (bytes ++ rest) → IsLaidOut bytes
+    → (counted ≡ true) × (text ≡ bytes))
+    → ReadsHead left left' seen counted
+reads_head left left' none text seen counted empty grows see whole =
+    let same : seen ≡ grows.bytes = see ∙ grows.added
+    ∙ ap (λ (b : List ℕ). b ++ grows.bytes) empty in
+    record {
+      read = subst (Consumes left left') (sym same) grows.read;
+      whole = λ bytes rest is laid. (
+        (whole bytes rest is laid).0,
+        see ∙ (whole bytes rest is laid).1,
+      );
+    }
+
+-- the trace of what was read
+pub head_given : (left left' : Option (List ℕ)) (none text seen : List ℕ) (counted : Bool)
+    (result : Result Trace PlanFault) → none ≡ [] → Grows none left text left' → seen ≡ text
+    → ((bytes rest : List ℕ) → left ≡ Some (bytes ++ rest) → IsLaidOut bytes
+    → (counted ≡ true) × (text ≡ bytes))
+    → IfOk result (λ trace. (counted ≡ true) × (trace_of seen ≡ Ok trace)
+    × IsFitOpening trace.opening)
+    → IfOk result (λ trace. TakesHead left trace left')
+head_given left left' none text seen counted (Ok trace) empty grows see whole told =
+    let reads = reads_head left left' none text seen counted empty grows see whole in
+    record { text = seen; read = reads.read; told = told.1; fit = told.2 }
+head_given left left' none text seen counted (Err f) empty grows see whole told = tt
+
+-- why it is no trace
+pub head_wrong : (left left' : Option (List ℕ)) (none text seen : List ℕ) (counted failed : Bool)
+    (result : Result Trace PlanFault) → none ≡ [] → Grows none left text left' → seen ≡ text
+    → ((bytes rest : List ℕ) → left ≡ Some (bytes ++ rest) → IsLaidOut bytes
+    → (counted ≡ true) × (text ≡ bytes))
+    → IfErr result (IsTextFault seen counted) → IfErr result (IsHeadFault left failed)
+head_wrong left left' none text seen counted failed (Ok trace) empty grows see whole told = tt
+head_wrong left left' none text seen counted failed (Err f) empty grows see whole told =
+    wrong_read left left' seen counted failed f
+    (reads_head left left' none text seen counted empty grows see whole) told

@@ -7,6 +7,6 @@ pub mod Heads
 pub mod HeadsFound
 pub mod Laid
 pub mod Pieces
+pub mod PlanFaults
 pub mod RequestLemmas
-pub mod Resumed
 pub mod Unused

@@ -1,8 +1,10 @@
--- The fault of the program for each fault of `apdu` and `hex`.
+-- The fault of the program for each fault of `apdu` and `hex`, and of the plan of `serve`.
 use Rattle.program.specs.declared.fault.Fault.{Fault}
 use Rattle.program.specs.declared.fault.Fault.TheVariants as program
 use Rattle.server_commands.specs.declared.telling.CommandFault.{CommandFault}
 use Rattle.server_commands.specs.declared.telling.CommandFault.TheVariants as fault
+use Rattle.server_commands.specs.declared.plan_fault.PlanFault.{PlanFault}
+use Rattle.server_commands.specs.declared.plan_fault.PlanFault.TheVariants as plan
 use Rattle.session_io.specs.declared.fault.TextFault.{TextFault}
 use Rattle.session_io.specs.declared.fault.TextFault.TheVariants as text
 
@@ -26,3 +28,14 @@ input_fault_of text.OddDigits = fault.OddDigits
 input_fault_of text.TooLong = fault.TooLong
 input_fault_of text.Read = fault.Read
 input_fault_of text.Memory = fault.Memory
+
+-- `Input` if an option or the trace at the head of the input is not valid
+abbrev pub plan_fault_of : PlanFault → Fault
+plan_fault_of plan.Password = program.Input
+plan_fault_of plan.Device = program.Input
+plan_fault_of plan.Depth = program.Input
+plan_fault_of (plan.Line number) = program.Input
+plan_fault_of plan.Journal = program.Input
+plan_fault_of plan.TooLong = program.Input
+plan_fault_of plan.Read = program.Read
+plan_fault_of plan.Memory = program.Memory

@@ -1,18 +1,19 @@
 //! Validates the options of `meter_server serve` and makes its meter: a new one, or one that
 //! resumes from a trace.
-ghost use Rattle.std.specs.Prelude.{◌≡◌, ◌≤◌, [], length, true, false, ⊤, IfOk, IfErr, IsErrOf, IsTrue, ◌↔◌};
+ghost use Rattle.std.specs.Prelude.{◌≡◌, ◌≤◌, ◌<◌, ◌⊎◌, [], length, true, false, IfOk, IfErr, IsTrue, ◌↔◌};
 ghost use Rattle.std.specs.String.{string_bytes};
 ghost use Rattle.acse_ber.specs.Password.{IsPassword};
-ghost use Rattle.program.specs.declared.fault.Fault.TheVariants.{Memory};
 ghost use Rattle.relay_core.specs.Opening.{opening_of};
 ghost use Rattle.relay_core.specs.World.{IsDeviceName, new_world};
 ghost use Rattle.relay_recorder.specs.Histories.{StandsForHistory};
 ghost use Rattle.counted_io.specs.Lines.{has_failed_in, left_in};
 ghost use Rattle.server_commands.specs.Heads.{IsHeadFault};
-ghost use Rattle.server_commands.specs.Plans.{HasNoTrace, IsPlanFault, IsRecorderFault, Resumes};
+ghost use Rattle.server_commands.specs.Plans.{IsPlanFault, IsRecorderFault, Resumes};
+ghost use Rattle.server_commands.specs.declared.plan_fault.PlanFault.TheVariants.{Memory};
 
 use crate::heading::read_head;
 use crate::options::{Bounds, ServeOptions};
+use crate::plan_fault::PlanFault;
 use crate::texts::octets_of;
 use acse_ber::MAX_PASSWORD;
 use cosem_axdr::Octets;
@@ -25,19 +26,19 @@ use std::io::{BufReader, Read};
 use trace_player::resume_recorder;
 
 // Returns the recorder of a meter that resumes from the trace at the head of an input. The input
-// after the trace is not read. Errors: `Input` if there is no trace, `Read`, `Memory`.
+// after the trace is not read. Errors: those of `read_head`.
 fn resume_from_head<I: Read>(
     alloc: Global,
     input: &mut BufReader<Monitored<I>>,
     depth: u16,
-) -> Result<Recorder, Fault>
+) -> Result<Recorder, PlanFault>
     requires { (1 ≤ depth) × (depth ≤ 1024) }
     ensures unused { IfOk result (λ recorder. recorder.events ≡ []) }
     ensures capacity { IfOk result (λ recorder. recorder.capacity ≡ depth) }
     ensures resumed { IfOk result
         (Resumes (left_in I.remaining input.old) (left_in I.remaining input.new)) }
-    ensures input { IsErrOf result Fault.Input → HasNoTrace (left_in I.remaining input.old) }
-    ensures err { IfErr result (IsHeadFault (has_failed_in input.new)) }
+    ensures err { IfErr result
+        (IsHeadFault (left_in I.remaining input.old) (has_failed_in input.new)) }
 {
     let trace = match read_head(alloc, input) {
         Ok(trace) => trace,
@@ -47,12 +48,12 @@ fn resume_from_head<I: Read>(
     drop(trace);
     match made {
         Ok(recorder) => Ok(recorder),
-        Err(_) => Err(Fault::Memory),
+        Err(_) => Err(PlanFault::Memory),
     }
 }
 
 // Returns the recorder of a new meter with this name.
-fn new_recorder(alloc: Global, device: &Octets, depth: u16) -> Result<Recorder, Fault>
+fn new_recorder(alloc: Global, device: &Octets, depth: u16) -> Result<Recorder, PlanFault>
     requires device { IsDeviceName device.now }
     requires depth { (1 ≤ depth) × (depth ≤ 1024) }
     ensures unused { IfOk result (λ recorder. recorder.events ≡ []) }
@@ -63,7 +64,7 @@ fn new_recorder(alloc: Global, device: &Octets, depth: u16) -> Result<Recorder, 
 {
     match Recorder::new(alloc, device, depth) {
         Ok(recorder) => Ok(recorder),
-        Err(_) => Err(Fault::Memory),
+        Err(_) => Err(PlanFault::Memory),
     }
 }
 
@@ -80,12 +81,13 @@ pub fn has_name(alloc: Global, recorder: &Recorder, name: &str) -> Result<bool, 
 
 // Returns the recorder that the meter starts with: that of a new meter, or of one that resumes
 // from the trace at the head of an input.
+#[tactic(auto, using(crate::proofs::PlanFaults::no_recorder))]
 fn prepare_recorder<I: Read>(
     alloc: Global,
     device: &Octets,
     bounds: Bounds,
     input: &mut BufReader<Monitored<I>>,
-) -> Result<Recorder, Fault>
+) -> Result<Recorder, PlanFault>
     requires { IsDeviceName device.now }
     ensures unused { IfOk result (λ recorder. recorder.events ≡ []) }
     ensures capacity { IfOk result (λ recorder. recorder.capacity ≡ bounds.depth) }
@@ -100,7 +102,7 @@ fn prepare_recorder<I: Read>(
 {
     let depth = bounds.depth;
     if depth < 1 || depth > 1024 {
-        return Err(Fault::Input);
+        return Err(PlanFault::Depth);
     }
     if bounds.resumes {
         resume_from_head(alloc, input, depth)
@@ -124,17 +126,37 @@ pub struct ServePlan<I> {
     ghost unused: { length recorder.events ≡ 0 },
 }
 
+// Returns the bytes of an option's text. Errors: `wrong` if there are none or more than `longest`,
+// `Memory`.
+fn option_octets(
+    alloc: Global,
+    text: &str,
+    longest: usize,
+    wrong: PlanFault,
+) -> Result<Octets, PlanFault>
+    ensures bytes { IfOk result (λ octets. octets ≡ text.now) }
+    ensures fits { IfOk result (λ octets. (1 ≤ length octets) × (length octets ≤ longest)) }
+    ensures err { IfErr result (λ fault. (fault ≡ Memory)
+        ⊎ ((fault ≡ wrong) × ((length text.now ≡ 0) ⊎ (longest < length text.now)))) }
+{
+    match octets_of(alloc, text, longest) {
+        Ok(octets) => Ok(octets),
+        Err(Fault::Input) => Err(wrong),
+        Err(_) => Err(PlanFault::Memory),
+    }
+}
+
 /// Validates the options, and reads the trace to resume from if the options request it.
 ///
-/// Errors, in this order: `Input` if the password does not have 1 to 32 bytes, the device name does
-/// not have 1 to 16, the depth is not 1 to 1,024, or the input does not begin with a trace of at
-/// most 33,554,432 bytes; `Read`. `Memory` can occur at any point.
+/// Errors, in this order: `Password` if the password does not have 1 to 32 bytes, `Device` if the
+/// device name does not have 1 to 16, `Depth` if the depth is not 1 to 1,024, and those of
+/// `read_head`. `Memory` can occur at any point.
 #[tactic(auto, using(crate::proofs::Unused::uncounted))]
 pub fn make_plan<I: Read + Drop>(
     alloc: Global,
     input: I,
     options: &ServeOptions,
-) -> Result<ServePlan<I>, Fault>
+) -> Result<ServePlan<I>, PlanFault>
     ensures bounds { IfOk result (λ plan. plan.bounds ≡ options.now.bounds) }
     ensures password { IfOk result (λ plan. plan.password ≡ string_bytes options.now.password) }
     ensures capacity { IfOk result (λ plan. plan.recorder.capacity ≡ options.now.bounds.depth) }
@@ -151,10 +173,20 @@ pub fn make_plan<I: Read + Drop>(
         options.now.bounds (I.remaining input)) }
 {
     let bounds = options.bounds;
-    let password = octets_of(alloc, options.password.as_str(), MAX_PASSWORD)?;
-    let device = octets_of(alloc, options.device.as_str(), MAX_DEVICE_NAME)?;
+    let password = option_octets(
+        alloc,
+        options.password.as_str(),
+        MAX_PASSWORD,
+        PlanFault::Password,
+    )?;
+    let device = option_octets(
+        alloc,
+        options.device.as_str(),
+        MAX_DEVICE_NAME,
+        PlanFault::Device,
+    )?;
     let Ok(mut input) = BufReader::new(alloc, Monitored::new(input)) else {
-        return Err(Fault::Memory);
+        return Err(PlanFault::Memory);
     };
     match prepare_recorder(alloc, &device, bounds, &mut input) {
         Ok(recorder) => Ok(ServePlan {

@@ -1,20 +1,25 @@
-use Rattle.std.proofs.Common.{Err, ap, ◌∙◌}
-use Rattle.counted_io.specs.Lines.{left_in}
-use Rattle.program.specs.declared.fault.Fault.{Fault}
-use Rattle.program.specs.declared.fault.Fault.TheVariants.{Input}
-use Rattle.server_commands.proofs.HeadsFound.{no_head, not_memory, same_fault, wrong_head}
+use Rattle.std.proofs.Common.{Err, ap}
+use Rattle.counted_io.specs.Lines.{has_failed_in, left_in}
+use Rattle.counted_io.specs.declared.fault.InputFault.{InputFault}
+use Rattle.server_commands.proofs.HeadsFound.{head_given, head_wrong, no_head}
 use Rattle.server_commands.proofs.heading.read_head.Goals as goal
 
-pub returns-in_err-text-clause-input : goal.returns-in_err-text-clause-input
-returns-in_err-text-clause-input g c = λ is. no_head (left_in g.I.Read.remaining c.args.input.now)
-    (λ whole rest left small laid.
-    c.in_err-text.ensures.input (ap (λ (f : Fault). Err f)
-    (same_fault c.from_residual.result c.in_err-text.field-0.0 Input c.from_residual.ensures.1
-    is)) whole rest left small laid)
+pub returns-in-Ok-clause-ok : goal.returns-in-Ok-clause-ok
+returns-in-Ok-clause-ok g c = head_given (left_in g.I.Read.remaining c.args.input.now)
+    (left_in g.I.Read.remaining c.read_head_text.new.input) c.new-text.result.items
+    c.read_head_text.new.text.items c.as_slice.result.now c.in-Ok.is_counted c.trace_in.result
+    c.new-text.ensures.items c.in-Ok.ensures.grows c.as_slice.ensures.value c.in-Ok.ensures.whole
+    c.trace_in.ensures.ok
 
-pub returns-clause-input : goal.returns-clause-input
-returns-clause-input g c = λ is.
-    wrong_head (left_in g.I.Read.remaining c.args.input.now) c.as_slice.result.now c.in-Err.fault
-    (λ whole rest left laid. c.as_slice.ensures.value
-    ∙ c.in_ok-text.ensures.whole whole rest left laid) c.in-Err.ensures.exact
-    (not_memory c.in-Err.fault c.head_fault.result c.head_fault.ensures.value is)
+pub returns-in-Ok-clause-err : goal.returns-in-Ok-clause-err
+returns-in-Ok-clause-err g c = head_wrong (left_in g.I.Read.remaining c.args.input.now)
+    (left_in g.I.Read.remaining c.read_head_text.new.input) c.new-text.result.items
+    c.read_head_text.new.text.items c.as_slice.result.now c.in-Ok.is_counted
+    (has_failed_in c.read_head_text.new.input) c.trace_in.result
+    c.new-text.ensures.items c.in-Ok.ensures.grows c.as_slice.ensures.value c.in-Ok.ensures.whole
+    c.trace_in.ensures.err
+
+pub returns-in-Err-TooLong-clause-err : goal.returns-in-Err-TooLong-clause-err
+returns-in-Err-TooLong-clause-err g c = no_head (left_in g.I.Read.remaining c.args.input.now)
+    (λ whole rest left small laid. c.in-Err-TooLong.ensures.too_long
+    (ap (λ (f : InputFault). Err f) c.in-Err-TooLong.field-0-is) whole rest left small laid)
