@@ -64,7 +64,10 @@ fn aarq_payload(alloc: Global, password: &Octets) -> Result<Octets, AllocError>
 pub fn request_frame(alloc: Global, verb: Verb) -> Result<Octets, AllocError>
     ensures { IfOk result (λ text. text ≡ request_frame verb) }
 {
-    let payload = write_request(alloc, &request(verb))?;
+    let request = request(verb);
+    let written = write_request(alloc, &request);
+    drop(request);
+    let payload = written?;
     frame_around(alloc, payload.as_slice())
 }
 
