@@ -32,7 +32,7 @@ use Rattle.text_lines.specs.Lines.{rows_of, rows_text}
 use Rattle.text_lines.specs.Numbers.{is_decimal, number_of}
 use Rattle.text_lines.specs.Words.{line_of}
 use Rattle.server_commands.proofs.Laid.{laid_out}
-use Rattle.server_commands.specs.Heads.{Ahead, Grows, HasHead, HasNoTrace, IsHeadFault, IsTextFault, IsLaidOut, IsLine, TakesHead, first_line, rows_from_count}
+use Rattle.server_commands.specs.Heads.{Ahead, Grows, HasNoTrace, IsHeadFault, IsTextFault, IsLaidOut, IsLine, TakesHead, first_line, rows_from_count}
 use Rattle.server_commands.specs.declared.plan_fault.PlanFault.{PlanFault}
 use Rattle.server_commands.specs.declared.plan_fault.PlanFault.TheVariants as plan
 

@@ -28,8 +28,8 @@ no_recorder (Ok x) bounds left failed depth resumes told = tt
 no_recorder (Err f) bounds left failed depth resumes told =
     head_fault bounds left failed f depth resumes told
 
-recorder_fault : (password device : List ℕ) (bounds : Bounds) (left : Option (List ℕ)) (failed : Bool)
-    (f : PlanFault) → IsPassword password → IsDeviceName device
+recorder_fault : (password device : List ℕ) (bounds : Bounds) (left : Option (List ℕ))
+    (failed : Bool) (f : PlanFault) → IsPassword password → IsDeviceName device
     → IsRecorderFault bounds left failed f → IsPlanFault password device bounds left f
 recorder_fault password device bounds left failed fault.Password fits named told = absurd told.2
 recorder_fault password device bounds left failed fault.Device fits named told = absurd told.2

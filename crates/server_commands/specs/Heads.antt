@@ -20,7 +20,6 @@ use Rattle.server_commands.specs.declared.plan_fault.PlanFault.TheVariants as fa
 use Rattle.trace_openings.specs.OpeningFields.{version_from}
 use Rattle.trace_lines.specs.Events.{events_from}
 use Rattle.trace_words.specs.Rows.{Row}
-use Rattle.trace_words.specs.declared.fault.TraceFault.{TraceFault}
 use Rattle.trace_words.specs.declared.fault.TraceFault.TheVariants as trace_fault
 use Rattle.trace_words.specs.declared.version.Version.{Version}
 use Rattle.trace_words.specs.declared.version.Version.TheVariants.{One, Two}

@@ -4,8 +4,8 @@ use Rattle.server_commands.proofs.plan.make_plan.Goals as goal
 
 pub returns-in_err-password-clause-err : goal.returns-in_err-password-clause-err
 returns-in_err-password-clause-err g c = wrong_password c.from_residual.result
-    c.in_err-password.field-0.0 _ _ _ c.args.options.now.bounds _ c.from_residual.ensures.1 (search rules)
-    c.in_err-password.ensures.err
+    c.in_err-password.field-0.0 _ _ _ c.args.options.now.bounds _ c.from_residual.ensures.1
+    (search rules) c.in_err-password.ensures.err
 
 pub returns-in_err-device-clause-err : goal.returns-in_err-device-clause-err
 returns-in_err-device-clause-err g c = wrong_device c.from_residual-in_err-device.result
