@@ -1,7 +1,7 @@
 #!/usr/bin/env python3
 """Tests `meter_fleet serve` with clients over TCP at addresses 127.a.b.c. 300 meters are switched
 and asked by hand-written frames, by hostile clients while a good one asks, and by a campaign of
-`head_end` if that is built. Every wait has a time limit."""
+`head_end` if that is built. Another fleet resumes from a trace. Every wait has a time limit."""
 
 import os
 import pathlib
@@ -10,6 +10,7 @@ import re
 import socket
 import subprocess
 import sys
+import tempfile
 import threading
 import time
 
@@ -31,13 +32,39 @@ AARE = bytes.fromhex("000100010001002B6129A109060760857405080101A203020100A305A1
 DISCONNECT = bytes.fromhex("000100010001000FC301C10046000060030AFF01010F00")
 DONE = bytes.fromhex("0001000100010005C701C10000")
 STATE = bytes.fromhex("000100010001000DC001C10046000060030AFF0300")
-DISCONNECTED, CONNECTED = (bytes.fromhex(f"0001000100010006C401C10016{state}") for state in ("00", "01"))
+RECONNECT = bytes.fromhex("000100010001000FC301C10046000060030AFF02010F00")
+DISCONNECTED, CONNECTED, READY = (
+    bytes.fromhex(f"0001000100010006C401C10016{state}") for state in ("00", "01", "02"))
 WRONG_VERSION = bytes.fromhex("0002000100010000")
 # GET of the object list (class 15), which is answered in blocks; and blocks that follow none.
 OBJECTS = bytes.fromhex("000100010001000DC001C1000F0000280000FF0200")
 WRONG_BLOCKS = [bytes.fromhex(f"000100010001{len(it) // 2:04X}{it}") for it in (
     "C002C100000005", "C103C1010000000201AA", "C103C10100000009020000", "C306C10100000007020100")]
 ATTACKS = 40  # of each kind
+
+# The trace of a meter in mode 1 that was disconnected (docs/TRACE.md).
+OPENING = """RELAYTRACE 1
+device 52454C415931
+state 1
+mode 1
+value 0
+now -
+normal 4294967295
+emergency 4294967295
+minover 0
+minunder 0
+profile 0 FFFFFFFFFFFFFFFFFF8000FF 0
+groups
+actions 0 0
+over 0 0
+under 0 0
+scripts 0100
+schedule 0 0 5 0100
+schedule 1 0 5 0100
+schedule 2 0 5 0100
+schedule 3 0 5 0100
+"""
+TRACE = OPENING + "events 1\nexecute 1 70 000060030AFF 1 0F00\n"
 
 passed = failed = 0
 
@@ -56,10 +83,14 @@ def address_of(meter):
 
 
 class Fleet:
-    """A running `meter_fleet serve` of METERS meters in mode 1, on a free port."""
+    """A running `meter_fleet serve` of METERS meters, on a free port: in mode 1, or with other
+    options."""
+
+    def __init__(self, *options):
+        self.options = options or ("--mode", "1")
 
     def __enter__(self):
-        words = ["serve", "--meters", str(METERS), "--password", PASSWORD, "--mode", "1",
+        words = ["serve", "--meters", str(METERS), "--password", PASSWORD, *self.options,
                  "--listen", "0.0.0.0", "--port", "0", "--verbose"]
         self.process = subprocess.Popen([str(FLEET), *words], stderr=subprocess.PIPE, text=True)
         guard = threading.Timer(PATIENCE, self.process.kill)
@@ -290,10 +321,43 @@ def wrong_words_are_refused():
     check("an empty password is refused", (ran.returncode, ran.stderr) == (2, "fault: input\n"))
 
 
+def result_of_resuming(path):
+    """The status and standard error of a fleet that is refused the trace in a file."""
+    words = ["serve", "--meters", "3", "--password", PASSWORD, "--port", "0", "--resume", str(path)]
+    ran = subprocess.run([str(FLEET), *words], capture_output=True, text=True, timeout=PATIENCE,
+                         check=False)
+    return ran.returncode, ran.stderr
+
+
+def meters_resume():
+    """Each meter resumes from a trace that ends disconnected, and then has a state of its own."""
+    with tempfile.TemporaryDirectory() as folder:
+        path = pathlib.Path(folder, "meter.trace")
+        for text in (TRACE, TRACE.replace("events 1", "events -")):
+            path.write_text(text)
+            with Fleet("--resume", str(path)) as fleet:
+                check("a meter that resumes is reconnected",
+                      talk(fleet, 2, (STATE, DISCONNECTED), (RECONNECT, DONE), (STATE, READY)))
+                agree = all(talk(fleet, meter, (STATE, DISCONNECTED)) for meter in (1, 3, METERS))
+                check("the others resume where the trace ends", agree)
+                check("its state is kept", talk(fleet, 2, (STATE, READY)))
+        for text, fault in (("", "line 1 of the trace is wrong"),
+                            (OPENING, "line 21 of the trace is wrong"),
+                            (TRACE + "button\n", "line 23 of the trace is wrong"),
+                            ("x" * 33_554_433, "a trace of more than 33,554,432 bytes")):
+            path.write_text(text)
+            check(f"a file is refused: {fault}",
+                  result_of_resuming(path) == (2, f"{path}: {fault}\nfault: input\n"))
+        path.unlink()
+        check("a missing file is reported",
+              result_of_resuming(path) == (3, f"{path}: the file can't be read\nfault: read\n"))
+
+
 def main():
     if not os.path.exists(FLEET):
         sys.exit(f"{FLEET} is not built")
     wrong_words_are_refused()
+    meters_resume()
     with Fleet() as fleet:
         meters_are_apart(fleet)
         a_ninth_is_closed(fleet)

@@ -9,11 +9,7 @@ use trace_words::TraceFault;
 
 /// Returns the fault of a trace with the password 12345678 and 4 events, or `None` if it has none
 /// and the terms are these.
-fn fault_of(
-    rt: &impl Abort,
-    alloc: Global,
-    text: &[u8],
-) -> Result<Option<TraceFault>, AllocError> {
+fn fault_of(rt: &impl Abort, alloc: Global, text: &[u8]) -> Result<Option<TraceFault>, AllocError> {
     let trace = Octets::from_slice(alloc, text)?;
     let password = Octets::from_slice(alloc, b"12345678")?;
     assert!(rt; password.len() == 8);

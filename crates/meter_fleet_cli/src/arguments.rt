@@ -7,7 +7,8 @@ use std::alloc::{AllocError, Global};
 const STATUSES: &str = "\
 A fault is the line `fault: WORD` on standard error. \
 With --verbose, a line before it says what was expected and what was found.
-Exit status: 2 the command line is wrong; 3 listening failed; 4 out of memory.
+Exit status: 2 the command line or the trace is wrong; 3 reading or listening failed; \
+4 out of memory.
 Example: meter_fleet serve --meters 1000 --password 12345678 --mode 1 --listen 0.0.0.0";
 
 // The end of `serve --help`.
@@ -78,6 +79,17 @@ fn mode<'a>(alloc: Global) -> Arg<'a> {
     .default_value("0")
 }
 
+// Returns the option `--resume`.
+fn resume<'a>(alloc: Global) -> Arg<'a> {
+    option(
+        alloc,
+        "resume",
+        "FILE",
+        "Each meter resumes from the trace in FILE; --mode is not used",
+    )
+    .action(ArgAction::Set)
+}
+
 // Returns the option `--verbose`.
 fn verbose<'a>(alloc: Global) -> Arg<'a> {
     Arg::new(alloc, "verbose")
@@ -98,6 +110,7 @@ fn serve_command<'a>(alloc: Global) -> Result<Command<'a>, AllocError> {
     let made = with_argument(made, listen(alloc));
     let made = with_argument(made, port(alloc));
     let made = with_argument(made, mode(alloc));
+    let made = with_argument(made, resume(alloc));
     with_argument(made, verbose(alloc))
 }
 

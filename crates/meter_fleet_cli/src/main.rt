@@ -7,6 +7,7 @@
 mod arguments;
 mod serving;
 mod sockets;
+mod traces;
 
 use crate::arguments::command_line;
 use program::{Fault, exit_code, print_help_or_error, read_arguments};

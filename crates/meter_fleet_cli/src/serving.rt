@@ -1,74 +1,46 @@
 //! The command `serve`: meters that clients reach over TCP.
 use crate::sockets::FleetSockets;
+use crate::traces::{read_trace_file, report_wrong_trace, trace_in_mode};
 use acse_ber::MAX_PASSWORD;
 use clap::ArgMatches;
 use cosem_axdr::Octets;
 use fleet_meters::MeterTerms;
 use meter_fleet::{FleetFault, serve_fleet};
 use program::Fault;
-use std::alloc::{AllocError, Global};
 use std::net::{IpAddr, Net, SocketAddr};
 use std::sync::Wait;
-
-// The trace of a new meter METERFLEET, around the number of its control mode.
-const TRACE_START: &[u8] = b"RELAYTRACE 1
-device 4D45544552464C454554
-state 1
-mode ";
-
-const TRACE_END: &[u8] = b"
-value 0
-now -
-normal 4294967295
-emergency 4294967295
-minover 0
-minunder 0
-profile 0 FFFFFFFFFFFFFFFFFF8000FF 0
-groups
-actions 0 0
-over 0 0
-under 0 0
-scripts 0100
-schedule 0 0 5 0100
-schedule 1 0 5 0100
-schedule 2 0 5 0100
-schedule 3 0 5 0100
-events 0
-";
-
-// The digits of the control modes.
-const MODES: &[u8; 7] = b"0123456";
 
 // The number of events that a meter keeps.
 const KEPT_EVENTS: u16 = 1;
 
-// Returns the trace of a new meter in a control mode of 0 to 6.
-fn trace_in_mode(alloc: Global, mode: u8) -> Result<Octets, AllocError> {
-    let mut trace = Octets::new(alloc);
-    trace.extend_from_slice(TRACE_START)?;
-    if let Some(digit) = MODES.get(usize::from(mode)) {
-        trace.push(*digit)?;
+// Returns the trace that all meters continue from: that of the file of `--resume`, or that of a new
+// meter.
+fn first_trace(rt: &HostRuntime, matches: &ArgMatches<'_>) -> Result<Octets, Fault> {
+    match matches.get_str("resume") {
+        Some(path) => read_trace_file(rt, path),
+        None => {
+            let mode = matches.get_one::<u8>("mode").unwrap_or(0);
+            trace_in_mode(rt.alloc(), mode).map_err(|_| Fault::Memory)
+        }
     }
-    trace.extend_from_slice(TRACE_END)?;
-    Ok(trace)
 }
 
-// Returns what all meters have in common. Errors: `Input` if the password is not 1 to 32 bytes,
-// `Memory`.
-fn meter_terms(alloc: Global, password: &str, mode: u8) -> Result<MeterTerms, Fault> {
+// Returns what all meters have in common. Errors: `Input` if the password is not 1 to 32 bytes;
+// those of the file of `--resume`, with a line on standard error; `Memory`.
+fn meter_terms(rt: &HostRuntime, matches: &ArgMatches<'_>) -> Result<MeterTerms, Fault> {
+    let password = matches.get_str("password").unwrap_or("");
     if password.is_empty() || password.len() > MAX_PASSWORD {
         return Err(Fault::Input);
     }
-    let password = Octets::from_slice(alloc, password.as_bytes()).map_err(|_| Fault::Memory)?;
-    match trace_in_mode(alloc, mode) {
-        Ok(trace) => Ok(MeterTerms {
-            trace,
-            password,
-            kept_events: KEPT_EVENTS,
-        }),
-        Err(_) => {
-            drop(password);
-            Err(Fault::Memory)
+    let trace = first_trace(rt, matches)?;
+    let Ok(password) = Octets::from_slice(rt.alloc(), password.as_bytes()) else {
+        return Err(Fault::Memory);
+    };
+    match MeterTerms::from_trace(rt.alloc(), trace, password, KEPT_EVENTS) {
+        Ok(terms) => Ok(terms),
+        Err(fault) => {
+            let path = matches.get_str("resume").unwrap_or("");
+            Err(report_wrong_trace(rt, path, fault))
         }
     }
 }
@@ -97,17 +69,15 @@ fn listen<N: Net>(
     Ok(sockets)
 }
 
-/// Serves the clients of the meters until that fails. Errors: `Input` if the password or the
-/// address is not valid, `Listen`, `Memory`.
+/// Serves the clients of the meters until that fails. Errors: `Input` if the password, the trace or
+/// the address is not valid, `Read`, `Listen`, `Memory`.
 pub(crate) fn serve<N: Net + Wait>(
     rt: &HostRuntime,
     net: &N,
     matches: &ArgMatches<'_>,
 ) -> Result<u8, Fault> {
     let meters = matches.get_one::<u32>("meters").unwrap_or(1);
-    let mode = matches.get_one::<u8>("mode").unwrap_or(0);
-    let password = matches.get_str("password").unwrap_or("");
-    let terms = meter_terms(rt.alloc(), password, mode)?;
+    let terms = meter_terms(rt, matches)?;
     match listen(rt, net, matches) {
         Ok(mut sockets) => {
             let fault = serve_fleet(net, rt.alloc(), &mut sockets, terms, meters as usize);

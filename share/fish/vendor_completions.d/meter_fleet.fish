@@ -7,4 +7,5 @@ complete -c meter_fleet -f -n '__fish_seen_subcommand_from serve' -l password -r
 complete -c meter_fleet -f -n '__fish_seen_subcommand_from serve' -l listen -r -d 'Address to listen on; 0.0.0.0 reaches every meter'
 complete -c meter_fleet -f -n '__fish_seen_subcommand_from serve' -l port -r -d 'Port of every meter'
 complete -c meter_fleet -f -n '__fish_seen_subcommand_from serve' -l mode -r -d 'Control mode of a new meter, 0 to 6 (class 70, attribute 4)'
+complete -c meter_fleet -f -n '__fish_seen_subcommand_from serve' -l resume -r -d 'Each meter resumes from the trace in FILE; --mode is not used'
 complete -c meter_fleet -f -n '__fish_seen_subcommand_from serve' -l verbose -d 'Report the address, and faults in full, on standard error'
