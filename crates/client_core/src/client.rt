@@ -49,14 +49,17 @@ impl Client {
         requires { IsPassword password.now }
         ensures { IfOk result (Stands job.now.verb password.now [] 0 false) }
     {
+        let aarq = aarq_frame(alloc, password)?;
+        let request = request_frame(alloc, job.verb)?;
+        let release = release_frame(alloc)?;
         Ok(Client {
             verb: job.verb,
             progress: new_progress(),
             deframer: Deframer::new(alloc),
             is_ended: false,
-            aarq: Some(aarq_frame(alloc, password)?),
-            request: Some(request_frame(alloc, job.verb)?),
-            release: Some(release_frame(alloc)?),
+            aarq: Some(aarq),
+            request: Some(request),
+            release: Some(release),
         })
     }
 

@@ -6,7 +6,7 @@ pub returns : goal.returns
 returns c =
     starts c.args.job.now.verb c.args.password.now _ refl c.new_progress.ensures c.new.ensures
     refl (
-      ap Some c.in_ok-aarq_frame.ensures,
-      ap Some c.in_ok-request_frame.ensures,
-      ap Some c.in_ok-release_frame.ensures,
+      ap Some c.in_ok-aarq.ensures,
+      ap Some c.in_ok-request.ensures,
+      ap Some c.in_ok-release.ensures,
     )
