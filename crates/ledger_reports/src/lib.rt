@@ -6,5 +6,5 @@
 mod line;
 mod state;
 
-pub use line::LedgerLine;
-pub use state::{Standing, status};
+pub use line::{LedgerLine, LedgerTimes};
+pub use state::{Standing, standing_of, status, verb_word};

@@ -1,10 +1,21 @@
-//! A line of a ledger: a job and its entry.
+//! A line of a ledger: a job, its entry and its times.
 use campaign_ledger::LedgerEntry;
 use client_core::Job;
+
+/// When a ledger wrote what it knows of a job, in seconds since 1970-01-01 00:00:00 UTC. `None` if
+/// it has no such row, or if the clock could not be read then.
+#[derive(Clone, Copy, Debug, PartialEq, Eq)]
+pub struct LedgerTimes {
+    /// When the job was marked, just before its command was sent.
+    pub begun: Option<u32>,
+    /// When the outcome was stored.
+    pub ended: Option<u32>,
+}
 
 /// A line of a ledger: what it knows of a job of its campaign.
 #[derive(Debug, Drop)]
 pub struct LedgerLine {
     pub job: Job,
     pub entry: LedgerEntry,
+    pub times: LedgerTimes,
 }

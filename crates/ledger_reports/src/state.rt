@@ -3,7 +3,7 @@
 ghost use Rattle.std.specs.Prelude.{◌≡◌, ◌++◌, ◌≤◌, length, IfOk, OnOk};
 ghost use Rattle.ledger_reports.specs.Status.{count_of, count_line, has_standing, counts_text};
 ghost use Rattle.ledger_reports.specs.Status.{look_text, unanswered_text, second_looks, verb_word};
-ghost use Rattle.ledger_reports.specs.Status.{followed_by_blank, status_text};
+ghost use Rattle.ledger_reports.specs.Status.{followed_by_blank, standing_of, status_text};
 
 use crate::line::LedgerLine;
 use campaign_ledger::LedgerEntry;
@@ -72,18 +72,25 @@ fn count(lines: &[LedgerLine], standing: Standing) -> usize
     count
 }
 
+/// Returns the standing of a job with this entry.
+pub fn standing_of(entry: LedgerEntry) -> Standing
+    ensures { result ≡ standing_of entry }
+{
+    match entry {
+        LedgerEntry::NotSent => Standing::NotSent,
+        LedgerEntry::MaybeSent => Standing::Unknown,
+        LedgerEntry::Came(Outcome::Done(_)) => Standing::Done,
+        LedgerEntry::Came(Outcome::Refused(_)) => Standing::Refused,
+        LedgerEntry::Came(Outcome::Rejected(_)) => Standing::Rejected,
+        LedgerEntry::Came(Outcome::Unknown) => Standing::Unknown,
+    }
+}
+
 // Returns whether a job with this entry has this standing.
 fn has_standing(standing: Standing, entry: LedgerEntry) -> bool
     ensures { result ≡ has_standing standing entry }
 {
-    match entry {
-        LedgerEntry::NotSent => matches!(standing, Standing::NotSent),
-        LedgerEntry::MaybeSent => matches!(standing, Standing::Unknown),
-        LedgerEntry::Came(Outcome::Done(_)) => matches!(standing, Standing::Done),
-        LedgerEntry::Came(Outcome::Refused(_)) => matches!(standing, Standing::Refused),
-        LedgerEntry::Came(Outcome::Rejected(_)) => matches!(standing, Standing::Rejected),
-        LedgerEntry::Came(Outcome::Unknown) => matches!(standing, Standing::Unknown),
-    }
+    standing_of(entry) == standing
 }
 
 // Appends the lines of the jobs that need a second look.
@@ -127,8 +134,8 @@ fn put_unanswered(job: &Job, out: &mut Octets) -> Result<(), AllocError>
     out.extend_from_slice(b"sent, no answer\n")
 }
 
-// Returns the word of a verb in a list of jobs.
-fn verb_word(verb: Verb) -> &'static [u8]
+/// Returns the word of a verb in a list of jobs.
+pub fn verb_word(verb: Verb) -> &'static [u8]
     ensures { result.now ≡ verb_word verb }
 {
     match verb {

@@ -2,7 +2,7 @@
 use campaign_ledger::LedgerEntry;
 use client_core::{Job, Outcome, Verb};
 use cosem_axdr::Octets;
-use ledger_reports::{LedgerLine, status};
+use ledger_reports::{LedgerLine, LedgerTimes, status};
 use std::alloc::{AllocError, Global};
 use std::test::Fail;
 
@@ -49,7 +49,15 @@ fn lines(alloc: Global) -> Result<Vec<LedgerLine>, AllocError> {
             address: Octets::from_slice(alloc, *address)?,
             verb: *verb,
         };
-        lines.push(LedgerLine { job, entry: *entry })?;
+        let times = LedgerTimes {
+            begun: None,
+            ended: None,
+        };
+        lines.push(LedgerLine {
+            job,
+            entry: *entry,
+            times,
+        })?;
     }
     Ok(lines)
 }

@@ -28,6 +28,12 @@ select_begun = codes "SELECT place FROM begun"
 abbrev pub select_outcomes : List ℕ
 select_outcomes = codes "SELECT place, kind, number FROM outcome"
 
+abbrev pub select_begun_times : List ℕ
+select_begun_times = codes "SELECT place, at FROM begun"
+
+abbrev pub select_outcome_times : List ℕ
+select_outcome_times = codes "SELECT place, at FROM outcome"
+
 pub jobs_plain : IsPlain (understood ledger_schema select_jobs)
 unfolding understood everything
 jobs_plain = (refl, refl)
@@ -39,3 +45,11 @@ begun_plain = (refl, refl)
 pub outcomes_plain : IsPlain (understood ledger_schema select_outcomes)
 unfolding understood everything
 outcomes_plain = (refl, refl)
+
+pub begun_times_plain : IsPlain (understood ledger_schema select_begun_times)
+unfolding understood everything
+begun_times_plain = (refl, refl)
+
+pub outcome_times_plain : IsPlain (understood ledger_schema select_outcome_times)
+unfolding understood everything
+outcome_times_plain = (refl, refl)

@@ -3,8 +3,8 @@
 //! [`SqliteBook`] is a [`campaign_ledger::Book`] over a connection of the toolchain's `sqlite`, to
 //! a file or to memory. The right to send a place's command is the key of a row of the table
 //! `begun`, which is only ever added to. [`open_book`] makes the tables or tests the schema in use,
-//! compares the list of jobs, and reads the entries. [`read_lines`] reads the jobs and their
-//! entries.
+//! compares the list of jobs, and reads the entries. [`read_lines`] reads the jobs, their entries
+//! and their times.
 #![tactic(auto)]
 
 mod book;

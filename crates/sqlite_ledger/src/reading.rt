@@ -1,5 +1,5 @@
 //! What a ledger's file has: its jobs, its marks and its outcomes.
-ghost use Rattle.std.specs.Prelude.{◌≡◌, length, IfOk, OnOk, vec_len};
+ghost use Rattle.std.specs.Prelude.{◌≡◌, ◌<◌, ◌^◌, ℕ, pos, Some, None, length, IfOk, OnOk, vec_len};
 ghost use Rattle.sqlite.specs.State.{HasCleanDisk, IsUnchanged};
 ghost use Rattle.sqlite.specs.Given.{IsPlain};
 ghost use Rattle.sqlite.specs.Listing.{understood};
@@ -11,7 +11,7 @@ use crate::open_fault::LedgerOpenFault;
 use crate::schema::is_ledger_schema;
 use campaign_ledger::LedgerEntry;
 use client_core::{Job, Outcome};
-use ledger_reports::LedgerLine;
+use ledger_reports::{LedgerLine, LedgerTimes};
 use sqlite::{Alter, Connection, Error, Row};
 use std::alloc::Global;
 
@@ -20,6 +20,12 @@ const SELECT_JOBS: &str = "SELECT place, name, address, verb FROM job ORDER BY p
 const SELECT_BEGUN: &str = "SELECT place FROM begun";
 
 const SELECT_OUTCOMES: &str = "SELECT place, kind, number FROM outcome";
+
+// The times of the marks.
+const SELECT_BEGUN_TIMES: &str = "SELECT place, at FROM begun";
+
+// The times of the outcomes.
+const SELECT_OUTCOME_TIMES: &str = "SELECT place, at FROM outcome";
 
 // Returns the rows of a query.
 fn select<S: Alter>(conn: &mut Connection<S>, query: &str) -> Result<Vec<Row>, Error>
@@ -112,16 +118,75 @@ pub(crate) fn read_outcomes<S: Alter>(
     enter_outcomes(entries, &rows)
 }
 
-// Returns the lines of the rows of the table `job`, with these entries.
+// Returns the time of a column `at`, in seconds since 1970. Returns `None` for 0, which a book
+// writes if its clock can't be read, and for what is no `u32`.
+fn time_of(at: i64) -> Option<u32>
+    ensures none { at ≡ pos 0 → result ≡ None }
+    ensures value { (second : ℕ) → 0 < second → second < 2 ^ 32 → at ≡ pos second
+        → result ≡ Some second }
+{
+    match u32::try_from(at) {
+        Ok(0) | Err(_) => None,
+        Ok(second) => Some(second),
+    }
+}
+
+// Sets the times of the places of these rows.
+fn enter_times(times: &mut [Option<u32>], rows: &[Row]) -> Result<(), Error> {
+    for row in rows {
+        let place: u32 = row.get(0)?;
+        let at: i64 = row.get(1)?;
+        if let Some(time) = times.get_mut(place as usize) {
+            *time = time_of(at);
+        }
+    }
+    Ok(())
+}
+
+// Sets the times of the marked places.
+fn read_begun_times<S: Alter>(
+    conn: &mut Connection<S>,
+    times: &mut [Option<u32>],
+) -> Result<(), Error>
+    ensures clean { HasCleanDisk (state S.Store conn.new) → HasCleanDisk (state S.Store conn.old) }
+    ensures unchanged { HasCleanDisk (state S.Store conn.new) → conn.old.schema ≡ ledger_schema
+        → OnOk result (IsUnchanged (state S.Store conn.old) (state S.Store conn.new)) }
+{
+    let rows = select(conn, SELECT_BEGUN_TIMES)?;
+    enter_times(times, &rows)
+}
+
+// Sets the times of the places with an outcome.
+fn read_outcome_times<S: Alter>(
+    conn: &mut Connection<S>,
+    times: &mut [Option<u32>],
+) -> Result<(), Error>
+    ensures clean { HasCleanDisk (state S.Store conn.new) → HasCleanDisk (state S.Store conn.old) }
+    ensures unchanged { HasCleanDisk (state S.Store conn.new) → conn.old.schema ≡ ledger_schema
+        → OnOk result (IsUnchanged (state S.Store conn.old) (state S.Store conn.new)) }
+{
+    let rows = select(conn, SELECT_OUTCOME_TIMES)?;
+    enter_times(times, &rows)
+}
+
+// Returns the lines of the rows of the table `job`, with these entries and times.
 fn lines_of(
     alloc: Global,
     rows: &[Row],
     entries: &[LedgerEntry],
+    begun: &[Option<u32>],
+    ended: &[Option<u32>],
 ) -> Result<Vec<LedgerLine>, LedgerOpenFault> {
     let mut lines = Vec::with_capacity(alloc, rows.len())?;
-    for (row, entry) in rows.iter().zip(entries) {
+    let times = begun.iter().zip(ended);
+    for (row, (entry, (begun, ended))) in rows.iter().zip(entries.iter().zip(times)) {
         let job = read_job(alloc, row, lines.len())?;
-        if lines.push(LedgerLine { job, entry: *entry }).is_err() {
+        let times = LedgerTimes {
+            begun: *begun,
+            ended: *ended,
+        };
+        let entry = *entry;
+        if lines.push(LedgerLine { job, entry, times }).is_err() {
             return Err(LedgerOpenFault::Memory);
         }
     }
@@ -141,7 +206,11 @@ fn read_known<S: Alter>(
     let mut entries = vec![in alloc; LedgerEntry::NotSent; rows.len()]?;
     read_marks(conn, &mut entries)?;
     read_outcomes(conn, &mut entries)?;
-    lines_of(alloc, &rows, &entries)
+    let mut begun = vec![in alloc; None; rows.len()]?;
+    let mut ended = vec![in alloc; None; rows.len()]?;
+    read_begun_times(conn, &mut begun)?;
+    read_outcome_times(conn, &mut ended)?;
+    lines_of(alloc, &rows, &entries, &begun, &ended)
 }
 
 /// Returns the lines of the ledger of a connection, in the order of its jobs, and changes nothing.

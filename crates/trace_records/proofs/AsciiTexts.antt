@@ -1,4 +1,4 @@
--- The texts of records are ASCII: the words of replies and events, and civil dates and times.
+-- The texts of records are ASCII: the words of replies and events.
 use Rattle.std.proofs.Common.{◌≡◌, ℕ, zero, suc, ◌+◌, ◌/◌, ◌%◌, ◌<◌, Bool, true, false, cond}
 use Rattle.std.proofs.Common.{nat_lt, ◌==◌, List, [], ◌∷◌, ◌++◌, length, Option, Some, None, codes}
 use Rattle.std.proofs.Common.{decimal, refl, arith}
@@ -14,9 +14,6 @@ use Rattle.wire_bytes.specs.Choice.{keyed_text}
 use Rattle.cosem_axdr.specs.Spelling.{text}
 use Rattle.cosem_axdr.specs.View.{tree_of}
 use Rattle.cosem_axdr.specs.declared.value.Data.{Data}
-use Rattle.cosem_datetime.proofs.Jiff.{first_day_is}
-use Rattle.cosem_datetime.specs.Calendar.{date_of_day, first_day}
-use Rattle.cosem_datetime.specs.declared.calendar.CivilDate.{CivilDate}
 use Rattle.cosem_names.specs.ResultCode.{code_of}
 use Rattle.cosem_names.specs.declared.service.AttributeSelection.{AttributeSelection}
 use Rattle.cosem_names.specs.declared.service.GetResult.{GetResult}
@@ -38,24 +35,8 @@ use Rattle.trace_words.specs.Rows.{Row}
 use Rattle.trace_words.specs.Writing.{all_words, data_word, flag_number, row_text}
 use Rattle.trace_words.specs.Writing.{words_after_blanks}
 use Rattle.trace_words.specs.declared.version.Version.TheVariants.{Two}
-use Rattle.trace_records.specs.Civil.{civil_text, date_text, time_text, two_digits}
+use Rattle.record_parts.proofs.AsciiTexts.{literal, one_more}
 use Rattle.trace_records.specs.Records.{reply_text}
-
-pub ascii_is_utf8 : (bytes : List ℕ) → IsAscii bytes → IsUtf8 bytes
-ascii_is_utf8 bytes ascii = IsUtf8-from_ascii bytes ascii
-
-one_more : (byte : ℕ) (bytes : List ℕ) → byte < 128 → IsAscii bytes → IsAscii (byte ∷ bytes)
-one_more byte bytes low others zero = low
-one_more byte bytes low others (suc i) = others i
-
-low_byte : (byte : ℕ) → nat_lt byte 128 ≡ true → byte < 128
-low_byte byte e = grind (arith, nat_tests)
-
-literal : (word : List ℕ) → list_all (λ byte. nat_lt byte 128) word ≡ true → IsAscii word
-literal [] e = IsAscii-nil
-literal (byte ∷ word) e =
-    let both = and_parts (nat_lt byte 128) (list_all (λ byte. nat_lt byte 128) word) e in
-    one_more byte word (low_byte byte both.0) (literal word both.1)
 
 -- ---- hexadecimal and decimal digits
 
@@ -257,36 +238,3 @@ event_words (Samples block) = block_is_ascii block.import block.export
 
 pub event_is_ascii : (event : Event) → IsAscii (line_of (event_row event))
 event_is_ascii event = line_is_ascii (event_row event) (event_words event)
-
--- ---- civil dates and times
-
-two_are_ascii : (n : ℕ) (rest : List ℕ) → IsAscii rest → IsAscii (two_digits n ++ rest)
-two_are_ascii n rest ascii =
-    one_more (48 + n / 10 % 10) ((48 + n % 10) ∷ rest) (omega arith)
-    (one_more (48 + n % 10) rest (omega arith) ascii)
-
-time_is_ascii : (second : ℕ) → IsAscii (time_text second)
-time_is_ascii second =
-    let seconds = two_digits (second % 60) in
-    let minutes = two_digits (second / 60 % 60) in
-    two_are_ascii (second / 3600) (58 ∷ minutes ++ 58 ∷ seconds)
-    (one_more 58 (minutes ++ 58 ∷ seconds) (omega arith)
-    (two_are_ascii (second / 60 % 60) (58 ∷ seconds)
-    (one_more 58 seconds (omega arith) (two_are_ascii (second % 60) [] IsAscii-nil))))
-
-date_is_ascii : (date : CivilDate) → IsAscii (date_text date)
-date_is_ascii date =
-    let day = two_digits date.day in
-    let month = two_digits date.month ++ 45 ∷ day in
-    two_are_ascii (date.year / 100) (two_digits date.year ++ 45 ∷ month)
-    (two_are_ascii date.year (45 ∷ month) (one_more 45 month (omega arith)
-    (two_are_ascii date.month (45 ∷ day) (one_more 45 day (omega arith)
-    (two_are_ascii date.day [] IsAscii-nil)))))
-
-pub civil_is_ascii : (moment : ℕ) → IsAscii (civil_text moment)
-civil_is_ascii moment =
-    let date = date_of_day (first_day + moment / 86400) in
-    IsAscii-append (date_text date) (84 ∷ time_text (moment % 86400)) (date_is_ascii date)
-    (one_more 84 (time_text (moment % 86400)) (omega arith) (time_is_ascii (moment % 86400)))
-
-pub ruleset civil_texts = (first_day_is, civil_is_ascii)

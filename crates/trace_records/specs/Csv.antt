@@ -4,14 +4,11 @@
 use Rattle.std.specs.Prelude.{ℕ, Bool, true, false, codes, decimal, option_map, List, [], ◌∷◌}
 use Rattle.std.specs.Prelude.{Option, Some, None}
 use Rattle.csv.specs.Writing.{default_writer, row_text}
+use Rattle.cosem_datetime.specs.Calendar.{first_day}
 use Rattle.trace_lines.specs.Replies.{supply_text}
-use Rattle.trace_records.specs.Civil.{civil_text}
+use Rattle.record_parts.specs.Civil.{civil_text}
+use Rattle.record_parts.specs.Columns.{column}
 use Rattle.trace_records.specs.Records.{Fields}
-
--- a text that may be missing: then its column is empty
-abbrev pub column : Option (List ℕ) → List ℕ
-column (Some text) = text
-column None = []
 
 -- the last column, if there is one
 abbrev pub last_column : Option (List ℕ) → List (List ℕ)
@@ -33,5 +30,5 @@ csv_head with_events =
 abbrev pub csv_line : Fields → List ℕ
 csv_line r =
     row_text default_writer (decimal r.number ∷ r.reply ∷ decimal r.state ∷ supply_text r.output
-    ∷ column (option_map decimal r.moment) ∷ column (option_map civil_text r.moment)
+    ∷ column (option_map decimal r.moment) ∷ column (option_map (civil_text first_day) r.moment)
     ∷ last_column r.event)

@@ -2,17 +2,14 @@
 --     json_object     the record as an object, whose members are in the order of their keys
 --     json_line       its text
 use Rattle.std.specs.Prelude.{ℕ, codes, option_map, List, [], ◌∷◌, ◌++◌, Option, Some, None}
-use Rattle.serde_json.specs.Data.{Data, Members, member, no_members, null, number, object, string}
+use Rattle.serde_json.specs.Data.{Data, Members, member, no_members, number, object, string}
 use Rattle.serde_json.specs.Data.{unsigned}
 use Rattle.serde_json.specs.Written.{compact_text}
+use Rattle.cosem_datetime.specs.Calendar.{first_day}
 use Rattle.trace_lines.specs.Replies.{supply_text}
-use Rattle.trace_records.specs.Civil.{civil_text}
+use Rattle.record_parts.specs.Civil.{civil_text}
+use Rattle.record_parts.specs.Values.{nullable}
 use Rattle.trace_records.specs.Records.{Fields}
-
--- a value that may be missing: then it is null
-abbrev pub nullable : Option Data → Data
-nullable (Some value) = value
-nullable None = null
 
 -- the member of the event, if it is shown, before the others
 abbrev pub event_member : Option (List ℕ) → Members → Members
@@ -27,7 +24,7 @@ plain_members r =
     member (codes "reply") (string r.reply) (
     member (codes "state") (number (unsigned r.state)) (
     member (codes "supply") (string (supply_text r.output)) (
-    member (codes "time") (nullable (option_map (λ n. string (civil_text n)) r.moment)) (
+    member (codes "time") (nullable (option_map (λ n. string (civil_text first_day n)) r.moment)) (
     no_members))))))
 
 abbrev pub json_object : Fields → Data

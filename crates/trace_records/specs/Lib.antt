@@ -1,4 +1,3 @@
-pub mod Civil
 pub mod Csv
 pub mod Json
 pub mod Records

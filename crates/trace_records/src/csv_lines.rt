@@ -1,29 +1,13 @@
 //! Appends records as comma-separated values.
-ghost use Rattle.std.specs.Prelude.{◌≡◌, ◌++◌, IfOk, OnOk, codes, decimal, map, option_map};
+ghost use Rattle.std.specs.Prelude.{◌≡◌, ◌++◌, OnOk, codes, map, option_map};
 ghost use Rattle.csv.specs.Writing.{default_writer, row_text};
-ghost use Rattle.trace_records.specs.Csv.{column, csv_head, csv_line, last_column};
+ghost use Rattle.trace_records.specs.Csv.{csv_head, csv_line, last_column};
 
 use crate::civil::civil_time;
 use crate::record::Record;
-use csv::WriterBuilder;
 use itoa::Buffer;
+use record_parts::{number_column, write_row};
 use std::alloc::{AllocError, Global};
-use text_lines::write_number;
-
-// Appends a line of these fields.
-fn add_row(alloc: Global, out: &mut Vec<u8>, fields: &[&[u8]]) -> Result<(), AllocError>
-    ensures { OnOk result (out.new.items ≡ out.old.items
-        ++ row_text default_writer (map (λ field. field.now) fields.now)) }
-{
-    let mut writer = WriterBuilder::new().from_writer(Vec::new(alloc));
-    if writer.write_fields(fields).is_err() {
-        return Err(AllocError);
-    }
-    match writer.into_inner() {
-        Ok(row) => out.extend_from_slice(row.as_slice()),
-        Err(_) => Err(AllocError),
-    }
-}
 
 // Appends a line of the columns of each record, and of the last column if there is one.
 fn add_columns(
@@ -38,12 +22,12 @@ fn add_columns(
 {
     let [number, reply, state, supply, moment, time] = columns;
     match last {
-        Some(event) => add_row(
+        Some(event) => write_row(
             alloc,
             out,
             &[number, reply, state, supply, moment, time, event],
         ),
-        None => add_row(alloc, out, &[number, reply, state, supply, moment, time]),
+        None => write_row(alloc, out, &[number, reply, state, supply, moment, time]),
     }
 }
 
@@ -57,17 +41,6 @@ pub fn write_csv_head(alloc: Global, out: &mut Vec<u8>, with_events: bool) -> Re
     add_columns(alloc, out, columns, last)
 }
 
-// Returns the digits of a moment; no digits if there is no moment.
-fn moment_column(alloc: Global, moment: Option<u32>) -> Result<Vec<u8>, AllocError>
-    ensures { IfOk result (λ text. text.items ≡ column (option_map decimal moment)) }
-{
-    let mut text = Vec::new(alloc);
-    if let Some(moment) = moment {
-        write_number(&mut text, u64::from(moment))?;
-    }
-    Ok(text)
-}
-
 /// Appends the line of the values of a record: its number, the words of its reply, the number of
 /// the control state, `on` or `off`, the moment of the clock in seconds and as a civil date and
 /// time (both empty before the first moment), and the line of the event if the record has it. Fails
@@ -75,7 +48,7 @@ fn moment_column(alloc: Global, moment: Option<u32>) -> Result<Vec<u8>, AllocErr
 pub fn write_csv(alloc: Global, out: &mut Vec<u8>, row: &Record) -> Result<(), AllocError>
     ensures { OnOk result (out.new.items ≡ out.old.items ++ csv_line row.now) }
 {
-    let moment = moment_column(alloc, row.moment)?;
+    let moment = number_column(alloc, row.moment)?;
     let time = civil_time(alloc, row.moment)?;
     let supply: &[u8] = if row.output { b"on" } else { b"off" };
     let mut number = Buffer::new();

@@ -1,37 +1,16 @@
 //! Appends records as lines of JSON.
-ghost use Rattle.std.specs.Prelude.{◌≡◌, ◌++◌, IfOk, OnOk, option_map};
-ghost use Rattle.serde_json.specs.Data.{number, string, unsigned};
+ghost use Rattle.std.specs.Prelude.{◌≡◌, ◌++◌, IfOk, OnOk};
+ghost use Rattle.serde_json.specs.Data.{string};
 ghost use Rattle.serde_json.specs.View.{members_view, view};
 ghost use Rattle.trace_lines.specs.Replies.{supply_text};
-ghost use Rattle.trace_records.specs.Civil.{civil_text};
-ghost use Rattle.trace_records.specs.Json.{json_line, json_object, nullable, plain_members};
+ghost use Rattle.trace_records.specs.Json.{json_line, json_object, plain_members};
 
-use crate::civil::civil_text;
+use crate::civil::civil_time;
 use crate::record::Record;
+use record_parts::{number_value, text_value};
 use serde_json::{Map, Value, put};
 use std::alloc::{AllocError, Global};
 use text_lines::end_line;
-
-// Returns a moment as a number, or null.
-fn moment_value(moment: Option<u32>) -> Value
-    ensures { view result ≡ nullable (option_map (λ n. number (unsigned n)) moment) }
-{
-    match moment {
-        Some(moment) => Value::from(moment),
-        None => Value::from(()),
-    }
-}
-
-// Returns a moment as a civil date and time, or null.
-fn time_value(alloc: Global, moment: Option<u32>) -> Result<Value, AllocError>
-    ensures { IfOk result (λ value. view value
-        ≡ nullable (option_map (λ n. string (civil_text n)) moment)) }
-{
-    match moment {
-        Some(moment) => Ok(Value::from(civil_text(alloc, moment)?)),
-        None => Ok(Value::from(())),
-    }
-}
 
 // Returns whether the supply is on as text.
 fn supply_value(alloc: Global, output: bool) -> Result<Value, AllocError>
@@ -44,7 +23,7 @@ fn supply_value(alloc: Global, output: bool) -> Result<Value, AllocError>
 fn plain_members(alloc: Global, row: &Record) -> Result<Map<String, Value>, AllocError>
     ensures { IfOk result (λ members. members_view members.entries ≡ plain_members row.now) }
 {
-    let time = time_value(alloc, row.moment)?;
+    let time = text_value(civil_time(alloc, row.moment)?);
     let supply = supply_value(alloc, row.output)?;
     let reply = Value::try_from_str(alloc, row.reply.as_str())?;
     let mut members = Map::new(alloc);
@@ -53,7 +32,7 @@ fn plain_members(alloc: Global, row: &Record) -> Result<Map<String, Value>, Allo
     put(&mut members, alloc, "state", Value::from(row.state))?;
     put(&mut members, alloc, "reply", reply)?;
     put(&mut members, alloc, "number", Value::from(row.number))?;
-    put(&mut members, alloc, "moment", moment_value(row.moment))?;
+    put(&mut members, alloc, "moment", number_value(row.moment))?;
     Ok(members)
 }
 

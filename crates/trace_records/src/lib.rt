@@ -9,7 +9,6 @@ mod civil;
 mod csv_lines;
 mod json_lines;
 mod record;
-mod text;
 
 pub use csv_lines::{write_csv, write_csv_head};
 pub use json_lines::write_json;

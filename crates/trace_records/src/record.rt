@@ -3,8 +3,8 @@ ghost use Rattle.std.specs.Prelude.{◌≡◌, IfOk, IfSome, option_map, string_
 ghost use Rattle.disconnect_control.specs.Transitions.{state_number};
 ghost use Rattle.trace_records.specs.Records.{event_text, fields_of, len_after_reply, reply_text};
 
-use crate::text::text_of;
 use disconnect_control::ControlState;
+use record_parts::text_of;
 use relay_events::{Event, Line};
 use std::alloc::{AllocError, Global};
 use std::marker::Model;

@@ -1,8 +1,8 @@
--- A moment of the meter's clock as a civil date and time, YYYY-MM-DDThh:mm:ss (ISO 8601).
+-- A second as a civil date and time, YYYY-MM-DDThh:mm:ss (ISO 8601).
 --     two_digits      the last two digits of a number
---     civil_text      a moment: seconds since 2000-01-01 00:00:00 of the meter's time
+--     civil_text      a second, counted from the beginning of a day
 use Rattle.std.specs.Prelude.{ℕ, ◌+◌, ◌/◌, ◌%◌, codes, List, [], ◌∷◌, ◌++◌}
-use Rattle.cosem_datetime.specs.Calendar.{date_of_day, first_day}
+use Rattle.cosem_datetime.specs.Calendar.{date_of_day}
 use Rattle.cosem_datetime.specs.declared.calendar.CivilDate.{CivilDate}
 
 -- the tens and the ones of a number
@@ -21,7 +21,9 @@ time_text second =
     two_digits (second / 3600) ++ codes ":" ++ two_digits (second / 60 % 60) ++ codes ":"
     ++ two_digits (second % 60)
 
--- the date and time of a moment
-abbrev pub civil_text : ℕ → List ℕ
-civil_text moment =
-    date_text (date_of_day (first_day + moment / 86400)) ++ codes "T" ++ time_text (moment % 86400)
+-- the date and time of a second, counted from the beginning of a day, which is a number of days
+-- since 1 January of the year 0
+abbrev pub civil_text : ℕ → ℕ → List ℕ
+civil_text first_day seconds =
+    date_text (date_of_day (first_day + seconds / 86400)) ++ codes "T"
+    ++ time_text (seconds % 86400)

@@ -1,7 +1,7 @@
 use Rattle.std.proofs.Common.{ap, ◌∙◌, rules}
 use Rattle.cosem_datetime.proofs.Jiff.{date_from_jiff}
 use Rattle.cosem_datetime.specs.declared.calendar.CivilDate.{CivilDate}
-use Rattle.trace_records.proofs.civil.date_of_day.Goals as goal
+use Rattle.record_parts.proofs.civil.date_of_day.Goals as goal
 
 pub overflow_cast-result : goal.overflow_cast-result
 overflow_cast-result c =

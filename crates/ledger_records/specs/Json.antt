@@ -1,0 +1,48 @@
+-- The jobs of a ledger as lines of JSON.
+--     json_line     a job as an object, whose members are in the order of their keys
+--     json_rows     the lines of all jobs
+use Rattle.std.specs.Prelude.{ℕ, codes, option_map, flat_map, List, [], ◌∷◌, ◌++◌, Option}
+use Rattle.std.specs.Str.Lossy.{utf8_lossy}
+use Rattle.serde_json.specs.Data.{Data, Members, member, no_members, number, object, string}
+use Rattle.serde_json.specs.Data.{unsigned}
+use Rattle.serde_json.specs.Written.{compact_text}
+use Rattle.record_parts.specs.Values.{nullable}
+use Rattle.ledger_reports.specs.Status.{standing_of, verb_word}
+use Rattle.ledger_reports.specs.declared.line.LedgerLine.{LedgerLine}
+use Rattle.ledger_records.specs.Fields.{outcome_number, outcome_word, seconds_taken, sent_word}
+use Rattle.ledger_records.specs.Fields.{utc_text}
+
+-- a number that may be missing
+abbrev pub number_or_null : Option ℕ → Data
+number_or_null n = nullable (option_map (λ n. number (unsigned n)) n)
+
+-- a time that may be missing
+abbrev pub time_or_null : Option ℕ → Data
+time_or_null second = nullable (option_map (λ n. string (utc_text n)) second)
+
+-- the members whose keys are from `number` on
+abbrev pub outcome_members : LedgerLine → Members
+outcome_members line =
+    member (codes "number") (number_or_null (outcome_number line.entry)) (
+    member (codes "outcome") (string (outcome_word (standing_of line.entry))) (
+    member (codes "seconds") (number_or_null (seconds_taken line.times)) (
+    member (codes "sent") (string (sent_word (standing_of line.entry))) (
+    member (codes "verb") (string (utf8_lossy (verb_word line.job.verb))) (
+    no_members)))))
+
+-- all members; bytes of a name or an address that are not UTF-8 are replaced by U+FFFD
+abbrev pub job_members : LedgerLine → Members
+job_members line =
+    member (codes "address") (string (utf8_lossy line.job.address)) (
+    member (codes "begun_at") (time_or_null line.times.begun) (
+    member (codes "ended_at") (time_or_null line.times.ended) (
+    member (codes "name") (string (utf8_lossy line.job.id)) (
+    outcome_members line))))
+
+-- the object without blanks, and the byte 0A
+unfoldable pub json_line : LedgerLine → List ℕ
+json_line line = compact_text (object (job_members line)) ++ 10 ∷ []
+
+-- the lines of all jobs, in their order
+unfoldable pub json_rows : List LedgerLine → List ℕ
+json_rows lines = flat_map json_line lines

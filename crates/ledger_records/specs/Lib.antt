@@ -1,0 +1,5 @@
+pub mod Csv
+pub mod Fields
+pub mod Formats
+pub mod Json
+pub mod Texts

@@ -1,0 +1,68 @@
+//! Appends the jobs of a ledger as comma-separated values.
+ghost use Rattle.std.specs.Prelude.{◌≡◌, ◌++◌, OnOk, map};
+ghost use Rattle.csv.specs.Writing.{default_writer, row_text};
+ghost use Rattle.ledger_records.specs.Csv.{csv_head, csv_line};
+
+use crate::fields::{outcome_number, outcome_word, seconds_taken, sent_word, utc_text};
+use ledger_reports::{LedgerLine, standing_of, verb_word};
+use record_parts::{number_column, write_row};
+use std::alloc::{AllocError, Global};
+
+// Appends a line of these columns.
+fn add_columns(alloc: Global, out: &mut Vec<u8>, columns: [&[u8]; 9]) -> Result<(), AllocError>
+    ensures { OnOk result (out.new.items ≡ out.old.items
+        ++ row_text default_writer (map (λ field. field.now) columns.entry)) }
+{
+    write_row(alloc, out, &columns)
+}
+
+/// Appends the line of the names of the columns. Fails only if out of memory.
+pub fn write_csv_head(alloc: Global, out: &mut Vec<u8>) -> Result<(), AllocError>
+    ensures { OnOk result (out.new.items ≡ out.old.items ++ csv_head) }
+{
+    write_row(
+        alloc,
+        out,
+        &[
+            b"name",
+            b"address",
+            b"verb",
+            b"outcome",
+            b"number",
+            b"sent",
+            b"begun_at",
+            b"ended_at",
+            b"seconds",
+        ],
+    )
+}
+
+/// Appends the line of a job: its name, address and verb; its outcome as a word, and the number of
+/// the outcome; whether its request was sent (`yes`, `no` or `maybe`); when it was marked and when
+/// its outcome was stored, in UTC; and the seconds between the two. A value that the ledger does
+/// not have is empty. Fails only if out of memory.
+pub fn write_csv(alloc: Global, out: &mut Vec<u8>, line: &LedgerLine) -> Result<(), AllocError>
+    ensures { OnOk result (out.new.items ≡ out.old.items ++ csv_line line.now) }
+{
+    let standing = standing_of(line.entry);
+    let number = number_column(alloc, outcome_number(line.entry))?;
+    let begun = utc_text(alloc, line.times.begun)?;
+    let ended = utc_text(alloc, line.times.ended)?;
+    let seconds = number_column(alloc, seconds_taken(line.times))?;
+    // (static words can't share an array with borrowed ones)
+    let verb = Vec::from_slice(alloc, verb_word(line.job.verb))?;
+    let outcome = Vec::from_slice(alloc, outcome_word(standing).as_bytes())?;
+    let sent = Vec::from_slice(alloc, sent_word(standing).as_bytes())?;
+    let columns: [&[u8]; 9] = [
+        line.job.id.as_slice(),
+        line.job.address.as_slice(),
+        verb.as_slice(),
+        outcome.as_slice(),
+        number.as_slice(),
+        sent.as_slice(),
+        begun.as_ref().map_or(b"", String::as_bytes),
+        ended.as_ref().map_or(b"", String::as_bytes),
+        seconds.as_slice(),
+    ];
+    add_columns(alloc, out, columns)
+}

@@ -1,0 +1,3 @@
+pub mod Civil
+pub mod Columns
+pub mod Values
