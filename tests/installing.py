@@ -17,7 +17,7 @@ from pathlib import Path
 
 TOP = Path(__file__).resolve().parent.parent
 PROGRAMS = ("meter_server", "head_end", "trace_player", "meter_fleet")
-SCRIPTS = ("campaign", "trace_chart", "meter_service")
+SCRIPTS = ("campaign", "campaign_report", "trace_chart", "meter_service")
 COMMANDS = PROGRAMS + SCRIPTS
 RECORD = "share/wesplina/installed"
 WORKED = TOP / "crates" / "trace_player_cli" / "stdin"
@@ -27,6 +27,7 @@ PAGES = {
                      "prints no trace"],
     "head_end": ["NAME done N", "NAME unknown", "does not mean that the meter did not switch"],
     "campaign": ["NAME done N", "NAME unknown", "does not mean that the meter did not switch"],
+    "campaign_report": ["--title TEXT", "--head-end COMMAND", "head_end status --format json"],
     "trace_player": ["docs/TRACE.md"],
     "meter_fleet": ["127.0.0.1 is meter 1", "Password of the management client"],
     "trace_chart": ["--from PLACE", "--to PLACE", "sampler: reads both thresholds"],
@@ -196,6 +197,7 @@ def pages(root):
 
 def completions(root):
     cases = (("campaign", "--jobl", "--joblog"), ("trace_chart", "--fr", "--from"),
+             ("campaign_report", "--ti", "--title"),
              ("meter_service", "--se", "--server"))
     for name, word, wanted in cases:
         file = root / "share/bash-completion/completions" / name

@@ -1,10 +1,12 @@
 -- What `run --ledger` and `status` print.
 --     PrintsTexts       the report is printed, unless out of memory
 --     PrintsRun         the jobs were run with permits of the ledger, and the report is printed
---     PrintsStatus      the state of a campaign is printed
-use Rattle.std.specs.Prelude.{ℕ, List, Option, Result, Ok, Err}
+--     PrintsStatus      the lines of a ledger are printed
+use Rattle.std.specs.Prelude.{ℕ, codes, List, Option, Result, Ok, Err}
 use Rattle.std.specs.Io.KnownBytes.{Appends}
 use Rattle.std.specs.declared.alloc.AllocError.{AllocError}
+use Rattle.clap.specs.Matches.{first_value}
+use Rattle.clap.specs.declared.parser.matches.Found.{Found}
 use Rattle.sqlite_disk.specs.declared.Disk.{Ghosts}
 use Rattle.sqlite.specs.Recovery.{Image}
 use Rattle.client_core.specs.declared.job.Job.{Job}
@@ -12,7 +14,9 @@ use Rattle.head_end.specs.Connections.{Forecast}
 use Rattle.ledger_runs.specs.declared.running.LedgerTexts.{LedgerTexts}
 use Rattle.ledger_file_runs.specs.Files.{IsRunOnFile}
 use Rattle.ledger_reports.specs.declared.line.LedgerLine.{LedgerLine}
-use Rattle.ledger_reports.specs.Status.{status_text}
+use Rattle.ledger_records.specs.Formats.{IsNamed}
+use Rattle.ledger_records.specs.Texts.{text_in}
+use Rattle.ledger_records.specs.declared.format.LedgerFormat.{LedgerFormat}
 
 -- whether the report of the texts was printed
 abbrev pub PrintsTexts : {F : Type 0} → Result LedgerTexts F → Option (List ℕ) → Option (List ℕ)
@@ -29,7 +33,9 @@ pub record PrintsRun {D : Type 0} (g : Ghosts D) (held : Image)
   pub ran : IsRunOnFile g held tells jobs passwords texts
   pub printed : PrintsTexts texts written written'
 
--- whether the state of a campaign was printed, by the lines that were read of its ledger
-abbrev pub PrintsStatus : Option (List ℕ) → Option (List ℕ) → Type 0
-PrintsStatus written written' = (lines : List LedgerLine)
-    × Appends written written' (status_text lines)
+-- the lines that were read of a ledger were printed, in the format that the option `--format` names
+pub record PrintsStatus (found : Found) (written written' : Option (List ℕ)) : Type 0 where
+  pub lines : List LedgerLine
+  pub format : LedgerFormat
+  pub named : IsNamed (first_value found (codes "format")) format
+  pub printed : Appends written written' (text_in format lines)

@@ -23,6 +23,9 @@ N is the diagnostic of its AARE
   NAME unknown       no valid answer came; the meter may have carried out the request
   NAME memory        out of memory; the request may have been sent";
 
+// The names of the formats of `status`.
+const FORMATS: &[&str] = &["csv", "json"];
+
 // Returns the option `--verbose`.
 fn verbose<'a>(alloc: Global) -> Arg<'a> {
     Arg::new(alloc, "verbose")
@@ -156,11 +159,22 @@ fn ledger_to_read<'a>(alloc: Global) -> Arg<'a> {
         .action(ArgAction::Set)
 }
 
+// Returns the option `--format` of `status`.
+fn format<'a>(alloc: Global) -> Arg<'a> {
+    Arg::new(alloc, "format")
+        .long("format")
+        .value_name("FORMAT")
+        .help("Print each job as a record: csv, comma-separated; json, one JSON object a line")
+        .value_parser(FORMATS)
+}
+
 // Returns the command `status`.
 fn status_command<'a>(alloc: Global) -> Result<Command<'a>, AllocError> {
-    Command::new(alloc, "status")
-        .about("Prints the state of the campaign of a ledger, and the jobs that need a second look")
-        .arg(ledger_to_read(alloc))
+    let made = Ok(Command::new(alloc, "status").about(
+        "Prints the state of a ledger's campaign, and the jobs that need a second look",
+    ));
+    let made = with_argument(made, ledger_to_read(alloc));
+    with_argument(made, format(alloc))
 }
 
 // Returns the program without its commands.

@@ -1,5 +1,6 @@
 //! The program `head_end`: `head_end check` counts the jobs of a list, `head_end run` runs them and
-//! prints the report, and `head_end status` prints the state of the campaign of a ledger.
+//! prints the report, and `head_end status` prints the state of the campaign of a ledger, or its
+//! jobs as records.
 //!
 //! The jobs, the campaign and the report are those of the crate `head_end`; this one has the
 //! command line, the standard streams and the exit status.
@@ -134,8 +135,7 @@ fn begin_command(rt: &HostRuntime, matches: &ArgMatches<'_>) -> Result<HeadEndCo
         }
         Some(("run", matches)) => begin_run(rt, matches),
         Some(("status", matches)) => {
-            let path = matches.get_str("ledger").unwrap_or("");
-            print_status(rt, path, &mut rt.stdout())?;
+            print_status(rt, matches, &mut rt.stdout())?;
             Ok(HeadEndCommand::Ended(0))
         }
         _ => Err(Fault::Input),

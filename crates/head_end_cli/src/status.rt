@@ -1,26 +1,30 @@
-//! The command `head_end status`: the state of the campaign of a ledger.
+//! The command `head_end status`: the state of the campaign of a ledger, or its jobs as records.
 ghost use Rattle.std.specs.Prelude.{OnOk};
+ghost use Rattle.clap.specs.Matches.{found_of};
 ghost use Rattle.head_end_cli.specs.Ledgered.{PrintsStatus};
 
+use clap::ArgMatches;
 use ledger_files::read_ledger;
-use ledger_reports::status;
+use ledger_records::{LedgerFormat, ledger_text};
 use program::{Fault, print_text};
 use sqlite_ledger::LedgerOpenFault;
 use std::io::Write;
 
-// Prints the state of the campaign whose ledger is at a path. If the ledger can't be read, writes a
-// line on standard error. Errors: `Input` if the file is no ledger; `Read` if it is missing, can't
-// be read or is open in another process; `Write`; `Memory`.
+// Prints the ledger that the option `--ledger` names, in the format of `--format`. If it can't be
+// read, writes a line on standard error. Errors: `Input` if the file is no ledger; `Read` if it is
+// missing, can't be read or is open in another process; `Write`; `Memory`.
 pub(crate) fn print_status<W: Write>(
     rt: &HostRuntime,
-    path: &str,
+    matches: &ArgMatches<'_>,
     output: &mut W,
 ) -> Result<(), Fault>
-    ensures { OnOk result (PrintsStatus (W.contents output.old) (W.contents output.new)) }
+    ensures { OnOk result (PrintsStatus (found_of matches.now) (W.contents output.old)
+        (W.contents output.new)) }
 {
-    match read_ledger(rt, path) {
+    let format = LedgerFormat::named(matches.get_str("format"));
+    match read_ledger(rt, matches.get_str("ledger").unwrap_or("")) {
         Ok(lines) => {
-            let text = status(rt.alloc(), lines.as_slice());
+            let text = ledger_text(rt.alloc(), format, lines.as_slice());
             drop(lines);
             match text {
                 Ok(text) => print_text(output, text.as_slice()),

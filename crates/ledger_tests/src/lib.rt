@@ -1,5 +1,5 @@
-//! Tests of `campaign_ledger`, `ledger_campaigns` and `ledger_reports`: runs on a book in memory,
-//! whose entries the next run finds, and the state of a ledger as text.
+//! Tests of `campaign_ledger`, `ledger_campaigns`, `ledger_reports` and `ledger_records`: runs on a
+//! book in memory, whose entries the next run finds, and a ledger as text.
 #![tactic(auto)]
 
 #[cfg(test)]
@@ -8,5 +8,7 @@ mod campaigns;
 mod ledgers;
 #[cfg(test)]
 mod meters;
+#[cfg(test)]
+mod records;
 #[cfg(test)]
 mod states;

@@ -13,5 +13,6 @@ complete -c head_end -f -n '__fish_seen_subcommand_from run' -l connect-timeout 
 complete -c head_end -f -n '__fish_seen_subcommand_from run' -l ledger -r -d 'Ledger of the campaign; run the list again with it, and no command is sent twice'
 complete -c head_end -f -n '__fish_seen_subcommand_from run' -l progress -d 'Report progress on standard error; default if that is a terminal'
 complete -c head_end -f -n '__fish_seen_subcommand_from run' -l verbose -d 'On a fault, report what was expected and what was found on standard error'
-complete -c head_end -f -n __fish_use_subcommand -a status -d 'Prints the state of the campaign of a ledger, and the jobs that need a second look'
+complete -c head_end -f -n __fish_use_subcommand -a status -d 'Prints the state of a ledger\'s campaign, and the jobs that need a second look'
 complete -c head_end -f -n '__fish_seen_subcommand_from status' -l ledger -r -d 'Ledger of the campaign, which no run has open; nothing in it is changed'
+complete -c head_end -f -n '__fish_seen_subcommand_from status' -l format -r -d 'Print each job as a record: csv, comma-separated; json, one JSON object a line'
