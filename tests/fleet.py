@@ -321,6 +321,22 @@ def wrong_words_are_refused():
     check("an empty password is refused", (ran.returncode, ran.stderr) == (2, "fault: input\n"))
 
 
+def reasons_are_reported():
+    """With --verbose a line before the fault says why."""
+    with socket.create_server(("127.0.0.1", 0)) as taken:
+        address = f"127.0.0.1:{taken.getsockname()[1]}"
+        port = address.split(":")[1]
+        for words, status, lines in (
+                (["--password", ""], 2, "password: must be 1 to 32 bytes\nfault: input\n"),
+                (["--password", PASSWORD, "--listen", "nowhere"], 2,
+                 "listen: expected an IP address\nfault: input\n"),
+                (["--password", PASSWORD, "--port", port], 3,
+                 f"{address}: the address is in use\nfault: listen\n")):
+            ran = subprocess.run([str(FLEET), "serve", "--meters", "3", "--verbose", *words],
+                                 capture_output=True, text=True, timeout=PATIENCE, check=False)
+            check(f"{words[-1]!r}: why", (ran.returncode, ran.stderr) == (status, lines))
+
+
 def result_of_resuming(path):
     """The status and standard error of a fleet that is refused the trace in a file."""
     words = ["serve", "--meters", "3", "--password", PASSWORD, "--port", "0", "--resume", str(path)]
@@ -357,6 +373,7 @@ def main():
     if not os.path.exists(FLEET):
         sys.exit(f"{FLEET} is not built")
     wrong_words_are_refused()
+    reasons_are_reported()
     meters_resume()
     with Fleet() as fleet:
         meters_are_apart(fleet)

@@ -7,6 +7,7 @@ use cosem_axdr::Octets;
 use fleet_meters::MeterTerms;
 use meter_fleet::{FleetFault, serve_fleet};
 use program::Fault;
+use std::io::ErrorKind;
 use std::net::{IpAddr, Net, SocketAddr};
 use std::sync::Wait;
 
@@ -25,11 +26,15 @@ fn first_trace(rt: &HostRuntime, matches: &ArgMatches<'_>) -> Result<Octets, Fau
     }
 }
 
-// Returns what all meters have in common. Errors: `Input` if the password is not 1 to 32 bytes;
-// those of the file of `--resume`, with a line on standard error; `Memory`.
+// Returns what all meters have in common. Errors: `Input` if the password is not 1 to 32 bytes,
+// with a line on standard error if `--verbose` is given; those of the file of `--resume`, with a
+// line on standard error; `Memory`.
 fn meter_terms(rt: &HostRuntime, matches: &ArgMatches<'_>) -> Result<MeterTerms, Fault> {
     let password = matches.get_str("password").unwrap_or("");
     if password.is_empty() || password.len() > MAX_PASSWORD {
+        if matches.get_flag("verbose") {
+            let _ = eprintln!(rt; "password: must be 1 to 32 bytes");
+        }
         return Err(Fault::Input);
     }
     let trace = first_trace(rt, matches)?;
@@ -45,28 +50,61 @@ fn meter_terms(rt: &HostRuntime, matches: &ArgMatches<'_>) -> Result<MeterTerms,
     }
 }
 
-// Listens on the address of the command line. If `is_verbose`, reports it on standard error.
+// Returns the address of the command line, or `None` if its host is not an IP address.
+fn address_of(matches: &ArgMatches<'_>) -> Option<SocketAddr> {
+    let port = matches.get_one::<u16>("port")?;
+    match matches.get_str("listen")?.parse::<IpAddr>() {
+        Ok(host) => Some(SocketAddr::new(host, port)),
+        Err(_) => None,
+    }
+}
+
+// Returns why the fleet cannot listen.
+fn why_not_listening(kind: ErrorKind) -> &'static str {
+    match kind {
+        ErrorKind::AddrInUse => "the address is in use",
+        ErrorKind::AddrNotAvailable => "the address is not one of this machine",
+        ErrorKind::PermissionDenied => "permission denied",
+        _ => "listening failed",
+    }
+}
+
+// Listens on the address of the command line. If `--verbose` is given, reports on standard error
+// the address, or why the fleet cannot listen on it.
 fn listen<N: Net>(
     rt: &HostRuntime,
     net: &N,
     matches: &ArgMatches<'_>,
 ) -> Result<FleetSockets, Fault> {
-    let Some(port) = matches.get_one::<u16>("port") else {
+    let is_verbose = matches.get_flag("verbose");
+    let Some(address) = address_of(matches) else {
+        if is_verbose {
+            let _ = eprintln!(rt; "listen: expected an IP address");
+        }
         return Err(Fault::Input);
     };
-    let Ok(host) = matches.get_str("listen").unwrap_or("").parse::<IpAddr>() else {
-        return Err(Fault::Input);
-    };
-    let address = SocketAddr::new(host, port);
-    let Ok(sockets) = FleetSockets::bind(net, rt.alloc(), address) else {
-        return Err(Fault::Listen);
-    };
-    if matches.get_flag("verbose") {
-        if let Ok(address) = sockets.local_addr() {
-            let _ = eprintln!(rt; "listening on {address}");
+    match FleetSockets::bind(net, rt.alloc(), address) {
+        Ok(sockets) => {
+            if is_verbose {
+                report_address(rt, &sockets);
+            }
+            Ok(sockets)
+        }
+        Err(error) => {
+            if is_verbose {
+                let why = why_not_listening(error.kind());
+                let _ = eprintln!(rt; "{address}: {why}");
+            }
+            Err(Fault::Listen)
         }
     }
-    Ok(sockets)
+}
+
+// Reports on standard error the address that the fleet listens on.
+fn report_address(rt: &HostRuntime, sockets: &FleetSockets) {
+    if let Ok(address) = sockets.local_addr() {
+        let _ = eprintln!(rt; "listening on {address}");
+    }
 }
 
 /// Serves the clients of the meters until that fails. Errors: `Input` if the password, the trace or
