@@ -9,7 +9,7 @@ ghost use Rattle.trace_lines.specs.Reading.{level_in, name_in};
 use cosem_names::{Level, Obis};
 use std::alloc::Global;
 use text_lines::Words;
-use trace_words::{RowFault, next_word, parse_bytes, parse_number};
+use trace_words::{RowFault, next_word, parse_number};
 
 // Reads the access level of a client's port: 1 for the management client, 16 for the public one.
 pub(crate) fn parse_level(word: &[u8]) -> Result<Level, RowFault>
@@ -24,15 +24,16 @@ pub(crate) fn parse_level(word: &[u8]) -> Result<Level, RowFault>
 
 // Reads a logical name, six bytes in hexadecimal.
 #[tactic(auto, unfolding(crate::specs::Reading::name_in))]
-pub(crate) fn parse_name(alloc: Global, word: &[u8]) -> Result<Obis, RowFault>
+pub(crate) fn parse_name(_alloc: Global, word: &[u8]) -> Result<Obis, RowFault>
     ensures { Gives Memory (λ name. name) result (name_in word.now) }
 {
-    let bytes = parse_bytes(alloc, word)?;
-    if bytes.len() != 6 {
+    if word.len() != 12 {
         return Err(RowFault::Wrong);
     }
     let mut name = [0; 6];
-    name.copy_from_slice(bytes.as_slice());
+    for i in 0..6 {
+        name[i] = digit_value(word[2 * i])? * 16 + digit_value(word[2 * i + 1])?;
+    }
     Ok(Obis(name))
 }
 
@@ -48,4 +49,13 @@ pub(crate) fn next_name(alloc: Global, words: &mut Words) -> Result<Obis, RowFau
     ensures { Reads (λ name. name) result words.new (next_as name_in words.old) }
 {
     parse_name(alloc, next_word(words)?)
+}
+
+// Returns the value of a hexadecimal digit in capitals. Errors: `Wrong` for any other byte.
+fn digit_value(byte: u8) -> Result<u8, RowFault> {
+    match byte {
+        b'0'..=b'9' => Ok(byte - b'0'),
+        b'A'..=b'F' => Ok(byte - b'A' + 10),
+        _ => Err(RowFault::Wrong),
+    }
 }
