@@ -284,7 +284,7 @@ def main(words):
             room = words[1]
             os.makedirs(room, exist_ok=True)
         for name, is_so in all_rows(Path(room), browser):
-            passed, failed = passed + is_so, failed + (not is_so)
+            passed, failed = passed + bool(is_so), failed + (not is_so)
             if not is_so:
                 print(f"FAILED charts: {name}")
     print(f"{passed} passed, {failed} failed")
