@@ -31,7 +31,7 @@ fn row(alloc: Global) -> Result<Vec<u8>, AllocError> {
 #[test]
 fn a_row_is_written(rt: HostRuntime) {
     let row = row(rt.alloc());
-    assert!(rt; row.is_ok_and(|row| row.as_slice() == b"4294967295,,\"a\"\"b\"\n"));
+    assert!(rt; row.is_ok_and(|row| row.as_slice() == b"4294967295,,\"a\"\"b\"\n".as_slice()));
 }
 
 #[test]
