@@ -251,11 +251,12 @@ def pages_of_more_and_fewer_ledgers(name, folder):
 @in_folder
 def wrong_input_writes_no_page(name, folder):
     path, missing = folder / "none.html", folder / "missing"
-    ledger = folder / "whole.ledger"
+    ledger, script = folder / "whole.ledger", folder / "script"
     make_ledger(ledger, JOBS)
+    shutil.copy(SCRIPT, script)  # (SQLite may leave a file next to it)
     cases = {"a missing ledger": ((missing,), None, 3, "fault: read"),
              "one of two": ((ledger, missing), None, 3, "fault: read"),
-             "no ledger": ((SCRIPT,), None, 2, "fault: input"),
+             "no ledger": ((script,), None, 2, "fault: input"),
              "no argument": ((), None, 2, "usage: bin/campaign_report"),
              "another option": (("--form", "x"), None, 2, "unexpected option --form"),
              "no value": (("--title",), None, 2, "--title: the value is missing"),
