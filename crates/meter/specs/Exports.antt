@@ -1,7 +1,7 @@
 -- What the exported functions do to the meter of a handle, and what they return.
 --     OnOpen        a call on an open meter, or the result `NotOpen`
 --     OpensTo       a meter is opened
---     FedTo, ..     the calls of a meter, with the numbers that C receives
+--     FedAt, ..     the calls of a meter, with the numbers that C receives
 use Rattle.std.specs.Prelude.{◌≡◌, ◌⊎◌, ◌≤◌, ◌<◌, ◌++◌, ℕ, Bool, Option, Some, None, List, [], ◌∷◌, length, drop, Result, Ok, Err}
 use Rattle.cosem_names.specs.ResultCode as result_code
 use Rattle.cosem_names.specs.declared.result_code.ResultCode.{ResultCode}
@@ -27,8 +27,9 @@ use Rattle.embedded_meter.specs.declared.given.Tick.{Tick}
 use Rattle.trace_words.specs.declared.fault.TraceFault.{TraceFault}
 use Rattle.trace_player.specs.Traces.{trace_of}
 
--- a call on the meter of a handle; if the handle is not open, the result is `NotOpen`, and `shut`
--- holds
+-- Whether a call on a handle returned this code and left this meter. On an open meter the call does
+-- `does`. On a handle that is not open the code is that of `NotOpen`, the handle stays closed, and
+-- `shut` holds of the output arguments.
 abbrev pub OnOpen : (shut : Type 0) (does : MeterState → ℕ → MeterState → Type 0)
     → Option MeterState → ℕ
     → Option MeterState → Type 0
@@ -38,7 +39,8 @@ OnOpen shut does (Some m) code (Some m') = does m code m'
 
 -- ---- opening
 
--- the lengths of the arguments are in their ranges
+-- whether the arguments of opening are in their ranges: a name of 1 to 16 bytes, a password of 1 to
+-- 32 bytes, and 1 to 1,024 kept events
 pub record AreFit (name password : List ℕ) (kept : ℕ) : Type 0 where
   pub name_some : 1 ≤ length name
   pub name_few : length name ≤ 16
@@ -47,7 +49,8 @@ pub record AreFit (name password : List ℕ) (kept : ℕ) : Type 0 where
   pub kept_some : 1 ≤ kept
   pub kept_few : kept ≤ 1024
 
--- the outcomes of opening a meter
+-- Whether opening a new meter on this handle has this outcome and leaves this meter. Memory may run
+-- out only if the arguments are in their ranges; a meter that is already open is unchanged.
 abbrev pub OpensTo : List ℕ → List ℕ → ℕ → Option MeterState → CallResult → Option MeterState
     → Type 0
 OpensTo name password kept None outcome.Done (Some m) = AreFit name password kept
@@ -58,19 +61,21 @@ OpensTo name password kept None _ new = ⊥
 OpensTo name password kept (Some m) outcome.IsOpen new = new ≡ Some m
 OpensTo name password kept (Some m) _ new = ⊥
 
--- opening a meter, with the number that C receives
+-- whether `meter_open` returned this code and left this meter
 pub record OpenedTo (name password : List ℕ) (kept : ℕ) (old : Option MeterState) (code : ℕ)
     (new : Option MeterState) : Type 0 where
   pub outcome : CallResult
   pub does : OpensTo name password kept old outcome new
   pub told : code ≡ code_of outcome
 
--- a text that is not a trace
+-- whether a text is not a trace
 pub record IsNoTrace (text : List ℕ) : Type 0 where
   pub fault : TraceFault
   pub told : trace_of text ≡ Err fault
 
--- the outcomes of opening a meter that continues from a trace
+-- Whether opening a meter that continues from the trace `text` has this outcome and leaves this
+-- meter. A text that is not a trace is a wrong argument. The name comes from the trace, so the one
+-- that is judged here stands for any in range.
 abbrev pub ResumesTo : List ℕ → List ℕ → ℕ → Option MeterState → CallResult → Option MeterState
     → Type 0
 ResumesTo text password kept None outcome.Done (Some m) = Resumes text password kept m
@@ -81,6 +86,7 @@ ResumesTo text password kept None _ new = ⊥
 ResumesTo text password kept (Some m) outcome.IsOpen new = new ≡ Some m
 ResumesTo text password kept (Some m) _ new = ⊥
 
+-- whether `meter_resume` returned this code and left this meter
 pub record ResumedTo (text password : List ℕ) (kept : ℕ) (old : Option MeterState) (code : ℕ)
     (new : Option MeterState) : Type 0 where
   pub outcome : CallResult
@@ -89,35 +95,45 @@ pub record ResumedTo (text password : List ℕ) (kept : ℕ) (old : Option Meter
 
 -- ---- sessions
 
--- a call without a value
+-- whether a call that returns no value besides its result returned this code
 pub record DoneTo (does : Result Unit MeterFault → Type 0) (code : ℕ) : Type 0 where
   pub result : Result Unit MeterFault
   pub done : does result
   pub told : code ≡ code_of (outcome_of_call result)
 
+-- whether `meter_open_session` returned this code on an open meter and left this one
 abbrev pub OpenedAt : ℕ → MeterState → ℕ → MeterState → Type 0
 OpenedAt session m code m' = DoneTo (λ (r : Result Unit MeterFault). OpensBy m session r m') code
 
+-- whether `meter_feed` returned this code on an open meter and left this one, with the bytes that
+-- the session received
 abbrev pub FedAt : ℕ → List ℕ → MeterState → ℕ → MeterState → Type 0
 FedAt session bytes m code m' =
     DoneTo (λ (r : Result Unit MeterFault). FeedsBy m session bytes r m') code
 
+-- whether `meter_finish` returned this code on an open meter and left this one, where the session
+-- has received all its input
 abbrev pub FinishedAt : ℕ → MeterState → ℕ → MeterState → Type 0
 FinishedAt session m code m' =
     DoneTo (λ (r : Result Unit MeterFault). FinishesBy m session r m') code
 
+-- whether `meter_close_session` returned this code on an open meter and left this one
 abbrev pub ClosedAt : ℕ → MeterState → ℕ → MeterState → Type 0
 ClosedAt session m code m' = DoneTo (λ (r : Result Unit MeterFault). ClosesBy m session r m') code
 
--- the outcome of `next`
+-- the outcome of `meter_next`
 abbrev pub tells_next : Result Given MeterFault → CallResult
 tells_next (Ok g) = outcome_of_session g
 tells_next (Err f) = of_fault f
 
+-- The length that `meter_next` returns: of the frame that was written or that found no room, in
+-- bytes. It is 0 if there is no frame and on an error.
 abbrev pub next_length : Result Given MeterFault → ℕ
 next_length (Ok g) = length_of g
 next_length (Err f) = 0
 
+-- whether `meter_next` returned this code and this length on an open meter, with the buffer and the
+-- meter that it left
 pub record GivenAt (session : ℕ) (buffer buffer' : List ℕ) (count : ℕ) (m : MeterState) (code : ℕ)
     (m' : MeterState) : Type 0 where
   pub result : Result Given MeterFault
@@ -127,26 +143,29 @@ pub record GivenAt (session : ℕ) (buffer buffer' : List ℕ) (count : ℕ) (m 
 
 -- ---- events of the meter's own
 
--- the button was pressed
+-- whether `meter_press` returned this code and the number of the result of the press, and left this
+-- meter
 pub record PressedTo (number : ℕ) (m : MeterState) (code : ℕ) (m' : MeterState) : Type 0 where
   pub result : ResultCode
   pub takes : Takes m Button (Code result) m'
   pub told : code ≡ code_of outcome.Done
   pub numbered : number ≡ result_code.code_of result
 
--- the firings after an error
+-- the firings after an error: 0 of each limiter and side
 abbrev pub no_fired : Fired
 no_fired = record { over = 0; under = 0; export_over = 0; export_under = 0 }
 
+-- the outcome of a block of samples
 abbrev pub tells_samples : Result Fired MeterFault → CallResult
 tells_samples (Ok fired) = outcome.Done
 tells_samples (Err f) = of_fault f
 
+-- the numbers of firings that a block of samples returns; all are 0 on an error
 abbrev pub firings_of_result : Result Fired MeterFault → Fired
 firings_of_result (Ok fired) = fired
 firings_of_result (Err f) = no_fired
 
--- the firings that C receives
+-- the numbers of firings as the struct `meter_fired` that C receives
 abbrev pub firings_of : Fired → Firings
 firings_of fired = record {
   over = fired.over;
@@ -155,6 +174,8 @@ firings_of fired = record {
   export_under = fired.export_under;
 }
 
+-- whether `meter_samples` or `meter_sample_pairs` returned this code and these firings for the
+-- samples, and left this meter
 pub record SampledTo (samples : Samples) (firings : Firings) (m : MeterState) (code : ℕ)
     (m' : MeterState) : Type 0 where
   pub result : Result Fired MeterFault
@@ -162,7 +183,8 @@ pub record SampledTo (samples : Samples) (firings : Firings) (m : MeterState) (c
   pub told : code ≡ code_of (tells_samples result)
   pub fires : firings ≡ firings_of (firings_of_result result)
 
--- the clock reported a moment
+-- whether `meter_moment` returned this code and the number of schedules that were due, and left
+-- this meter
 pub record TickedTo (moment ran : ℕ) (m : MeterState) (code : ℕ) (m' : MeterState) : Type 0 where
   pub tick : Tick
   pub takes : TakesMoment m moment tick m'
@@ -171,18 +193,24 @@ pub record TickedTo (moment ran : ℕ) (m : MeterState) (code : ℕ) (m' : Meter
 
 -- ---- the state of the meter
 
--- a call that changes nothing
+-- whether a call that changes nothing returned `Done` and a value with the property `tells` of the
+-- meter's state
 pub record LooksTo (code : ℕ) (m m' : MeterState) (tells : World → Type 0) : Type 0 where
   pub same : m' ≡ m
   pub told : code ≡ code_of outcome.Done
   pub tells_of : (w : World) → StandsFor m.recorder.core w → tells w
 
+-- whether `meter_control_state` returned the number of control_state (class 70, attribute 3): 0
+-- disconnected, 1 connected, 2 ready for reconnection
 abbrev pub StateTo : ℕ → MeterState → ℕ → MeterState → Type 0
 StateTo state m code m' = LooksTo code m m' (λ (w : World). state ≡ state_number w.control.state)
 
+-- whether `meter_control_mode` returned the number of control_mode (class 70, attribute 4), 0 to 6
 abbrev pub ModeTo : ℕ → MeterState → ℕ → MeterState → Type 0
 ModeTo mode m code m' = LooksTo code m m' (λ (w : World). mode ≡ mode_number w.control.mode)
 
+-- whether `meter_supply` returned that the supply is on, which it is exactly if control_state
+-- (class 70, attribute 3) is Connected
 abbrev pub SupplyTo : Bool → MeterState → ℕ → MeterState → Type 0
 SupplyTo is_on m code m' =
     LooksTo code m m' (λ (w : World). is_on ≡ is_state w.control.state Connected)
@@ -192,10 +220,12 @@ abbrev pub tells_moment : Option ℕ → CallResult
 tells_moment None = outcome.NoMoment
 tells_moment (Some moment) = outcome.Done
 
+-- the last moment as C receives it, in seconds since 2000-01-01 00:00:00; 0 if there was none
 abbrev pub moment_of : Option ℕ → ℕ
 moment_of None = 0
 moment_of (Some moment) = moment
 
+-- whether `meter_last_moment` returned this code and this moment, and changed nothing
 pub record MomentTo (moment : ℕ) (m : MeterState) (code : ℕ) (m' : MeterState) : Type 0 where
   pub same : m' ≡ m
   pub told : (w : World) → StandsFor m.recorder.core w → code ≡ code_of (tells_moment w.moment)
@@ -203,7 +233,8 @@ pub record MomentTo (moment : ℕ) (m : MeterState) (code : ℕ) (m' : MeterStat
 
 -- ---- the trace
 
--- the text was copied to the buffer, or only its length returned
+-- whether a text was copied to the start of the buffer; or, if the buffer is too short, only its
+-- length was returned
 abbrev pub WritesText : List ℕ → List ℕ → List ℕ → ℕ → CallResult → Type 0
 WritesText text buffer buffer' count outcome.Done = (buffer' ≡ text ++ drop count buffer)
     × (count ≡ length text)
@@ -211,23 +242,29 @@ WritesText text buffer buffer' count outcome.NoRoom = (buffer' ≡ buffer) × (c
     × (length buffer < count)
 WritesText text buffer buffer' count _ = ⊥
 
--- the text was copied, or only its length returned, or memory ran out
+-- whether a text was copied to the buffer, or only its length was returned; or memory ran out, so
+-- the length is 0 and the buffer is unchanged
 abbrev pub WritesBy : {E : Type 0} → Result (List ℕ) E → List ℕ → List ℕ → ℕ → CallResult → Type 0
 WritesBy (Ok text) buffer buffer' count outcome = WritesText text buffer buffer' count outcome
 WritesBy (Err error) buffer buffer' count outcome.NoMemory = (buffer' ≡ buffer) × (count ≡ 0)
 WritesBy (Err error) buffer buffer' count _ = ⊥
 
--- a trace was returned
+-- whether the text of the recorder's trace was copied to the buffer, or only its length was
+-- returned
 pub record TellsTrace (r : Recording) (buffer buffer' : List ℕ) (count : ℕ) (outcome : CallResult)
     : Type 0 where
   pub text : List ℕ
   pub tells : TellsRun r text
   pub writes : WritesText text buffer buffer' count outcome
 
+-- whether writing the recorder's trace has this outcome; if memory ran out, the length is 0 and the
+-- buffer is unchanged
 abbrev pub ExportsTo : Recording → List ℕ → List ℕ → ℕ → CallResult → Type 0
 ExportsTo r buffer buffer' count outcome.NoMemory = (buffer' ≡ buffer) × (count ≡ 0)
 ExportsTo r buffer buffer' count outcome = TellsTrace r buffer buffer' count outcome
 
+-- whether `meter_export` returned this code and this length with this buffer, and changed nothing
+-- in the meter
 pub record ExportedTo (buffer buffer' : List ℕ) (count : ℕ) (m : MeterState) (code : ℕ)
     (m' : MeterState) : Type 0 where
   pub same : m' ≡ m

@@ -59,6 +59,8 @@ outcome_of_session (given.NoRoom count) = outcome.NoRoom
 outcome_of_session given.Wait = outcome.Wait
 outcome_of_session (given.End end) = of_end end
 
+-- the number of bytes of the frame that a session gave, or that found no room in the buffer; 0 if
+-- there is no frame
 abbrev pub length_of : Given → ℕ
 length_of (given.Frame count) = count
 length_of (given.NoRoom count) = count
@@ -70,6 +72,7 @@ abbrev pub of_tick : Tick → CallResult
 of_tick (tick.Ran count) = outcome.Done
 of_tick (tick.Stale last) = outcome.Stale
 
+-- the number of schedules that a moment ran; 0 if the moment was stale
 abbrev pub run_count_of : Tick → ℕ
 run_count_of (tick.Ran count) = count
 run_count_of (tick.Stale last) = 0

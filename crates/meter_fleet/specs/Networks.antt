@@ -20,14 +20,16 @@ pub data NetworkEvent : Type 0 where
   rejected : NetworkEvent
   nobody : NetworkEvent
 
--- the network reported these events, if what it reports is known
+-- whether the network reported exactly these events, in order; nothing is claimed of a network that
+-- keeps no log of its reports
 abbrev pub Tells : Option (List NetworkEvent) → List NetworkEvent → Option (List NetworkEvent)
     → Type 0
 Tells None events new = ⊤
 Tells (Some log) events None = ⊥
 Tells (Some log) events (Some log') = log' ≡ log ++ events
 
--- the network was waited for, and appended the keys that it reported
+-- Whether the network was polled, blocking only if `may_wait` holds. On success it appended the
+-- keys of the ready connections to `ready`, and returned whether clients may be waiting.
 abbrev pub WaitsBy : {E : Type 0} → Option (List NetworkEvent) → Bool → List ℕ → Result Bool E
     → List ℕ → Option (List NetworkEvent) → Type 0
 WaitsBy old may_wait ready (Ok has_clients) ready' new = (keys : List ℕ) × (ready' ≡ ready ++ keys)
@@ -41,7 +43,7 @@ module _ {S : Type 0} (state : S → StreamState) where
   event_of key next.Closed = rejected
   event_of key next.None = nobody
 
-  -- the network was asked for a client
+  -- whether the network was asked for a client, and reported what it returned
   abbrev pub AcceptsBy : Option (List NetworkEvent) → ℕ → NextClient S
       → Option (List NetworkEvent) → Type 0
   AcceptsBy old key client new = Tells old (event_of key client ∷ []) new

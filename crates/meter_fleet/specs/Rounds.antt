@@ -38,7 +38,7 @@ pub data Arrival : Type 0 where
   client : ℕ → List ℕ → StreamState → Option Refusal → Arrival
   gone : Arrival
 
--- the report of it
+-- the network's report of a client that arrived
 abbrev pub arrival_event : Arrival → NetworkEvent
 arrival_event (client key address stream refusal) = accepted key address stream
 arrival_event gone = rejected
@@ -51,7 +51,7 @@ admission key stream refusal None = []
 admission key stream None (Some number) = admitted number stream (Ok key) ∷ []
 admission key stream (Some refusal) (Some number) = admitted number stream (Err refusal) ∷ []
 
--- the calls for it
+-- the calls of the fleet for a client that arrived
 abbrev pub arrival_calls : Arrival → List FleetCall
 arrival_calls (client key address stream refusal) = admission key stream refusal (meter_of address)
 arrival_calls gone = []
@@ -80,14 +80,16 @@ pub record MeetsClients (is_due : Bool) (log : Option (List NetworkEvent)) (old 
   pub met : AreMet is_due arrivals has_more
   pub calls : Calls frame_bytes old (flat_map arrival_calls arrivals) new
 
--- the network was asked for a client, and it was met if there was one
+-- whether the network was asked for one client: if there was one, the fleet admitted or refused it;
+-- if there was none, the fleet is unchanged
 abbrev pub MeetsOne : Option (List NetworkEvent) → FleetState → Bool → Option (List NetworkEvent)
     → FleetState → Type 0
 MeetsOne log old true log' new = (arrival : Arrival) × Tells log (arrival_event arrival ∷ []) log'
     × Calls frame_bytes old (arrival_calls arrival) new
 MeetsOne log old false log' new = Tells log (nobody ∷ []) log' × (new ≡ old)
 
--- a client came to the meter that its address means
+-- Whether a client asked for the meter with this number. The meter admits it under this key or
+-- refuses it; without a number there is no call.
 abbrev pub AdmitsAt : FleetState → ℕ → StreamState → Option ℕ → FleetState → Type 0
 AdmitsAt old key stream number new = (refusal : Option Refusal)
     × Calls frame_bytes old (admission key stream refusal number) new
@@ -102,20 +104,21 @@ pub data Service : Type 0 where
   busy : ℕ → ℕ → List Exchange → Service
   over : ℕ → ℕ → LinkEnd → List Exchange → Service
 
+-- the key of a connection that was ready
 abbrev pub service_key : Service → ℕ
 service_key (absent key) = key
 service_key (idle key place told) = key
 service_key (busy key place told) = key
 service_key (over key place end told) = key
 
--- the calls for it: it runs, and is closed if it is over
+-- the calls of the fleet for a connection that was ready: it runs, and is closed if it is over
 abbrev pub service_calls : Service → List FleetCall
 service_calls (absent key) = missed key ∷ []
 service_calls (idle key place told) = ran key place Waits told ∷ []
 service_calls (busy key place told) = ran key place Again told ∷ []
 service_calls (over key place end told) = ran key place (Over end) told ∷ closed key ∷ []
 
--- its key, if it may go on at once
+-- the key of a connection that was served, if it may go on at once
 abbrev pub key_again : Service → List ℕ
 key_again (absent key) = []
 key_again (idle key place told) = []
@@ -137,13 +140,15 @@ pub record StopsAfter (old : FleetState) (keys : List ℕ) (new : FleetState) : 
   pub split : done ++ left ≡ keys
   pub serves : ServesKeys old done again new
 
--- these connections were served in order, or memory ran out after the first of them
+-- whether the connections with these keys were served in order, or memory ran out after the first
+-- of them
 abbrev pub ServesAll : FleetState → List ℕ → Result Unit FleetFault → List ℕ → FleetState → Type 0
 ServesAll old keys (Ok done) again new = ServesKeys old keys again new
 ServesAll old keys (Err Network) again new = ⊥
 ServesAll old keys (Err Memory) again new = StopsAfter old keys new
 
--- the same, and the keys of those that may go on at once are appended to others
+-- whether the connections with these keys were served in order, and the keys of those that may go
+-- on at once were appended to `next`; or memory ran out after the first of them
 abbrev pub ServesOn : FleetState → List ℕ → List ℕ → Result Unit FleetFault → List ℕ → FleetState
     → Type 0
 ServesOn old keys next (Ok done) next' new = (again : List ℕ) × ServesKeys old keys again new
@@ -170,7 +175,7 @@ pub record LoopState : Type 0 where
   pub ready : List ℕ
   pub has_clients : Bool
 
--- the loop may wait if nothing is left to do
+-- whether the loop may block in the network: no connection is ready and no client may be waiting
 abbrev pub may_wait : LoopState → Bool
 may_wait s = (length s.ready == 0) && not s.has_clients
 
@@ -193,20 +198,20 @@ pub record DoesRound (old : LoopState) (round : Round) (new : LoopState) : Type 
   pub goes_on : flat_map key_again round.services ≡ new.ready
   pub has_more : round.has_more ≡ new.has_clients
 
--- A fault: the network failed, and the fleet is unchanged; or memory ran out before the round, or
--- in it.
+-- Whether a round ended with this fault. If the network failed, the fleet is unchanged. If memory
+-- ran out, it did so before the round, or with some of the round's connections left.
 abbrev pub FailsBy : LoopState → FleetFault → Option (List NetworkEvent) → FleetState → Type 0
 FailsBy old Network log fleet = Tells old.log (failed (may_wait old) ∷ []) log
     × (fleet ≡ old.fleet)
 FailsBy old Memory log fleet = ((log ≡ old.log) × (fleet ≡ old.fleet))
     ⊎ ((round : Round) × (left : List ℕ) × Works old round left log fleet)
 
--- the result of a round
+-- whether one round of the loop has this result: a whole round was done, or it failed
 abbrev pub RoundBy : LoopState → Result Unit FleetFault → LoopState → Type 0
 RoundBy old (Ok done) new = (round : Round) × DoesRound old round new
 RoundBy old (Err fault) new = FailsBy old fault new.log new.fleet
 
--- several rounds, in order
+-- whether several rounds were done, in order
 abbrev pub DoesRounds : LoopState → List Round → LoopState → Type 0
 DoesRounds old [] new = new ≡ old
 DoesRounds old (round ∷ rounds) new = (between : LoopState) × DoesRound old round between
@@ -232,7 +237,8 @@ pub record ServesFleet (terms : MeterTerms) (count : ℕ) (log : Option (List Ne
   pub new : IsNewFleet terms count first
   pub serves : ServesUntil log first fault log' final
 
--- the result of serving: memory may run out before there is a fleet
+-- whether serving a new fleet ended with this fault; if memory ran out, it may have done so before
+-- there was a fleet
 abbrev pub ServesBy : MeterTerms → ℕ → Option (List NetworkEvent) → FleetFault
     → Option (List NetworkEvent) → Type 0
 ServesBy terms count log Network log' = ServesFleet terms count log Network log'

@@ -12,6 +12,8 @@ device 4D45544552464C454554
 state 1
 mode ";
 
+// The trace of a new meter after the number of its control mode: without limits, scripts,
+// schedules, a moment or events.
 const TRACE_END: &[u8] = b"
 value 0
 now -

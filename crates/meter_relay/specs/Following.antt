@@ -2,7 +2,7 @@
 --     Follows        the relay was given the text of a run
 --     AreEventsOf    the events that lines are read as
 --     FollowsOn      the relay was also given the changes of further lines
---     MayFollowOn    the same, if there is a relay
+--     MayFollowOn    a relay, if there is one, was given them
 use Rattle.std.specs.Prelude.{◌≡◌, ℕ, List, [], ◌∷◌, ◌++◌, Ok, Option, Some, None, ⊤}
 use Rattle.std.specs.Io.KnownBytes.{Appends}
 use Rattle.text_lines.specs.Words.{words_of}
@@ -29,14 +29,16 @@ AreEventsOf (line ∷ lines) [] = ⊥
 AreEventsOf (line ∷ lines) (event ∷ events) =
     (event_of Two (words_of line) ≡ Ok event) × AreEventsOf lines events
 
--- A relay that followed a run has followed it on, through the events of these lines.
+-- Whether a relay that followed a run has followed the run that continues with the events of these
+-- lines.
 abbrev pub FollowsOn : {W L : Type 0} → (W → Option (List ℕ)) → List (List ℕ) → Relay W L
     → Relay W L → Type 0
 FollowsOn contents lines old new = (before : Option (List ℕ)) (w : World) (events : List Event)
     → Follows contents before w events old
     → (more : List Event) × AreEventsOf lines more × Follows contents before w (events ++ more) new
 
--- the same, if there is a relay; none comes and none goes
+-- whether a relay, if there is one, has followed the run that continues with the events of these
+-- lines; none is added and none is dropped
 abbrev pub MayFollowOn : {W L : Type 0} → (W → Option (List ℕ)) → List (List ℕ)
     → Option (Relay W L) → Option (Relay W L) → Type 0
 MayFollowOn contents lines None None = ⊤

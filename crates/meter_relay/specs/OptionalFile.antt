@@ -2,7 +2,7 @@
 use Rattle.std.specs.Prelude.{◌≡◌, ◌⊎◌, true, Option, Some, None}
 use Rattle.meter_relay.specs.declared.optional_file.OptionalFile.{OptionalFile}
 
--- there is a file, and it has failed
+-- whether there is a file and it has failed
 abbrev pub FileHasFailed : {F : Type 0} → (F → Type 0) → Option F → Type 0
 FileHasFailed has_failed None = ⊥
 FileHasFailed has_failed (Some file) = has_failed file
