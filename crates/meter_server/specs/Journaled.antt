@@ -33,9 +33,9 @@ pub record HasCalled (p : MeterPort) (event : Event) (reply : Reply) (q : MeterP
 abbrev pub IsHeldBack : MeterPort → Event → MeterPort → Type 0
 IsHeldBack p event q = (is_read event ≡ false) × (q ≡ p)
 
--- a step of a port that waits for its journal: after a reply, the lines of all calls that the port
--- has seen are on the disk; if the journal has failed, the event was not passed on, or it was and
--- its reply is not returned
+-- Whether a call through a port that waits for its journal had this result. After a reply, the
+-- lines of all calls that the port has seen are on the disk. If the journal has failed, the event
+-- was not passed on, or it was and its reply is not returned.
 abbrev pub JournalSteps : (IsDurable : ℕ → Type 0) → MeterPort → Event → Result Reply CallFault
     → MeterPort → Type 0
 JournalSteps IsDurable p event (Ok reply) q = HasCalled p event reply q

@@ -27,7 +27,8 @@ client_terms journal password = (if is_some journal then 1 else 0) ∷ password
 abbrev pub HasJournal : List ℕ → Type 0
 HasJournal terms = take 1 terms ≡ 1 ∷ []
 
--- a step of a client's port: it waits if the meter has a journal
+-- whether a call through a client's port had this result; if the meter has a journal, the port
+-- waits for it
 abbrev pub client_steps : {D : Type 0} → (IsDurable : ℕ → Type 0) → Option D → MeterPort → Event
     → Result Reply CallFault → MeterPort → Type 0
 client_steps IsDurable None = PortSteps
@@ -47,18 +48,19 @@ pub record AreAnswered (IsDurable : ℕ → Type 0) (number : List ℕ) (earlier
   pub entered : calls_by number front ≡ earlier ++ answered
   pub on_disk : 0 < length answered → IsOnDisk IsDurable front
 
--- the new calls of a port were answered once they were on the disk
+-- whether the new calls of a port were answered once they were on the disk
 abbrev pub AnswersCalls : (IsDurable : ℕ → Type 0) → (p q : MeterPort) → Type 0
 AnswersCalls IsDurable p q = AreAnswered IsDurable p.known.number
     (calls_by p.known.number p.known.seen) q.known.seen
 
--- a session on these terms made its calls through this port
+-- whether a session on these terms returned its port with the calls that it made, which were
+-- answered once they were on the disk if the meter has a journal
 abbrev pub HandsBack : (IsDurable : ℕ → Type 0) → (terms : List ℕ) → (p q : MeterPort) → Type 0
 HandsBack IsDurable terms p q = IsSame p q × AsksThrough (drop 1 terms) p q
     × (HasJournal terms → AnswersCalls IsDurable p q)
 
--- the calls of each port that was split off, from the count `from` on, were answered once they were
--- on the disk
+-- whether the calls of each port that was split off, from the count `from` on, were answered once
+-- they were on the disk
 abbrev pub AreJournaled : (IsDurable : ℕ → Type 0) → (from : ℕ) → MeterPort → Type 0
 AreJournaled IsDurable from port = (i : ℕ) → from ≤ i → i < port.known.splits
     → AreAnswered IsDurable (child port.known.number i) [] port.known.seen

@@ -10,11 +10,14 @@ use Rattle.turn_lock.specs.Shown.{ShownPort}
 use Rattle.turn_lock.specs.declared.call_fault.CallFault.{CallFault}
 use Rattle.turn_lock.specs.declared.turned.Entry.{Entry}
 
+-- the port of a shared meter as contracts see it: its events are those of the meter, its replies
+-- the meter's, and its origin is an opening
 abbrev pub MeterPort : Type 0
 MeterPort = ShownPort Event Reply Opening
 
--- a call through a port: the legal history that the port then knows ends with this call; or it has
--- no further call of the port, and there is a cause
+-- Whether a call through a port had this result. After a reply, the legal history that the port
+-- knows ends with this call; after a fault it has no further call of the port, and the fault has a
+-- cause.
 abbrev pub Calls : MeterPort → Event → Result Reply CallFault → MeterPort → Type 0
 Calls p event (Ok reply) q = Called IsLegal p.known event reply q.known
 Calls p event (Err fault) q = Watches IsLegal p.known q.known
@@ -32,7 +35,8 @@ abbrev pub entries : List ℕ → List Event → List Reply → List (Entry Even
 entries by (event ∷ events) (reply ∷ replies) = entry by event reply ∷ entries by events replies
 entries by _ _ = []
 
--- in the history that the port knows, its own calls are extended by these and by no others
+-- whether in the history that the port knows its own calls were extended by these events and
+-- replies, and by no others
 abbrev pub Enters : MeterPort → List Event → List Reply → MeterPort → Type 0
 Enters p events replies q =
     calls_by p.known.number q.known.seen ≡ calls_by p.known.number p.known.seen

@@ -41,8 +41,8 @@ pub record IsServed (splits later : ℕ) (served : Served) : Type 0 where
 abbrev pub IsSpent : MeterPort → Type 0
 IsSpent port = port.bound ≤ port.known.drawn
 
--- why the server stops: out of memory, about which nothing is claimed; a spent port; or a failed
--- listener
+-- whether the server may stop with this fault: out of memory, about which nothing is claimed; all
+-- turns were drawn; or the listener failed
 abbrev pub StopsFor : (spent failed : Type 0) → ServeFault → Type 0
 StopsFor spent failed fault.Memory = ⊤
 StopsFor spent failed fault.Exhausted = spent
@@ -76,8 +76,8 @@ pub record EndsWith (did : MeterPort → MeterPort → Result (Unit {0}) CallFau
   pub back : ComesBack did lent end before after
   pub first : result ≡ first_of served (worker_fault end)
 
--- no worker stopped before its source's end: there was no fault, or only that of the listener,
--- which is the last in order
+-- whether `Ended` holds if no worker stopped before its source's end, so that there is no fault, or
+-- only that of the listener, which is the last in order
 abbrev pub OnEnded : Result Served ServeFault → Type 0 → Type 0
 OnEnded (Ok all) Ended = Ended
 OnEnded (Err fault.Listen) Ended = Ended

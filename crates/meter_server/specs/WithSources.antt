@@ -10,7 +10,8 @@ use Rattle.relay_events.specs.declared.event.Event.{Event}
 use Rattle.session_io.specs.declared.fault.ServeFault.{ServeFault}
 use Rattle.port_threads.specs.Ports.{PortContinues, AreJoined, child}
 
--- which events can be all those of the source with an index: of the first source, and of the others
+-- whether these events can be all those of the source with an index: by `First` for the first
+-- source, by `Others` for the others
 abbrev pub first_then : (First : List Event → Type 0) → (Others : ℕ → List Event → Type 0) → ℕ
     → List Event → Type 0
 first_then First Others zero = First

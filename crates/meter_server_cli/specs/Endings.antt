@@ -9,7 +9,8 @@ use Rattle.server_io.specs.declared.running.ConsoleEnd.{ConsoleEnd}
 use Rattle.program.specs.declared.fault.Fault.{Fault}
 use Rattle.program.specs.declared.fault.Fault.TheVariants as fault
 
--- lost lines take precedence over a failed read
+-- the fault of a console that lost this number of lines and may have failed to read; lost lines
+-- take precedence
 abbrev pub fault_of_lines : ℕ → Bool → Result (Unit {0}) Fault
 fault_of_lines zero false = Ok tt
 fault_of_lines zero true = Err fault.Read
@@ -20,7 +21,7 @@ abbrev pub end_of_console : Option ConsoleEnd → Result (Unit {0}) Fault
 end_of_console None = Ok tt
 end_of_console (Some end) = fault_of_lines (lost_lines end) (has_failed end)
 
--- the whole text was printed, or the fault is that of the trace or of the write
+-- whether a trace was printed as a whole, or the fault is that of the trace or of the write
 abbrev pub Prints : Result (List ℕ) Fault → Option (List ℕ) → Result (Unit {0}) Fault
     → Option (List ℕ) → Type 0
 Prints (Ok text) written (Ok done) written' = Appends written written' text

@@ -3,13 +3,13 @@ use Rattle.std.specs.Prelude.{◌≡◌, ⊤, ℕ, ◌+◌, ◌<◌, Option, Som
 use Rattle.port_threads.specs.declared.connections.Arrival.{Arrival}
 use Rattle.port_threads.specs.declared.connections.Arrival.TheVariants as incoming
 
--- a property of the connection, if there is one to serve
+-- whether `P` holds of the connection, if there is one to serve
 abbrev pub IfReady : {C : Type 0} → (C → Type 0) → Arrival C → Type 0
 IfReady P (incoming.Ready connection) = P connection
 IfReady P incoming.OutOfMemory = ⊤
 IfReady P incoming.SetupFailed = ⊤
 
--- the number has risen by `count`; nothing is claimed if the listener does not count its
+-- whether a number has risen by `count`; nothing is claimed if the listener does not count its
 -- connections
 abbrev pub RisesBy : (before : Option ℕ) (count : ℕ) (after : Option ℕ) → Type 0
 RisesBy before count after = IfSome before (λ number. after ≡ Some (number + count))

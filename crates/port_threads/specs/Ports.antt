@@ -22,7 +22,7 @@ pub record PortContinues {E R O : Type 0} (p q : ShownPort E R O) : Type 0 where
 abbrev pub child : List ℕ → ℕ → List ℕ
 child number i = number ++ i ∷ []
 
--- each port that was split off, from the count `from` on, was joined in
+-- whether each port that was split off, from the count `from` on, was joined in
 abbrev pub AreJoined : {E R O : Type 0} → ℕ → ShownPort E R O → Type 0
 AreJoined from p = (i : ℕ) → from ≤ i → i < p.known.splits
     → IsAmong (child p.known.number i) p.known.joined
@@ -45,7 +45,7 @@ pub record TakesIn {E R O : Type 0} (p r q : ShownPort E R O) : Type 0 where
   pub told : StartsWith q.known.seen r.known.seen
   pub theirs : calls_by r.known.number q.known.seen ≡ calls_by r.known.number r.known.seen
 
--- a port was returned by a thread, either as it was lent or as the thread's work left it
+-- whether a thread returned a port either as it was lent or as the thread's work left it
 abbrev pub Returns : {E R O : Type 0} → (ShownPort E R O → ShownPort E R O → Type 0)
     → ShownPort E R O → ShownPort E R O → Type 0
 Returns did p q = (q ≡ p) ⊎ did p q
@@ -62,7 +62,8 @@ pub record AreCallsOf {E R O : Type 0} (did : ShownPort E R O → ShownPort E R 
   pub seen : StartsWith history back.known.seen
   pub calls_are : calls_by number history ≡ calls_by number back.known.seen
 
--- each port that was split off, from the count `from` on, did this work, and its calls are known
+-- whether each port that was split off, from the count `from` on, did this work, so that its calls
+-- are known
 abbrev pub AreServed : {E R O : Type 0} → (ShownPort E R O → ShownPort E R O → Type 0) → ℕ
     → ShownPort E R O → Type 0
 AreServed did from p = (i : ℕ) → from ≤ i → i < p.known.splits

@@ -72,8 +72,8 @@ pub record IsComplete (limit : ℕ) (a : Accepted) : Type 0 where
   pub reached : a.has_failed ≡ false → (0 < limit) × (a.served + a.turned_away ≡ limit)
   pub failed : a.has_failed ≡ true → 0 < limit → a.served + a.turned_away < limit
 
--- the effect of a connection on the count of splits: a port is split off for one that is served,
--- and may have been for one that is not
+-- whether a connection with this result may change the count of splits so: one that is served
+-- splits off a port, one that was out of memory may have done so, and no other does
 abbrev pub Takes : Admission → ℕ → ℕ → Type 0
 Takes Served splits later = later ≡ splits + 1
 Takes Crowded splits later = later ≡ splits

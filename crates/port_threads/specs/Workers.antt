@@ -4,7 +4,7 @@ use Rattle.turn_lock.specs.declared.call_fault.CallFault.{CallFault}
 use Rattle.turn_lock.specs.Shown.{ShownPort, IsSame}
 use Rattle.port_threads.specs.Ports.{TakesIn}
 
--- the port p was returned as q, and the work was not started or had this result
+-- whether the port p was returned as q, and the work was not started or had this result
 abbrev pub Ended : {E R O : Type 0}
     → (ShownPort E R O → ShownPort E R O → Result (Unit {0}) CallFault → Type 0) → ShownPort E R O
     → ShownPort E R O → Option (Result (Unit {0}) CallFault) → Type 0

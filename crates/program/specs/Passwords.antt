@@ -16,11 +16,12 @@ use Rattle.program.specs.declared.fault.Fault.TheVariants as fault
 use Rattle.program.specs.declared.password.PasswordFault.{PasswordFault}
 use Rattle.program.specs.declared.password.PasswordFault.TheVariants as password
 
--- no byte of the text is the byte 0A, which ends a line
+-- whether no byte of a text is 0A, which ends a line
 abbrev pub HasNoLineEnd : List ℕ → Type 0
 HasNoLineEnd text = All (λ byte. byte ≢ 10) text
 
--- the bytes end with the byte 0A, and this is what is before it; or they do not, and it is all
+-- whether this is the line that the bytes hold: what is before a final byte 0A, or all of them if
+-- they do not end with one
 abbrev pub SplitsLineEnd : List ℕ → List ℕ → Type 0
 SplitsLineEnd bytes line = (bytes ≡ line ++ 10 ∷ [])
     ⊎ ((bytes ≡ line) × ((front : List ℕ) → bytes ≢ front ++ 10 ∷ []))
@@ -64,7 +65,8 @@ IsFileFault mode left failed left' failed' password.Exposed = IsExposed mode
 IsFileFault mode left failed left' failed' password.Line = HasNoLine left left'
 IsFileFault mode left failed left' failed' password.Memory = ⊤
 
--- a file that cannot be read, one that is exposed or has no password, and no memory
+-- the program's fault for a file that gave no password: it cannot be read, it is exposed or has no
+-- password, or memory ran out
 abbrev pub fault_of : PasswordFault → Fault
 fault_of password.Read = fault.Read
 fault_of password.Exposed = fault.Input
