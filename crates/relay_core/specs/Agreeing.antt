@@ -36,6 +36,7 @@ pub record AreInRange (settings : Settings) : Type 0 where
   pub over : settings.min_over_threshold_duration < 4294967296
   pub under : settings.min_under_threshold_duration < 4294967296
 
+-- whether a written duration, in seconds, fits in 32 bits; every other setting is in range
 abbrev pub IsSettingInRange : Setting → Type 0
 IsSettingInRange (MinOverThresholdDuration seconds) = seconds < 4294967296
 IsSettingInRange (MinUnderThresholdDuration seconds) = seconds < 4294967296

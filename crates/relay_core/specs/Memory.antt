@@ -47,6 +47,7 @@ abbrev pub is_no_list : Option WrittenList → Bool
 is_no_list None = true
 is_no_list (Some list) = false
 
+-- whether a write of this attribute of an object never allocates, because it stores no list
 abbrev pub writes_plainly_in : Instance → ℕ → Bool
 writes_plainly_in instance number = is_no_list (list_numbered instance number)
 

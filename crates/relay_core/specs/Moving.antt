@@ -36,15 +36,17 @@ list_numbered (Schedule which) number = if number == 4 then Some (written.Entrie
 list_numbered (Limiter which) number = if number == 9 then Some (written.Groups which) else None
 list_numbered _ number = None
 
--- the decoded scripts, entries or group ids, or the refusal
+-- the decoded scripts of a script table, or the result code of the refusal
 abbrev pub scripts_part : Result (List Script) WriteFault → Result Parts ResultCode
 scripts_part (Ok scripts) = Ok (part.Scripts scripts)
 scripts_part (Err fault) = Err (fault_code fault)
 
+-- the decoded execution times of a schedule, or the result code of the refusal
 abbrev pub entries_part : Result (List EntryPattern) WriteFault → Result Parts ResultCode
 entries_part (Ok entries) = Ok (part.Entries (record new_schedule { entries = entries }))
 entries_part (Err fault) = Err (fault_code fault)
 
+-- the decoded emergency profile group ids of a limiter, or the result code of the refusal
 abbrev pub groups_part : Result (List ℕ) WriteFault → Result Parts ResultCode
 groups_part (Ok ids) = Ok (part.Groups (limiter_with_groups ids))
 groups_part (Err fault) = Err (fault_code fault)
@@ -79,16 +81,18 @@ abbrev pub parts_read : Option WrittenList → Data → Parts
 parts_read None value = part.Plain
 parts_read (Some list) value = or_plain (list_read list value)
 
+-- the list that a write stores, if the object was reached and its attribute is a list
 abbrev pub parts_at : Result Instance ResultCode → ℕ → Data → Parts
 parts_at (Err refusal) number value = part.Plain
 parts_at (Ok instance) number value = parts_read (list_numbered instance number) value
 
--- the list that a client's SET stores, if any; and below, the one that an event stores
+-- the list that a client's SET stores, if any
 unfoldable pub set_parts : Level → AttrRef → Bool → Data → Parts
 set_parts level attr selected value =
     parts_at (target_of attr.name attr.class (rights_of level attr).write selected) attr.number
     value
 
+-- the list that an event stores; only a SET can store one
 abbrev pub parts_of : Event → Parts
 parts_of (Set level attr selected value) = set_parts level attr selected value
 parts_of _ = part.Plain

@@ -34,11 +34,13 @@ pairs (value ∷ values) (other ∷ others) =
     ∷ pairs values others
 pairs _ _ = []
 
--- the samples of a block
+-- the samples of a block in the order in which they are applied, from the imported and perhaps the
+-- exported power
 abbrev pub measurements_in : List ℕ → Option (List ℕ) → List Measurement
 measurements_in values None = imports values
 measurements_in values (Some others) = pairs values others
 
+-- the samples of a block in the order in which they are applied
 abbrev pub measurements : Samples → List Measurement
 measurements samples = measurements_in samples.import samples.export
 
@@ -81,13 +83,14 @@ pub record SamplingState : Type 0 where
   pub world : World
   pub firings : FiringCounts
 
--- the state after one more sample, and below, after several
+-- the state after one more sample
 unfoldable pub sampling_after : Measurement → SamplingState → SamplingState
 sampling_after x m = record {
   world = after_sample x m.world;
   firings = with_firing x.which (fire_at x m.world) m.firings;
 }
 
+-- the state after several samples, in order
 unfoldable pub after_samples : List Measurement → SamplingState → SamplingState
 after_samples [] m = m
 after_samples (x ∷ xs) m = after_samples xs (sampling_after x m)

@@ -37,14 +37,15 @@ abbrev pub write_code : {A : Type 0} → Result A WriteFault → ResultCode
 write_code (Ok x) = Success
 write_code (Err fault) = fault_code fault
 
--- a schedule after a write of an attribute other than its list of entries, and below, the result
--- code
+-- a schedule after a write of an attribute other than its list of entries; a refused write leaves
+-- it unchanged
 unfoldable pub schedule_after_write : Option ScheduleAttribute → Data → Schedule → Schedule
 schedule_after_write (Some ExecutedScript) value schedule =
     with_selector (selector_of value) schedule
 schedule_after_write (Some Kind) value schedule = with_kind (kind_of value) schedule
 schedule_after_write _ value schedule = schedule
 
+-- the result code of a write to a schedule, of an attribute other than its list of entries
 unfoldable pub schedule_code : Option ScheduleAttribute → Data → ResultCode
 schedule_code (Some ExecutedScript) value = write_code (selector_of value)
 schedule_code (Some Kind) value = write_code (kind_of value)

@@ -14,17 +14,19 @@ use Rattle.relay_core.specs.Writing.{at_mode, at_setting}
 use Rattle.script_steps.specs.declared.step.Step.{Step}
 use Rattle.script_steps.specs.declared.step.Step.TheVariants.{WriteMode, WriteNormal, WriteEmergency, WriteMinOver, WriteMinUnder, WriteProfile, Disconnect, Reconnect}
 
--- the trigger of a disconnecting step: remote if a client or a schedule runs the script, local if
--- the meter itself does (the distinction is this meter's own)
+-- the trigger of a step that disconnects: remote if a client or a schedule runs the script, local
+-- if the meter itself does (the distinction is this meter's own)
 abbrev pub disconnect_by : Origin → Trigger
 disconnect_by Remote = RemoteDisconnect
 disconnect_by Local = LocalDisconnect
 
+-- the trigger of a step that reconnects: remote if a client or a schedule runs the script, local if
+-- the meter itself does
 abbrev pub reconnect_by : Origin → Trigger
 reconnect_by Remote = RemoteReconnect
 reconnect_by Local = LocalReconnect
 
--- the effect of a step, which is that of the same write or method
+-- the effect of a step, which is that of the write or of the method that the step stands for
 unfoldable pub at_step : Origin → Step → World → Outcome
 at_step origin (WriteMode mode) w = at_mode mode w
 at_step origin Disconnect w = at_trigger (disconnect_by origin) w
@@ -37,6 +39,7 @@ at_step origin (WriteMinUnder which seconds) w =
     at_setting which (MinUnderThresholdDuration seconds) w
 at_step origin (WriteProfile which profile) w = at_setting which (Profile profile) w
 
+-- whether a result code is that of success
 abbrev pub is_success : ResultCode → Bool
 is_success Success = true
 is_success _ = false

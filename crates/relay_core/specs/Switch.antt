@@ -27,6 +27,7 @@ with_entries_since before w =
 abbrev pub with_control : Control → World → World
 with_control control w = with_entries_since w.control (record w { control = control })
 
+-- the effect of a trigger on the supply switch, with the result code of its transition
 unfoldable pub at_trigger : Trigger → World → Outcome
 at_trigger trigger w = record {
   world = with_control (control_after trigger w.control) w;

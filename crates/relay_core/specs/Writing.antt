@@ -43,6 +43,7 @@ at_mode mode w = record {
   code = mode_result mode w.control;
 }
 
+-- the effect of a write of control_mode (class 70, attribute 4), whose value may be refused
 abbrev pub at_mode_form : Result ControlMode WriteFault → World → Outcome
 at_mode_form (Err fault) w = outcome_of_refusal (fault_code fault) w
 at_mode_form (Ok mode) w = at_mode mode w
@@ -61,6 +62,8 @@ at_setting which setting w = record {
   code = Success;
 }
 
+-- the effect of a write of a limiter's setting, whose value may be refused; an attribute that
+-- cannot be written gives read-write-denied
 abbrev pub at_setting_form : Which → Result (Option Setting) WriteFault → World → Outcome
 at_setting_form which (Err fault) w = outcome_of_refusal (fault_code fault) w
 at_setting_form which (Ok None) w = outcome_of_refusal ReadWriteDenied w
@@ -96,11 +99,12 @@ at_plain (Schedule which) number value w = at_schedule which (schedule_attribute
 at_plain DisconnectControl number value w = at_control (control_attribute number) value w
 at_plain (Limiter which) number value w = at_limiter which (attribute_numbered number) value w
 
+-- the effect of a write to an object, of a list or of another attribute
 abbrev pub at_attribute : Option WrittenList → Instance → ℕ → Data → World → Outcome
 at_attribute None instance number value w = at_plain instance number value w
 at_attribute (Some list) instance number value w = at_list list (list_read list value) w
 
--- the effect of a write to an object
+-- the effect of a write to an object, of the attribute with this number
 unfoldable pub at_write : Instance → ℕ → Data → World → Outcome
 at_write instance number value w =
     at_attribute (list_numbered instance number) instance number value w

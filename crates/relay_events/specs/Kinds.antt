@@ -15,25 +15,30 @@ is_read Button = false
 is_read (Samples block) = false
 is_read (Moment now) = false
 
--- whether a reply is of this kind
+-- whether a reply is a result code, as a SET, an ACTION and a press of the button have
 abbrev pub IsCode : Reply → Type 0
 IsCode (Code code) = ⊤
 IsCode _ = ⊥
 
+-- whether a reply is a value or a result code, as a GET of one attribute has
 abbrev pub IsValueOrCode : Reply → Type 0
 IsValueOrCode (Value value) = ⊤
 IsValueOrCode (Code code) = ⊤
 IsValueOrCode _ = ⊥
 
+-- whether a reply is a list of results, as a GET of a list of attributes has
 abbrev pub AreValues : Reply → Type 0
 AreValues (Values results) = ⊤
 AreValues _ = ⊥
 
+-- whether a reply is the number of firings of one limiter or of both, as a block of samples has
 abbrev pub IsOfSamples : Reply → Type 0
 IsOfSamples (Sampled over under) = ⊤
 IsOfSamples (SampledBoth over under export_over export_under) = ⊤
 IsOfSamples _ = ⊥
 
+-- whether a reply is that to a moment: the number of schedules that were due, or the last moment if
+-- this one is earlier
 abbrev pub IsOfClock : Reply → Type 0
 IsOfClock (Ran count) = ⊤
 IsOfClock (Stale last) = ⊤

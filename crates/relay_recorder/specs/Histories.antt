@@ -13,10 +13,11 @@ use Rattle.relay_recorder.specs.Recording.{Recording, all_but_last}
 abbrev pub Exchange : Type 0
 Exchange = Event × Reply
 
--- the events of a history and its replies, oldest first
+-- the events of a history, oldest first
 abbrev pub events_of : List Exchange → List Event
 events_of history = map (λ (told : Exchange). told.0) history
 
+-- the replies of a history, oldest first
 abbrev pub replies_of : List Exchange → List Reply
 replies_of history = map (λ (told : Exchange). told.1) history
 

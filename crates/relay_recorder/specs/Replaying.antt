@@ -13,7 +13,8 @@ pub record RunsAgain (r : Recording) (history : List Exchange) (origin world : W
   pub replies : replies_from world r.events
       ≡ drop (length history - length r.events) (replies_of history)
 
--- run from `world`, the kept events run as they did in every history that the recorder results from
+-- whether the kept events, run from `world`, run as they did in every history that the recorder
+-- results from
 abbrev pub Replays : Recording → World → Type 0
 Replays r world = (history : List Exchange) (origin : World) → StandsForHistory r history origin
     → RunsAgain r history origin world
