@@ -13,10 +13,11 @@ use Rattle.script_steps.specs.declared.action.Address.{Address}
 use Rattle.script_steps.specs.declared.step.Step.{Step}
 use Rattle.script_steps.specs.declared.step.Step.TheVariants as step
 
--- the service_ids of a step
+-- the service_id of a step that writes an attribute (class 9, scripts)
 abbrev pub write_attribute : ℕ
 write_attribute = 1
 
+-- the service_id of a step that executes a method (class 9, scripts)
 abbrev pub execute_method : ℕ
 execute_method = 2
 
@@ -30,7 +31,7 @@ attribute_of index =
       index = index;
     }
 
--- an execution of one of its methods
+-- an execution of a method of the disconnect control (class 70, 0.0.96.3.10.255)
 abbrev pub method_of : ℤ → Address
 method_of index = record {
   service = execute_method;

@@ -6,7 +6,8 @@ use Rattle.cosem_axdr.specs.Forms.{array_of, structure_of, long_unsigned_of, enu
 use Rattle.cosem_names.specs.Forms.{◌>>=◌, name_of}
 use Rattle.script_steps.specs.declared.action.Address.{Address}
 
--- the parts of a step: a structure of service, class, logical name, index and parameter
+-- the address and the parameter in the items of a step: service_id, class_id, logical_name, index
+-- and parameter; nothing if a type or the number of items differs
 abbrev pub step_parts_in : List Data → Option (Address × Data)
 step_parts_in (service ∷ class ∷ name ∷ index ∷ parameter ∷ []) = do
   service_id ← enumerated_of service
@@ -24,10 +25,12 @@ step_parts_in (service ∷ class ∷ name ∷ index ∷ parameter ∷ []) = do
   )
 step_parts_in _ = None
 
+-- the address and the parameter of a step, which is a structure; nothing if a type differs
 abbrev pub step_parts_of : Data → Option (Address × Data)
 step_parts_of value = structure_of value >>= step_parts_in
 
--- the parts of a script: a structure of an identifier and an array of steps
+-- the identifier and the steps in the items of a script: script_identifier and an array; nothing if
+-- a type or the number of items differs
 abbrev pub script_parts_in : List Data → Option (ℕ × List Data)
 script_parts_in (identifier ∷ steps ∷ []) = do
   number ← long_unsigned_of identifier
@@ -35,6 +38,7 @@ script_parts_in (identifier ∷ steps ∷ []) = do
   Some (number, items)
 script_parts_in _ = None
 
+-- the identifier of a script and the Data of its steps; nothing if a type differs
 abbrev pub script_parts_of : Data → Option (ℕ × List Data)
 script_parts_of value = structure_of value >>= script_parts_in
 

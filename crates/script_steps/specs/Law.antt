@@ -30,11 +30,12 @@ instance_of Reconnect = DisconnectControl
 abbrev pub address_named_by : Step → Address
 address_named_by step = address_of (action_of step)
 
--- an address as a SET names the attribute, and as an ACTION names the method
+-- the attribute that an address names, as a SET names it
 abbrev pub attribute_at : Address → AttrRef
 attribute_at address =
     record { class = address.class; name = address.name; number = cast_unsigned w8 address.index }
 
+-- the method that an address names, as an ACTION names it
 abbrev pub method_at : Address → MethodRef
 method_at address = record {
   class = address.class;
@@ -46,10 +47,11 @@ method_at address = record {
 abbrev pub is_write : Step → Bool
 is_write step = (address_named_by step).service == write_attribute
 
--- the attribute that a step names, and the method
+-- the attribute that a step names
 abbrev pub attribute_named : Step → AttrRef
 attribute_named step = attribute_at (address_named_by step)
 
+-- the method that a step names
 abbrev pub method_named : Step → MethodRef
 method_named step = method_at (address_named_by step)
 

@@ -20,10 +20,11 @@ use Rattle.script_steps.specs.declared.step.Script.{Script}
 use Rattle.script_steps.specs.declared.step.Step.{Step}
 use Rattle.script_steps.specs.declared.step.Step.TheVariants.{WriteMode, WriteNormal, WriteEmergency, WriteMinOver, WriteMinUnder, WriteProfile, Disconnect, Reconnect}
 
--- the maximum number of scripts of a table, and of steps of a script
+-- the maximum number of scripts of a table
 abbrev pub max_scripts : ℕ
 max_scripts = 16
 
+-- the maximum number of steps of a script
 abbrev pub max_steps : ℕ
 max_steps = 8
 
@@ -70,7 +71,7 @@ script_of value = do
   parts ← judged_script value
   Ok (record { identifier = parts.0; steps = values step_of parts.1 })
 
--- whether no two have the same number
+-- whether no two items have the same number
 abbrev pub are_distinct : {A : Type 0} → (A → ℕ) → List A → Bool
 are_distinct number [] = true
 are_distinct number (x ∷ xs) =

@@ -29,12 +29,15 @@ addressed_step address parameter =
     structure_with (Enum address.service ∷ LongUnsigned address.class.0 ∷ OctetString address.name.0
     ∷ Integer address.index ∷ parameter ∷ [])
 
+-- the value of a step: a structure of service_id, class_id, logical_name, index and parameter
 unfoldable pub step_data : Step → Data
 step_data step = addressed_step (address_of (action_of step)) (parameter_of step)
 
+-- the value of a script: a structure of script_identifier and the array of its steps
 unfoldable pub script_data : Script → Data
 script_data script =
     structure_with (LongUnsigned script.identifier ∷ array_with (map step_data script.steps) ∷ [])
 
+-- the value of the attribute scripts (class 9, attribute 2): the array of all scripts
 unfoldable pub data_of : List Script → Data
 data_of scripts = array_with (map script_data scripts)
