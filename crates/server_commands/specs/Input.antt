@@ -4,7 +4,8 @@ use Rattle.std.specs.Io.KnownBytes.{Consumes}
 use Rattle.server_commands.specs.declared.telling.CommandFault.{CommandFault}
 use Rattle.server_commands.specs.declared.telling.CommandFault.TheVariants as fault
 
--- reading failed after these bytes; the two numbers count the failed reads before and after
+-- Whether reading may have failed with this fault after these bytes: more than 1,048,576 bytes, a
+-- failed read, or out of memory. The two numbers count the failed reads before and after.
 abbrev pub FailsToRead : List ℕ → ℕ → CommandFault → ℕ → Type 0
 FailsToRead bytes failed fault.TooLong failed' = 1048576 < length bytes
 FailsToRead bytes failed fault.Read failed' = (length bytes ≤ 1048576) × (failed < failed')

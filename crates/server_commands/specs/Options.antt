@@ -33,6 +33,7 @@ pub record IsFlag (found : Found) (name : List ℕ) (value : Bool) : Type 0 wher
   pub given : one_text found name ≡ Some (codes "true") → value ≡ true
   pub absent : one_text found name ≡ Some (codes "false") → value ≡ false
 
+-- whether a value comes from the words of the command line, and not from a default
 abbrev pub is_of_words : Option ValueSource → Bool
 is_of_words (Some CommandLine) = true
 is_of_words (Some DefaultValue) = false

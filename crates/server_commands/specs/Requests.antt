@@ -19,6 +19,8 @@ abbrev pub character_fault : ℕ → ℕ → Bool → RequestFault
 character_fault character place is_last = if character == 0x0D && is_last then CarriageReturn
     else if character == 0x20 then Blank place else Character place
 
+-- why a line is not a request, by the index of its first character that is not a hexadecimal digit;
+-- without such a character it has an odd number of digits
 abbrev pub fault_at : List ℕ → Option ℕ → RequestFault
 fault_at line (Some index) = character_fault (slice_index line index) (index + 1)
     (index + 1 == length line)
@@ -29,6 +31,7 @@ fault_at line None = Odd
 abbrev pub request_fault : List ℕ → RequestFault
 request_fault line = fault_at line (position (λ character. not (is_hex_digit character)) line)
 
+-- the request of the line with this number, by the result of decoding its digits
 abbrev pub request_by : ℕ → List ℕ → Result (List ℕ) FromHexError → Result (List ℕ) CommandFault
 request_by number line (Ok bytes) = Ok bytes
 request_by number line (Err error) = Err (fault.Line number (request_fault line))
@@ -55,7 +58,8 @@ requests_from number ((byte ∷ bytes) ∷ lines) =
 abbrev pub requests_of : List ℕ → Result (List (List ℕ)) CommandFault
 requests_of text = requests_from 1 (parts_at 10 text)
 
--- the result of reading lines: their requests, their first fault, or out of memory
+-- whether reading lines, numbered from `number`, has this result: their requests, their first
+-- fault, or out of memory
 abbrev pub ReadsLines : ℕ → List (List ℕ) → Result (List (List ℕ)) CommandFault → Type 0
 ReadsLines number lines (Ok requests) = requests_from number lines ≡ Ok requests
 ReadsLines number lines (Err fault.Memory) = ⊤
@@ -63,7 +67,7 @@ ReadsLines number lines (Err (fault.Line at why)) =
     requests_from number lines ≡ Err (fault.Line at why)
 ReadsLines number lines (Err wrong) = ⊥
 
--- the result of reading a text
+-- whether reading a text has this result: its requests, its first fault, or out of memory
 abbrev pub ReadsRequests : List ℕ → Result (List (List ℕ)) CommandFault → Type 0
 ReadsRequests text result = ReadsLines 1 (parts_at 10 text) result
 
@@ -77,20 +81,22 @@ abbrev pub pieces_of : List ℕ → List ℕ → List (List ℕ)
 pieces_of [] bytes = []
 pieces_of (count ∷ counts) bytes = take count bytes ∷ pieces_of counts (drop count bytes)
 
--- why the request of a line was not appended: the fault of the line, or out of memory
+-- whether this is why the request of a line was not appended: the fault of the line, or out of
+-- memory
 abbrev pub IsRequestFault : ℕ → List ℕ → CommandFault → Type 0
 IsRequestFault number line fault.Memory = ⊤
 IsRequestFault number line (fault.Line at why) = line_request number line ≡ Err (fault.Line at why)
 IsRequestFault number line other = ⊥
 
--- the result of reading one line: its request was appended, its fault, or out of memory
+-- whether the request of a line was appended to the others; on an error it is the fault of the
+-- line, or out of memory
 abbrev pub AddsRequest : {X : Type 0} → ℕ → List ℕ → List (List ℕ) → Result X CommandFault
     → List (List ℕ) → Type 0
 AddsRequest number line old (Ok done) new = (request : List ℕ)
     × (line_request number line ≡ Ok request) × (new ≡ old ++ request ∷ [])
 AddsRequest number line old (Err wrong) new = IsRequestFault number line wrong
 
--- the result of reading a line that may be empty
+-- whether a line was read, which may be empty; an empty line appends no request
 abbrev pub AddsLine : {X : Type 0} → ℕ → List ℕ → List (List ℕ) → Result X CommandFault
     → List (List ℕ) → Type 0
 AddsLine number [] old (Ok done) new = new ≡ old

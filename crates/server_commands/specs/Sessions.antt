@@ -19,6 +19,8 @@ abbrev pub IsOptionFault : CommandFault → ℕ → ℕ → CommandFault → Typ
 IsOptionFault wrong count longest given = (given ≡ fault.Memory)
     ⊎ ((given ≡ wrong) × ((count ≡ 0) ⊎ (longest < count)))
 
+-- the fault of a text, by the index of its first character that is neither a digit nor skipped;
+-- without such a character it has an odd number of digits
 abbrev pub fault_at : Option ℕ → CommandFault
 fault_at (Some index) = fault.Digit (index + 1)
 fault_at None = fault.OddDigits
@@ -33,7 +35,8 @@ abbrev pub IsNoHex : List ℕ → CommandFault → Output → Output → Type 0
 IsNoHex text given before after = (given ≡ digit_fault text)
     × ((input : List ℕ) → ¬ (IsHex text input)) × WritesNothing before after
 
--- the effect of serving the bytes of a session, by the result
+-- whether serving the bytes of a session has this result: all output was written, a write failed,
+-- or memory ran out before the end
 abbrev pub PlaysInput : List ℕ → List ℕ → List ℕ → Output → Result (Unit {0}) CommandFault → Output
     → Type 0
 PlaysInput device password input before (Ok done) after =
@@ -43,7 +46,8 @@ PlaysInput device password input before (Err fault.Memory) after =
     WritesNothing before after ⊎ RunsShort device password input before after
 PlaysInput device password input before (Err other) after = ⊥
 
--- the effect of serving a text that was read, by the result
+-- whether decoding a text and serving its bytes has this result; a text that is not pairs of
+-- hexadecimal digits writes nothing
 abbrev pub PlaysBytes : List ℕ → List ℕ → List ℕ → Output → Result (Unit {0}) CommandFault → Output
     → Type 0
 PlaysBytes device password text before (Ok done) after =
@@ -92,7 +96,8 @@ module _ {R W : Type 0}
     pub cause : Cause text
     pub unwritten : w' ≡ w
 
-  -- options were judged, a text was read and played
+  -- Whether judging the options, reading the text and serving it has this result. The password is
+  -- judged first, then the device name; if either is refused, nothing is read.
   abbrev pub PlaysText : List ℕ → List ℕ → R → W → Result (Unit {0}) CommandFault → R → W → Type 0
   PlaysText password device r w (Err fault.Password) r' w' =
       ((length password ≡ 0) ⊎ (32 < length password)) × (r' ≡ r) × (w' ≡ w)

@@ -3,7 +3,7 @@ use Rattle.std.specs.Prelude.{Bool, true, false, ⊤}
 use Rattle.server_files.specs.declared.outputs.EventOutput.{EventOutput}
 use Rattle.server_files.specs.declared.outputs.EventOutput.TheVariants as output
 
--- the output of a meter, by whether it has a journal and whether it has a relay
+-- whether this is the output of a meter, by whether it has a journal and whether it has a relay
 abbrev pub IsOutputOf : {R F : Type 0} → (has_journal has_relay : Bool) → EventOutput R F
     → Type 0
 IsOutputOf false false output.None = ⊤

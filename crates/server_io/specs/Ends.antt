@@ -10,8 +10,8 @@ use Rattle.server_io.specs.Console.{Brings, IsOwnLine}
 use Rattle.server_io.specs.Lines.{lines_in}
 use Rattle.server_io.specs.declared.running.ConsoleEnd.{ConsoleEnd}
 
--- each line in turn has the next of the events, or has none, or is lost; `lost` is the number of
--- lost lines
+-- Whether these are the events of the lines, in order, and `lost` is the number of lost lines. Each
+-- line has one event, has none, or is an own event of the meter and was lost.
 abbrev pub Brought : List (List ℕ) → List Event → ℕ → Type 0
 Brought [] events lost = (events ≡ []) × (lost ≡ 0)
 Brought (line ∷ lines) events lost =
@@ -20,7 +20,7 @@ Brought (line ∷ lines) events lost =
     ⊎ (((event : Event) → ¬ (Brings line event)) × Brought lines events lost)
     ⊎ ((others : ℕ) × IsOwnLine line × (lost ≡ suc others) × Brought lines events others)
 
--- a sink took the event of one line, or the line was lost
+-- whether a sink took the event of one line, if it has one, or the line was lost
 abbrev pub TakesFrom : List ℕ → ℕ → Option (List Event) → Option (List Event) → Type 0
 TakesFrom line lost listed taken = (before : List Event) → listed ≡ Some before
     → (events : List Event) × Brought (line ∷ []) events lost × (taken ≡ Some (before ++ events))
@@ -37,7 +37,7 @@ pub record HandsOn (input : List ℕ) (before : List Event) (lost : ℕ) (left :
   pub brought : Brought read events lost
   pub taken_is : taken ≡ Some (before ++ events)
 
--- `HandsOn` if the bytes of the reader are known and the sink lists its events
+-- whether `HandsOn` holds, if the bytes of the reader are known and the sink lists its events
 abbrev pub Hands : Option (List ℕ) → Option (List Event) → ℕ → Option (List ℕ) → Option (List Event)
     → Type 0
 Hands known listed lost left taken = (input : List ℕ) (before : List Event) → known ≡ Some input
@@ -63,7 +63,7 @@ pub record EndsSo (input : List ℕ) (before : List Event) (end : ConsoleEnd)
   pub brought : Brought read events end.lost
   pub taken_is : taken ≡ Some (before ++ events)
 
--- `EndsSo` if the bytes of the reader are known and the sink lists its events
+-- whether `EndsSo` holds, if the bytes of the reader are known and the sink lists its events
 abbrev pub Ends : Option (List ℕ) → Option (List Event) → ConsoleEnd → Option (List Event) → Type 0
 Ends known listed end taken = (input : List ℕ) (before : List Event) → known ≡ Some input
     → listed ≡ Some before → EndsSo input before end taken

@@ -7,7 +7,7 @@ use Rattle.lane_sampler.specs.Samples.{Samples}
 use Rattle.relay_events.specs.declared.event.Event.{Event}
 use Rattle.relay_events.specs.declared.event.Event.TheVariants as event
 
--- a value was appended to a queue, if the values of the queue are known
+-- whether a value was appended to a queue, if the values of the queue are known
 abbrev pub Gains : {T : Type 0} → Option (List T) → T → Option (List T) → Type 0
 Gains old value new = IfSome old (λ values. new ≡ Some (values ++ value ∷ []))
 
@@ -17,8 +17,8 @@ pub record Queues : Type 0 where
   pub moments : Option (List ℕ)
   pub presses : Option (List (Unit {0}))
 
--- an event of the meter itself was appended to the queue of its kind; an event that a client
--- requests to none
+-- whether an event was appended to the queue of its kind: an own event of the meter to the queue of
+-- its worker, an event that a client requests to none
 abbrev pub Sorts : Event → Queues → Queues → Type 0
 Sorts (event.Samples block) old new = Gains old.blocks block new.blocks
     × (new ≡ record old { blocks = new.blocks })
