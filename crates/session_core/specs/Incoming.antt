@@ -66,6 +66,7 @@ abbrev pub complete_value : ℕ → Result (Data × ℕ) DataFault → Option Da
 complete_value size (Ok read) = if read.1 == size then Some read.0 else None
 complete_value size (Err fault) = None
 
+-- the value in the joined bytes of a transfer, if they are exactly one Data
 unfoldable pub whole_data : List ℕ → Option Data
 whole_data bytes = complete_value (length bytes) (first_data bytes)
 
@@ -79,7 +80,8 @@ abbrev pub form_by : Purpose → InvokeId → ℕ → ReplyForm
 form_by (purpose.Set target) id number = form.SetLastBlock id number
 form_by (purpose.Action method) id number = form.Action id
 
--- the outcome of the joined bytes: an event if they are exactly one Data, else a refusal
+-- the outcome of the joined bytes, by the value in them: its event, or a refusal with other-reason
+-- if there is none
 abbrev pub outcome_by_data : Joined → Option Data → Outcome
 outcome_by_data j (Some value) =
     asks (event_by j.link.level j.purpose value)
@@ -87,6 +89,8 @@ outcome_by_data j (Some value) =
 outcome_by_data j None =
     says j.link.source (Service (refusal_response (service_of j.purpose) j.id j.number OtherReason))
 
+-- the outcome of the joined bytes: the event of their value, or a refusal if they are not exactly
+-- one Data
 unfoldable pub whole_outcome : Joined → Outcome
 whole_outcome j = outcome_by_data j (whole_data j.bytes)
 
@@ -116,6 +120,8 @@ joined_after_block link id purpose block j =
       bytes = j.bytes ++ block.raw;
     }
 
+-- the outcome of a block, by why it is not added: a refusal with that result; else the outcome of
+-- the whole transfer for the last block, and an acknowledgement for any other
 abbrev pub outcome_by_fault : Link → InvokeId → Purpose → DataBlock → Joining → Option BlockFault
     → Outcome
 outcome_by_fault link id purpose block j (Some fault) =
@@ -130,6 +136,7 @@ unfoldable pub block_outcome_of : Link → InvokeId → Purpose → DataBlock �
 block_outcome_of link id purpose block j =
     outcome_by_fault link id purpose block j (fault_of block j)
 
+-- the transfer after a block, by why it is not added: a refused block and the last block end it
 abbrev pub after_by_fault : Purpose → DataBlock → Joining → Option BlockFault → Option Incoming
 after_by_fault purpose block j (Some fault) = None
 after_by_fault purpose block j None = if block.last then None
@@ -148,6 +155,7 @@ is_of service.Set (purpose.Action method) = false
 is_of service.Action (purpose.Set target) = false
 is_of service.Action (purpose.Action method) = true
 
+-- the transfer in progress, if it is of this service
 abbrev pub transfer_of : LongService → Option Incoming → Option Incoming
 transfer_of service None = None
 transfer_of service (Some incoming) = if is_of service incoming.purpose then Some incoming else None

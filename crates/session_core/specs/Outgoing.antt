@@ -53,6 +53,8 @@ abbrev pub block_response : InvokeId → Piece → Response
 block_response id piece =
     response.GetBlock id (record { last = piece.last; number = piece.number; raw = piece.raw })
 
+-- the answer to a GET-next, by why there is no next block: a refusal with that result, else the
+-- next block
 abbrev pub response_by_fault : InvokeId → ℕ → Sending → Option BlockFault → Response
 response_by_fault id number s (Some fault) =
     response.GetBlockRefused id true number (get_code fault)
@@ -63,6 +65,8 @@ unfoldable pub continued_response : InvokeId → ℕ → Option Sending → Resp
 continued_response id number None = response.GetBlockRefused id true number (get_code NoTransfer)
 continued_response id number (Some s) = response_by_fault id number s (next_fault number s)
 
+-- the transfer after a GET-next, by why there is no next block: a refusal ends it, and so does its
+-- last block
 abbrev pub sending_by_fault : Sending → Option BlockFault → Option Sending
 sending_by_fault s (Some fault) = None
 sending_by_fault s None = transfer_after (s.number + 1) s
@@ -84,10 +88,13 @@ pub record LongAnswer : Type 0 where
   pub normal : Response
   pub raw : List ℕ
 
+-- the answer to a GET of one attribute with its value; in blocks, the Data of the value is sent
 abbrev pub value_answer : InvokeId → Data → LongAnswer
 value_answer id value =
     record { id = id; normal = response.Get id (result.Value value); raw = data_part.text value }
 
+-- the answer to a GET of several attributes with their results; in blocks, the list of results is
+-- sent
 abbrev pub values_answer : InvokeId → List GetResult → LongAnswer
 values_answer id results =
     record {
@@ -159,6 +166,7 @@ long_text link answer =
     else if can_go_in_blocks link answer.raw then Some (unsent_transfer link.limit answer.raw)
     else None
 
+-- the answer to a reply: whole or its first block if the reply has values, else its result code
 abbrev pub response_by : Asked → Reply → Option LongAnswer → Response
 response_by asked reply (Some answer) = long_response asked.link answer
 response_by asked reply None = code_response asked.form (reply_code reply)

@@ -90,17 +90,18 @@ pub record AsksShort (old : Session) (event : Event) (new : Session) : Type 0 wh
   pub is_short : is_asking_short new ≡ true
   pub less : load_of new < load_of old
 
--- the events of a `Next`, and below, its texts
+-- the event that a call of `next` returns, if it returns one
 abbrev pub events_of_next : Next → List Event
 events_of_next (Ask event) = event ∷ []
 events_of_next _ = []
 
+-- the bytes that a call of `next` returns to be sent, if it returns any
 abbrev pub texts_of_next : Next → List (List ℕ)
 texts_of_next (Send text) = text ∷ []
 texts_of_next _ = []
 
--- a call of `next` removes from the front what it returns; a call that runs out of memory removes
--- nothing
+-- whether a call of `next` removed from the front of the session's work exactly what it returned; a
+-- call that runs out of memory removes nothing
 abbrev pub StepsBy : {E : Type 0} → Session → Result Next E → Session → Type 0
 StepsBy old (Ok next) new = Steps old (events_of_next next) (texts_of_next next) new
 StepsBy old (Err error) new = Steps old [] [] new
@@ -120,15 +121,16 @@ pub record IsOver (end : SessionEnd) (s : Session) : Type 0 where
   pub ends : (more : List ℕ) → still_ends s more ≡ end
   pub over : reported_end s ≡ Some end
 
--- What holds after each `Next`. Asking and sending reduce the session's load, so that finitely many
--- calls return an event or a frame between two inputs.
+-- Whether the session is as a caller may rely on after this `Next`. Asking and sending reduce the
+-- session's load, so that finitely many calls return an event or a frame between two inputs.
 abbrev pub Leaves : Session → Next → Session → Type 0
 Leaves old (Ask event) new = IsAwaiting new × (load_of new < load_of old)
 Leaves old (Send text) new = (is_asking new ≡ false) × (load_of new < load_of old)
 Leaves old Wait new = ((is_asking old ≡ true) × IsAwaiting new) ⊎ IsQuiet new
 Leaves old (End end) new = IsOver end new
 
--- the effect of a task
+-- whether a task was worked on with this result: it removed from the front what it returns, and its
+-- load is less if there is more to do at once
 abbrev pub WorksBy : {E : Type 0} → Session → Result (Option Next) E → Session → Type 0
 WorksBy old (Ok None) new = Steps old [] [] new
     × ((is_asking new ≡ false) × (load_of new < load_of old))
@@ -136,12 +138,13 @@ WorksBy old (Ok (Some next)) new = Steps old (events_of_next next) (texts_of_nex
     × Leaves old next new
 WorksBy old (Err error) new = Steps old [] [] new
 
--- the task that a step leads to, and below, what it returns to the caller
+-- the task that a step leads to
 abbrev pub task_by : TurnStep → SessionTask
 task_by (step.Ask event asked) = task.Await asked
 task_by (step.Say due) = task.Say due
 task_by (step.Join joined) = task.Read joined
 
+-- what a step returns to the caller: its event, if it has one
 abbrev pub next_by : TurnStep → Option Next
 next_by (step.Ask event asked) = Some (Ask event)
 next_by _ = None

@@ -104,6 +104,7 @@ still_ends s more = ends_of s.task (end_of (bytes_ahead s more))
 
 -- ---- what it waits for
 
+-- whether a task is to await the reply to an event
 abbrev pub is_awaiting : SessionTask → Bool
 is_awaiting (Await asked) = true
 is_awaiting _ = false
@@ -112,6 +113,8 @@ is_awaiting _ = false
 unfoldable pub is_asking : Session → Bool
 is_asking s = is_awaiting s.task
 
+-- whether a task is to await the reply to a short request: a GET of one attribute, a SET that
+-- arrived whole, or an ACTION
 abbrev pub awaits_short : SessionTask → Bool
 awaits_short (Await asked) = asks_short asked.form
 awaits_short _ = false
@@ -120,6 +123,7 @@ awaits_short _ = false
 unfoldable pub is_asking_short : Session → Bool
 is_asking_short s = awaits_short s.task
 
+-- the end of the session that a task reports, if the session is over
 abbrev pub end_in : SessionTask → Option SessionEnd
 end_in (Over end) = Some end
 end_in _ = None
@@ -132,6 +136,7 @@ reported_end s = end_in s.task
 unfoldable pub is_finished : Session → Bool
 is_finished s = s.is_finished
 
+-- whether a task is to wait for the next frame
 abbrev pub is_listening : SessionTask → Bool
 is_listening Listen = true
 is_listening _ = false
@@ -157,5 +162,6 @@ task_load (Say due) = 2
 task_load (Send text) = 1
 task_load (Over end) = 0
 
+-- the work left in a session's state: its pending bytes and the work in its task
 unfoldable pub load_of : Session → ℕ
 load_of s = length s.deframer + task_load s.task

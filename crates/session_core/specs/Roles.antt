@@ -25,6 +25,7 @@ pub data Role : Type 0 where
   gets_next : ℕ → Role
   stops : Role
 
+-- the role of each request of a service: a SET or ACTION that arrives whole stops all transfers
 abbrev pub role_of_request : Request → Role
 role_of_request (request.Get id target) = gets (form.Get id)
 role_of_request (request.GetNext id number) = gets_next number
@@ -36,6 +37,7 @@ role_of_request (request.Action id method parameter) = stops
 role_of_request (request.ActionFirst id method block) = starts (purpose.Action method) block
 role_of_request (request.ActionNext id block) = follows service.Action block
 
+-- the role of what the client sent: a release and a refused request stop all transfers
 abbrev pub role_of : Call → Role
 role_of call.Release = stops
 role_of (call.Service request) = role_of_request request

@@ -150,25 +150,33 @@ turn_of password link incoming f =
 
 -- ---- the association after a frame
 
+-- the association after a frame that does not open one: a release by its client ends it
 abbrev pub link_in : Frame → Option Link → Option Link
 link_in f None = None
 link_in f (Some link) = if is_closing link f then None else Some link
 
+-- the association after a frame: that of an AARQ, if it was accepted; else the one before, unless
+-- the frame released it
 unfoldable pub link_after : List ℕ → Frame → Option Link → Option Link
 link_after password f link = if is_aarq f then link_by_opening password f else link_in f link
 
 -- ---- the long SET or ACTION after a frame: any request except its next block ends it
 
+-- the long SET or ACTION after a request with this role: only its next block continues it
 abbrev pub incoming_by_role : Role → Option Incoming → Option Incoming
 incoming_by_role (starts purpose block) incoming = block_after purpose block no_blocks
 incoming_by_role (follows service block) incoming = later_after block (transfer_of service incoming)
 incoming_by_role _ incoming = None
 
+-- the long SET or ACTION after a frame that is not an AARQ: only a request of the association's
+-- client changes it
 abbrev pub incoming_in : Option Link → Frame → Option Incoming → Option Incoming
 incoming_in None f incoming = incoming
 incoming_in (Some link) f incoming = if is_heard link f
     then incoming_by_role (role_in link f) incoming else incoming
 
+-- the long SET or ACTION after a frame: an AARQ ends it, and so does any request except its next
+-- block
 unfoldable pub incoming_after : Option Link → Frame → Option Incoming → Option Incoming
 incoming_after link f incoming = if is_aarq f then None else incoming_in link f incoming
 
@@ -179,16 +187,22 @@ abbrev pub transfer_of_reply : Link → ReplyForm → Option Reply → Option Se
 transfer_of_reply link form None = None
 transfer_of_reply link form (Some reply) = outgoing_by (record { link = link; form = form }) reply
 
+-- the long GET after a request with this role and the reply to its event: a GET may begin one, a
+-- GET-next continues it, and any other request ends it
 abbrev pub outgoing_by_role : Link → Role → Option Reply → Option Sending → Option Sending
 outgoing_by_role link (gets form) reply outgoing = transfer_of_reply link form reply
 outgoing_by_role link (gets_next number) reply outgoing = transfer_after_next number outgoing
 outgoing_by_role link _ reply outgoing = None
 
+-- the long GET after a frame that is not an AARQ and the reply to its event: only a request of the
+-- association's client changes it
 abbrev pub outgoing_in : Option Link → Frame → Option Reply → Option Sending → Option Sending
 outgoing_in None f reply outgoing = outgoing
 outgoing_in (Some link) f reply outgoing = if is_heard link f
     then outgoing_by_role link (role_in link f) reply outgoing else outgoing
 
+-- the long GET after a frame and the reply to its event: an AARQ ends it, and so does any request
+-- except a GET-next
 unfoldable pub outgoing_after : Option Link → Frame → Option Reply → Option Sending → Option Sending
 outgoing_after link f reply outgoing = if is_aarq f then None else outgoing_in link f reply outgoing
 

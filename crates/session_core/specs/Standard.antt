@@ -12,20 +12,23 @@ use Rattle.session_core.specs.declared.conformance.RequestForm.{RequestForm}
 
 -- ---- tags
 
--- AARQ and RLRQ
+-- the tag of an AARQ, the request for an association
 abbrev pub aarq_tag : ℕ
 aarq_tag = 0x60
 
+-- the tag of an RLRQ, the request for a release
 abbrev pub rlrq_tag : ℕ
 rlrq_tag = 0x62
 
--- Get-Request, Set-Request and Action-Request
+-- the tag of a Get-Request
 abbrev pub get_tag : ℕ
 get_tag = 0xC0
 
+-- the tag of a Set-Request
 abbrev pub set_tag : ℕ
 set_tag = 0xC1
 
+-- the tag of an Action-Request
 abbrev pub action_tag : ℕ
 action_tag = 0xC3
 
@@ -53,10 +56,11 @@ request_forms =
 
 -- ---- an AARE
 
--- the association results accepted and rejected-permanent (IEC 62056-5-3, AARE)
+-- the association result accepted
 abbrev pub result_accepted : ℕ
 result_accepted = 0
 
+-- the association result rejected-permanent
 abbrev pub result_rejected : ℕ
 result_rejected = 1
 
@@ -76,11 +80,11 @@ management_client = 1
 
 -- ---- sizes, in bytes
 
--- the smallest PDU size that a client may propose, and the longest PDU that the meter sends and
--- receives
+-- the smallest PDU size that a client may propose, in bytes
 abbrev pub least_pdu : ℕ
 least_pdu = 64
 
+-- the longest PDU that the meter sends and receives, in bytes
 abbrev pub greatest_pdu : ℕ
 greatest_pdu = 1024
 
