@@ -61,6 +61,8 @@ hex_output device password input =
 abbrev pub is_taken : ℕ → Bool
 is_taken character = is_hex_digit character || is_blank character
 
+-- the fault of a text, by the index of its first character that is neither a digit nor skipped;
+-- without such a character it has an odd number of digits
 abbrev pub fault_at : Option ℕ → TextFault
 fault_at (Some index) = text_fault.Digit (index + 1)
 fault_at None = text_fault.OddDigits
@@ -94,7 +96,8 @@ pub record ReadsHex (left left' : Option (List ℕ)) (input : List ℕ) : Type 0
 abbrev pub IsWrongWhole : List ℕ → TextFault → Option (List ℕ) → Type 0
 IsWrongWhole text given left' = IsNoHex text given × (length text ≤ max_characters) × IsAtEnd left'
 
--- why a text was not decoded, after these characters
+-- whether this is why a text was not decoded, after these characters: they are all and not pairs of
+-- hexadecimal digits, they are too many, a read failed, or memory ran out
 abbrev pub FailsToRead : List ℕ → Input → TextFault → Input → Type 0
 FailsToRead text before (text_fault.Digit character) after =
     IsWrongWhole text (text_fault.Digit character) after.left
@@ -128,7 +131,8 @@ pub record RunsShort (device password input : List ℕ) (before after : Output) 
   pub stops : StopsShort CoreSteps hex_line (work_for (plan_of password) input)
       (record { output = before; meter = core }) (record { output = after; meter = core' })
 
--- the effect of a session's bytes on a meter, by the result
+-- Whether serving the bytes of a session by a meter has this result. On success all events were
+-- asked and all answers were written.
 abbrev pub PlaysOn : List ℕ → List ℕ → Outlets RelayCore → Result (Unit {0}) HexFault
     → Outlets RelayCore → Type 0
 PlaysOn password input before (Ok done) after =
@@ -142,12 +146,13 @@ PlaysOn password input before (Err fault.Memory) after =
     WritesNothing before.output after.output
     ⊎ StopsShort CoreSteps hex_line (work_for (plan_of password) input) before after
 
--- the lines of a whole session of a new meter were written
+-- whether the lines of a whole session of a new meter were written
 abbrev pub WritesLines : List ℕ → List ℕ → List ℕ → Output → Output → Type 0
 WritesLines device password input before after =
     Appends before.written after.written (hex_output device password input)
 
--- the effect of a session's bytes on a new meter, by the result
+-- Whether serving the bytes of a session by a new meter has this result. On success the lines of
+-- the whole session were written.
 abbrev pub PlaysNew : List ℕ → List ℕ → List ℕ → Output → Result (Unit {0}) HexFault → Output
     → Type 0
 PlaysNew device password input before (Ok done) after =
@@ -163,7 +168,8 @@ PlaysNew device password input before (Err fault.Memory) after =
 abbrev pub IsWholeText : List ℕ → Input → Type 0
 IsWholeText text after = (length text ≤ max_characters) × IsAtEnd after.left
 
--- the effect of the characters that were read, by the result
+-- whether playing a text, of which these characters were read, has this result; only a text that
+-- was read to its end and decoded can write lines
 abbrev pub HexEffect : List ℕ → List ℕ → List ℕ → Streams → Result (Unit {0}) HexFault → Streams
     → Type 0
 HexEffect device password text before (Ok done) after =

@@ -38,8 +38,8 @@ pub record TakesEvent (old : RelayCore) (event : Event) (reply : Reply) (new : R
     pub world : (w : World) → StandsFor old w → StandsFor new (at_event event w).world
     pub reply_of : (w : World) → StandsFor old w → reply ≡ (at_event event w).reply
 
--- how a core takes an event; if out of memory, it is unchanged, and the event is one that may
--- allocate
+-- whether a core took an event and replied with that of the represented world; or memory ran out,
+-- so that the core is unchanged and the event is one that may allocate
 abbrev pub CoreSteps : RelayCore → Event → Result Reply CallFault → RelayCore → Type 0
 CoreSteps old event (Ok reply) new = TakesEvent old event reply new
 CoreSteps old event (Err Memory) new = (new ≡ old) × (is_sure event ≡ false)

@@ -25,15 +25,17 @@ pub data Happening : Type 0 where
   calls : Event → Reply → Happening
   refuses : Event → Happening
 
--- the entry for a read into a buffer, and below, for a write and for a call
+-- the entry for a read into a buffer
 abbrev pub read_entry : Result ℕ StreamFault → List ℕ → Happening
 read_entry (Ok count) buffer = reads (take count buffer)
 read_entry (Err fault) buffer = fails_to_read
 
+-- the entry for a write of these bytes
 abbrev pub write_entry : {U : Type 0} → Result U StreamFault → List ℕ → Happening
 write_entry (Ok done) bytes = writes bytes
 write_entry (Err fault) bytes = fails_to_write
 
+-- the entry for a call of the meter with this event
 abbrev pub call_entry : Event → Result Reply CallFault → Happening
 call_entry event (Ok reply) = calls event reply
 call_entry event (Err fault) = refuses event
@@ -43,11 +45,12 @@ abbrev pub after_all : List Happening → Option (List Happening) → Option (Li
 after_all new None = None
 after_all new (Some earlier) = Some (new ++ earlier)
 
--- this entry was added last
+-- whether this entry was added last
 abbrev pub Passes : Option (List Happening) → Happening → Option (List Happening) → Type 0
 Passes before happening after = after ≡ after_all (happening ∷ []) before
 
--- a frame was not written; if out of memory, nothing was added to the list
+-- whether a frame was not written, with the entry of a failed write; if memory ran out, nothing was
+-- added to the list
 abbrev pub FailsToPass : Option (List Happening) → ServeFault → Option (List Happening) → Type 0
 FailsToPass before fault.Read after = ⊥
 FailsToPass before fault.Write after = Passes before fails_to_write after
@@ -107,7 +110,7 @@ module _ (written_as : List ℕ → List ℕ) (password : List ℕ) where
       bytes_written happened ≡ flat_map written_as
       (Answers password (bytes_read happened) (replies_in happened))
 
-  -- a read or a call follows all answers so far
+  -- whether a read or a call follows all answers so far; a write may follow anything
   abbrev pub Follows : Happening → List Happening → Type 0
   Follows (reads bytes) earlier = IsAnswered earlier
   Follows fails_to_read earlier = IsAnswered earlier

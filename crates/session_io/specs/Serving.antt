@@ -60,7 +60,7 @@ work_for plan input = record { asks = plan.asks input; sends = plan.sends input 
 abbrev pub as_bytes : List ℕ → List ℕ
 as_bytes text = text
 
--- these texts were written, one after the other
+-- whether these texts were written, one after the other
 abbrev pub WritesTexts : (List ℕ → List ℕ) → List (List ℕ) → Output → Output → Type 0
 WritesTexts written_as texts before after =
     Appends before.written after.written (flat_map written_as texts)
@@ -107,7 +107,7 @@ module _ {M : Type 0}
     pub replied : RepliesTo steps before.meter asked replies after.meter
     pub failed : before.output.failures < after.output.failures
 
-  -- a session stopped early, by its fault
+  -- whether a session stopped early with this fault
   abbrev pub Stops : Work → Outlets M → ServeFault → Outlets M → Type 0
   Stops work before fault.Read after = ⊥
   Stops work before fault.Write after = IsUnwritten work before after
@@ -142,13 +142,13 @@ pub record Pieces (seen : List ℕ) (before after : Input) : Type 0 where
   pub short : length seen ≤ count * longest_piece
   pub counted : after.reads ≡ before.reads + count
 
--- a read failed, or the largest number of reads was made
+-- whether a read failed or the largest number of reads was made
 abbrev pub ReadsNoMore : Input → Input → Type 0
 ReadsNoMore before after =
     (before.failures < after.failures) ⊎ (before.reads + max_reads ≤ after.reads)
 
--- a session may end in this way with these bytes left: unless a header ends it, the input must have
--- ended
+-- whether a session may end in this way with these bytes left: the input must have ended, unless an
+-- invalid header ended the session
 abbrev pub EndsBefore : SessionEnd → Option (List ℕ) → Type 0
 EndsBefore ending.Closed left = IsAtEnd left
 EndsBefore ending.Cut left = IsAtEnd left

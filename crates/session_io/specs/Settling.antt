@@ -28,7 +28,7 @@ fault_of call.Memory = fault.Memory
 fault_of call.Exhausted = fault.Exhausted
 fault_of call.Journal = fault.Journal
 
--- a frame was not written
+-- whether a frame was not written: the write failed, or memory ran out and nothing was written
 abbrev pub FailsToWrite : Output → ServeFault → Output → Type 0
 FailsToWrite before fault.Read after = ⊥
 FailsToWrite before fault.Write after = before.failures < after.failures
@@ -49,7 +49,7 @@ IsWrongHeader ending.Cut = ⊥
 IsWrongHeader ending.BadVersion = ⊤
 IsWrongHeader ending.TooLong = ⊤
 
--- no invalid header ended the session, if it is over
+-- whether no invalid header ended the session: it is not over, or it ended with its input
 abbrev pub MayContinue : Option SessionEnd → Type 0
 MayContinue None = ⊤
 MayContinue (Some end) = EndsWithInput end

@@ -7,14 +7,15 @@ use Rattle.session_log.specs.declared.answer.AnswerKind.TheVariants.{Opened, Not
 use Rattle.session_log.specs.declared.answer.AnswerKind.TheVariants.{Refused, Other}
 use Rattle.session_log.specs.declared.count.AnswerCount.{AnswerCount}
 
+-- the count before the first answer: no requests, none refused
 abbrev pub no_answers : AnswerCount
 no_answers = record { requests = 0; refused = 0 }
 
--- one more, up to 2^64 - 1
+-- a count with one more, up to 2^64 - 1
 abbrev pub one_more : ℕ → ℕ
 one_more n = min (n + 1) (2 ^ 64 - 1)
 
--- only an answer to a request counts
+-- the count after one more answer; only an answer to a request counts
 abbrev pub count_with : AnswerKind → AnswerCount → AnswerCount
 count_with Served count = record { requests = one_more count.requests; refused = count.refused }
 count_with Refused count =
