@@ -19,8 +19,8 @@ AreOfBlocks place (block ∷ blocks) events =
     (ahead : List Event) × (rest : List Event) × IsAhead place ahead
     × (events ≡ ahead ++ event.Samples block ∷ rest) × AreOfBlocks (place + 1) blocks rest
 
--- apart from reads, the events are all blocks of the source's list, in order; the thresholds are
--- read at most before the first block and after every 64 further ones
+-- Whether the events, apart from reads, are all blocks of the source's list, in order. The
+-- thresholds are read at most before the first block and after every 64 further ones.
 abbrev pub AllBlocks : Option (List Samples) → List Event → Type 0
 AllBlocks told events =
     IfSome told (λ blocks. (without_reads events ≡ map event.Samples blocks)
@@ -34,6 +34,6 @@ AreLeft place (Some block) blocks events =
     (rest : List Event) × (events ≡ event.Samples block ∷ rest)
     × AreOfBlocks (place + 1) blocks rest
 
--- `AreLeft` if the source declares its blocks
+-- whether `AreLeft` holds, if the source declares its blocks
 abbrev pub CanFollow : Option (List Samples) → ℕ → (waiting : Option Samples) → List Event → Type 0
 CanFollow told place waiting events = IfSome told (λ blocks. AreLeft place waiting blocks events)

@@ -11,7 +11,8 @@ use Rattle.turn_lock.specs.Shown.{ShownPort}
 use Rattle.turn_lock.specs.declared.call_fault.CallFault.{CallFault}
 use Rattle.turn_lock.specs.declared.call_fault.CallFault.TheVariants.{Memory, Exhausted, Journal}
 
--- a port of a meter
+-- the port of a shared meter as contracts see it: its events are those of the meter, its replies
+-- the meter's, and its origin is an opening
 abbrev pub MeterPort : Type 0
 MeterPort = ShownPort Event Reply Opening
 
@@ -20,6 +21,7 @@ abbrev pub own_events : MeterPort → List Event
 own_events port = map (λ (call : Entry Event Reply). call.event)
     (calls_by port.known.number port.known.seen)
 
+-- whether an event is a read of several attributes, the only read that a worker makes
 abbrev pub is_read : Event → Bool
 is_read (event.GetList level items) = true
 is_read _ = false
@@ -28,7 +30,7 @@ is_read _ = false
 abbrev pub without_reads : List Event → List Event
 without_reads events = filter (λ (e : Event). not (is_read e)) events
 
--- the event of a source was passed on, or it was left out because it allocates
+-- whether the event of a source was passed on, or was left out because it allocates
 abbrev pub Passes : Event → (before after : List Event) → Type 0
 Passes event before after = (after ≡ before ++ event ∷ []) ⊎ (¬ (IsSure event) × (after ≡ before))
 
@@ -38,8 +40,8 @@ pub record PassesAll (CanFollow : List Event → Type 0) (p q : MeterPort) : Typ
   pub handed : own_events q ≡ own_events p ++ events
   pub all : CanFollow events
 
--- why a worker stops before its source ends: never because out of memory, only because its port has
--- read that all turns of the lock's bound were drawn
+-- whether a worker may stop with this fault before its source ends: never because out of memory,
+-- only because its port has read that all turns of the lock's bound were drawn
 abbrev pub StopsFor : MeterPort → CallFault → Type 0
 StopsFor q Memory = ⊥
 StopsFor q Exhausted = q.bound ≤ q.known.drawn

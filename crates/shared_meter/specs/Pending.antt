@@ -47,11 +47,11 @@ pub record IsPending (pending : PendingView) (lines : List (List ℕ)) : Type 0 
   pub taken : pending.taken ≤ length lines
   pub text : pending.text ≡ text_of (drop pending.taken lines)
 
--- unless a line was lost, the text is that of the lines that were not taken
+-- whether the text is that of the lines that were not taken, unless a line was lost
 abbrev pub Pends : PendingView → List (List ℕ) → Type 0
 Pends pending lines = pending.is_lost ≡ false → IsPending pending lines
 
--- a meter without a journal has no pending lines
+-- whether the pending lines of a meter, if it has a journal, are those that were not taken
 abbrev pub PendsIn : Option PendingView → List (List ℕ) → Type 0
 PendsIn None lines = ⊤
 PendsIn (Some pending) lines = Pends pending lines
@@ -64,12 +64,14 @@ pub record IsRest (lines : List (List ℕ)) (taken : ℕ) (text : List ℕ) (cou
   pub text_is : text ≡ text_of (drop taken lines)
   pub count_is : count ≡ length lines
 
--- what a question finds, by the lines of the history
+-- Whether this is what a question finds, by the lines of the history: their number, or the text
+-- after the lines that were taken. Nothing is claimed of an incomplete finding.
 abbrev pub Answers : List (List ℕ) → Question → Finding → Type 0
 Answers lines question (Incomplete) = ⊤
 Answers lines question.Count (Count count) = count ≡ length lines
 Answers lines (question.Take taken room) (Taken text count) = IsRest lines taken text.items count
 Answers lines _ _ = ⊥
 
+-- whether this is what a question finds in a history of calls
 abbrev pub Finds : List (Entry Event Reply) → Question → Finding → Type 0
 Finds calls question finding = Answers (lines_of_calls calls) question finding

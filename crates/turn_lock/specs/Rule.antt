@@ -116,7 +116,8 @@ module _ {T E R O : Type 0} (origin : T → O) (stands : T → List (Entry E R) 
     pub origin_is : origin value ≡ now.start
     pub not_closed : now.closed ≡ 0
 
-  -- what a seat knows at its stage; `first` is the value that the lock was made with
+  -- whether a seat at this stage knows what holds at the moment; `first` is the value that the lock
+  -- was made with
   abbrev pub FitsStage : T → Moment T E R O → ℕ → Known E R O → Stage E R O → Type 0
   FitsStage first now seat known New = (now.lone ≡ true) × (now.home ≡ some (full_slot first None))
   FitsStage first now seat known Young = HasNoCalls known

@@ -8,7 +8,7 @@ use Rattle.turn_lock.specs.Calls.{IsLegal}
 abbrev pub next_count : ℕ → ℕ
 next_count n = (n + 1) % 2 ^ 64
 
--- starting from count n, each call's reply is the next count
+-- whether the reply of each call is the next count, starting from count n
 abbrev pub Counts : {E : Type 0} → ℕ → List (Entry E ℕ) → Type 0
 Counts n [] = Unit {0}
 Counts n (call ∷ calls) = (call.reply ≡ next_count n) × Counts (next_count n) calls
