@@ -19,6 +19,7 @@ use Rattle.sqlite_ledger.specs.Schema.{begun_tree}
 abbrev pub IsBegun : Trees → ℤ → Type 0
 IsBegun db place = IsTrue (list_any (has_rowid place) (db begun_tree))
 
+-- whether a place has its mark in all trees that a crash may leave
 abbrev pub IsMarked : (Trees → Type 0) → ℤ → Type 0
 IsMarked may_leave place = (db : Trees) → may_leave db → IsBegun db place
 
@@ -27,12 +28,16 @@ pub record IsLeft (db : Trees) (entries : ℕ → LedgerEntry) : Type 0 where
   pub gone : (place : ℕ) → IsBegun db (pos place) → HasGone (entries place)
   pub begun : (place : ℕ) → HasGone (entries place) → IsBegun db (pos place)
 
+-- whether a crash may leave trees whose marks are those that these entries report
 abbrev pub LeavesEntries : (Trees → Type 0) → (ℕ → LedgerEntry) → Type 0
 LeavesEntries may_leave entries = (db : Trees) × ∥ may_leave db ∥₁ × IsLeft db entries
 
+-- whether a crash leaves exactly the last commit while the connection is open
 abbrev pub LeavesCommit : State → Type 0
 LeavesCommit s = IsTrue s.is_open → (db : Trees) → s.may_leave db → db ≡ s.committed.trees
 
+-- if a place has its mark in all trees that a crash may leave, the entries that the next run finds
+-- report that its command may have been sent
 pub left_marked : (may_leave : Trees → Type 0) (place : ℕ) (entries : ℕ → LedgerEntry)
     → IsMarked may_leave (pos place) → LeavesEntries may_leave entries → HasGone (entries place)
 left_marked may_leave place entries down left = left.2.gone place

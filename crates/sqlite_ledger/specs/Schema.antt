@@ -11,6 +11,7 @@ use Rattle.sqlite_schema.specs.declared.schema.Column.{Column}
 use Rattle.sqlite.specs.Table.{Table}
 use Rattle.sqlite.specs.Schema.{Schema}
 
+-- a column of a STRICT table with a type, without a default, and NOT NULL if `not_null` holds
 abbrev pub strict_column : List ℕ → Kind → Bool → Column
 strict_column name kind not_null = record {
   name = name;
@@ -21,6 +22,7 @@ strict_column name kind not_null = record {
   collation = Binary;
 }
 
+-- a table whose first column is its INTEGER PRIMARY KEY, without indexes, checks or other rules
 abbrev pub keyed_table : List ℕ → ℕ → List Column → Table
 keyed_table name tree columns = record {
   name = name;
@@ -37,6 +39,7 @@ keyed_table name tree columns = record {
   is_counted = false;
 }
 
+-- the number of the tree that holds the table `begun`
 abbrev pub begun_tree : ℕ
 begun_tree = 0
 
@@ -45,6 +48,7 @@ abbrev pub begun_table : Table
 begun_table = keyed_table (codes "begun") begun_tree (strict_column (codes "place") Integer false
     ∷ strict_column (codes "at") Integer true ∷ [])
 
+-- the number of the tree that holds the table `outcome`
 abbrev pub outcome_tree : ℕ
 outcome_tree = 1
 
@@ -65,6 +69,7 @@ abbrev pub campaign_table : Table
 campaign_table = keyed_table (codes "campaign") 3 (strict_column (codes "version") Integer false
     ∷ strict_column (codes "jobs") Integer true ∷ [])
 
+-- the schema of a ledger's file: its four tables, without an index or a view
 abbrev pub ledger_schema : Schema
 ledger_schema = record {
   tables = begun_table ∷ outcome_table ∷ job_table ∷ campaign_table ∷ [];

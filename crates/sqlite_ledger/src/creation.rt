@@ -15,6 +15,7 @@ CREATE TABLE job (place INTEGER PRIMARY KEY, name TEXT NOT NULL, address TEXT NO
 verb TEXT NOT NULL) STRICT;
 CREATE TABLE campaign (version INTEGER PRIMARY KEY, jobs INTEGER NOT NULL) STRICT;";
 
+// Writes the one row of the campaign: the version of the tables and the number of jobs.
 const INSERT_CAMPAIGN: &str = "INSERT INTO campaign (version, jobs) VALUES (?1, ?2)";
 
 // Writes the jobs at their places, and returns their number.

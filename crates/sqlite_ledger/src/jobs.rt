@@ -6,6 +6,7 @@ use sqlite::types::ValueRef;
 use sqlite::{Alter, Error, Row, Transaction};
 use std::alloc::Global;
 
+// Writes a job at its place: the meter's name, its address and the verb.
 const INSERT_JOB: &str = "INSERT INTO job (place, name, address, verb) VALUES (?1, ?2, ?3, ?4)";
 
 // Returns the word for a verb, as a list of jobs has it.

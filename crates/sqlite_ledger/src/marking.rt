@@ -8,6 +8,7 @@ ghost use Rattle.sqlite_ledger.specs.Taken.{is_taken};
 
 use sqlite::{Alter, Connection, Error, ErrorCode, params};
 
+// Writes the mark of a place and the second of the mark. It fails if the mark is there.
 const INSERT_BEGUN: &str = "INSERT INTO begun (place, at) VALUES (?1, ?2)";
 
 // Writes the mark of a place, in a transaction of its own: its key is the right to send the command

@@ -12,6 +12,7 @@ ghost use Rattle.sqlite.specs.declared.types.Value.TheVariants.{Int};
 use client_core::Outcome;
 use sqlite::{Alter, Connection, Error, ErrorCode, params};
 
+// Writes the outcome of a place: its kind, its number or NULL, and the second.
 const INSERT_OUTCOME: &str =
     "INSERT INTO outcome (place, kind, number, at) VALUES (?1, ?2, ?3, ?4)";
 

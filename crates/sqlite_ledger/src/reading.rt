@@ -15,10 +15,13 @@ use ledger_reports::{LedgerLine, LedgerTimes};
 use sqlite::{Alter, Connection, Error, Row};
 use std::alloc::Global;
 
+// The jobs in the order of their places.
 const SELECT_JOBS: &str = "SELECT place, name, address, verb FROM job ORDER BY place";
 
+// The places with a mark.
 const SELECT_BEGUN: &str = "SELECT place FROM begun";
 
+// The places with an outcome, its kind and its number.
 const SELECT_OUTCOMES: &str = "SELECT place, kind, number FROM outcome";
 
 // The times of the marks.
