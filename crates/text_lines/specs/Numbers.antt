@@ -14,7 +14,7 @@ unfoldable pub number_of : ℕ → List ℕ → Option ℕ
 number_of limit word = if is_decimal word && nat_le (digits_value 10 word) limit
     then Some (digits_value 10 word) else None
 
--- a word of one byte, or of several of which the first is not 0
+-- whether a word has one byte, or several of which the first is not 0
 abbrev pub begins_number : List ℕ → Bool
 begins_number word = nat_lt 0 (length word) && (length word == 1 || not (slice_index word 0 == 48))
 

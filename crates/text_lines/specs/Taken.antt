@@ -3,7 +3,8 @@ use Rattle.std.specs.Prelude.{◌≡◌, ℕ, List, [], ◌∷◌, Option, Match
 use Rattle.std.specs.Borrow.{Bor}
 use Rattle.text_lines.specs.Lines.{lines_of, unended_of}
 
--- the first line of the text is read; if no line is ended, nothing changes
+-- whether the first line of a text was read, and the new text is what follows it; if no line is
+-- ended, nothing changes
 abbrev pub TakesLine : List ℕ → Option (Bor (List ℕ)) → List ℕ → Type 0
 TakesLine old result new =
     MatchOption result ((lines_of old ≡ []) × (unended_of old ≡ old) × (new ≡ old))

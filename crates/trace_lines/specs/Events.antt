@@ -60,12 +60,14 @@ later_forms Two =
     (λ pairs. Samples (pairs_of (map (λ pair. pair.0) pairs) (map (λ pair. pair.1) pairs))) (
     otherwise Wrong)
 
--- the place of each event in the table of version 2, and its parts
+-- the place of a block of samples in the table of version 2, and its parts: `samples` for imported
+-- power alone, `pairs` for both
 abbrev pub samples_parts : List ℕ → Option (List ℕ) → Parts (event_forms (later_forms Two))
 samples_parts imports None = inr (inr (inr (inr (inr (inr (inl imports))))))
 samples_parts imports (Some exports) =
     inr (inr (inr (inr (inr (inr (inr (inl (zip imports exports))))))))
 
+-- the place of each event in the table of version 2, and its parts
 abbrev pub event_parts : Event → Parts (event_forms (later_forms Two))
 event_parts (Get level attr selected) = inl (level, record { attr = attr; selected = selected })
 event_parts (GetList level items) = inr (inl (level, items))
@@ -81,6 +83,8 @@ abbrev pub AreEven : List ℕ → Option (List ℕ) → Type 0
 AreEven imports None = Unit {0}
 AreEven imports (Some exports) = length imports ≡ length exports
 
+-- whether a block of both powers has as many export samples as import samples; every other event is
+-- even
 abbrev pub IsEven : Event → Type 0
 IsEven (Samples block) = AreEven block.import block.export
 IsEven _ = Unit {0}

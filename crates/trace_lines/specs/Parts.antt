@@ -22,6 +22,7 @@ use Rattle.trace_lines.specs.Reading.{level_in, level_number, name_in, parameter
 abbrev pub level_part : Part Level
 level_part = word level_in (λ level. decimal (level_number level)) (λ level. Unit {0})
 
+-- a class_id, in decimal
 abbrev pub class_part : Part ClassId
 class_part = iso (λ n. record { 0 = n }) (λ class. class.0) (number_part 65535)
 

@@ -40,6 +40,7 @@ parameter_in word = if pointwise nat_eq word (codes "-") then Ok None else do
   value ← data_in word
   Ok (Some value)
 
+-- the word that is written for the parameter of a method: a Data in hexadecimal, or `-` for none
 abbrev pub parameter_word : Option Data → Word
 parameter_word None = codes "-"
 parameter_word (Some value) = data_word value

@@ -18,8 +18,8 @@ use Rattle.trace_lines.specs.Reading.{parameter_word}
 unfoldable pub IsTraced : Event → Type 0
 IsTraced event = event_format.Fits event
 
--- an event within the limits of a line: a list has at most 102 attributes, and a value or a
--- parameter is within the limits of a written Data
+-- whether an event is within the limits of a line: a list has at most 102 attributes, and a value
+-- or a parameter is within the limits of a written Data
 abbrev pub FitsLine : Event → Type 0
 FitsLine (GetList level items) = length items ≤ max_items
 FitsLine (Set level attr selected value) = IsHeld value

@@ -54,7 +54,7 @@ data_part = word data_in data_word IsHeld
 
 -- ---- items
 
--- each of the items has a property
+-- whether each of the items has a property
 abbrev pub Each : {A : Type 0} → (A → Type 0) → List A → Type 0
 Each Holds [] = Unit {0}
 Each Holds (a ∷ items) = Holds a × Each Holds items

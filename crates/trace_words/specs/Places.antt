@@ -29,10 +29,12 @@ pub record Place : Type 0 where
   pub rows : List Row
   pub unended : List ℕ
 
+-- the result of reading lines as an X: the value and the place after it, or the fault of a line
 abbrev pub ReadLines : Type 0 → Type 0
 ReadLines X = Result (X × Place) TraceFault
 
--- code returns what the definition says, and leaves the lines after those that it read
+-- whether code returns what a definition gives and leaves the lines after those that it read, or
+-- fails as the definition does, or is out of memory
 abbrev pub ReadsLines : {X Y : Type 0} → (X → Y) → Result X TraceFault → Place → ReadLines Y
     → Type 0
 ReadsLines view (Ok x) new given = given ≡ Ok (view x, new)

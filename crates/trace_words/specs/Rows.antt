@@ -10,16 +10,20 @@ use Rattle.wire_bytes.specs.Outcome.{◌>>=◌, Fails}
 use Rattle.trace_words.specs.declared.fault.RowFault.{RowFault}
 use Rattle.trace_words.specs.declared.fault.RowFault.TheVariants.{Wrong, Memory}
 
+-- a word of a line: its bytes, without blanks
 abbrev pub Word : Type 0
 Word = List ℕ
 
+-- the words of a line
 abbrev pub Row : Type 0
 Row = List Word
 
+-- the result of reading words as an X: the value and the words after it, or the fault of the line
 abbrev pub Read : Type 0 → Type 0
 Read X = Result (X × Row) RowFault
 
--- code returns what the definition says, and leaves the words after those that it read
+-- whether code returns what a definition gives and leaves the words after those that it read, or
+-- fails as the definition does, or is out of memory
 abbrev pub Reads : {X Y : Type 0} → (X → Y) → Result X RowFault → Row → Read Y → Type 0
 Reads view (Ok x) new given = given ≡ Ok (view x, new)
 Reads view (Err fault) new given = Fails Memory fault given
