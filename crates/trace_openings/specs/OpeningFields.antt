@@ -59,6 +59,8 @@ device_in word = do
   guard (nat_le (length bytes) 16) Wrong
   Ok bytes
 
+-- control_state (class 70, attribute 3) from its number: 0 disconnected, 1 connected, 2 ready for
+-- reconnection
 abbrev pub state_in : Word → Result ControlState RowFault
 state_in word = do
   number ← number_in 2 word
@@ -104,10 +106,11 @@ type_in word = do
 
 -- ---- parts of a limiter's lines
 
--- id, start and duration of an emergency profile
+-- the start of an emergency profile: a date-time, its twelve bytes in hexadecimal
 abbrev pub start_part : Part DateTimeFields
 start_part = word start_in (λ start. encode_upper (date_time_bytes start)) IsDateTimeFields
 
+-- an emergency profile: its id, its start and its duration in seconds
 abbrev pub profile_part : Part Profile
 profile_part =
     iso (λ p. record { id = p.0; start = p.1.0; duration = p.1.1 })
@@ -138,15 +141,19 @@ count_part = iso (λ p. record { run = p.0; fired = p.1 }) (λ c. (c.run, c.fire
 abbrev pub version_from : Row → Result Version RowFault
 version_from row = labelled_value (codes "RELAYTRACE") version_in row
 
+-- the emergency profile of a limiter, from the words of its line
 unfoldable pub profile_from : Which → Row → Result Profile RowFault
 profile_from which row = line_read (labelled_part (label which (codes "profile")) profile_part) row
 
+-- the emergency profile group ids of a limiter, from the words of its line
 unfoldable pub groups_from : Which → Row → Result (List ℕ) RowFault
 groups_from which row = line_read (labelled_part (label which (codes "groups")) groups_part) row
 
+-- the script selectors of a limiter's actions, from the words of their line
 unfoldable pub actions_from : Which → Row → Result Actions RowFault
 actions_from which row = line_read (labelled_part (label which (codes "actions")) actions_part) row
 
+-- the run of one side of a limiter, from the words of the line with this label
 unfoldable pub count_from : Word → Row → Result Count RowFault
 count_from name row = line_read (labelled_part name count_part) row
 

@@ -21,19 +21,24 @@ use Rattle.trace_words.specs.Rows.{Word, Row}
 use Rattle.trace_words.specs.Writing.{data_word}
 use Rattle.trace_words.specs.Labels.{number_row}
 
+-- the word for the last moment, in seconds since 2000-01-01 00:00:00; `-` if there was none
 abbrev pub moment_word : Option ℕ → Word
 moment_word None = codes "-"
 moment_word (Some moment) = decimal moment
 
+-- the line of a run of a limiter, over or under the threshold, with this label
 abbrev pub count_row : Word → Count → Row
 count_row name = (labelled_part name count_part).text
 
+-- the line of a limiter's emergency profile
 abbrev pub profile_row : Which → Profile → Row
 profile_row which = (labelled_part (label which (codes "profile")) profile_part).text
 
+-- the line of a limiter's emergency profile group ids
 abbrev pub groups_row : Which → List ℕ → Row
 groups_row which = (labelled_part (label which (codes "groups")) groups_part).text
 
+-- the line of the script selectors of a limiter's actions
 abbrev pub actions_row : Which → Actions → Row
 actions_row which = (labelled_part (label which (codes "actions")) actions_part).text
 
@@ -59,11 +64,13 @@ limiter_rows which limiter =
     settings_rows which limiter.settings ++ count_row (label which (codes "over")) limiter.over
     ∷ count_row (label which (codes "under")) limiter.under ∷ []
 
+-- the line of the schedule with this number
 abbrev pub schedule_row : ℕ → Schedule → Row
 schedule_row number schedule =
     codes "schedule" ∷ decimal number ∷ decimal schedule.selector
     ∷ decimal (number_of schedule.kind) ∷ data_word (entries_data schedule.entries) ∷ []
 
+-- the lines of the four schedules
 abbrev pub schedule_rows : Schedules → List Row
 schedule_rows schedules =
     schedule_row 0 schedules.first ∷ schedule_row 1 schedules.second
