@@ -12,7 +12,7 @@ abbrev pub kept_lines : Recording → List Exchange → World → List ℕ
 kept_lines r history origin =
     lines_text 1 (drop (length history - length r.events) (lines_of (events_of history) origin))
 
--- a trace prints the end of every history that a recorder represents
+-- whether a trace prints the end of every history that a recorder represents
 abbrev pub PrintsTheEnd : Recording → Trace → Type 0
 PrintsTheEnd r trace = (history : List Exchange) (origin : World)
     → StandsForHistory r history origin

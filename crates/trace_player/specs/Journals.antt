@@ -21,6 +21,7 @@ use Rattle.trace_words.specs.Rows.{Row}
 abbrev pub journal_rows : Trace → List Row
 journal_rows trace = opening_rows trace.opening ++ open_row ∷ map event_row trace.events
 
+-- the text of a journal, with the byte 0A after each line
 abbrev pub journal_text : Trace → List ℕ
 journal_text trace = rows_text (journal_rows trace)
 
@@ -37,7 +38,7 @@ pub record FitsJournal (trace : Trace) : Type 0 where
   pub fit : IsFitOpening trace.opening
   pub events : All FitsLine trace.events
 
--- the first of these lines is this one
+-- whether the first of the lines is this one
 abbrev pub StartsWith : List (List ℕ) → List ℕ → Type 0
 StartsWith [] line = ⊥
 StartsWith (first ∷ lines) line = first ≡ line

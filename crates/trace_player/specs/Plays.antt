@@ -13,7 +13,8 @@ use Rattle.trace_player.specs.declared.fault.PlayFault.{PlayFault}
 use Rattle.trace_player.specs.declared.fault.PlayFault.TheVariants as fault
 use Rattle.trace_player.specs.declared.output.PlayedLines.{PlayedLines}
 
--- the result for the bytes that were read: the output of the trace that they all are, or a fault
+-- Whether the bytes that were read have this result: the output of the trace that they all are, or
+-- a fault. The two numbers count the failed reads before and after.
 abbrev pub Gave : List ℕ → ℕ → Result PlayedLines PlayFault → Option (List ℕ) → ℕ → Type 0
 Gave bytes failed (Ok output) left' failed' =
     PlaysTrace (trace_of bytes) output.lines.items output.count × IsAtEnd left'
@@ -34,8 +35,8 @@ pub record TakesTrace (left : Option (List ℕ)) (failed : ℕ) (result : Result
 module _ {R W : Type 0}
     (remaining : R → Option (List ℕ)) (read_failures : R → ℕ)
     (contents : W → Option (List ℕ)) (write_failures : W → ℕ) where
-  -- the result of playing the bytes that were read: nothing is written but the whole output of
-  -- their trace
+  -- whether playing the bytes that were read has this result; nothing is written but the whole
+  -- output of their trace
   abbrev pub Played : List ℕ → R → W → Result ℕ PlayFault → R → W → Type 0
   Played bytes r w (Ok count) r' w' =
       (trace : Trace) × (trace_of bytes ≡ Ok trace) × IsAtEnd (remaining r')

@@ -17,14 +17,14 @@ pub record IsTraceOf (r : Recording) (trace : Trace) : Type 0 where
   pub opening : trace.opening ≡ opening_of r.opening
   pub events : trace.events ≡ r.events
 
--- whatever comes next, a meter that represents this world answers as one with this history would
--- have answered
+-- whether a meter that represents this world answers every further event as one with this history
+-- would have answered
 abbrev pub AnswersAlike : World → List Exchange → World → Type 0
 AnswersAlike world history origin = (further : List Event)
     → replies_from world further ≡ replies_from (world_after (events_of history) origin) further
 
--- a meter that represents this world continues from the end of the run of the meter that wrote the
--- trace
+-- whether a meter that represents this world continues from the end of the run of the meter that
+-- wrote the trace
 abbrev pub ContinuesRun : Trace → World → Type 0
 ContinuesRun trace world = (r : Recording) → IsTraceOf r trace
     → (history : List Exchange) (origin : World) → StandsForHistory r history origin

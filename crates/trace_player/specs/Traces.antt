@@ -65,5 +65,6 @@ abbrev pub trace_rows : Trace → List Row
 trace_rows trace = opening_rows trace.opening ++ number_row (codes "events") (length trace.events)
     ∷ map event_row trace.events
 
+-- the text of a trace in version 2, with the byte 0A after each line
 abbrev pub trace_text : Trace → List ℕ
 trace_text trace = rows_text (trace_rows trace)

@@ -15,7 +15,7 @@ use Rattle.text_lines.specs.Lines.{rows_of, rows_text}
 abbrev pub IsOfVersionTwo : List ℕ → Type 0
 IsOfVersionTwo text = (rows : List Row) × (rows_of text ≡ number_row (codes "RELAYTRACE") 2 ∷ rows)
 
--- no line of a text is `events -`
+-- whether no line of a text is `events -`, so that it states the number of its events
 abbrev pub IsCounted : List ℕ → Type 0
 IsCounted text = (before after : List Row) → rows_of text ≡ before ++ open_row ∷ after → ⊥
 

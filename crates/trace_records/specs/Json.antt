@@ -27,6 +27,7 @@ plain_members r =
     member (codes "time") (nullable (option_map (λ n. string (civil_text first_day n)) r.moment)) (
     no_members))))))
 
+-- a record as a JSON object, whose members are in the order of their keys
 abbrev pub json_object : Fields → Data
 json_object r = object (event_member r.event (plain_members r))
 

@@ -36,7 +36,7 @@ abbrev pub IsLine : TraceFault → Type 0
 IsLine (Line number) = Unit {0}
 IsLine _ = ⊥
 
--- code read the next line as an event, or gave the fault of the line
+-- whether code read the next line as this event, or returned the fault of the line
 abbrev pub ReadsEvent : Result Event TraceFault → Place → ReadLines Event → Type 0
 ReadsEvent (Ok event) new given = given ≡ Ok (event, new)
 ReadsEvent (Err fault) new given = (given ≡ Err fault) × IsLine fault

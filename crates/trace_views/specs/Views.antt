@@ -55,6 +55,7 @@ pub record Step : Type 0 where
   pub line : Line
   pub moment : Option ℕ
 
+-- the event with this number of a run, at the world before it
 abbrev pub step_at : ℕ → Event → World → Step
 step_at number event w = record {
   number = number;
@@ -70,11 +71,12 @@ steps number [] w = []
 steps number (event ∷ events) w =
     step_at number event w ∷ steps (suc number) events (at_event event w).world
 
--- whether a number is below the lower bound, or above the upper one
+-- whether a number is below the lower bound, if there is one
 abbrev pub is_below : Option ℕ → ℕ → Bool
 is_below None number = false
 is_below (Some first) number = nat_lt number first
 
+-- whether a number is above the upper bound, if there is one
 abbrev pub is_above : Option ℕ → ℕ → Bool
 is_above None number = false
 is_above (Some last) number = nat_lt last number
@@ -98,6 +100,7 @@ abbrev pub is_shown : TraceView → ℕ → Switch → Line → Bool
 is_shown view number before line =
     is_within view number && (not view.changes_only || is_change before line)
 
+-- whether a view shows the line of an event of a run
 abbrev pub is_step_shown : TraceView → Step → Bool
 is_step_shown view step = is_shown view step.number step.before step.line
 
@@ -124,14 +127,17 @@ abbrev pub text_in_view : TraceView → ℕ → Event → Line → Option ℕ �
 text_in_view view number event line moment =
     text_in_format view.format view.with_events number event line moment
 
+-- an event of a run in the format of a view
 abbrev pub text_of_step : TraceView → Step → List ℕ
 text_of_step view step = text_in_view view step.number step.event step.line step.moment
 
--- what comes before the events in a format: of comma-separated values the names of the columns
+-- what precedes the events in a format: the names of the columns of comma-separated values, and
+-- nothing in any other
 abbrev pub head_of_format : TraceFormat → Bool → List ℕ
 head_of_format Csv with_events = csv_head with_events
 head_of_format _ with_events = []
 
+-- what precedes the events in the format of a view
 abbrev pub head_text : TraceView → List ℕ
 head_text view = head_of_format view.format view.with_events
 
