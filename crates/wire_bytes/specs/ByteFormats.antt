@@ -53,14 +53,18 @@ flag fault =
 
 -- ---- a part that may be absent
 
+-- the text of a part that may be absent: 0 for an absent part, else 1 and the text of the part
 abbrev pub optional_text : {A : Type 0} → (A → List ℕ) → Option A → List ℕ
 optional_text text None = 0x00 ∷ []
 optional_text text (Some a) = 0x01 ∷ text a
 
+-- whether the part fits, if it is present
 abbrev pub OptionalFits : {A : Type 0} → (A → Type 0) → Option A → Type 0
 OptionalFits Fits None = Unit {0}
 OptionalFits Fits (Some a) = Fits a
 
+-- whether the bytes spell a part that may be absent: the flag false alone, or the flag true
+-- followed by a spelling of the part
 abbrev pub OptionalSpells : {A : Type 0} → (Bool → List ℕ → Type 0) → (A → List ℕ → Type 0)
     → Option A → List ℕ → Type 0
 OptionalSpells IsFlag Spells None = IsFlag false

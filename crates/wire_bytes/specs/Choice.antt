@@ -27,7 +27,7 @@ Parts (otherwise fault) = ⊥
 Parts (on key {X = X} part make others) = X ⊎ Parts others
 Parts (under key missing inner others) = Parts inner ⊎ Parts others
 
--- the value made of it
+-- the value that is made of the part that was read
 abbrev pub value_of : {T F A : Type 0} → (c : Choice T F A) → Parts c → A
 value_of (otherwise fault) none = absurd none
 value_of (on key part make others) (inl x) = make x
@@ -64,7 +64,7 @@ keyed_text (on key part make others) (inr p) = keyed_text others p
 keyed_text (under key missing inner others) (inl p) = key ∷ keyed_text inner p
 keyed_text (under key missing inner others) (inr p) = keyed_text others p
 
--- the part fits
+-- whether the part that follows the first tokens fits
 abbrev pub KeyedFits : {T F A : Type 0} → (c : Choice T F A) → Parts c → Type 0
 KeyedFits (otherwise fault) none = absurd none
 KeyedFits (on key part make others) (inl x) = part.Fits x
@@ -72,7 +72,8 @@ KeyedFits (on key part make others) (inr p) = KeyedFits others p
 KeyedFits (under key missing inner others) (inl p) = KeyedFits inner p
 KeyedFits (under key missing inner others) (inr p) = KeyedFits others p
 
--- a first token, followed by a spelling of a part of which the value is made
+-- whether the tokens are a first token of the choice, followed by a spelling of a part of which the
+-- value is made
 abbrev pub KeyedSpells : {T F A : Type 0} → Choice T F A → A → List T → Type 0
 KeyedSpells (otherwise fault) a tokens = ⊥
 KeyedSpells (on key part make others) a tokens =

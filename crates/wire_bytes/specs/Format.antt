@@ -66,8 +66,8 @@ empty = record {
   Spells = λ nothing tokens. tokens ≡ [];
 }
 
--- one format, and then another that may depend on the value of the first
 infixr 6 ◌▷◌
+-- one format, and then another that may depend on the value of the first
 abbrev pub ◌▷◌ : {T F A : Type 0} {B : A → Type 0} → Format T F A → ((a : A) → Format T F (B a))
     → Format T F ((a : A) × B a)
 first ▷ next = record {
@@ -77,8 +77,8 @@ first ▷ next = record {
   Spells = λ both. IsJoined (first.Spells both.0) ((next both.0).Spells both.1);
 }
 
--- one format, and then another
 infixr 6 ◌&◌
+-- one format, and then another that does not depend on the first
 abbrev pub ◌&◌ : {T F A B : Type 0} → Format T F A → Format T F B → Format T F (A × B)
 first & second = first ▷ (λ _. second)
 
@@ -125,7 +125,7 @@ items_read item_read (suc n) rest = do
   others ← items_read item_read n first.1
   Ok (first.0 ∷ others.0, others.1)
 
--- consecutive items, spelled one after the other
+-- whether the tokens are spellings of the items, one after the other
 abbrev pub AreItems : {T A : Type 0} → (A → List T → Type 0) → List A → List T → Type 0
 AreItems IsItem [] tokens = tokens ≡ []
 AreItems IsItem (x ∷ xs) tokens = IsJoined (IsItem x) (AreItems IsItem xs) tokens

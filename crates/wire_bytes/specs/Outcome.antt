@@ -21,12 +21,12 @@ abbrev pub guard : {F : Type 0} → Bool → F → Result (Unit {0}) F
 guard true fault = Ok tt
 guard false fault = Err fault
 
--- an error of code: it is out of memory, or it is the fault that the definition gives
+-- whether an error of code is out of memory, or is the fault that the definition gives
 abbrev pub Fails : {X F : Type 0} → F → F → Result X F → Type 0
 Fails memory error given = (error ≡ memory) ⊎ (given ≡ Err error)
 
--- the result of code, its value seen through a view, is that of the definition, unless it is out of
--- memory
+-- whether the result of code, its value seen through a view, is that of the definition; or code is
+-- out of memory
 abbrev pub Gives : {X Y F : Type 0} → F → (X → Y) → Result X F → Result Y F → Type 0
 Gives memory view (Ok x) given = given ≡ Ok (view x)
 Gives memory view (Err error) given = Fails memory error given

@@ -8,8 +8,8 @@
 use Rattle.std.specs.Prelude.{◌≡◌, ℕ, nat_le, List, [], ◌∷◌, length, take, drop, Result, Ok, Err}
 use Rattle.wire_bytes.specs.Outcome.{◌>>=◌, ◌>>◌, guard}
 
--- a step of code returns the value of the definition and leaves the definition's rest, or returns
--- its fault
+-- whether a step of code returned the value of the definition and left the definition's rest, or
+-- returned its fault
 abbrev pub Reads : {X Y F : Type 0} → (X → Y) → Result X F → List ℕ → Result (Y × List ℕ) F → Type 0
 Reads view (Ok x) new given = given ≡ Ok (view x, new)
 Reads view (Err fault) new given = given ≡ Err fault

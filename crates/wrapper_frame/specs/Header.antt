@@ -26,16 +26,19 @@ max_payload = 1024
 abbrev pub header_field : ℕ → List ℕ → ℕ
 header_field others bytes = big_number 2 (drop (others * 2) bytes)
 
--- the four fields; the length is that of the payload
+-- the version of the wrapper, in the first field of the header
 abbrev pub version_of : List ℕ → ℕ
 version_of bytes = header_field 0 bytes
 
+-- the source port, in the second field of the header
 abbrev pub src_of : List ℕ → ℕ
 src_of bytes = header_field 1 bytes
 
+-- the destination port, in the third field of the header
 abbrev pub dst_of : List ℕ → ℕ
 dst_of bytes = header_field 2 bytes
 
+-- the length of the payload in bytes, in the fourth field of the header
 abbrev pub length_of : List ℕ → ℕ
 length_of bytes = header_field 3 bytes
 

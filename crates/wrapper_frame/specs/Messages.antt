@@ -50,16 +50,16 @@ frames_of bytes = (cut_in (length bytes) bytes).frames
 unfoldable pub rest_of : List ℕ → List ℕ
 rest_of bytes = (cut_in (length bytes) bytes).rest
 
--- all elements are bytes
+-- whether all numbers are bytes
 abbrev pub AreBytes : List ℕ → Type 0
 AreBytes bytes = (i : ℕ) → slice_index bytes i < 256
 
--- all frames can be written
+-- whether all frames can be written
 abbrev pub AreFrames : List Frame → Type 0
 AreFrames [] = Unit {0}
 AreFrames (frame ∷ frames) = IsFrame frame × AreFrames frames
 
--- bytes that do not begin with the text of a frame
+-- whether the bytes do not begin with the text of any frame
 abbrev pub BeginsWithNone : List ℕ → Type 0
 BeginsWithNone bytes = (frame : Frame) (more : List ℕ) → IsFrame frame
     → bytes ≢ frame_text frame ++ more

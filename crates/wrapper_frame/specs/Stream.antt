@@ -22,7 +22,7 @@ pub record IsPart (bytes : List ℕ) : Type 0 where
   pub frames : frames_of bytes ≡ []
   pub rest : rest_of bytes ≡ bytes
 
--- the first frame is taken from the front; if there is none, nothing changes
+-- whether the first frame was taken from the front; if there is none, nothing changes
 abbrev pub TakesFirst : List ℕ → Option Frame → List ℕ → Type 0
 TakesFirst old (Some frame) new = IsFirst old frame new
 TakesFirst old None new = IsPart old × (new ≡ old)
@@ -39,13 +39,14 @@ pub record Stops (front : Head) (bytes : List ℕ) : Type 0 where
   pub rest : (more : List ℕ) → rest_of (bytes ++ more) ≡ bytes ++ more
   pub heads : (more : List ℕ) → head_of (bytes ++ more) ≡ front
 
--- a fault of the bytes remains, whatever bytes follow
+-- whether this fault of the bytes remains, whatever bytes follow
 abbrev pub StopsBy : WrapperFault → List ℕ → Type 0
 StopsBy fault.Version bytes = Stops BadVersion bytes
 StopsBy fault.TooLong bytes = Stops TooLong bytes
 StopsBy fault.Memory bytes = Unit {0}
 
--- what the front means for every stream that the bytes begin; a whole frame is complete
+-- whether the front means this for every stream that the bytes begin: an incomplete frame is no
+-- frame yet, a wrong header remains, and a whole frame is complete
 abbrev pub Fronts : List ℕ → Head → Type 0
 Fronts bytes Part = IsPart bytes
 Fronts bytes BadVersion = Stops BadVersion bytes
