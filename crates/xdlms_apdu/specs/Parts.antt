@@ -30,7 +30,8 @@ use Rattle.xdlms_apdu.specs.declared.invoke_id.InvokeId.{InvokeId}
 use Rattle.xdlms_apdu.specs.declared.response.Exception.{Exception}
 use Rattle.xdlms_apdu.specs.declared.response.Exception.TheVariants as exception
 
--- a step of the code that advances through the bytes has the outcome of a format's reading
+-- whether a step of the code that advances through the bytes has the outcome of a format's reading,
+-- or is out of memory
 abbrev pub Reads : {X Y : Type 0} → (X → Y) → Result X ApduFault → List ℕ
     → Result (Y × List ℕ) ApduFault → Type 0
 Reads view (Ok x) new given = given ≡ Ok (view x, new)
@@ -136,10 +137,12 @@ block_part = iso (λ p. record { last = p.0; number = p.1.0; raw = p.1.1 })
 abbrev pub result_forms : Choice ℕ ApduFault GetResult
 result_forms = on 0 data_part Value (on 1 code_part Code (otherwise Unreadable))
 
+-- the place of a Get-Data-Result in its choice, and the Data or the code
 abbrev pub result_parts : GetResult → Parts result_forms
 result_parts (Value value) = inl value
 result_parts (Code code) = inr (inl code)
 
+-- Get-Data-Result: a Data, or a Data-Access-Result
 abbrev pub result_part : Part GetResult
 result_part = one_of Unreadable result_forms result_parts
 
@@ -147,6 +150,7 @@ result_part = one_of Unreadable result_forms result_parts
 abbrev pub raw_forms : Choice ℕ ApduFault (List ℕ ⊎ ResultCode)
 raw_forms = on 0 raw_part inl (on 1 code_part inr (otherwise Unreadable))
 
+-- the place of a block's result in its choice, and the raw data or the code
 abbrev pub raw_parts : List ℕ ⊎ ResultCode → Parts raw_forms
 raw_parts (inl bytes) = inl bytes
 raw_parts (inr code) = inr (inl code)
@@ -172,10 +176,12 @@ exception_forms =
     otherwise Unreadable)) (
     otherwise Unreadable))
 
+-- the place of each exception in its choice: its state-error and its service-error
 abbrev pub exception_parts : Exception → Parts exception_forms
 exception_parts exception.NotAllowed = inl (inl tt)
 exception_parts exception.Unreadable = inl (inr (inl tt))
 exception_parts exception.Unknown = inr (inl (inl tt))
 
+-- ExceptionResponse, after its tag
 abbrev pub exception_part : Part Exception
 exception_part = one_of Unreadable exception_forms exception_parts

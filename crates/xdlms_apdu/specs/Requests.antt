@@ -65,7 +65,7 @@ request_parts (request.ActionFirst id method block) =
     inr (inr (inl (inr (inl (id, (method, block))))))
 request_parts (request.ActionNext id block) = inr (inr (inl (inr (inr (inl (id, block))))))
 
--- no bytes have no tag
+-- the format of a request; no bytes at all have no tag
 abbrev pub request_format : Part Request
 request_format = one_of UnknownTag request_forms request_parts
 
@@ -84,6 +84,6 @@ request_text request = request_format.text request
 abbrev pub IsFitRequest : Request → Type 0
 IsFitRequest request = request_format.Fits request
 
--- bytes that spell the request
+-- whether the bytes spell the request
 unfoldable pub SpellsRequest : List ℕ → Request → Type 0
 SpellsRequest bytes request = request_format.Spells request bytes

@@ -19,7 +19,7 @@ use Rattle.xdlms_apdu.specs.declared.invoke_id.InvokeId.{InvokeId}
 use Rattle.xdlms_apdu.specs.declared.response.Response.{Response}
 use Rattle.xdlms_apdu.specs.declared.response.Response.TheVariants as response
 
--- a block with its bytes, or refused with a result
+-- the response with a block: its raw data, or the result that refuses it
 abbrev pub block_response : InvokeId × (Bool × (ℕ × (List ℕ ⊎ ResultCode))) → Response
 block_response (id, (last, (number, inl raw))) =
     response.GetBlock id (record { last = last; number = number; raw = raw })
@@ -77,7 +77,7 @@ response_parts (response.Action id code) = inr (inr (inl (inl (id, (code, tt))))
 response_parts (response.ActionBlock id number) = inr (inr (inl (inr (inl (id, number)))))
 response_parts (response.Exception exception) = inr (inr (inr (inl exception)))
 
--- no bytes have no tag
+-- the format of a response; no bytes at all have no tag
 abbrev pub response_format : Part Response
 response_format = one_of UnknownTag response_forms response_parts
 
@@ -96,6 +96,6 @@ response_text response = response_format.text response
 abbrev pub IsFitResponse : Response → Type 0
 IsFitResponse response = response_format.Fits response
 
--- bytes that spell the response
+-- whether the bytes spell the response
 unfoldable pub SpellsResponse : List ℕ → Response → Type 0
 SpellsResponse bytes response = response_format.Spells response bytes
