@@ -30,10 +30,12 @@ pub record DateTimeFields : Type 0 where
 abbrev pub IsWithin : ℕ → ℕ → Option ℕ → Type 0
 IsWithin low high field = IfSome field (λ n. IsInRange low high n)
 
+-- whether a day of the month that is a number is from 1 to 31
 abbrev pub IsDayWithin : DayOfMonth → Type 0
 IsDayWithin (Number d) = IsInRange 1 31 d
 IsDayWithin _ = Unit {0}
 
+-- whether a deviation from UTC that is specified is from -720 to 840 minutes
 abbrev pub IsDeviationWithin : Option ℤ → Type 0
 IsDeviationWithin deviation = IfSome deviation (λ d. (negsuc 719 ≤ℤ d) × (d ≤ℤ pos 840))
 
@@ -55,20 +57,26 @@ pub record IsDateTimeFields (p : DateTimeFields) : Type 0 where
   pub deviation : IsDeviationWithin p.deviation
   pub status : p.status < 256
 
+-- the two bytes of a year, the higher first: FFFF hex if it is not specified
 abbrev pub year_bytes : Option ℕ → List ℕ
 year_bytes None = 0xFF ∷ 0xFF ∷ []
 year_bytes (Some y) = to_be_bytes w16 y
 
+-- the byte of a field: FF hex if it is not specified
 abbrev pub field_byte : Option ℕ → ℕ
 field_byte None = 0xFF
 field_byte (Some n) = n
 
+-- the byte of a day of the month: FF hex if it is not specified, FE hex for the last day and FD hex
+-- for the second last
 abbrev pub day_byte : DayOfMonth → ℕ
 day_byte Any = 0xFF
 day_byte Last = 0xFE
 day_byte SecondLast = 0xFD
 day_byte (Number d) = d
 
+-- the two bytes of a deviation in two's complement, the higher first: 8000 hex if it is not
+-- specified
 abbrev pub deviation_bytes : Option ℤ → List ℕ
 deviation_bytes None = 0x80 ∷ 0 ∷ []
 deviation_bytes (Some d) = to_be_bytes w16 (cast_unsigned w16 d)

@@ -26,16 +26,22 @@ pub enum DayOfMonth {
     Last,
 }
 
+// The number of days of a week.
 const DAYS_OF_WEEK: u8 = 7;
 
+// The day of the month that stands for the last one.
 const LAST_DAY: u8 = 0xFE;
 
+// The day of the month that stands for the second last one.
 const SECOND_LAST_DAY: u8 = 0xFD;
 
+// The month that stands for the begin of daylight saving time, which the meter rejects.
 const DAYLIGHT_SAVING_BEGIN: u8 = 0xFE;
 
+// The month that stands for the end of daylight saving time, which the meter rejects.
 const DAYLIGHT_SAVING_END: u8 = 0xFD;
 
+// The year of a date that is valid in every year.
 const YEAR_NOT_SPECIFIED: u16 = 0xFFFF;
 
 /// A date of five bytes: year, month, day of the month and day of the week, each of which may be
