@@ -41,7 +41,8 @@ pub record GivesUp (old : Client) (outcome : Outcome) : Type 0 where
       → AtEnd start verb password old
       → outcome ≡ outcome_of verb start.bytes
 
--- the messages were written; or a write failed, and no more bytes will come
+-- whether the messages were written, for `true`, and the client was fed the bytes read so far; or a
+-- write failed, and it was fed all predicted bytes
 abbrev pub AtAfter : Bool → Forecast → Verb → List ℕ → ℕ → Client → Option Forecast → Type 0
 AtAfter true start verb password left client now = At start verb password left client now
 AtAfter false start verb password left client now = AtEnd start verb password client
@@ -51,7 +52,8 @@ pub record SendsAll (old : Client) (before : Option Forecast) (result : Bool) (n
   pub on : (start : Forecast) (verb : Verb) (password : List ℕ) (left : ℕ)
       → At start verb password left old before → AtAfter result start verb password left new after
 
--- after a turn the outcome is known, or the client was fed the bytes of one more read
+-- whether, after a turn, the outcome is the predicted one, or, without an outcome, the client was
+-- fed the bytes read so far
 abbrev pub AtTurn : Option Outcome → Forecast → Verb → List ℕ → ℕ → Client
     → Option Forecast → Type 0
 AtTurn None start verb password left client now = At start verb password left client now
@@ -105,7 +107,8 @@ pub record IsCut (verb : Verb) (password : List ℕ) (client : Client) (now : Op
   pub stands : Stands verb password (bytes_received log) given false client
   pub conversation : Conversation true verb password log
 
--- the messages that may be sent are sent, or a write fails
+-- whether the messages that may be sent were sent, for `true`, or the conversation ended at a
+-- failed write
 abbrev pub SentAfter : Bool → Verb → List ℕ → ℕ → Client → Option (List Happening) → Type 0
 SentAfter true verb password reads client now = HasSent verb password reads client now
 SentAfter false verb password reads client now = IsCut verb password client now
@@ -116,7 +119,8 @@ pub record Sends (old : Client) (before : Option (List Happening)) (result : Boo
       → SentAfter result verb password reads new after
   pub unknown : before ≡ None → after ≡ None
 
--- after a read the next one follows, the conversation is over, or it is cut short out of memory
+-- whether, after a read, the next one follows, the conversation is over, or it is cut short out of
+-- memory
 abbrev pub TurnAfter : {E : Type 0} → Result (Option Outcome) E → Verb → List ℕ → ℕ → Client
     → Option (List Happening) → Type 0
 TurnAfter (Ok None) verb password reads client now = Waits verb password reads client now
