@@ -26,6 +26,7 @@ boolean_code false = gnum 0
 abbrev boolean_of_code : Gv → Bool
 boolean_of_code g = num g == 1
 
+-- the code of a boolean is read as the boolean
 boolean_of_code-code : (b : Bool) → boolean_of_code (boolean_code b) ≡ b
 boolean_of_code-code true = refl
 boolean_of_code-code false = refl
@@ -39,6 +40,7 @@ integer_code (negsuc n) = gcons (gnum 1) (gnum n)
 abbrev integer_of_code : Gv → ℤ
 integer_of_code g = if num (head g) == 0 then pos (num (tail g)) else negsuc (num (tail g))
 
+-- the code of a signed number is read as the number
 integer_of_code-code : (z : ℤ) → integer_of_code (integer_code z) ≡ z
 integer_of_code-code (pos n) = refl
 integer_of_code-code (negsuc n) = refl
@@ -54,6 +56,7 @@ octets_of_code gnil = []
 octets_of_code (gnum n) = []
 octets_of_code (gcons a b) = num a ∷ octets_of_code b
 
+-- the code of bytes is read as the bytes
 octets_of_code-code : (bytes : List ℕ) → octets_of_code (octets_code bytes) ≡ bytes
 octets_of_code-code [] = refl
 octets_of_code-code (b ∷ bytes) = ap (λ (rest : List ℕ). b ∷ rest) (octets_of_code-code bytes)

@@ -6,20 +6,22 @@ use Rattle.std.specs.Int.{IsInRange, w16, to_be_bytes, cast_unsigned}
 use Rattle.cosem_datetime.specs.declared.date.DayOfMonth.{DayOfMonth}
 use Rattle.cosem_datetime.specs.declared.date.DayOfMonth.TheVariants.{Any, Number, SecondLast, Last}
 
--- a field is `None` if it is not specified; weekday 1 is Monday
+-- the fields of a date; a field is `None` if it is not specified, and weekday 1 is Monday
 pub record DateFields : Type 0 where
   pub year : Option ℕ
   pub month : Option ℕ
   pub day : DayOfMonth
   pub weekday : Option ℕ
 
+-- the fields of a time; a field is `None` if it is not specified
 pub record TimeFields : Type 0 where
   pub hour : Option ℕ
   pub minute : Option ℕ
   pub second : Option ℕ
   pub hundredths : Option ℕ
 
--- the deviation is in minutes
+-- the fields of a date-time; the deviation from UTC is in minutes, and `None` if it is not
+-- specified
 pub record DateTimeFields : Type 0 where
   pub date : DateFields
   pub time : TimeFields
@@ -39,18 +41,21 @@ IsDayWithin _ = Unit {0}
 abbrev pub IsDeviationWithin : Option ℤ → Type 0
 IsDeviationWithin deviation = IfSome deviation (λ d. (negsuc 719 ≤ℤ d) × (d ≤ℤ pos 840))
 
+-- the ranges of a date's fields
 pub record IsDateFields (p : DateFields) : Type 0 where
   pub year : IfSome p.year (λ y. y < 0xFFFF)
   pub month : IsWithin 1 12 p.month
   pub day : IsDayWithin p.day
   pub weekday : IsWithin 1 7 p.weekday
 
+-- the ranges of a time's fields; hundredths of a second are 0
 pub record IsTimeFields (p : TimeFields) : Type 0 where
   pub hour : IsWithin 0 23 p.hour
   pub minute : IsWithin 0 59 p.minute
   pub second : IsWithin 0 59 p.second
   pub hundredths : IsWithin 0 0 p.hundredths
 
+-- the ranges of a date-time's fields
 pub record IsDateTimeFields (p : DateTimeFields) : Type 0 where
   pub date : IsDateFields p.date
   pub time : IsTimeFields p.time

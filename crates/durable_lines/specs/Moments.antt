@@ -15,6 +15,7 @@ AnyLeft left (s ∷ states) c = left s c ⊎ AnyLeft left states c
 abbrev pub LeftIn : {S : Type 0} → (S → List ℕ → Type 0) → List S → S → ℕ → List ℕ → Type 0
 LeftIn left past state t c = left state c ⊎ AnyLeft left (drop t past) c
 
+-- a crash since the present moment leaves nothing of a past state
 none_past : {S : Type 0} (left : S → List ℕ → Type 0) (past : List S) (c : List ℕ)
     → AnyLeft left (drop (length past) past) c → ⊥
 none_past left [] c was = was
