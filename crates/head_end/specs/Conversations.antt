@@ -47,6 +47,8 @@ abbrev pub AtAfter : Bool → Forecast → Verb → List ℕ → ℕ → Client 
 AtAfter true start verb password left client now = At start verb password left client now
 AtAfter false start verb password left client now = AtEnd start verb password client
 
+-- the effect of sending all messages that may be sent, on a client that was fed the bytes read so
+-- far
 pub record SendsAll (old : Client) (before : Option Forecast) (result : Bool) (new : Client)
     (after : Option Forecast) : Type 0 where
   pub on : (start : Forecast) (verb : Verb) (password : List ℕ) (left : ℕ)
@@ -59,6 +61,7 @@ abbrev pub AtTurn : Option Outcome → Forecast → Verb → List ℕ → ℕ �
 AtTurn None start verb password left client now = At start verb password left client now
 AtTurn (Some outcome) start verb password left client now = outcome ≡ outcome_of verb start.bytes
 
+-- the effect of one turn, with one read, on a client that was fed the bytes read so far
 pub record Turns (old : Client) (before : Option Forecast) (result : Option Outcome) (new : Client)
     (after : Option Forecast) : Type 0 where
   pub on : (start : Forecast) (verb : Verb) (password : List ℕ) (left : ℕ)
@@ -113,6 +116,8 @@ abbrev pub SentAfter : Bool → Verb → List ℕ → ℕ → Client → Option 
 SentAfter true verb password reads client now = HasSent verb password reads client now
 SentAfter false verb password reads client now = IsCut verb password client now
 
+-- the effect of sending all messages that may be sent, on the log of the connection; an unknown log
+-- remains unknown
 pub record Sends (old : Client) (before : Option (List Happening)) (result : Bool) (new : Client)
     (after : Option (List Happening)) : Type 0 where
   pub on : (verb : Verb) (password : List ℕ) (reads : ℕ) → Talks verb password reads old before
@@ -128,6 +133,8 @@ TurnAfter (Ok (Some outcome)) verb password reads client now = HasConversed verb
     (Some outcome) now
 TurnAfter (Err error) verb password reads client now = HasConversed verb password None now
 
+-- the effect of one turn, with one read, on the log of the connection; an unknown log remains
+-- unknown
 pub record TakesTurn {E : Type 0} (old : Client) (before : Option (List Happening))
     (result : Result (Option Outcome) E) (new : Client) (after : Option
     (List Happening)) : Type 0 where
