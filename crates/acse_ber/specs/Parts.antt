@@ -66,6 +66,8 @@ IsLength text n =
     ((n < 0x80) × (text ≡ n ∷ []))
     ⊎ ((text ≡ 0x81 ∷ n ∷ []) ⊎ ((two : List ℕ) × (text ≡ 0x82 ∷ two) × IsUnsigned w16 two n))
 
+-- the length at the front of bytes and the bytes after it; unreadable if its first byte is 80 hex
+-- or above 82 hex, or bytes are missing
 unfoldable pub length_read : List ℕ → Result (ℕ × List ℕ) AcseFault
 length_read bytes = do
   first ← byte_part.read bytes
@@ -114,14 +116,18 @@ field_part = iso (λ both. record { tag = both.0; contents = both.1 })
 
 -- ---- user information
 
--- an optional byte, which is discarded: 00, or 01 followed by the byte; 00 is written
+-- the two forms of an optional byte: 00 hex if it is absent, 01 hex followed by the byte if it is
+-- present
 abbrev pub byte_forms : Choice ℕ AcseFault (Option ℕ)
 byte_forms = on 0x00 empty (λ none. None) (on 0x01 byte_part Some (otherwise Unreadable))
 
+-- the form in which an optional byte is written: the first if it is absent, the second with the
+-- byte
 abbrev pub byte_parts : Option ℕ → Parts byte_forms
 byte_parts None = inl tt
 byte_parts (Some n) = inr (inl n)
 
+-- an optional byte of user information, which is read and discarded; it is written as absent
 abbrev pub optional_byte : Part (Unit {0})
 optional_byte = placeholder None (one_of Unreadable byte_forms byte_parts)
 
@@ -139,16 +145,17 @@ bits_part = record {
 abbrev pub conformance_part : Part ℕ
 conformance_part = part_after (0x5F ∷ 0x1F ∷ 0x04 ∷ 0x00 ∷ []) bits_part
 
--- InitiateRequest ::= [1] SEQUENCE
---     { dedicated-key OCTET STRING OPTIONAL, response-allowed BOOLEAN DEFAULT TRUE,
---       proposed-quality-of-service Integer8 OPTIONAL, proposed-dlms-version-number Unsigned8,
---       proposed-conformance Conformance, client-max-receive-pdu-size Unsigned16 },
--- without a dedicated key
+-- the last three elements of an InitiateRequest: version, conformance and maximum APDU size
 abbrev pub proposed_part : Part Proposal
 proposed_part = iso
     (λ p. record { version = p.0; conformance = record { 0 = p.1.0 }; size = p.1.1 })
     (λ r. (r.version, (r.conformance.0, r.size))) (byte_part & conformance_part & size_part)
 
+-- InitiateRequest ::= [1] SEQUENCE
+--     { dedicated-key OCTET STRING OPTIONAL, response-allowed BOOLEAN DEFAULT TRUE,
+--       proposed-quality-of-service Integer8 OPTIONAL, proposed-dlms-version-number Unsigned8,
+--       proposed-conformance Conformance, client-max-receive-pdu-size Unsigned16 },
+-- without a dedicated key, of which the last three elements are kept
 abbrev pub proposal_part : Part Proposal
 proposal_part = iso (λ p. p.1.1) (λ r. (tt, (tt, r)))
     (part_after (0x01 ∷ 0x00 ∷ []) optional_byte & optional_byte & proposed_part)
@@ -172,10 +179,14 @@ info_forms =
     on 0x0E (part_after (0x01 ∷ 0x06 ∷ []) byte_part) inr (
     otherwise Unreadable))
 
+-- the form in which user information is written: an InitiateResponse, or the code of an
+-- initiateError
 abbrev pub info_parts : (ℕ × ℕ) ⊎ ℕ → Parts info_forms
 info_parts (inl response) = inl response
 info_parts (inr error) = inr (inl error)
 
+-- the user information of an AARE: the conformance and the size of an InitiateResponse, or the code
+-- of an initiateError
 abbrev pub info_part : Part ((ℕ × ℕ) ⊎ ℕ)
 info_part = one_of Unreadable info_forms info_parts
 
@@ -185,16 +196,19 @@ info_part = one_of Unreadable info_forms info_parts
 abbrev pub result_part : Part ℕ
 result_part = part_after (0x02 ∷ 0x01 ∷ []) byte_part
 
--- Associate-source-diagnostic ::= CHOICE
---     { acse-service-user [1] INTEGER, acse-service-provider [2] INTEGER }, of one byte, of which
--- the source is discarded; the service user is written
+-- the tag of a diagnostic's source: A1 hex for acse-service-user, `true`, and A2 hex for
+-- acse-service-provider, `false`
 abbrev pub source_forms : Choice ℕ AcseFault Bool
 source_forms = on 0xA1 empty (λ u. true) (on 0xA2 empty (λ u. false) (otherwise Unreadable))
 
+-- the form in which the source of a diagnostic is written: its tag, without contents
 abbrev pub source_parts : Bool → Parts source_forms
 source_parts true = inl tt
 source_parts false = inr (inl tt)
 
+-- Associate-source-diagnostic ::= CHOICE
+--     { acse-service-user [1] INTEGER, acse-service-provider [2] INTEGER }, of one byte, of which
+-- the source is discarded; the service user is written
 abbrev pub diagnostic_part : Part ℕ
 diagnostic_part = iso (λ p. p.1) (λ d. (tt, d))
     (placeholder true (one_of Unreadable source_forms source_parts)

@@ -24,7 +24,7 @@ use Rattle.acse_ber.specs.declared.fault.AcseFault.{AcseFault}
 use Rattle.acse_ber.specs.declared.fault.AcseFault.TheVariants.{Unreadable}
 use Rattle.acse_ber.specs.declared.initiate.Proposal.{Proposal}
 
--- a step of the code that reads all of its bytes has the outcome of the definition
+-- whether a step of the code that reads all of its bytes has the outcome of the definition
 abbrev pub Yields : {X Y : Type 0} → (X → Y) → Result X AcseFault → Result Y AcseFault → Type 0
 Yields view (Ok x) given = given ≡ Ok (view x)
 Yields view (Err fault) given = given ≡ Err fault
@@ -131,6 +131,7 @@ abbrev pub info_of : Option (List ℕ) → Info
 info_of None = Absent
 info_of (Some bytes) = info_in bytes
 
+-- whether user information is an InitiateResponse
 abbrev pub is_response : Info → Bool
 is_response (Response bits limit) = true
 is_response _ = false

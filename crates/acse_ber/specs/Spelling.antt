@@ -20,7 +20,7 @@ pub record IsApdu (tag : ℕ) (fields : List Field) (bytes : List ℕ) : Type 0 
   pub is_tagged : (tagged_part tag).Spells body bytes
   pub are_fields : AreItems field_part.Spells fields body
 
--- no field has the tag
+-- whether no field has the tag
 abbrev pub HasNone : ℕ → List Field → Type 0
 HasNone tag fields = contents_of tag fields ≡ []
 
@@ -30,7 +30,8 @@ pub record HasOne (tag : ℕ) (Holds : List ℕ → Type 0) (fields : List Field
   pub one : contents_of tag fields ≡ contents ∷ []
   pub holds : Holds contents
 
--- no field has the tag, or exactly one, which is filled by an inner tag with this text
+-- whether no field has the tag, for `None`, or exactly one has it and is filled by an inner tag
+-- with this text
 abbrev pub HasInner : ℕ → ℕ → List Field → Option (List ℕ) → Type 0
 HasInner tag inner fields None = HasNone tag fields
 HasInner tag inner fields (Some text) = HasOne tag ((tagged_part inner).Spells text) fields
@@ -60,7 +61,7 @@ IsInfo Absent text = (info : (ℕ × ℕ) ⊎ ℕ) → info_part.Spells info tex
 IsInfo (Response bits limit) text = info_part.Spells (inl (bits, limit)) text
 IsInfo (InitiateError error) text = info_part.Spells (inr error) text
 
--- no user information, or some with this text
+-- whether the fields have this user information: one such field, or none if it is absent
 abbrev pub HasInfo : List Field → Info → Type 0
 HasInfo fields info = (HasNone 0xBE fields × (info ≡ Absent))
     ⊎ ((text : List ℕ) × HasInner 0xBE 0x04 fields (Some text) × IsInfo info text)
@@ -76,6 +77,6 @@ pub record SpellsAare (bytes : List ℕ) (aare : Aare) : Type 0 where
 
 -- ---- RLRQ
 
--- bytes that are an RLRQ, with any fields
+-- whether bytes are an RLRQ, with any fields
 abbrev pub SpellsRelease : List ℕ → Type 0
 SpellsRelease bytes = (fields : List Field) × IsApdu 0x62 fields bytes

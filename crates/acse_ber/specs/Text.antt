@@ -18,10 +18,11 @@ use Rattle.acse_ber.specs.declared.aare.Info.TheVariants.{Absent, Response, Init
 abbrev pub tagged_text : ℕ → List ℕ → List ℕ
 tagged_text tag contents = tag ∷ string_text contents
 
--- an application context name, and user information
+-- the field application-context-name: the context as an OBJECT IDENTIFIER in its tag
 abbrev pub context_text : List ℕ → List ℕ
 context_text context = tagged_text 0xA1 (tagged_text 0x06 context)
 
+-- the field user-information: the information as an OCTET STRING in its tag
 abbrev pub user_text : List ℕ → List ℕ
 user_text user = tagged_text 0xBE (tagged_text 0x04 user)
 
@@ -44,10 +45,11 @@ aarq_body aarq = context_text aarq.context
 unfoldable pub aarq_text : Aarq → List ℕ
 aarq_text aarq = tagged_text 0x60 (aarq_body aarq)
 
--- the association result, and the diagnostic of the service user
+-- the field result of an AARE: 0 if the association is accepted
 abbrev pub result_text : ℕ → List ℕ
 result_text outcome = tagged_text 0xA2 (result_part.text outcome)
 
+-- the field result-source-diagnostic of an AARE: a diagnostic of the acse-service-user
 abbrev pub diagnostic_text : ℕ → List ℕ
 diagnostic_text diagnostic = tagged_text 0xA3 (diagnostic_part.text diagnostic)
 
@@ -94,9 +96,10 @@ aare_text aare = tagged_text 0x61 (aare_body aare)
 abbrev pub reason_text : ℕ → List ℕ
 reason_text reason = tagged_text 0x80 (reason ∷ [])
 
--- the RLRQ and the RLRE that are sent, with the reason normal
+-- the RLRQ that a client sends, with reason normal
 abbrev pub release_request : List ℕ
 release_request = tagged_text 0x62 (reason_text 0)
 
+-- the RLRE that the meter sends, with reason normal
 abbrev pub release_response : List ℕ
 release_response = tagged_text 0x63 (reason_text 0)

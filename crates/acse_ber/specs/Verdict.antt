@@ -22,7 +22,8 @@ use Rattle.acse_ber.specs.declared.verdict.Verdict.TheVariants.{Accepted, Reject
 abbrev pub lowest_level : List ℕ
 lowest_level = 0x60 ∷ 0x85 ∷ 0x74 ∷ 0x05 ∷ 0x08 ∷ 0x02 ∷ 0x00 ∷ []
 
--- no mechanism, or that of the lowest level, which is no authentication
+-- whether a mechanism name is empty, so that none is named, or that of the lowest level, which is
+-- no authentication
 abbrev pub is_no_mechanism : List ℕ → Bool
 is_no_mechanism mechanism = bytes_eq mechanism [] || bytes_eq mechanism lowest_level
 

@@ -13,7 +13,9 @@ use wire_bytes::Cursor;
 // A field of an APDU.
 #[derive(Clone, Copy)]
 pub(crate) struct Field<'a> {
+    // The tag, context-specific: 80 to BF hex.
     pub(crate) tag: u8,
+    // The bytes after the length.
     pub(crate) contents: &'a [u8],
 }
 

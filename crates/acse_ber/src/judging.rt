@@ -12,34 +12,45 @@ use bitflags::Flags;
 use cosem_axdr::Octets;
 use cosem_names::Level;
 
-// The port of the management client, which needs the password.
+// The port (wPort) of the management client, which must authenticate with the password.
 const MANAGEMENT_CLIENT: u16 = 1;
 
-// The port of the public client, which needs none.
+// The port (wPort) of the public client, which needs no password.
 const PUBLIC_CLIENT: u16 = 16;
 
 // The diagnostics of the ACSE service user.
 mod diagnostic {
+    // no-reason-given: the port is that of no client, or the user information is not an
+    // InitiateRequest.
     pub(crate) const NO_REASON_GIVEN: u8 = 1;
 
+    // application-context-name-not-supported: the context is not logical names without ciphering.
     pub(crate) const APPLICATION_CONTEXT_NAME_NOT_SUPPORTED: u8 = 2;
 
+    // authentication-mechanism-name-not-recognised: the mechanism is neither that of lowest-level
+    // nor that of low-level security.
     pub(crate) const AUTHENTICATION_MECHANISM_NAME_NOT_RECOGNISED: u8 = 11;
 
+    // authentication-failure: the management client's password is missing or wrong.
     pub(crate) const AUTHENTICATION_FAILURE: u8 = 13;
 
+    // authentication-required: the management client names no mechanism, or lowest-level security.
     pub(crate) const AUTHENTICATION_REQUIRED: u8 = 14;
 }
 
 // The errors of Initiate.
 mod initiate_error {
+    // dlms-version-too-low: the proposed DLMS version is below 6.
     pub(crate) const DLMS_VERSION_TOO_LOW: u8 = 1;
 
+    // incompatible-conformance: the client proposes no service that the meter offers.
     pub(crate) const INCOMPATIBLE_CONFORMANCE: u8 = 2;
 
+    // pdu-size-too-short: the client's maximum APDU size is 1 to 63 bytes.
     pub(crate) const PDU_SIZE_TOO_SHORT: u8 = 3;
 }
 
+// The lowest DLMS version that the meter accepts (proposed-dlms-version-number).
 const LOWEST_VERSION: u8 = 6;
 
 /// The services that the meter offers: GET, SET and ACTION, each with block transfer, and multiple
@@ -57,8 +68,11 @@ pub const OFFERED_CONFORMANCE: Conformance = Conformance(
 /// The maximum length of a password, the secret of low-level security, in bytes.
 pub const MAX_PASSWORD: usize = 32;
 
+// The client-max-receive-pdu-size of a client that sets no limit.
 const NO_SIZE_LIMIT: u16 = 0;
 
+// The smallest limit of a client's APDU size that the meter accepts (client-max-receive-pdu-size),
+// in bytes.
 const SHORTEST_PDU_SIZE: u16 = 64;
 
 /// Decides on an AARQ from the client port `sap`. Returns the refusal of the first failed check, or

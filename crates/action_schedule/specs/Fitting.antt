@@ -21,16 +21,16 @@ is_same_time one other =
     is_same_field one.hour other.hour &&
     (is_same_field one.minute other.minute && is_same_field one.second other.second)
 
--- all entries have the time of the first
+-- whether all entries have the time of the first
 abbrev pub have_one_time : List EntryPattern → Bool
 have_one_time [] = true
 have_one_time (entry ∷ entries) = list_all (λ other. is_same_time entry.time other.time) entries
 
--- all dates have plain numbers
+-- whether year, month and day of every entry's date are plain numbers
 abbrev pub have_plain_dates : List EntryPattern → Bool
 have_plain_dates entries = list_all (λ entry. is_plain entry.date) entries
 
--- the entries are allowed for the type
+-- whether a schedule of this type may have these entries
 abbrev pub fits_type : ScheduleType → List EntryPattern → Bool
 fits_type Type1 entries = length entries == 1
 fits_type Type2 entries = have_one_time entries && have_plain_dates entries
@@ -38,7 +38,7 @@ fits_type Type3 entries = have_one_time entries
 fits_type Type4 entries = have_plain_dates entries
 fits_type Type5 entries = true
 
--- the schedule fits its type
+-- whether a schedule has entries that its type allows
 unfoldable pub fits : Schedule → Bool
 fits schedule = fits_type schedule.kind schedule.entries
 

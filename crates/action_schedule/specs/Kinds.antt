@@ -3,6 +3,7 @@ use Rattle.std.specs.Prelude.{ℕ, Option, Some, None, ◌==◌, if◌then◌els
 use Rattle.action_schedule.specs.declared.kind.ScheduleType.{ScheduleType}
 use Rattle.action_schedule.specs.declared.kind.ScheduleType.TheVariants.{Type1, Type2, Type3, Type4, Type5}
 
+-- the number of a schedule's type, as attribute 3 shows it
 abbrev pub number_of : ScheduleType → ℕ
 number_of Type1 = 1
 number_of Type2 = 2
@@ -10,6 +11,7 @@ number_of Type3 = 3
 number_of Type4 = 4
 number_of Type5 = 5
 
+-- the type of a schedule with this number, if the number is from 1 to 5
 abbrev pub type_of_number : ℕ → Option ScheduleType
 type_of_number n =
     if n == 1 then Some Type1 else if n == 2 then Some Type2 else if n == 3 then Some Type3

@@ -13,10 +13,12 @@ use Rattle.action_schedule.specs.Schedule.{Schedule}
 use Rattle.action_schedule.specs.declared.attribute.ScheduleAttribute.{ScheduleAttribute}
 use Rattle.action_schedule.specs.declared.attribute.ScheduleAttribute.TheVariants.{ExecutedScript, Kind, ExecutionTime}
 
+-- an entry of execution_time: a structure of its time and its date as octet-strings
 unfoldable pub entry_data : EntryPattern → Data
 entry_data entry = structure_with (OctetString (time_bytes entry.time)
     ∷ OctetString (date_bytes entry.date) ∷ [])
 
+-- the value of execution_time: an array with a structure for each entry
 unfoldable pub entries_data : List EntryPattern → Data
 entries_data entries = array_with (map entry_data entries)
 
@@ -26,7 +28,7 @@ data_at ExecutedScript schedule = script_data (script_at schedule.selector)
 data_at Kind schedule = Enum (number_of schedule.kind)
 data_at ExecutionTime schedule = entries_data schedule.entries
 
--- reading the Data returns the attribute
+-- whether reading a Data as this attribute returns the schedule's own value of it
 abbrev pub ReadsBack : ScheduleAttribute → Data → Schedule → Type 0
 ReadsBack ExecutedScript value schedule = selector_of value ≡ Ok schedule.selector
 ReadsBack Kind value schedule = kind_of value ≡ Ok schedule.kind

@@ -7,6 +7,7 @@ use std::alloc::Global;
 use std::process::Abort;
 use xdlms_apdu::ApduFault;
 
+// Bytes that are not a request, each with the fault of reading them.
 static REQUEST_FAULTS: [(&[u8], ApduFault); 11] = [
     (&[], ApduFault::UnknownTag),
     (&[0x60, 0x01], ApduFault::UnknownTag),
@@ -32,6 +33,7 @@ static REQUEST_FAULTS: [(&[u8], ApduFault); 11] = [
     ),
 ];
 
+// Bytes that are not a response, each with the fault of reading them.
 static RESPONSE_FAULTS: [(&[u8], ApduFault); 12] = [
     (&[], ApduFault::UnknownTag),
     (&[0x61, 0x01], ApduFault::UnknownTag),

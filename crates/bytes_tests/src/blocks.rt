@@ -218,6 +218,7 @@ fn another_number_ends_the_sending(rt: HostRuntime) -> Result<(), Fail> {
     Ok(())
 }
 
+// Three blocks in order, with the value after the last, and one block too many.
 static THREE: [Joining<'static>; 4] = [
     ((false, 1, &[0x06, 0x00, 0x00]), Ok(None)),
     ((false, 2, &[]), Ok(None)),

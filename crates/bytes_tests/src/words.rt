@@ -91,6 +91,7 @@ fn read_all(rt: &impl Abort, numbers: &[Number]) {
     }
 }
 
+// Words that are numbers in decimal, without a sign and without leading zeros.
 static NUMBERS: [Number; 4] = [
     (b"0", 0, Some(0)),
     (b"5", u64::MAX, Some(5)),
@@ -103,6 +104,7 @@ fn numbers_are_read(rt: HostRuntime) {
     read_all(&rt, &NUMBERS);
 }
 
+// Words that are not numbers: too large, with leading zeros or a sign, empty, or not only digits.
 static NO_NUMBERS: [Number; 9] = [
     (b"18446744073709551616", u64::MAX, None),
     (b"99999999999999999999999999", u64::MAX, None),
@@ -120,6 +122,7 @@ fn other_words_are_no_numbers(rt: HostRuntime) {
     read_all(&rt, &NO_NUMBERS);
 }
 
+// Words with the greatest number that may be read: a greater one is no number.
 static LIMITS: [Number; 3] = [
     (b"255", 255, Some(255)),
     (b"256", 255, None),
@@ -139,6 +142,7 @@ fn bytes_are_read(rt: HostRuntime) -> Result<(), Fail> {
     Ok(())
 }
 
+// Words that are not bytes in hexadecimal, each with the reason.
 static NO_BYTES: [(&[u8], &str); 5] = [
     (b"52454c", "lower case"),
     (b"524", "an odd number of digits"),
@@ -158,6 +162,7 @@ fn other_words_are_no_bytes(rt: HostRuntime) -> Result<(), Fail> {
 // A text, and its first line with the rest, or none.
 type Split = (&'static [u8], Option<(&'static [u8], &'static [u8])>);
 
+// Texts, each with its first line and the rest, or `None` if no line is ended.
 static SPLIT: [Split; 4] = [
     (b"state 1\nmode 0\n", Some((b"state 1", b"mode 0\n"))),
     (b"\n", Some((b"", b""))),
@@ -172,6 +177,7 @@ fn lines_are_split(rt: HostRuntime) {
     }
 }
 
+// Texts, each with its ended lines after a bar and the rest after a star.
 static LINES: [(&[u8], &[u8]); 3] = [
     (b"state 1\nmode 0\n", b"|state 1|mode 0*"),
     (b"state 1\n\nmode", b"|state 1|*mode"),
@@ -186,6 +192,7 @@ fn lines_are_read(rt: HostRuntime) -> Result<(), Fail> {
     Ok(())
 }
 
+// Lines, each with its words after a bar; one blank separates two words.
 static WORDS: [(&[u8], &[u8]); 4] = [
     (b"get 16 70", b"|get|16|70"),
     (b"button", b"|button"),

@@ -12,7 +12,7 @@ pub record MemoryState : Type 0 where
   pub calls_left : ℕ
   pub has_failed : Bool
 
--- a crash leaves the present entries
+-- whether a crash leaves the present entries, each at its place
 abbrev pub Leaves : List LedgerEntry → (ℕ → LedgerEntry) → Type 0
 Leaves entries left = (place : ℕ) → left place ≡ entry_at entries place
 

@@ -35,7 +35,7 @@ pub record IsSafeRun (run : Run) : Type 0 where
   pub marks_sent : (place : ℕ) → IsIn place run.sent → HasGone (run.left place)
   pub keeps_marks : (place : ℕ) → HasGone (run.found place) → HasGone (run.left place)
 
--- each run is safe and found what the one before it left; the last run is first in the list
+-- whether each run is safe and found what the one before it left; the last run is first in the list
 abbrev pub Follow : List Run → Type 0
 Follow [] = ⊤
 Follow (run ∷ []) = IsSafeRun run

@@ -52,14 +52,18 @@ progress_by_head progress (Whole n) = progress
 progress_by_head progress BadVersion = or_unknown progress
 progress_by_head progress TooLong = or_unknown progress
 
+-- the progress of a job after these bytes: by the payloads of the whole frames, then by the header
+-- of the unfinished one
 unfoldable pub progress_of : Verb → List ℕ → Progress
 progress_of verb bytes = progress_by_head
     (progress_by_payloads verb (payloads_of (frames_of bytes)))
     (head_of (rest_of bytes))
 
+-- the outcome of a job, if the bytes received so far settle it
 abbrev pub outcome_after : Verb → List ℕ → Option Outcome
 outcome_after verb bytes = (progress_of verb bytes).outcome
 
+-- the outcome of a job whose connection is over after these bytes; unknown if they do not settle it
 unfoldable pub outcome_of : Verb → List ℕ → Outcome
 outcome_of verb bytes = unwrap_or (outcome_after verb bytes) Unknown
 

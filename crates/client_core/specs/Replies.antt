@@ -23,14 +23,16 @@ use Rattle.xdlms_apdu.specs.declared.response.Response.TheVariants as response
 
 -- ---- the response to the AARQ (IEC 62056-5-3, AARE)
 
--- no response yet; the association is open and the request may be sent; the outcome is settled
--- before the request is sent
+-- the progress of a job before any response
 abbrev pub new_progress : Progress
 new_progress = record { accepted = false; outcome = None }
 
+-- the progress of a job whose association is open: the request may be sent
 abbrev pub asking_progress : Progress
 asking_progress = record { accepted = true; outcome = None }
 
+-- the progress of a job whose outcome is settled by the response to the AARQ, so that no request is
+-- sent
 abbrev pub with_outcome : Outcome → Progress
 with_outcome outcome = record { accepted = false; outcome = Some outcome }
 
@@ -55,23 +57,26 @@ progress_by_aare verb (Ok aare) =
     else with_outcome (Rejected aare.diagnostic)
 progress_by_aare verb (Err fault) = with_outcome Unknown
 
+-- the progress after the first payload, which should be an AARE
 unfoldable pub progress_after_aare : Verb → List ℕ → Progress
 progress_after_aare verb payload = progress_by_aare verb (aare_of payload)
 
 -- ---- the response to the request (IEC 62056-5-3, ACTION and GET; IEC 62056-6-2, class 70,
 -- control_state)
 
--- the first bytes of the responses that count: of a result of the method; of a refusal; of the
--- control state, up to the tag of its enum. Their invoke-id is C1, that of the request
+-- the invoke-id-and-priority of the request, C1 hex, which its response repeats
 abbrev pub request_id : InvokeId
 request_id = record { 0 = 0xC1 }
 
+-- the first three bytes of an Action-Response-Normal to the request, up to its result
 abbrev pub action_front : List ℕ
 action_front = take 3 (response_format.text (response.Action request_id Success))
 
+-- the first four bytes of a Get-Response-Normal with a result instead of a value, up to that result
 abbrev pub refused_front : List ℕ
 refused_front = take 4 (response_format.text (response.Get request_id (result.Code Success)))
 
+-- the first five bytes of a Get-Response-Normal with a control state, up to the tag of its enum
 abbrev pub state_front : List ℕ
 state_front = take 5 (response_format.text (response.Get request_id (result.Value (Enum 0))))
 
@@ -97,6 +102,7 @@ state_reply (tag ∷ form ∷ id ∷ choice ∷ kind ∷ state ∷ []) =
     then Done state else Unknown
 state_reply _ = Unknown
 
+-- the outcome of a job by the second payload, which should be the response to its request
 unfoldable pub outcome_of_response : Verb → List ℕ → Outcome
 outcome_of_response Disconnect payload = action_reply payload
 outcome_of_response Reconnect payload = action_reply payload

@@ -38,7 +38,8 @@ action_payload method =
     0xC3 ∷ 0x01 ∷ 0xC1 ∷ 0x00 ∷ 0x46 ∷ 0x00 ∷ 0x00 ∷ 0x60 ∷ 0x03 ∷ 0x0A ∷ 0xFF ∷ method ∷ 0x01
     ∷ 0x0F ∷ 0x00 ∷ []
 
--- its methods remote_disconnect and remote_reconnect, and the GET of its attribute control_state
+-- the request of a job: an ACTION of remote_disconnect or remote_reconnect, or a GET of
+-- control_state
 abbrev pub request_payload : Verb → List ℕ
 request_payload Disconnect = action_payload 1
 request_payload Reconnect = action_payload 2
@@ -53,13 +54,15 @@ release_payload = 0x62 ∷ 0x03 ∷ 0x80 ∷ 0x01 ∷ 0x00 ∷ []
 abbrev pub frame_around : List ℕ → List ℕ
 frame_around payload = frame_text (record { src = 1; dst = 1; payload = payload })
 
--- the three messages of a job
+-- the first message of a job: the AARQ with this password, in a frame
 unfoldable pub aarq_frame : List ℕ → List ℕ
 aarq_frame password = frame_around (aarq_payload password)
 
+-- the second message of a job: its request, in a frame
 unfoldable pub request_frame : Verb → List ℕ
 request_frame verb = frame_around (request_payload verb)
 
+-- the third message of a job: the RLRQ, in a frame
 unfoldable pub release_frame : List ℕ
 release_frame = frame_around release_payload
 

@@ -13,7 +13,7 @@ is_same_code (gnum m) (gnum n) = m == n
 is_same_code (gcons a b) (gcons c d) = is_same_code a c && is_same_code b d
 is_same_code _ _ = false
 
--- whether two Datas are equal
+-- whether two values of type Data are equal
 abbrev pub is_same : Data → Data → Bool
 is_same d e = is_same_code (stored (tree_of d)) (stored (tree_of e))
 

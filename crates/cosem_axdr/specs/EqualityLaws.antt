@@ -61,14 +61,15 @@ are_same-true ts us same =
     (same_code (stored_all ts) (stored_all us) same)
     ∙ stored_all_back us
 
--- each Data compares as the same as itself, and so do items
+-- each Data compares as the same as itself
 pub is_same-itself : (d : Data) → is_same d d ≡ true
 is_same-itself d = code_itself (stored (tree_of d))
 
+-- items compare as the same as themselves
 pub are_same-itself : (ts : Trees) → are_same ts ts ≡ true
 are_same-itself ts = code_itself (stored_all ts)
 
--- a test of equality is `==`
+-- a test of the equality of two Data is their `==`
 pub is_same-is : (r : Bool) (d e : Data) → IsTrue r ↔ (d ≡ e) → r ≡ is_same d e
 is_same-is r d e tells =
     same_from_decides r (is_same d e) tells (
@@ -76,6 +77,7 @@ is_same-is r d e tells =
       λ one. subst (λ x. is_same d x ≡ true) one (is_same-itself d),
     )
 
+-- a test of the equality of items is their `==`
 pub are_same-is : (r : Bool) (ts us : Trees) → IsTrue r ↔ (ts ≡ us) → r ≡ are_same ts us
 are_same-is r ts us tells =
     same_from_decides r (are_same ts us) tells (
@@ -83,9 +85,10 @@ are_same-is r ts us tells =
       λ one. subst (λ x. are_same ts x ≡ true) one (are_same-itself ts),
     )
 
--- `==` is an equivalence relation
+-- `==` of Data is an equivalence relation
 pub is_same-equivalence : IsEquivalence is_same
 is_same-equivalence = equivalence is_same is_same-true is_same-itself
 
+-- `==` of items is an equivalence relation
 pub are_same-equivalence : IsEquivalence are_same
 are_same-equivalence = equivalence are_same are_same-true are_same-itself

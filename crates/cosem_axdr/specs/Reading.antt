@@ -32,7 +32,8 @@ start bytes = record { bytes = bytes; room = max_text }
 abbrev pub Read : Type 0 → Type 0
 Read X = Result (X × Place) DataFault
 
--- a step of the code that advances through the bytes has the outcome of the definition
+-- whether a step of the code that advances through the bytes has the outcome of the definition, or
+-- is out of memory
 abbrev pub Reads : {X Y : Type 0} → (X → Y) → Result X DataFault → Place → Read Y → Type 0
 Reads view (Ok x) new given = given ≡ Ok (view x, new)
 Reads view (Err fault) new given = Fails Memory fault given
@@ -67,7 +68,7 @@ string_at place = do
   n ← length_at place
   bytes_at n.0 n.1
 
--- an unsigned number, and a signed one
+-- an unsigned number of a width, the highest byte first
 abbrev pub unsigned_at : Width → Place → Read ℕ
 unsigned_at w place = read_as (from_be_bytes w) (bytes_at (byte_len w) place)
 

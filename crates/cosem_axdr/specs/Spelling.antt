@@ -70,10 +70,11 @@ pub record IsCounted (AreItems : List ℕ → Type 0) (contents : List ℕ) (cou
   pub few : count ≤ max_items
   pub are_items : AreItems items
 
--- whether bytes are those of an unsigned number, or of a signed one in two's complement
+-- whether bytes are those of an unsigned number of a width, the highest first
 abbrev pub IsUnsigned : Width → List ℕ → ℕ → Type 0
 IsUnsigned w contents n = (length contents ≡ byte_len w) × (n ≡ from_be_bytes w contents)
 
+-- whether bytes are those of a signed number of a width, in two's complement, the highest first
 abbrev pub IsSigned : Width → List ℕ → ℤ → Type 0
 IsSigned w contents z = (length contents ≡ byte_len w)
     × (z ≡ cast_signed w (from_be_bytes w contents))
@@ -117,7 +118,7 @@ abbrev mutual
       IsJoined (IsTagged (tag_of t) (λ contents. AreContents contents t))
       (λ others. AreSpelled others ts) bytes
 
--- bytes that spell the value: its tag and its contents
+-- whether bytes spell a value: its tag, followed by its contents
 abbrev pub Spells : List ℕ → Tree → Type 0
 Spells bytes t = IsTagged (tag_of t) (λ contents. AreContents contents t) bytes
 

@@ -17,40 +17,46 @@ tail gnil = gnil
 tail (gnum n) = gnil
 tail (gcons a b) = b
 
--- a boolean as a number, and the inverse
+-- the code of a boolean: the number 1 for true and 0 for false
 abbrev boolean_code : Bool → Gv
 boolean_code true = gnum 1
 boolean_code false = gnum 0
 
+-- whether the boolean of a code is true: whether the code is the number 1
 abbrev boolean_of_code : Gv → Bool
 boolean_of_code g = num g == 1
 
+-- the code of a boolean is read as the boolean
 boolean_of_code-code : (b : Bool) → boolean_of_code (boolean_code b) ≡ b
 boolean_of_code-code true = refl
 boolean_of_code-code false = refl
 
--- a signed number as its sign and its magnitude, and the inverse
+-- the code of a signed number: 0 and n for the number n, and 1 and n for the number -1 - n
 abbrev integer_code : ℤ → Gv
 integer_code (pos n) = gcons (gnum 0) (gnum n)
 integer_code (negsuc n) = gcons (gnum 1) (gnum n)
 
+-- the signed number of a code: not negative if the first part is 0
 abbrev integer_of_code : Gv → ℤ
 integer_of_code g = if num (head g) == 0 then pos (num (tail g)) else negsuc (num (tail g))
 
+-- the code of a signed number is read as the number
 integer_of_code-code : (z : ℤ) → integer_of_code (integer_code z) ≡ z
 integer_of_code-code (pos n) = refl
 integer_of_code-code (negsuc n) = refl
 
--- bytes as a chain of pairs, and the inverse
+-- the code of bytes: a chain of pairs, each of a byte and the code of the rest
 abbrev octets_code : List ℕ → Gv
 octets_code [] = gnil
 octets_code (b ∷ bytes) = gcons (gnum b) (octets_code bytes)
 
+-- the bytes of a code: the first parts of its chain of pairs
 abbrev octets_of_code : Gv → List ℕ
 octets_of_code gnil = []
 octets_of_code (gnum n) = []
 octets_of_code (gcons a b) = num a ∷ octets_of_code b
 
+-- the code of bytes is read as the bytes
 octets_of_code-code : (bytes : List ℕ) → octets_of_code (octets_code bytes) ≡ bytes
 octets_of_code-code [] = refl
 octets_of_code-code (b ∷ bytes) = ap (λ (rest : List ℕ). b ∷ rest) (octets_of_code-code bytes)

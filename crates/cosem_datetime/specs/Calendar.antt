@@ -8,6 +8,7 @@ use Rattle.cosem_datetime.specs.declared.calendar.CivilDate.{CivilDate}
 abbrev pub is_leap_year : ℕ → Bool
 is_leap_year y = (y % 4 == 0) && (not (y % 100 == 0) || (y % 400 == 0))
 
+-- the number of days of a year
 abbrev pub year_length : ℕ → ℕ
 year_length y = if is_leap_year y then 366 else 365
 

@@ -14,6 +14,8 @@ pub record IsFirst (test : ℕ → Bool) (from limit n : ℕ) : Type 0 where
   pub passes : test n ≡ true
   pub before : NonePasses test from n
 
+-- whether a result is the first number of a range that passes the test, or `None` if no number of
+-- the range passes
 abbrev pub IsFirstIfAny : (ℕ → Bool) → ℕ → ℕ → Option ℕ → Type 0
 IsFirstIfAny test from limit found =
     MatchOption found (NonePasses test from limit) (IsFirst test from limit)

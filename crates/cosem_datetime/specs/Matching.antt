@@ -18,6 +18,7 @@ abbrev pub holds : Option ℕ → ℕ → Bool
 holds None n = true
 holds (Some field) n = field == n
 
+-- whether a date has this day of the month: any, a number, the second last or the last
 abbrev pub day_holds : DayOfMonth → CivilDate → Bool
 day_holds Any c = true
 day_holds (Number d) c = d == c.day

@@ -8,10 +8,12 @@ use Rattle.cosem_datetime.specs.Calendar.{is_date, day_count, first_day, weekday
 use Rattle.cosem_datetime.specs.Matching.{holds}
 
 infixl 10 ◌>>=◌
+-- the next field, if the one before it is specified
 abbrev pub ◌>>=◌ : {A B : Type 0} → Option A → (A → Option B) → Option B
 (Some x) >>= f = f x
 None >>= f = None
 
+-- the number of a day of the month, if it is a number
 abbrev pub day_number : DayOfMonth → Option ℕ
 day_number (Number d) = Some d
 day_number _ = None

@@ -9,6 +9,7 @@ use Rattle.cosem_datetime.specs.declared.date.DayOfMonth.TheVariants.{Any, Numbe
 use Rattle.cosem_datetime.specs.Fields.{DateFields, TimeFields, DateTimeFields}
 
 infixl 10 ◌>>=◌
+-- the next step on the value of the one before, or the fault of the one before
 abbrev pub ◌>>=◌ : {A B : Type 0} → Result A PatternFault → (A → Result B PatternFault)
     → Result B PatternFault
 (Ok x) >>= f = f x
@@ -24,9 +25,13 @@ field_of low high b =
 abbrev pub is_season : ℕ → Bool
 is_season b = (b == 0xFD) || (b == 0xFE)
 
+-- the month of a byte: FF hex is not specified, and the begin and the end of daylight saving are
+-- faults
 abbrev pub month_of : ℕ → Result (Option ℕ) PatternFault
 month_of b = if is_season b then Err SeasonMonth else field_of 1 12 b
 
+-- the day of the month of a byte: FF hex is not specified, FE hex the last day, FD hex the second
+-- last
 abbrev pub day_of : ℕ → Result DayOfMonth PatternFault
 day_of b =
     if b == 0xFF then Ok Any
@@ -34,6 +39,7 @@ day_of b =
     else (if b == 0xFD then Ok SecondLast
     else (if nat_le 1 b && nat_le b 31 then Ok (Number b) else Err Range)))
 
+-- the year of two bytes: FFFF hex is not specified
 abbrev pub year_of : ℕ → Option ℕ
 year_of y = if y == 0xFFFF then None else Some y
 

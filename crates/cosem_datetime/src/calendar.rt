@@ -10,8 +10,11 @@ use jiff_core::civil;
 /// A date of the calendar.
 #[derive(Clone, Copy, Debug)]
 pub struct CivilDate {
+    /// The year, counted from the year 0.
     pub year: u16,
+    /// The month, 1 for January.
     pub month: u8,
+    /// The day of the month, from 1 on.
     pub day: u8,
 }
 

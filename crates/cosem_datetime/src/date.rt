@@ -26,16 +26,22 @@ pub enum DayOfMonth {
     Last,
 }
 
+// The number of days of a week.
 const DAYS_OF_WEEK: u8 = 7;
 
+// The day of the month that stands for the last one.
 const LAST_DAY: u8 = 0xFE;
 
+// The day of the month that stands for the second last one.
 const SECOND_LAST_DAY: u8 = 0xFD;
 
+// The month that stands for the begin of daylight saving time, which the meter rejects.
 const DAYLIGHT_SAVING_BEGIN: u8 = 0xFE;
 
+// The month that stands for the end of daylight saving time, which the meter rejects.
 const DAYLIGHT_SAVING_END: u8 = 0xFD;
 
+// The two bytes of a year that is not specified: the date is valid in every year.
 const YEAR_NOT_SPECIFIED: u16 = 0xFFFF;
 
 /// A date of five bytes: year, month, day of the month and day of the week, each of which may be
@@ -76,6 +82,8 @@ impl Model for DatePattern {
     } };
 }
 
+// Reads a month. Fails with `SeasonMonth` on the begin or end of daylight saving time, and with
+// `Range` on any other byte that is neither 1 to 12 nor `FF`.
 fn read_month(byte: u8) -> Result<Option<u8>, PatternFault>
     ensures { result ≡ month_of byte }
 {
@@ -85,6 +93,7 @@ fn read_month(byte: u8) -> Result<Option<u8>, PatternFault>
     }
 }
 
+// Reads a day of the month. Fails with `Range` on a byte that is neither 1 to 31 nor `FD` to `FF`.
 fn read_day(byte: u8) -> Result<DayOfMonth, PatternFault>
     ensures { result ≡ day_of byte }
 {
@@ -97,6 +106,7 @@ fn read_day(byte: u8) -> Result<DayOfMonth, PatternFault>
     }
 }
 
+// Reads a year, `None` if it is not specified. Every other number is a year.
 fn read_year(year: u16) -> Option<u16>
     ensures { result ≡ year_of year }
 {
@@ -107,6 +117,7 @@ fn read_year(year: u16) -> Option<u16>
     }
 }
 
+// Reads a date of five bytes, field by field from left to right, up to the first fault.
 #[tactic(auto, unfolding(crate::specs::Reading::date_of))]
 pub(crate) fn date_fields(bytes: &[u8]) -> Result<DatePattern, PatternFault>
     ensures { result ≡ date_of bytes.now }
@@ -170,6 +181,7 @@ impl DayOfMonth {
     }
 }
 
+// Returns whether a year is this number, or not specified.
 fn year_holds(year: Option<u16>, number: u16) -> bool
     ensures { result ≡ holds year number }
 {
@@ -202,6 +214,7 @@ impl DatePattern {
         self.spelling()
     }
 
+    // Returns the five bytes that spell the date.
     fn spelling(&self) -> [u8; 5]
         ensures bytes { result ≡ date_bytes self.now }
         ensures within { IsDateFields self.now }

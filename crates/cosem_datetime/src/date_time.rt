@@ -57,6 +57,7 @@ fn read_deviation(bytes: &[u8]) -> Result<Option<i16>, PatternFault>
     }
 }
 
+// Reads a date-time of twelve bytes, field by field from left to right, up to the first fault.
 #[tactic(auto, unfolding(crate::specs::Reading::date_time_of))]
 fn date_time_fields(bytes: &[u8]) -> Result<DateTimeField, PatternFault>
     ensures { result ≡ date_time_of bytes.now }
@@ -118,6 +119,7 @@ impl DateTimeField {
         self.spelling()
     }
 
+    // Returns the twelve bytes that spell the date-time.
     fn spelling(&self) -> [u8; 12]
         ensures bytes { result ≡ date_time_bytes self.now }
         ensures within { IsDateTimeFields self.now }

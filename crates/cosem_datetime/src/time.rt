@@ -49,6 +49,7 @@ impl Model for TimePattern {
     } };
 }
 
+// Reads a time of four bytes, field by field from left to right, up to the first fault.
 #[tactic(auto, unfolding(crate::specs::Reading::time_of))]
 pub(crate) fn time_fields(bytes: &[u8]) -> Result<TimePattern, PatternFault>
     ensures { result ≡ time_of bytes.now }
@@ -147,6 +148,7 @@ impl TimePattern {
         self.spelling()
     }
 
+    // Returns the four bytes that spell the time.
     fn spelling(&self) -> [u8; 4]
         ensures bytes { result ≡ time_bytes self.now }
         ensures within { IsTimeFields self.now }

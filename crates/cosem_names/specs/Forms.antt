@@ -8,10 +8,11 @@ use Rattle.cosem_axdr.specs.declared.value.Data.{Data}
 use Rattle.cosem_axdr.specs.declared.value.Data.TheVariants.{Array, Structure, OctetString, DateTime, Date, Time}
 use Rattle.cosem_names.specs.declared.name.Obis.{Obis}
 
--- an array of Data, and a structure
+-- the array of these items
 abbrev pub array_with : List Data → Data
 array_with items = Array (trees_of (all_trees items))
 
+-- the structure of these items
 abbrev pub structure_with : List Data → Data
 structure_with items = Structure (trees_of (all_trees items))
 
@@ -21,11 +22,12 @@ abbrev pub ◌>>=◌ : {A B : Type 0} → Option A → (A → Option B) → Opti
 None >>= next = None
 (Some x) >>= next = next x
 
--- a logical name: an octet-string of six bytes
+-- the logical name of bytes, if there are exactly six
 abbrev name_in : List ℕ → Option Obis
 name_in (a ∷ b ∷ c ∷ d ∷ e ∷ f ∷ []) = Some (record { 0 = a ∷ b ∷ c ∷ d ∷ e ∷ f ∷ [] })
 name_in _ = None
 
+-- the logical name of a value, if it is an octet-string of six bytes
 abbrev pub name_of : Data → Option Obis
 name_of value = octets_of value >>= name_in
 

@@ -23,7 +23,7 @@ script_at selector = record { table = script_table; selector = selector }
 abbrev pub is_of_the_table : NamedScript → Bool
 is_of_the_table script = bytes_eq script.table.0 script_table.0
 
--- the script in a structure
+-- the script that two items name: the logical name of a script table, and a selector in it
 abbrev script_with : List Data → Option NamedScript
 script_with (name ∷ selector ∷ []) = do
   table ← name_of name
@@ -31,6 +31,7 @@ script_with (name ∷ selector ∷ []) = do
   Some (record { table = table; selector = number })
 script_with _ = None
 
+-- the script that a value names, if it is a structure of a logical name and a selector
 abbrev pub script_of : Data → Option NamedScript
 script_of value = structure_of value >>= script_with
 

@@ -19,25 +19,31 @@ use Rattle.cosem_names.specs.declared.objects.Which.TheVariants.{Import, Export}
 abbrev pub class_id : ℕ → ClassId
 class_id number = record { 0 = number }
 
--- the interface classes of the meter's objects
+-- interface class 1, Data
 abbrev pub data_class : ClassId
 data_class = class_id 1
 
+-- interface class 3, Register
 abbrev pub register : ClassId
 register = class_id 3
 
+-- interface class 9, Script table
 abbrev pub script_table : ClassId
 script_table = class_id 9
 
+-- interface class 15, Association LN
 abbrev pub association_ln : ClassId
 association_ln = class_id 15
 
+-- interface class 22, Single action schedule
 abbrev pub single_action_schedule : ClassId
 single_action_schedule = class_id 22
 
+-- interface class 70, Disconnect control
 abbrev pub disconnect_control : ClassId
 disconnect_control = class_id 70
 
+-- interface class 71, Limiter
 abbrev pub limiter : ClassId
 limiter = class_id 71
 

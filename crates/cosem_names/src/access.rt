@@ -58,6 +58,8 @@ pub fn attribute(reference: &AttrRef) -> Option<Attribute>
     class_attribute(row.class, reference.number)
 }
 
+// Returns the method that a reference names, or `None` if no object has this name and class, or the
+// class has no such method.
 #[tactic(auto, unfolding(crate::specs::Objects::method_of))]
 fn method(reference: &MethodRef) -> Option<Method>
     ensures { result ≡ method_of reference.now }

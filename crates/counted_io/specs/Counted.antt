@@ -18,6 +18,6 @@ has_failed c = c.has_failed
 abbrev pub failures_of : {T : Type 0} → Counted T → ℕ
 failures_of c = if c.has_failed then 1 else 0
 
--- no read or write has failed
+-- whether no read or write has failed
 abbrev pub IsWhole : {T : Type 0} → Counted T → Type 0
 IsWhole c = c.has_failed ≡ false

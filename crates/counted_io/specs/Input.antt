@@ -6,8 +6,8 @@ use Rattle.std.specs.Io.KnownBytes.{Consumes}
 use Rattle.counted_io.specs.declared.fault.InputFault.{InputFault}
 use Rattle.counted_io.specs.declared.fault.InputFault.TheVariants as fault
 
--- what a fault says: `bytes` were read before it, `failed` reads had failed before the call and
--- `failed'` have failed after it
+-- whether a fault fits the bytes that were read before it and the number of failed reads before and
+-- after the call: `TooLong` if the bytes exceed the limit, `Read` if they do not and a read failed
 abbrev pub FailsToRead : ℕ → List ℕ → ℕ → InputFault → ℕ → Type 0
 FailsToRead limit bytes failed fault.TooLong failed' = limit < length bytes
 FailsToRead limit bytes failed fault.Read failed' = (length bytes ≤ limit) × (failed < failed')

@@ -19,13 +19,13 @@ use Rattle.turn_lock.specs.declared.turned.Entry.{Entry}
 abbrev pub changing_calls : Calls → Calls
 changing_calls calls = filter (λ (call : Entry Event Reply). not (is_read call.event)) calls
 
--- in a run with this number of ports, the calls of each session, all but at most the last one, were
--- answered from a front of the run's history
+-- whether, in a run with this number of ports, the calls of each session, all but at most the last
+-- one, were answered from a front of the run's history
 abbrev pub AnswerSessions : (IsDurable : ℕ → Type 0) → (ports : ℕ) → (calls : Calls) → Type 0
 AnswerSessions IsDurable ports calls =
     (i : ℕ) → 4 ≤ i → i < ports → AreAnswered IsDurable (i ∷ []) [] calls
 
--- as many lines as each front has from which a session was answered
+-- whether a count is at least the number of lines of each front from which a session was answered
 abbrev pub HasAnsweredLines : {IsDurable : ℕ → Type 0} → {ports : ℕ} → {calls : Calls}
     → AnswerSessions IsDurable ports calls → (count : ℕ) → Type 0
 HasAnsweredLines {ports = ports} sessions count =

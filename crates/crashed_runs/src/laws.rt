@@ -34,10 +34,11 @@ use std::alloc::Global;
 use std::sync::Wait;
 use turn_lock::Port;
 
-/// Proves which meter is resumed after a crash. A run began with a journal, and made these calls; a
-/// crash left a file that holds a front of their lines, at least `from`, however often the journal
-/// was renewed meanwhile. A meter that is resumed from that file answers as the one that made the
-/// first calls of the run, at least those up to line number `from`, whatever comes next.
+/// Proves which meter is resumed after a crash. A run began with a journal, and made these calls. A
+/// crash left a file that holds the first lines of these calls, at least `from` lines, however
+/// often the journal was renewed meanwhile. A meter that is resumed from that file answers as the
+/// one that made the first calls of the run, at least those up to line number `from`, whatever
+/// comes next.
 pub fn crashed_run_is_resumed()
     ensures { (from : ℕ) (device began left : List ℕ) (trace : Trace) (calls : Calls)
         (recorder : Recording) → IsText began → IsJournal began → trace_of began ≡ Ok trace
@@ -48,10 +49,10 @@ pub fn crashed_run_is_resumed()
 {}
 
 /// Proves that a crash undoes no answer. A run with a journal was made on a file that acts as the
-/// crash model says, and a crash at any moment of it left these bytes. They hold a front of the
-/// run's lines, as many as each front of its history from which a session was answered. A meter
-/// that is resumed from them answers as the one that made the first calls of the run, and these
-/// have each answered call of each session that may change the meter.
+/// crash model says, and a crash at any moment of it left these bytes. They hold the first lines of
+/// the run, at least the lines of each front of its history from which a session was answered. A
+/// meter that is resumed from them answers as the one that made the first calls of the run, and
+/// these include each answered call of each session that may change the meter.
 ///
 /// That the crash left as many lines is a premise: `IsJournaledRun` says that they were on the disk
 /// when the answer was written, and the crash model that a crash leaves what was synced.

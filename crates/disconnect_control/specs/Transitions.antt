@@ -16,33 +16,42 @@ pub record Row : Type 0 where
   pub from : ControlState
   pub to : ControlState
 
--- the eight transitions, by the letters of the standard's figure of states and transitions
--- (IEC 62056-6-2, class 70)
+-- transition a of the standard's figure of states and transitions (IEC 62056-6-2, class 70): a
+-- remote reconnection closes the switch
 abbrev pub a : Row
 a = record { trigger = RemoteReconnect; from = Disconnected; to = Connected }
 
+-- transition b of the figure: a remote disconnection opens the closed switch
 abbrev pub b : Row
 b = record { trigger = RemoteDisconnect; from = Connected; to = Disconnected }
 
+-- transition c of the figure: a remote disconnection revokes the readiness for reconnection
 abbrev pub c : Row
 c = record { trigger = RemoteDisconnect; from = ReadyForReconnection; to = Disconnected }
 
+-- transition d of the figure: a remote reconnection makes the open switch ready for reconnection
 abbrev pub d : Row
 d = record { trigger = RemoteReconnect; from = Disconnected; to = ReadyForReconnection }
 
+-- transition e of the figure: a manual reconnection closes the switch that is ready for it
 abbrev pub e : Row
 e = record { trigger = ManualReconnect; from = ReadyForReconnection; to = Connected }
 
+-- transition f of the figure: a manual disconnection opens the switch, which is then ready for
+-- reconnection
 abbrev pub f : Row
 f = record { trigger = ManualDisconnect; from = Connected; to = ReadyForReconnection }
 
+-- transition g of the figure: a local disconnection opens the switch, which is then ready for
+-- reconnection
 abbrev pub g : Row
 g = record { trigger = LocalDisconnect; from = Connected; to = ReadyForReconnection }
 
+-- transition h of the figure: a local reconnection closes the switch that is ready for it
 abbrev pub h : Row
 h = record { trigger = LocalReconnect; from = ReadyForReconnection; to = Connected }
 
--- these transitions, with one more before them if it is allowed
+-- the given transitions, with one more before them if it is allowed
 abbrev pub only_if : Bool → Row → List Row → List Row
 only_if true row rest = row ∷ rest
 only_if false row rest = rest
@@ -54,10 +63,11 @@ columns has_a has_b has_c has_d has_e has_f has_g has_h =
     (only_if has_c c (only_if has_d d
     (only_if has_e e (only_if has_f f (only_if has_g g (only_if has_h h [])))))))
 
--- yes and no, in the table below
+-- yes, in the table below: the mode has the transition
 abbrev pub y : Bool
 y = true
 
+-- no, in the table below: the mode does not have the transition
 abbrev pub n : Bool
 n = false
 
@@ -88,7 +98,7 @@ mode_number Mode4 = 4
 mode_number Mode5 = 5
 mode_number Mode6 = 6
 
--- the mode of a number
+-- the mode of a number, if the number is from 0 to 6
 abbrev pub mode_of : ℕ → Option ControlMode
 mode_of number = if number == 0 then Some Mode0 else if number == 1 then Some Mode1
     else if number == 2 then Some Mode2 else if number == 3 then Some Mode3
@@ -119,7 +129,7 @@ unfoldable pub control_state_after : ControlMode → Trigger → ControlState �
 control_state_after mode trigger state = unwrap_or (option_map (λ row. row.to)
     (allowed_transition mode trigger state)) state
 
--- modes whose remote reconnection waits for the button
+-- whether a remote reconnection in this mode waits for the button
 abbrev pub waits_for_button : ControlMode → Bool
 waits_for_button Mode0 = false
 waits_for_button Mode1 = true

@@ -32,23 +32,25 @@ IsTorn bytes [] = ⊤
 IsTorn [] (left ∷ rest) = ⊥
 IsTorn (byte ∷ bytes) (left ∷ rest) = ((left ≡ byte) ⊎ (left ≡ 0)) × IsTorn bytes rest
 
--- what a crash leaves after an append to `old`
+-- whether a crash after an append to `old` may leave `new`: `old` and a torn copy of the appended
+-- bytes
 abbrev pub TornAppend : List ℕ → List ℕ → List ℕ → Type 0
 TornAppend bytes old new = (left : List ℕ) × IsTorn bytes left × (new ≡ old ++ left)
 
--- what a crash leaves after a cut of `old` to a length: a front of it that is no shorter
+-- whether a crash after a cut of `old` to a length may leave `new`: a front of `old` that is no
+-- shorter than this length
 abbrev pub TornCut : ℕ → List ℕ → List ℕ → Type 0
 TornCut len old new = (kept : ℕ) × (len ≤ kept) × (new ≡ take kept old)
 
--- each new outcome is an old outcome after a step
+-- whether each new outcome is an old outcome after a step
 abbrev pub Follows : (List ℕ → List ℕ → Type 0) → (List ℕ → Type 0) → (List ℕ → Type 0) → Type 0
 Follows step old new = (c : List ℕ) → new c → (from : List ℕ) × old from × step from c
 
--- each new outcome is an old one
+-- whether each new outcome is an old one
 abbrev pub Narrows : (List ℕ → Type 0) → (List ℕ → Type 0) → Type 0
 Narrows old new = (c : List ℕ) → new c → old c
 
--- a crash leaves these bytes and no others
+-- whether a crash leaves these bytes and no others
 abbrev pub Only : List ℕ → (List ℕ → Type 0) → Type 0
 Only bytes outcomes = (c : List ℕ) → outcomes c → c ≡ bytes
 

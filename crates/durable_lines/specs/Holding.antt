@@ -3,7 +3,7 @@
 --     IsSameOrRenewed   bytes that are the old ones or renew them
 --     IsRebased         lines, the first of which a file held before it was renewed
 --     HoldsAfter        the lines that a file holds after a number of renewals
---     Holds             the same, after any number
+--     Holds             the lines that a file holds after any number of renewals
 use Rattle.std.specs.Prelude.{◌≡◌, ◌⊎◌, ℕ, zero, suc, List, ◌++◌}
 use Rattle.durable_lines.specs.Lines.{lines_in}
 
@@ -24,14 +24,15 @@ pub record IsRebased (Held : List (List ℕ) → List ℕ → Type 0)
   pub renewal : Renews old renewed
   pub appended : lines_in bytes ≡ lines_in renewed ++ rest
 
--- The bytes hold these lines, which follow the lines that the file had first. A file that was never
--- renewed has all of them. After a renewal it has those from the last base on.
+-- whether bytes hold these lines after a number of renewals. A file that was never renewed has its
+-- first lines, followed by these. After a renewal it has those from the last base on
 abbrev pub HoldsAfter : (Renews : List ℕ → List ℕ → Type 0) → (first : List (List ℕ))
     → (renewals : ℕ) → (lines : List (List ℕ)) → (bytes : List ℕ) → Type 0
 HoldsAfter Renews first zero lines bytes = lines_in bytes ≡ first ++ lines
 HoldsAfter Renews first (suc n) lines bytes =
     IsRebased (HoldsAfter Renews first n) Renews lines bytes
 
+-- whether bytes hold these lines after some number of renewals
 abbrev pub Holds : (Renews : List ℕ → List ℕ → Type 0) → (first : List (List ℕ))
     → (lines : List (List ℕ)) → (bytes : List ℕ) → Type 0
 Holds Renews first lines bytes = (n : ℕ) × HoldsAfter Renews first n lines bytes

@@ -22,7 +22,7 @@ moment_of m = length m.past.items
 abbrev pub states_of : MemoryFile → List State
 states_of m = m.past.items ++ m.state ∷ []
 
--- what a crash since a moment may have left
+-- whether a crash since a moment may have left these bytes
 abbrev pub LeftSince : MemoryFile → ℕ → List ℕ → Type 0
 LeftSince m t c = LeftIn IsLeft m.past.items m.state t c
 

@@ -12,8 +12,8 @@ use Rattle.durable_lines.specs.Moments.{LeftIn}
 use Rattle.durable_lines.specs.declared.memory_place.MemoryPlace.{MemoryPlace}
 use Rattle.durable_lines.specs.declared.memory_place.PlaceState.{PlaceState}
 
--- what a crash may leave under the name: the file that has it now, or the one before if the rename
--- is not on the disk
+-- whether a crash may leave these bytes under the name: those of the file that has it now, or of
+-- the one before if the rename is not on the disk
 abbrev pub MayHave : PlaceState → List ℕ → Type 0
 MayHave s c = IsLeft s.current c ⊎ IsSomeAnd s.previous (λ file. IsLeft file c)
 
@@ -34,6 +34,6 @@ moment_of p = length p.past.items
 abbrev pub states_of : MemoryPlace → List PlaceState
 states_of p = p.past.items ++ p.state ∷ []
 
--- what a crash since a moment may have left
+-- whether a crash since a moment may have left these bytes under the name
 abbrev pub LeftSince : MemoryPlace → ℕ → List ℕ → Type 0
 LeftSince p t c = LeftIn MayHave p.past.items p.state t c

@@ -5,15 +5,17 @@
 use Rattle.std.specs.Prelude.{◌⊎◌, ℕ, List, [], ◌∷◌, length, drop}
 use mathlib.Core.Logic.{inl, inr}
 
--- what a crash in one of these states may leave
+-- whether a crash in one of these states may leave these bytes
 abbrev pub AnyLeft : {S : Type 0} → (S → List ℕ → Type 0) → List S → List ℕ → Type 0
 AnyLeft left [] c = ⊥
 AnyLeft left (s ∷ states) c = left s c ⊎ AnyLeft left states c
 
--- what a crash since moment t may have left: in the present state, or in a past one since then
+-- whether a crash since moment t may have left these bytes: in the present state, or in a past one
+-- since then
 abbrev pub LeftIn : {S : Type 0} → (S → List ℕ → Type 0) → List S → S → ℕ → List ℕ → Type 0
 LeftIn left past state t c = left state c ⊎ AnyLeft left (drop t past) c
 
+-- a crash since the present moment leaves nothing of a past state
 none_past : {S : Type 0} (left : S → List ℕ → Type 0) (past : List S) (c : List ℕ)
     → AnyLeft left (drop (length past) past) c → ⊥
 none_past left [] c was = was

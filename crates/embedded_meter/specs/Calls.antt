@@ -54,6 +54,8 @@ pub record Opens (old : MeterState) (number : ℕ) (new : MeterState) : Type 0 w
   pub stay : OthersStay old number new
   pub recorder : new.recorder ≡ old.recorder
 
+-- whether a call opened the session with this number, or had this fault and left the meter
+-- unchanged
 abbrev pub OpensBy : MeterState → ℕ → Result Unit MeterFault → MeterState → Type 0
 OpensBy old number (Ok done) new = Opens old number new
 OpensBy old number (Err NoSession) new = (max_sessions ≤ number) × (new ≡ old)
@@ -63,7 +65,8 @@ OpensBy old number (Err Memory) new = (number < max_sessions) × (dialogue_at ol
 OpensBy old number (Err TooManySamples) new = ⊥
 OpensBy old number (Err Uneven) new = ⊥
 
--- a call was refused: no such session is open, or out of memory
+-- whether a call had this fault and left the meter unchanged: no such session is open, or out of
+-- memory
 abbrev pub RefusedBy : MeterState → ℕ → MeterFault → MeterState → Type 0
 RefusedBy old number NoSession new = (dialogue_at old number ≡ None) × (new ≡ old)
 RefusedBy old number Memory new = (dialogue_at old number ≢ None) × (new ≡ old)
@@ -77,6 +80,7 @@ pub record FeedsAt (old : MeterState) (number : ℕ) (bytes : List ℕ) (new : M
     pub session : AtSession old number new (λ (d d' : Dialogue). Feeds d bytes d')
     pub recorder : new.recorder ≡ old.recorder
 
+-- whether a call fed these bytes to the session with this number, or was refused with this fault
 abbrev pub FeedsBy : MeterState → ℕ → List ℕ → Result Unit MeterFault → MeterState → Type 0
 FeedsBy old number bytes (Ok done) new = FeedsAt old number bytes new
 FeedsBy old number bytes (Err fault) new = RefusedBy old number fault new
@@ -86,12 +90,13 @@ pub record FinishesAt (old : MeterState) (number : ℕ) (new : MeterState) : Typ
   pub session : AtSession old number new Finishes
   pub recorder : new.recorder ≡ old.recorder
 
+-- whether a call ended the input of the session with this number, or found no such session
 abbrev pub FinishesBy : MeterState → ℕ → Result Unit MeterFault → MeterState → Type 0
 FinishesBy old number (Ok done) new = FinishesAt old number new
 FinishesBy old number (Err fault) new = (fault ≡ NoSession) × (dialogue_at old number ≡ None)
     × (new ≡ old)
 
--- a session returned a frame, or what it waits for
+-- whether the session with this number gave a frame, or what it waits for
 abbrev pub GivesAt : MeterState → ℕ → List ℕ → Given → MeterState → List ℕ → Type 0
 GivesAt old number buffer given new buffer' =
     AtSession old number new
@@ -104,6 +109,8 @@ pub record StopsAt (old : MeterState) (number : ℕ) (buffer : List ℕ) (new : 
       (λ (d d' : Dialogue). Advances d old.recorder [] d' new.recorder)
   pub unwritten : buffer' ≡ buffer
 
+-- whether a call of `next` had this result: a frame or what the session waits for, no such session,
+-- or out of memory
 abbrev pub NextBy : MeterState → ℕ → List ℕ → Result Given MeterFault → MeterState → List ℕ → Type 0
 NextBy old number buffer (Ok given) new buffer' = GivesAt old number buffer given new buffer'
 NextBy old number buffer (Err NoSession) new buffer' = (dialogue_at old number ≡ None) × (new ≡ old)
@@ -120,6 +127,7 @@ pub record Closes (old : MeterState) (number : ℕ) (new : MeterState) : Type 0 
   pub stay : OthersStay old number new
   pub recorder : new.recorder ≡ old.recorder
 
+-- whether a call closed the session with this number, or found no such session
 abbrev pub ClosesBy : MeterState → ℕ → Result Unit MeterFault → MeterState → Type 0
 ClosesBy old number (Ok done) new = Closes old number new
 ClosesBy old number (Err fault) new = (fault ≡ NoSession) × (dialogue_at old number ≡ None)
@@ -148,6 +156,8 @@ pub record TakesSamples (old : MeterState) (samples : Samples) (fired : Fired) (
   pub tells : IsFired reply fired
   pub few : length samples.import ≤ max_values
 
+-- whether a block of samples was applied with these firings, or had this fault and left the meter
+-- unchanged
 abbrev pub SamplesBy : MeterState → Samples → Result Fired MeterFault → MeterState → Type 0
 SamplesBy old samples (Ok fired) new = TakesSamples old samples fired new
 SamplesBy old samples (Err TooManySamples) new = AreEven samples

@@ -79,7 +79,7 @@ pub record KeepsFrame (count : ℕ) (buffer : List ℕ) (d : Dialogue) : Type 0 
   pub counted : count ≡ length frame
   pub longer : length buffer < count
 
--- what `next` returned
+-- whether `next` returned this and changed session, meter and buffer accordingly
 abbrev pub GivesNext : Dialogue → Recording → List ℕ → Given → Dialogue → Recording → List ℕ
     → Type 0
 GivesNext old r buffer (Frame count) new r' buffer' = GivesFrame old r buffer count new r' buffer'
@@ -90,7 +90,8 @@ GivesNext old r buffer Wait new r' buffer' = Advances old r [] new r' × IsIdle 
 GivesNext old r buffer (End end) new r' buffer' = Advances old r [] new r' × IsOver end new
     × (buffer' ≡ buffer)
 
--- the result of `next`: out of memory no frame was returned, and whatever was done stays done
+-- whether `next` had this result; out of memory no frame was returned, and whatever was done stays
+-- done
 abbrev pub GivesNextBy : {E : Type 0} → Dialogue → Recording → List ℕ → Result Given E → Dialogue
     → Recording → List ℕ → Type 0
 GivesNextBy old r buffer (Ok given) new r' buffer' = GivesNext old r buffer given new r' buffer'

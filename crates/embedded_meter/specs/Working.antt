@@ -50,44 +50,44 @@ steps_in (Due frame) = 0
 abbrev pub weight : Dialogue → ℕ
 weight d = load_of d.session + load_of d.session + steps_in d.pending
 
--- the state in which no step is left
+-- whether no step is left: a frame is pending, the session waits, or it is over
 abbrev pub Leaves : NextNeed → Dialogue → Type 0
 Leaves rest.Due d = IsDue d
 Leaves rest.Wait d = IsIdle d
 Leaves (rest.End end) d = IsOver end d
 
--- the session was asked for its next event, frame or end
+-- whether the session was asked for its next event, frame or end, and returned this
 abbrev pub AsksBy : {E : Type 0} → Dialogue → Result (Option NextNeed) E → Dialogue → Type 0
 AsksBy old (Ok None) new = SameAhead old new × (weight new < weight old)
 AsksBy old (Ok (Some rest)) new = SameAhead old new × Leaves rest new
 AsksBy old (Err error) new = SameAhead old new
 
--- a short request was served up to its frame, or there is none
+-- whether a short request was served up to its frame, for `true`, or there is none
 abbrev pub ServesBy : {E : Type 0} → Dialogue → Recording → Result Bool E → Dialogue → Recording
     → Type 0
 ServesBy old r (Ok true) new r' = Advances old r [] new r' × IsDue new
 ServesBy old r (Ok false) new r' = (new ≡ old) × (r' ≡ r)
 ServesBy old r (Err error) new r' = Advances old r [] new r'
 
--- the meter applied the event, or memory ran out
+-- whether the meter applied the pending event, or was out of memory and is unchanged
 abbrev pub AppliesBy : {E : Type 0} → Dialogue → Recording → Result Unit E → Dialogue → Recording
     → Type 0
 AppliesBy old r (Ok done) new r' = Advances old r [] new r' × (weight new < weight old)
 AppliesBy old r (Err error) new r' = (new ≡ old) × (r' ≡ r)
 
--- the session received the reply
+-- whether the session received the pending reply, or was out of memory and is unchanged
 abbrev pub AnswersBy : {E : Type 0} → Dialogue → Result Unit E → Dialogue → Type 0
 AnswersBy old (Ok done) new = SameAhead old new × (weight new < weight old)
 AnswersBy old (Err error) new = new ≡ old
 
--- one step was done: `None` if there may be a further one
+-- whether one step was done: `None` if there may be a further one
 abbrev pub WorksBy : {E : Type 0} → Dialogue → Recording → Result (Option NextNeed) E → Dialogue
     → Recording → Type 0
 WorksBy old r (Ok None) new r' = Advances old r [] new r' × (weight new < weight old)
 WorksBy old r (Ok (Some rest)) new r' = Advances old r [] new r' × Leaves rest new
 WorksBy old r (Err error) new r' = Advances old r [] new r'
 
--- steps were done until none was left
+-- whether steps were done until none was left, or memory ran out
 abbrev pub RestsBy : {E : Type 0} → Dialogue → Recording → Result NextNeed E → Dialogue → Recording
     → Type 0
 RestsBy old r (Ok rest) new r' = Advances old r [] new r' × Leaves rest new
@@ -102,7 +102,8 @@ pub record TakesFrame (old : Dialogue) (buffer : List ℕ) (count : ℕ) (new : 
   pub counted : count ≡ length frame
   pub written : buffer' ≡ frame ++ drop count buffer
 
--- the frame was copied, or stays pending
+-- whether the pending frame was copied to the buffer, or stays pending because the buffer is too
+-- short
 abbrev pub GivesDue : Dialogue → List ℕ → Given → Dialogue → List ℕ → Type 0
 GivesDue old buffer (given.Frame count) new buffer' = TakesFrame old buffer count new buffer'
 GivesDue old buffer (given.NoRoom count) new buffer' = (new ≡ old) × KeepsFrame count buffer new

@@ -19,9 +19,13 @@ pub enum Given {
 /// How many times each side of each limiter has fired in a block of samples.
 #[derive(Clone, Copy, Debug, PartialEq, Eq)]
 pub struct Fired {
+    /// Fires of the import limiter over its threshold.
     pub over: u16,
+    /// Fires of the import limiter under its threshold.
     pub under: u16,
+    /// Fires of the export limiter over its threshold; 0 in a block of import values alone.
     pub export_over: u16,
+    /// Fires of the export limiter under its threshold; 0 in a block of import values alone.
     pub export_under: u16,
 }
 

@@ -176,6 +176,7 @@ fn check_verdicts(rt: &impl Abort, alloc: Global, rows: &[Judged]) {
     }
 }
 
+// AARQs on the public client's port, which are accepted with any password or none.
 static OF_THE_PUBLIC_CLIENT: [Judged; 2] = [
     (16, PASSWORD, &PUBLIC_AARQ, &[], PUBLIC_ACCEPTED),
     (
@@ -196,6 +197,8 @@ fn the_public_client_needs_no_password(rt: HostRuntime) {
     check_verdicts(&rt, rt.alloc(), &OF_THE_PUBLIC_CLIENT);
 }
 
+// AARQs on the management client's port: with the right password, with a wrong one, and without a
+// mechanism.
 static OF_THE_MANAGEMENT_CLIENT: [Judged; 5] = [
     (
         1,
@@ -331,6 +334,7 @@ const REORDERED_AARQ: [u8; 34] = [
 // An AARQ whose application context name is empty.
 const EMPTY_CONTEXT: [u8; 10] = [0x60, 0x08, 0xA1, 0x02, 0x06, 0x00, 0xBE, 0x02, 0x04, 0x00];
 
+// AARQs with their fields in another order, or with an empty context.
 static IN_OTHER_ORDERS: [Judged; 3] = [
     (16, PASSWORD, &REORDERED_AARQ, &[], PUBLIC_ACCEPTED),
     (1, PASSWORD, &REORDERED_AARQ, &[], Verdict::Rejected(14)),
@@ -598,6 +602,7 @@ const INITIATE_ERROR: Aare = Aare {
 // An AARE, and its expected bytes as an example with changed bytes.
 type WrittenAare = (Aare, &'static [u8], &'static [(usize, u8)]);
 
+// AAREs with the bytes that they are written as.
 static WRITTEN_AARES: [WrittenAare; 5] = [
     (ACCEPTING, &ACCEPTING_AARE, &[]),
     (REFUSING, &REFUSING_AARE, &[]),
@@ -658,6 +663,7 @@ const REORDERED_AARE: [u8; 36] = [
     0x02, 0x01, 0x02, 0xFF,
 ];
 
+// Bytes of AAREs, with what is read from them.
 static READ_AARES: [ReadAare; 7] = [
     (&ACCEPTING_AARE, &[], Ok(ACCEPTING)),
     (&REFUSING_AARE, &[], Ok(REFUSING)),

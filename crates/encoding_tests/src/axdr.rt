@@ -256,6 +256,7 @@ static NINE_DEEP: [u8; 19] = [
     0x02, 0x01, 0x00,
 ];
 
+// Bytes that are not a Data, each with the first fault found.
 static FAULTS: [(&[u8], DataFault); 10] = [
     (&[0x09, 0x05, 0xAB], DataFault::Truncated),
     (&[], DataFault::Truncated),

@@ -18,7 +18,8 @@ pub record Writes (old : StreamState) (pending : List ℕ) (new : StreamState) (
   pub split : pending ≡ out ++ pending'
   pub moves : Moves old [] out new
 
--- the result of a write of the pending bytes
+-- whether a write of the pending bytes had this result: some were written, the stream blocked, or
+-- it ended
 abbrev pub WritesBy : StreamState → List ℕ → Turn → StreamState → List ℕ → Type 0
 WritesBy old pending Again new pending' = Writes old pending new pending'
 WritesBy old pending Waits new pending' = Blocks old new × (pending' ≡ pending)
@@ -27,7 +28,7 @@ WritesBy old pending (Over (Ended end)) new pending' = ⊥
 WritesBy old pending (Over TooLong) new pending' = ⊥
 WritesBy old pending (Over Memory) new pending' = ⊥
 
--- the result of appending a frame to the pending bytes
+-- whether appending a frame to the pending bytes had this result: it is pending, or out of memory
 abbrev pub QueuesBy : List ℕ → List ℕ → Turn → List ℕ → Type 0
 QueuesBy pending frame Again pending' = pending' ≡ pending ++ frame
 QueuesBy pending frame Waits pending' = ⊥
@@ -49,7 +50,8 @@ pub record LosesBytes (old new : StreamState) : Type 0 where
   pub bytes : List ℕ
   pub moves : Moves old bytes [] new
 
--- the result of a read
+-- whether a read had this result: its bytes were fed to the session, the stream blocked or ended,
+-- or out of memory the bytes are lost
 abbrev pub FeedsBy : ℕ → MeterState → StreamState → Turn → MeterState → StreamState → Type 0
 FeedsBy number m old Again m' new = FeedsBytes number m old m' new
 FeedsBy number m old Waits m' new = (m' ≡ m) × Blocks old new

@@ -40,14 +40,14 @@ pub record Stops (old new : StreamState) : Type 0 where
 abbrev pub IsCount : ℕ → List ℕ → Type 0
 IsCount count bytes = (0 < count) × (count ≤ length bytes)
 
--- the result of a read into this buffer
+-- whether a read into this buffer had this result
 abbrev pub ReadBy : StreamState → List ℕ → Received → StreamState → Type 0
 ReadBy old buffer (received.Bytes count) new = IsCount count buffer
     × Moves old (take count buffer) [] new
 ReadBy old buffer received.Blocked new = Blocks old new
 ReadBy old buffer received.Ended new = Stops old new
 
--- the result of a write of these bytes
+-- whether a write of these bytes had this result
 abbrev pub WrittenBy : StreamState → List ℕ → Sent → StreamState → Type 0
 WrittenBy old bytes (sent.Bytes count) new = IsCount count bytes
     × Moves old [] (take count bytes) new

@@ -30,7 +30,8 @@ pub record NeedsRoom (room : ℕ) (d : Dialogue) : Type 0 where
   pub due : d.pending ≡ Due frame
   pub longer : room < length frame
 
--- only if memory runs out, bytes that were read are not fed, or a frame that was taken is not sent
+-- whether a turn lost no bytes: all bytes read were fed, and each frame taken is sent or pending,
+-- unless memory ran out
 abbrev pub LosesBy : Turn → List ℕ → List ℕ → Type 0
 LosesBy Waits unfed lost = (unfed ≡ []) × (lost ≡ [])
 LosesBy Again unfed lost = (unfed ≡ []) × (lost ≡ [])
@@ -39,10 +40,10 @@ LosesBy (Over (Ended end)) unfed lost = (unfed ≡ []) × (lost ≡ [])
 LosesBy (Over TooLong) unfed lost = (unfed ≡ []) × (lost ≡ [])
 LosesBy (Over Memory) unfed lost = ⊤
 
--- Why a turn of this session stopped, after `moved` bytes and frames were moved: the stream
--- blocked, and if nothing is pending, the session owes nothing; at least `least` bytes and frames
--- were moved; the stream ended; the session is over and everything was written; a frame is longer
--- than `room`; or memory ran out.
+-- whether a turn of this session stopped for this reason, after `moved` bytes and frames were
+-- moved: the stream blocked, and if nothing is pending, the session owes nothing; at least `least`
+-- bytes and frames were moved; the stream ended; the session is over and everything was written; a
+-- frame is longer than `room`; or memory ran out
 abbrev pub StopsBy : ℕ → ℕ → ℕ → LinkState → ℕ → Turn → LinkState → Type 0
 StopsBy number least room old moved Waits new =
     (new.stream.blocks ≢ old.stream.blocks)

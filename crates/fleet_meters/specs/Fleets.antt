@@ -70,7 +70,8 @@ module _ {S : Type 0} where
   without_stream (Ok key) = Ok key
   without_stream (Err refused) = Err refused.1
 
--- the result of a connection to the meter with a number, counted from 1
+-- whether a connection to the meter with this number, counted from 1, had this result: a key, or a
+-- refusal that left the fleet unchanged
 abbrev pub AdmitsBy : FleetState → ℕ → StreamState → Result ℕ Refusal → FleetState → Type 0
 AdmitsBy old number stream (Ok key) new = (place : ℕ) × (number ≡ place + 1)
     × Admits old place stream key new
@@ -92,7 +93,8 @@ pub record Runs (room : ℕ) (old : FleetState) (key : ℕ) (turn : Turn) (new :
     pub isolated : Isolated old key new
     pub stay : MetersStay old before.place new
 
--- the result of a turn of the connection with a key
+-- whether a turn of the connection with this key had this result; `None` if no connection has the
+-- key
 abbrev pub RunsBy : ℕ → FleetState → ℕ → Option Turn → FleetState → Type 0
 RunsBy room old key (Some turn) new = Runs room old key turn new
 RunsBy room old key None new = (get old.clients key ≡ None) × (new ≡ old)

@@ -27,7 +27,8 @@ session_of (Some m) number = dialogue_at m number
 abbrev pub session_in : List (Option MeterState) → ℕ → ℕ → Option Dialogue
 session_in places place number = session_of (meter_in places place) number
 
--- the meter of a place before its session is opened: the one that the place has, or a new one
+-- whether this is the meter of a place before a session is opened: the one that the place has, or a
+-- new one
 abbrev pub Makes : MeterTerms → Option MeterState → MeterState → Type 0
 Makes terms None m = Resumes terms.trace terms.password terms.kept_events m
 Makes terms (Some old) m = m ≡ old
@@ -45,14 +46,14 @@ pub record Seats (terms : MeterTerms) (old : Option MeterState) (number : ℕ)
 abbrev pub IsFull : Option MeterState → Type 0
 IsFull m = (number : ℕ) → number < max_sessions → session_of m number ≢ None
 
--- a meter was asked for its first free session
+-- whether a meter that was asked for its first free session had this result
 abbrev pub OpensFirst : MeterState → Result ℕ Refusal → MeterState → Type 0
 OpensFirst old (Ok number) new = Opens old number new
 OpensFirst old (Err NoMeter) new = ⊥
 OpensFirst old (Err Full) new = IsFull (Some old) × (new ≡ old)
 OpensFirst old (Err Memory) new = new ≡ old
 
--- a place was asked for a session
+-- whether a place that was asked for a session had this result; its meter is made if it has none
 abbrev pub SeatsBy : MeterTerms → Option MeterState → Result ℕ Refusal → Option MeterState → Type 0
 SeatsBy terms old (Ok number) new = Seats terms old number new
 SeatsBy terms old (Err NoMeter) new = ⊥
@@ -82,7 +83,8 @@ pub record PlacesStay (old : List (Option MeterState)) (place : ℕ) (new : List
   pub places : (other : ℕ) → other ≢ place → meter_in new other ≡ meter_in old other
   pub count : length new ≡ length old
 
--- the meter with a number, counted from 1, was asked for a session
+-- whether the meter with this number, counted from 1, which was asked for a session, had this
+-- result: its place and the number of the session, or a refusal
 abbrev pub SeatsIn : MeterTerms → List (Option MeterState) → ℕ → Result (ℕ × ℕ) Refusal
     → List (Option MeterState) → Type 0
 SeatsIn terms old number (Ok seat) new = (number ≡ seat.0 + 1)

@@ -31,14 +31,14 @@ pub record RunsAt (room : ℕ) (old : FleetState) (key place : ℕ) (turn : Turn
   pub at : runs.before.place ≡ place
   pub applied : runs.turns.turns.turns.serves.went.told ≡ told
 
--- the effect of a call; `room` is the size of the buffer for frames
+-- whether a call had this effect; `room` is the size of the buffer for frames
 abbrev pub CallsBy : ℕ → FleetState → FleetCall → FleetState → Type 0
 CallsBy room old (admitted number stream result) new = AdmitsBy old number stream result new
 CallsBy room old (ran key place turn told) new = RunsAt room old key place turn told new
 CallsBy room old (closed key) new = (stream : StreamState) × Releases old key stream new
 CallsBy room old (missed key) new = (get old.clients key ≡ None) × (new ≡ old)
 
--- the effect of several calls, in order
+-- whether several calls, in order, had this effect
 abbrev pub Calls : ℕ → FleetState → List FleetCall → FleetState → Type 0
 Calls room old [] new = new ≡ old
 Calls room old (call ∷ calls) new = (between : FleetState) × CallsBy room old call between
@@ -75,7 +75,7 @@ IsEnd key (closed k) = k ≡ key
 IsEnd key (admitted number stream result) = ⊥
 IsEnd key (missed k) = ⊥
 
--- no call ends the connection with a key
+-- whether no call ends the connection with this key
 abbrev pub StaysOpen : ℕ → List FleetCall → Type 0
 StaysOpen key [] = ⊤
 StaysOpen key (call ∷ calls) = (¬ (IsEnd key call)) × StaysOpen key calls

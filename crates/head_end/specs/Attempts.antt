@@ -21,6 +21,7 @@ pub data State : Type 0 where
   connected : List ℕ → State
   closed : List ℕ → Option (List Happening) → State
 
+-- whether the connection of the attempt is open
 abbrev pub is_connected : State → Type 0
 is_connected unused = ⊥
 is_connected (refused address) = ⊥
@@ -39,13 +40,15 @@ close_state log (refused address) = refused address
 close_state log (connected address) = closed address log
 close_state log (closed address before) = closed address before
 
--- the state from an attempt's parts
+-- the state of an attempt that was used for an address, from its parts
 abbrev pub used_state : {K : Type 0} → (K → Option (List Happening)) → List ℕ → Bool
     → Option (Snapshot K) → State
 used_state log_of address true connection = refused address
 used_state log_of address false None = connected address
 used_state log_of address false (Some connection) = closed address (log_of connection.value)
 
+-- the state of an attempt from its parts: the address that it was used for, whether the connect was
+-- refused, and the closed connection
 abbrev pub state_of : {K : Type 0} → (K → Option (List Happening)) → Option (Snapshot (List ℕ))
     → Bool → Option (Snapshot K) → State
 state_of log_of None is_refused connection = unused
@@ -54,6 +57,7 @@ state_of log_of
 
 -- ---- the use of an attempt by a job
 
+-- the outcome in a row, if the job did not run out of memory
 abbrev pub row_outcome : Row → Option Outcome
 row_outcome (Came outcome) = Some outcome
 row_outcome Memory = None

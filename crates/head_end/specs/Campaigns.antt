@@ -22,10 +22,11 @@ place_at turns workers slot = (slot % turns) * workers + slot / turns
 abbrev pub slot_at : (turns workers place : ℕ) → ℕ
 slot_at turns workers place = (place % workers) * turns + place / workers
 
--- the number of slots of each worker for a number of jobs, and of all workers
+-- the number of slots of each worker, for a number of jobs
 abbrev pub turns_for : (jobs workers : ℕ) → ℕ
 turns_for jobs workers = jobs / workers + 1
 
+-- the number of slots of all workers together, for a number of jobs
 abbrev pub slots_for : (jobs workers : ℕ) → ℕ
 slots_for jobs workers = turns_for jobs workers * workers
 
@@ -40,7 +41,7 @@ pub record IsRun (turns workers : ℕ) (jobs : List Job) (passwords : List (List
       (slice_index_or passwords (place_at turns workers slot) password) row stage
   pub others : length jobs ≤ place_at turns workers slot → stage ≡ unused
 
--- a relation between the elements of two lists at each index
+-- whether a relation holds between the elements of two lists at each index of the first
 abbrev pub EachChange : {X : Type 0} → (ℕ → X → X → Type 0) → List X → List X → Type 0
 EachChange {X} R old new = (i : ℕ) (x : X) → i < length old
     → R i (slice_index_or old i x) (slice_index_or new i x)

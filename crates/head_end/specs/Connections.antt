@@ -27,31 +27,36 @@ pub record GivesPiece (told : Forecast) (left : ℕ) (piece : List ℕ) (new : O
   pub new_is : new ≡ Some (record { reads = left; bytes = rest; stop = told.stop })
   pub last : left ≡ 0 → rest ≡ []
 
--- a read that returned bytes, one that returned none, and one that failed
+-- whether a predicted read had this result: the next predicted bytes, none at the predicted end, or
+-- a fault at the predicted failure
 abbrev pub ReadsTold : Forecast → ℕ → Result ℕ StreamFault → List ℕ → Option Forecast → Type 0
 ReadsTold told left (Ok (suc count)) buffer new = GivesPiece told left (take (suc count) buffer) new
 ReadsTold told left (Ok zero) buffer new = (told.bytes ≡ []) × (told.stop ≡ ended)
 ReadsTold told left (Err fault) buffer new = (told.bytes ≡ []) × (told.stop ≡ failed)
 
+-- whether a read had this result, if one more is predicted; nothing is claimed after the last
+-- predicted one
 abbrev pub ReadsBy : Forecast → ℕ → Result ℕ StreamFault → List ℕ → Option Forecast → Type 0
 ReadsBy told zero result buffer new = ⊤
 ReadsBy told (suc left) result buffer new = ReadsTold told left result buffer new
 
--- a read into a buffer of 1,024 bytes, while reads are predicted
+-- whether a read had a result that the prediction allows; only reads into a buffer of 1,024 bytes
+-- are predicted
 abbrev pub ReadTells : Option Forecast → Result ℕ StreamFault → List ℕ → Option Forecast → Type 0
 ReadTells None result buffer new = ⊤
 ReadTells (Some told) result buffer new = length buffer ≡ 1024
     → ReadsBy told told.reads result buffer new
 
--- a write leaves the prediction unchanged; one fails only if no predicted bytes are left
+-- whether a write left the prediction unchanged, or failed as predicted, after all predicted bytes
+-- were read
 abbrev pub WriteTells : {X : Type 0} → Option Forecast → Result X StreamFault
     → Option Forecast → Type 0
 WriteTells None result new = ⊤
 WriteTells (Some told) (Ok x) new = new ≡ Some told
 WriteTells (Some told) (Err fault) new = (told.bytes ≡ []) × (told.stop ≡ failed)
 
--- a connect returns a connection with this prediction of its first 65,536 reads; a connect that
--- fails counts as a connection that fails without bytes
+-- whether a connect returned a connection with this prediction of its first 65,536 reads; a connect
+-- that fails counts as a connection that fails without bytes
 abbrev pub ConnectTells : {K : Type 0} → Option Forecast → (K → Option Forecast)
     → Result K ConnectFault
     → Type 0

@@ -41,22 +41,27 @@ pub record GivesUp (old : Client) (outcome : Outcome) : Type 0 where
       → AtEnd start verb password old
       → outcome ≡ outcome_of verb start.bytes
 
--- the messages were written; or a write failed, and no more bytes will come
+-- whether the messages were written, for `true`, and the client was fed the bytes read so far; or a
+-- write failed, and it was fed all predicted bytes
 abbrev pub AtAfter : Bool → Forecast → Verb → List ℕ → ℕ → Client → Option Forecast → Type 0
 AtAfter true start verb password left client now = At start verb password left client now
 AtAfter false start verb password left client now = AtEnd start verb password client
 
+-- the effect of sending all messages that may be sent, on a client that was fed the bytes read so
+-- far
 pub record SendsAll (old : Client) (before : Option Forecast) (result : Bool) (new : Client)
     (after : Option Forecast) : Type 0 where
   pub on : (start : Forecast) (verb : Verb) (password : List ℕ) (left : ℕ)
       → At start verb password left old before → AtAfter result start verb password left new after
 
--- after a turn the outcome is known, or the client was fed the bytes of one more read
+-- whether, after a turn, the outcome is the predicted one, or, without an outcome, the client was
+-- fed the bytes read so far
 abbrev pub AtTurn : Option Outcome → Forecast → Verb → List ℕ → ℕ → Client
     → Option Forecast → Type 0
 AtTurn None start verb password left client now = At start verb password left client now
 AtTurn (Some outcome) start verb password left client now = outcome ≡ outcome_of verb start.bytes
 
+-- the effect of one turn, with one read, on a client that was fed the bytes read so far
 pub record Turns (old : Client) (before : Option Forecast) (result : Option Outcome) (new : Client)
     (after : Option Forecast) : Type 0 where
   pub on : (start : Forecast) (verb : Verb) (password : List ℕ) (left : ℕ)
@@ -105,18 +110,22 @@ pub record IsCut (verb : Verb) (password : List ℕ) (client : Client) (now : Op
   pub stands : Stands verb password (bytes_received log) given false client
   pub conversation : Conversation true verb password log
 
--- the messages that may be sent are sent, or a write fails
+-- whether the messages that may be sent were sent, for `true`, or the conversation ended at a
+-- failed write
 abbrev pub SentAfter : Bool → Verb → List ℕ → ℕ → Client → Option (List Happening) → Type 0
 SentAfter true verb password reads client now = HasSent verb password reads client now
 SentAfter false verb password reads client now = IsCut verb password client now
 
+-- the effect of sending all messages that may be sent, on the log of the connection; an unknown log
+-- remains unknown
 pub record Sends (old : Client) (before : Option (List Happening)) (result : Bool) (new : Client)
     (after : Option (List Happening)) : Type 0 where
   pub on : (verb : Verb) (password : List ℕ) (reads : ℕ) → Talks verb password reads old before
       → SentAfter result verb password reads new after
   pub unknown : before ≡ None → after ≡ None
 
--- after a read the next one follows, the conversation is over, or it is cut short out of memory
+-- whether, after a read, the next one follows, the conversation is over, or it is cut short out of
+-- memory
 abbrev pub TurnAfter : {E : Type 0} → Result (Option Outcome) E → Verb → List ℕ → ℕ → Client
     → Option (List Happening) → Type 0
 TurnAfter (Ok None) verb password reads client now = Waits verb password reads client now
@@ -124,6 +133,8 @@ TurnAfter (Ok (Some outcome)) verb password reads client now = HasConversed verb
     (Some outcome) now
 TurnAfter (Err error) verb password reads client now = HasConversed verb password None now
 
+-- the effect of one turn, with one read, on the log of the connection; an unknown log remains
+-- unknown
 pub record TakesTurn {E : Type 0} (old : Client) (before : Option (List Happening))
     (result : Result (Option Outcome) E) (new : Client) (after : Option
     (List Happening)) : Type 0 where

@@ -52,7 +52,7 @@ password_of (line ∷ lines) name = first_of (password_in name line) (password_o
 abbrev pub password_for : List (List ℕ) → Option (List ℕ) → Job → Option (List ℕ)
 password_for lines common job = first_of (password_of lines job.id) common
 
--- these jobs have these passwords
+-- whether these are the passwords of these jobs, by the lines of a list and the common password
 abbrev pub HavePasswords : List (List ℕ) → Option (List ℕ) → List Job → List (List ℕ) → Type 0
 HavePasswords lines common jobs passwords =
     map (λ password. Some password) passwords ≡ map (λ job. password_for lines common job) jobs
@@ -64,8 +64,8 @@ pub record LacksPassword (lines : List (List ℕ)) (common : Option (List ℕ)) 
   pub earlier : HavePasswords lines common (take place jobs) passwords
   pub lacks : (job : Job) → password_for lines common (slice_index_or jobs place job) ≡ None
 
--- the passwords of all jobs; the first wrong line; the first job without a password; or out of
--- memory
+-- whether a result is the passwords of all jobs, the number of the first wrong line, the place of
+-- the first job without a password, or out of memory
 abbrev pub GivesPasswords : List (List ℕ) → Option (List ℕ) → List Job
     → Result (List (List ℕ)) PasswordsFault → Type 0
 GivesPasswords lines common jobs (Ok passwords) = (wrong_line_in 1 lines ≡ None)

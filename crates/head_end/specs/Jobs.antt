@@ -75,7 +75,7 @@ limited_jobs (Ok jobs) = if nat_lt 1000 (length jobs) then Err fault.TooMany els
 unfoldable pub jobs_of : List ℕ → Result (List Job) JobsFault
 jobs_of text = limited_jobs (jobs_in 1 (job_lines text))
 
--- a text was read: its jobs, its fault, or out of memory
+-- whether a result is the jobs of a text, its fault, or out of memory
 abbrev pub ReadsJobs : List ℕ → Result (List Job) JobsFault → Type 0
 ReadsJobs text (Ok jobs) = jobs_of text ≡ Ok jobs
 ReadsJobs text (Err fault.Memory) = Unit {0}
@@ -86,19 +86,22 @@ ReadsJobs text (Err fault.TooMany) = jobs_of text ≡ Err fault.TooMany
 abbrev pub count_text : ℕ → List ℕ
 count_text count = (codes "jobs " ++ decimal count) ++ 10 ∷ []
 
--- a text was counted: the number of its jobs, or its fault
+-- whether a result is the line with the number of a text's jobs, its fault, or out of memory
 abbrev pub CountsJobs : List ℕ → Result (List ℕ) JobsFault → Type 0
 CountsJobs text (Ok out) = (jobs : List Job) × (jobs_of text ≡ Ok jobs)
     × (out ≡ count_text (length jobs))
 CountsJobs text (Err fault) = ReadsJobs text (Err fault)
 
--- the outcome of reading lines, and of adding one
+-- whether a result is the jobs of lines numbered from here, the number of the first invalid line,
+-- or out of memory
 abbrev pub ReadsLines : ℕ → List (List ℕ) → Result (List Job) JobsFault → Type 0
 ReadsLines number lines (Ok jobs) = jobs_in number lines ≡ Ok jobs
 ReadsLines number lines (Err (fault.Line wrong)) = jobs_in number lines ≡ Err wrong
 ReadsLines number lines (Err fault.Memory) = Unit {0}
 ReadsLines number lines (Err fault.TooMany) = ⊥
 
+-- whether adding the job of a line to a list had this result: the line's job was appended, the line
+-- is invalid, or out of memory
 abbrev pub AddsJob : {X : Type 0} → ℕ → List ℕ → List Job → Result X JobsFault → List Job → Type 0
 AddsJob number line old (Ok x) new = (added : List Job)
     × (jobs_at number line (job_of line) ≡ Ok added) × (new ≡ old ++ added)

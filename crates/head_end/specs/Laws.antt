@@ -20,11 +20,12 @@ use Rattle.head_end.specs.Jobs.{job_lines, jobs_in}
 use Rattle.head_end.specs.Reports.{report_text}
 use Rattle.head_end.specs.Rows.{AreLines}
 
--- the line of a job whose meter's reads are predicted
+-- the report line of a job with this prediction of its meter's reads; unknown without one
 abbrev pub line_by : Job → Option Forecast → ReportLine
 line_by job (Some told) = record { id = job.id; row = Came (outcome_of job.verb told.bytes) }
 line_by job None = record { id = job.id; row = Came Unknown }
 
+-- the report line of a job, by the prediction for its address
 abbrev pub line_for : (List ℕ → Option Forecast) → Job → ReportLine
 line_for tells job = line_by job (tells job.address)
 
@@ -33,7 +34,7 @@ abbrev pub AreTold : (List ℕ → Option Forecast) → List Job → Type 0
 AreTold tells [] = ⊤
 AreTold tells (job ∷ jobs) = IsSome (tells job.address) × AreTold tells jobs
 
--- no job ran out of memory
+-- whether no job ran out of memory
 abbrev pub HaveMemory : List ReportLine → Type 0
 HaveMemory [] = ⊤
 HaveMemory (line ∷ lines) = (line.row ≢ Memory) × HaveMemory lines

@@ -40,7 +40,7 @@ reads_made (cut_off bytes ∷ later) = reads_made later
 
 -- ---- the effect of calls on a log; an unknown log remains unknown
 
--- a read adds the bytes that it returned, or that it returned none
+-- whether a read added to the log the bytes that it returned, or that it returned none
 abbrev pub ReadLogs : Option (List Happening) → Result ℕ StreamFault → List ℕ
     → Option (List Happening) → Type 0
 ReadLogs None result buffer new = new ≡ None
@@ -61,6 +61,7 @@ pub record IsCutOff (text : List ℕ) (log : List Happening) (new : Option
   pub is_front : IsFront front text
   pub new_is : new ≡ Some (log ++ cut_off front ∷ [])
 
+-- whether a write added to the log its bytes, or, if it failed, a prefix of them
 abbrev pub WriteLogs : {X : Type 0} → Option (List Happening) → List ℕ → Result X StreamFault
     → Option (List Happening) → Type 0
 WriteLogs None text result new = new ≡ None

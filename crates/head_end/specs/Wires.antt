@@ -32,15 +32,15 @@ IsDueNext verb password log bytes =
 abbrev pub IsOver : Verb → List Happening → Type 0
 IsOver verb log = IsSome (outcome_after verb (bytes_received log)) ⊎ (reads_made log ≡ 65536)
 
--- the end of a conversation: exactly the messages that may be sent were sent. If out of memory, it
--- may end anywhere
+-- whether a conversation may end here: exactly the messages that may be sent were sent, and no read
+-- follows. If it was cut short out of memory, it may end anywhere
 abbrev pub EndsAt : Bool → Verb → List ℕ → List Happening → Type 0
 EndsAt false verb password log = ⊤
 EndsAt true verb password log = (bytes_sent log ≡ due_text verb password (bytes_received log))
     × IsOver verb log
 
--- what may follow a log: bytes that may be sent next, or, if all were sent, a read. Nothing follows
--- a read without bytes or a write that failed
+-- whether these reads and writes may follow a log: bytes that may be sent next, or, if all were
+-- sent, a read. Nothing follows a read without bytes or a write that failed
 abbrev pub Permits : Bool → Verb → List ℕ → List Happening → List Happening → Type 0
 Permits whole verb password log [] = EndsAt whole verb password log
 Permits whole verb password log (heard bytes ∷ later) = Listens verb password log
@@ -51,7 +51,7 @@ Permits whole verb password log (sent bytes ∷ later) = IsDueNext verb password
 Permits whole verb password log (cut_off bytes ∷ later) = IsDueNext verb password log bytes
     × (later ≡ [])
 
--- a conversation from its start, whole or cut short out of memory
+-- whether a log is a conversation from its start: whole, for `true`, or cut short out of memory
 abbrev pub Conversation : Bool → Verb → List ℕ → List Happening → Type 0
 Conversation whole verb password log = Permits whole verb password [] log
 

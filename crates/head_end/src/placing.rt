@@ -12,7 +12,9 @@ use std::alloc::{AllocError, Global};
 /// A place for a job: its attempt and its row. Each worker fills consecutive places of its own.
 #[derive(Drop)]
 pub struct JobPlace<'a, C: Connector> {
+    /// The attempt to reach the meter of the job.
     pub attempt: Attempt<'a, C>,
+    /// The result of the job; `Memory` until it has run.
     pub row: Row,
 }
 

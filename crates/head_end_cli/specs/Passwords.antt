@@ -28,6 +28,7 @@ pub record ArePasswords (found : Found) (common : Option (List ℕ)) (jobs : Lis
   pub no_file : first_value found (codes "passwords") ≡ None → text ≡ []
   pub are : HavePasswords (job_lines text) common jobs passwords
 
+-- each job has the password that the options give it: that of its name, else the common one
 pub record HasPasswords (found : Found) (jobs : List Job) (passwords : List (List ℕ))
     : Type 0 where
   pub common : Option (List ℕ)

@@ -31,10 +31,15 @@ pub(crate) const PASSWORD_VARIABLE: &str = "METER_PASSWORD";
 // The jobs and options of a campaign, all valid.
 #[derive(Drop)]
 pub(crate) struct CampaignPlan {
+    // The jobs, in the order of their list.
     pub(crate) jobs: Jobs,
+    // The password of each job, 1 to 32 bytes.
     pub(crate) passwords: Listed<Octets>,
+    // The number of workers, 1 to 16.
     pub(crate) workers: u8,
+    // The time limits of a connection.
     pub(crate) limits: TcpLimits,
+    // Whether the progress is reported.
     pub(crate) is_shown: bool,
     ghost sized: { All IsPassword passwords },
     ghost paired: { length passwords ≡ length jobs },

@@ -161,6 +161,7 @@ fn begin(rt: &HostRuntime) -> Result<HeadEndCommand, Fault> {
     }
 }
 
+// Runs the command of the command line, and returns the exit status.
 fn main(rt: HostRuntime) -> ExitCode {
     match begin(&rt) {
         Ok(HeadEndCommand::Ended(status)) => ExitCode::from(status),

@@ -42,8 +42,11 @@ impl CampaignProgress {
 // Counts each job and, if `is_shown`, reports the progress.
 #[derive(Drop)]
 pub(crate) struct ProgressWatch<'a> {
+    // The runtime, for the clock and standard error.
     pub(crate) rt: &'a HostRuntime,
+    // The count of the finished jobs.
     pub(crate) progress: &'a CampaignProgress,
+    // Whether the progress is reported.
     pub(crate) is_shown: bool,
 }
 

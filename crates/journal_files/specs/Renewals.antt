@@ -26,7 +26,7 @@ last_of n items = drop (length items - n) items
 abbrev pub before_last : {X : Type 0} → ℕ → List X → List X
 before_last n items = take (length items - n) items
 
--- whatever events come next, the meters in these worlds give the same replies
+-- whether the meters in these worlds give the same replies, whatever events come next
 abbrev pub AnswerAlike : World → World → Type 0
 AnswerAlike v w = (further : List Event) → replies_from v further ≡ replies_from w further
 

@@ -14,8 +14,9 @@ use Rattle.journal_files.specs.Renewals.{IsRenewedAs}
 abbrev pub event_lines : List Event → List (List ℕ)
 event_lines events = map line_of (map event_row events)
 
--- The file began as a journal with these bytes. Lines of the events that may change the meter were
--- appended to it, and it was renewed any number of times meanwhile.
+-- whether the file of a journal holds the lines of a run. The file began as a journal with these
+-- bytes. Lines of the events that may change the meter were appended to it, and it was renewed any
+-- number of times meanwhile
 abbrev pub HoldsRun : (began : List ℕ) → (events : List Event) → (bytes : List ℕ) → Type 0
 HoldsRun began events bytes =
     Holds IsRenewedAs (lines_in began) (event_lines (changing events)) bytes

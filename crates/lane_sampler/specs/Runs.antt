@@ -2,7 +2,7 @@
 use Rattle.std.specs.Prelude.{◌≡◌, ℕ, ◌+◌, ◌-◌, ◌<◌, ◌≤◌, List}
 use Rattle.lane_sampler.specs.Masks.{mask_bit}
 
--- the n bits from at on are ones
+-- whether the n bits of a mask from this one on are ones
 abbrev pub AreOnes : List ℕ → ℕ → ℕ → Type 0
 AreOnes words at n = (k : ℕ) → k < n → mask_bit words (at + k) ≡ 1
 

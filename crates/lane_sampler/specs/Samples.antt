@@ -18,6 +18,6 @@ values_alone values = record { import = values; export = None }
 abbrev pub pairs_of : List ℕ → List ℕ → Samples
 pairs_of values others = record { import = values; export = Some others }
 
--- there are as many export values, if any, as import values
+-- whether there are as many export values, if any, as import values
 abbrev pub AreEven : Samples → Type 0
 AreEven samples = IfSome samples.export (λ others. length others ≡ length samples.import)

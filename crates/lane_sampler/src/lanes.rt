@@ -75,6 +75,7 @@ fn part(values: &[u32], word: usize) -> &[u32]
     &values[from..upto]
 }
 
+// Returns the masks of these four words, for a block of `len` values.
 fn join_words(words: [Word; 4], len: u16) -> Masks
     ensures over { result.over ≡ map (λ word. word.over) words }
     ensures under { result.under ≡ map (λ word. word.under) words }
@@ -88,6 +89,7 @@ fn join_words(words: [Word; 4], len: u16) -> Masks
     }
 }
 
+// Returns the bits of at most 64 values, sixteen values at a time.
 fn word_by_lanes(values: &[u32], threshold: u32) -> Word
     requires { length values.now ≤ 64 }
     ensures { result ≡ word_for values.now threshold }
@@ -117,6 +119,7 @@ fn lanes_at(values: &[u32], at: usize, threshold: u32) -> Word
     }
 }
 
+// Returns the bits of at most 64 values, one value at a time.
 fn word_plainly(values: &[u32], threshold: u32) -> Word
     requires { length values.now ≤ 64 }
     ensures { result ≡ word_for values.now threshold }

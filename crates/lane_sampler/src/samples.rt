@@ -214,6 +214,7 @@ fn scans_of(
     }
 }
 
+// Scans values against a threshold.
 fn scan_of(values: &[u32], threshold: u32) -> Scan
     requires { length values.now ≤ max_values }
     ensures right { IsRightScan values.now result }

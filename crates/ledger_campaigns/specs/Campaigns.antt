@@ -47,7 +47,7 @@ pub record AreLinesFor (tells : List ℕ → Option Forecast) (jobs : List Job)
       → IsLineFor tells (slice_index_or jobs place job) (entry_at found place)
       (slice_index_or lines place line)
 
--- the use of its attempt by each job, by the entries found and the permits given
+-- whether each job used its attempt as the entry found at its place and these permits allow
 abbrev pub AreUses : List Job → List LedgerEntry → List (List ℕ) → List ℕ → List ReportLine
     → List State → Type 0
 AreUses jobs found passwords permits lines stages = (place : ℕ) (job : Job)
@@ -56,7 +56,8 @@ AreUses jobs found passwords permits lines stages = (place : ℕ) (job : Job)
     (slice_index_or passwords place password) (slice_index_or lines place line).row
     (slice_index_or stages place unused)
 
--- the same, by the permits that the port of each place has seen
+-- whether each job used its attempt as the entry found at its place and the permits that the port
+-- of its place has seen allow
 abbrev pub AreUsesBy : List Job → List LedgerEntry → List (List ℕ) → List (List ℕ)
     → List ReportLine → List State → Type 0
 AreUsesBy jobs found passwords seen lines stages = (place : ℕ) (job : Job)
@@ -66,8 +67,8 @@ AreUsesBy jobs found passwords seen lines stages = (place : ℕ) (job : Job)
     (slice_index_or lines place line).row
     (slice_index_or stages place unused)
 
--- the switching commands of these places may have been sent in this run, by the logs of their
--- connections
+-- whether the switching commands of these places may have been sent in this run, by the logs of
+-- their connections
 abbrev pub AreSwitched : List Job → List State → List ℕ → Type 0
 AreSwitched jobs stages places = (place : ℕ) → IsIn place places → (place < length jobs)
     × ((job : Job) → HasSwitched (slice_index_or jobs place job).verb

@@ -11,11 +11,11 @@ use Rattle.head_end.specs.Attempts.{State, unused}
 use Rattle.head_end.specs.Connections.{Forecast}
 use Rattle.ledger_campaigns.specs.Campaigns.{IsPlaceRun}
 
--- the job of a place has this round
+-- whether the job of a place has this round
 abbrev pub IsDue : List ℕ → ℕ → ℕ → Type 0
 IsDue rounds round place = slice_index_or rounds place 0 ≡ round
 
--- the attempts of the jobs of a round are unused
+-- whether the attempts of the jobs of a round are unused
 abbrev pub AreUnusedWhenDue : {X : Type 0} → List ℕ → ℕ → (X → State) → List X → Type 0
 AreUnusedWhenDue {X} rounds round stage_of places = (place : ℕ) (x : X) → place < length places
     → IsDue rounds round place → stage_of (slice_index_or places place x) ≡ unused

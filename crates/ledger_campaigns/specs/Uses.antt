@@ -34,13 +34,15 @@ IsSwitching Disconnect = ⊤
 IsSwitching Reconnect = ⊤
 IsSwitching ReadState = ⊥
 
--- a switching command may be sent only if the permit was given; a question needs none
+-- whether a request may be sent: a switching command only if the permit was given; a question needs
+-- none
 abbrev pub MayAsk : Verb → Type 0 → Type 0
 MayAsk Disconnect given = given
 MayAsk Reconnect given = given
 MayAsk ReadState given = ⊤
 
--- the ledger was asked to store the outcome, unless out of memory
+-- whether the ledger was asked to store the outcome in a row; nothing is required if the job ran
+-- out of memory
 abbrev pub IfCame : Row → (Outcome → Type 0) → Type 0
 IfCame (Came outcome) stored = stored outcome
 IfCame Memory stored = ⊤
@@ -110,7 +112,8 @@ HasSwitched verb stage = IsSwitching verb × HasTalked stage
 abbrev pub IsToldOutcome : Client → Option Forecast → Outcome → Type 0
 IsToldOutcome client before outcome = Converses client before outcome ⊎ (outcome ≡ Unknown)
 
--- nothing was sent or received and the outcome is unknown, or a conversation took place that may
+-- whether nothing was sent or received and the outcome is unknown, or a conversation took place
+-- whose request may be sent and whose outcome the ledger was asked to store
 abbrev pub SpeaksIfGiven : {E : Type 0} → Verb → Asked → Client → Option (List Happening)
     → Result Outcome E → Option (List Happening) → Type 0
 SpeaksIfGiven verb asked client before result after =

@@ -36,7 +36,9 @@ pub struct LedgeredJob<'a> {
 // The right to send the request of a job: a permit for a switching command, none for a question.
 #[derive(Drop)]
 enum Clearance {
+    // A switching command may be sent, with this permit.
     Command(Permit),
+    // A question may be sent without a permit.
     Question,
 }
 

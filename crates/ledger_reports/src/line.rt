@@ -15,7 +15,10 @@ pub struct LedgerTimes {
 /// A line of a ledger: what it knows of a job of its campaign.
 #[derive(Debug, Drop)]
 pub struct LedgerLine {
+    /// The job.
     pub job: Job,
+    /// Whether its command may have been sent, and its outcome if one is stored.
     pub entry: LedgerEntry,
+    /// When it was marked and when it ended.
     pub times: LedgerTimes,
 }

@@ -15,11 +15,15 @@ use std::alloc::{AllocError, Global};
 /// The standing of a job, by its entry in the ledger.
 #[derive(Clone, Copy, Debug, PartialEq, Eq)]
 pub enum Standing {
+    /// The meter executed the request.
     Done,
+    /// The meter refused the request, with a result other than success.
     Refused,
+    /// The meter opened no association for the request, which was not sent.
     Rejected,
     /// The command may have been sent, and no valid answer came.
     Unknown,
+    /// The command has not been sent.
     NotSent,
 }
 

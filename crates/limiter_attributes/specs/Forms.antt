@@ -7,7 +7,7 @@ use Rattle.cosem_names.specs.declared.scripts.NamedScript.{NamedScript}
 use Rattle.cosem_names.specs.Forms.{◌>>=◌, date_time_bytes_of}
 use Rattle.cosem_names.specs.Scripts.{script_of}
 
--- the parts of an emergency profile: a structure of id, start and duration
+-- the id, the start and the duration of an emergency profile, from the three items of its structure
 abbrev profile_parts_in : List Data → Option (ℕ × List ℕ × ℕ)
 profile_parts_in (id ∷ start ∷ duration ∷ []) = do
   number ← long_unsigned_of id
@@ -16,11 +16,12 @@ profile_parts_in (id ∷ start ∷ duration ∷ []) = do
   Some (number, bytes, seconds)
 profile_parts_in _ = None
 
+-- the id, the start and the duration of an emergency profile, from a structure of the three
 abbrev pub profile_parts_of : Data → Option (ℕ × List ℕ × ℕ)
 profile_parts_of value = structure_of value >>= profile_parts_in
 
--- the parts of actions: a structure of the script that runs over the threshold and the one that
--- runs under it
+-- the script that runs over the threshold and the one that runs under it, from the two items of
+-- actions
 abbrev scripts_with : List Data → Option (NamedScript × NamedScript)
 scripts_with (over ∷ under ∷ []) = do
   over_script ← script_of over
@@ -28,5 +29,7 @@ scripts_with (over ∷ under ∷ []) = do
   Some (over_script, under_script)
 scripts_with _ = None
 
+-- the script that runs over the threshold and the one that runs under it, from a structure of the
+-- two
 abbrev pub scripts_of : Data → Option (NamedScript × NamedScript)
 scripts_of value = structure_of value >>= scripts_with

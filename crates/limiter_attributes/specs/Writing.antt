@@ -21,20 +21,23 @@ abbrev pub register_name : Which → Obis
 register_name Import = obis 1 0 1 7 0 255
 register_name Export = obis 1 0 2 7 0 255
 
--- monitored_value: attribute 2 of that register, whose class is 3
+-- the value of monitored_value: class 3, the logical name and attribute 2 of the monitored register
 unfoldable pub monitored_data : Which → Data
 monitored_data which =
     structure_with (LongUnsigned 3 ∷ OctetString (register_name which).0 ∷ Integer (pos 2) ∷ [])
 
--- emergency_profile: its start is an octet-string
+-- the value of emergency_profile: a structure of id, start and duration, with the start as an
+-- octet-string
 abbrev pub profile_data : Profile → Data
 profile_data profile =
     structure_with (LongUnsigned profile.id ∷ OctetString (date_time_bytes profile.start)
     ∷ DoubleLongUnsigned profile.duration ∷ [])
 
+-- the value of emergency_profile_group_id_list: an array of long-unsigned
 unfoldable pub groups_data : List ℕ → Data
 groups_data ids = array_with (map LongUnsigned ids)
 
+-- the value of actions: a structure of the script over the threshold and the script under it
 unfoldable pub actions_data : Actions → Data
 actions_data actions =
     structure_with (script_data (script_at actions.over)

@@ -8,10 +8,11 @@ use Rattle.limiter_core.specs.Rows.{Row, Sample}
 abbrev pub opened_need : Count → ℕ
 opened_need count = if count.fired then 1 else cap
 
--- a sample of a value that is one over its threshold, or one under it
+-- a sample of this value that is one over its threshold
 abbrev pub one_over : ℕ → Count → Row
 one_over value count = Sample value (value - 1) (opened_need count) (opened_need count)
 
+-- a sample of this value that is one under its threshold
 abbrev pub one_under : ℕ → Count → Row
 one_under value count = Sample value (value + 1) (opened_need count) (opened_need count)
 

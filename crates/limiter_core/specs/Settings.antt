@@ -26,6 +26,8 @@ is_active s moment =
     is_among s.profile.id s.groups && is_within moment (moment_of s.profile.start)
     s.profile.duration
 
+-- the value of threshold_active: threshold_emergency while the emergency profile is active,
+-- otherwise threshold_normal
 unfoldable pub active_threshold : Settings → Option ℕ → ℕ
 active_threshold s moment = if is_active s moment then s.threshold_emergency else s.threshold_normal
 

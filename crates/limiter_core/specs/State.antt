@@ -47,6 +47,7 @@ abbrev pub is_fit_count : Count → Bool
 is_fit_count count = if count.run == 0 then not count.fired else if count.run == cap
     then count.fired else nat_lt count.run cap
 
+-- whether samples that end with a value can give both counts: the test that decides `IsFit`
 unfoldable pub are_fit : ℕ → Count → Count → Bool
 are_fit last over under =
     is_fit_count over && is_fit_count under && (over.run == 0 || (under.run == 0 && nat_lt 0 last))
@@ -74,7 +75,7 @@ IsQuiet limits (value ∷ values) rows =
     (fire_of (row_of limits value ∷ rows) ≡ Quiet)
     × IsQuiet limits values (row_of limits value ∷ rows)
 
--- every value is on that side of the threshold
+-- whether every value is on that side of the threshold
 abbrev pub AreOfKind : Kind → ℕ → List ℕ → Type 0
 AreOfKind kind threshold [] = Unit {0}
 AreOfKind kind threshold (value ∷ values) = (kind_of threshold value ≡ kind)

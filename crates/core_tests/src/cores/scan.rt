@@ -67,8 +67,8 @@ static RAISES: Firing = Firing {
     under_run: 219,
 };
 
-/// The same settings, but 25 seconds under the threshold count: 219 samples are too few, and 31
-/// more are 250.
+/// Four seconds over 5000 W raise the threshold, and 25 seconds under it count: 219 samples are too
+/// few, and 31 more are 250.
 static RAISES_FOR_LONGER: Firing = Firing {
     settings: &[
         (SCRIPTS, RAISE_IMPORT),
