@@ -74,8 +74,8 @@ pub record IsNoTrace (text : List ℕ) : Type 0 where
   pub told : trace_of text ≡ Err fault
 
 -- Whether opening a meter that continues from the trace `text` has this outcome and leaves this
--- meter. A text that is not a trace is a wrong argument. The name comes from the trace, so the one
--- that is judged here stands for any in range.
+-- meter. A text that is not a trace is a wrong argument. The name is that of the trace, so only the
+-- password and the number of kept events are judged.
 abbrev pub ResumesTo : List ℕ → List ℕ → ℕ → Option MeterState → CallResult → Option MeterState
     → Type 0
 ResumesTo text password kept None outcome.Done (Some m) = Resumes text password kept m

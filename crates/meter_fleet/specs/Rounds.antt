@@ -72,7 +72,7 @@ abbrev pub AreMet : Bool → List Arrival → Bool → Type 0
 AreMet true arrivals has_more = has_more ≡ true → length arrivals ≡ max_accepted
 AreMet false arrivals has_more = (arrivals ≡ []) × (has_more ≡ false)
 
--- the clients that were waiting were met
+-- whether the clients that were waiting were met
 pub record MeetsClients (is_due : Bool) (log : Option (List NetworkEvent)) (old : FleetState)
     (has_more : Bool) (log' : Option (List NetworkEvent)) (new : FleetState) : Type 0 where
   pub arrivals : List Arrival
@@ -125,14 +125,14 @@ key_again (idle key place told) = []
 key_again (busy key place told) = key ∷ []
 key_again (over key place end told) = []
 
--- the connections with these keys were served, in order; those in `again` may go on at once
+-- whether the connections with these keys were served, in order; those in `again` may go on at once
 pub record ServesKeys (old : FleetState) (keys again : List ℕ) (new : FleetState) : Type 0 where
   pub services : List Service
   pub keys_are : map service_key services ≡ keys
   pub again_are : flat_map key_again services ≡ again
   pub calls : Calls frame_bytes old (flat_map service_calls services) new
 
--- only the first of the connections with these keys were served
+-- whether only the first of the connections with these keys were served
 pub record StopsAfter (old : FleetState) (keys : List ℕ) (new : FleetState) : Type 0 where
   pub done : List ℕ
   pub left : List ℕ
@@ -179,9 +179,9 @@ pub record LoopState : Type 0 where
 abbrev pub may_wait : LoopState → Bool
 may_wait s = (length s.ready == 0) && not s.has_clients
 
--- The work of a round, up to the connections that are left: clients are met if some may be waiting,
--- and then the connections that could go on and those that were reported ready are served, in
--- order. No other calls change the fleet.
+-- Whether this work of a round was done, up to the connections that are left. Clients are met if
+-- some may be waiting, and then the connections that could go on and those that were reported ready
+-- are served, in order. No other calls change the fleet.
 pub record Works (old : LoopState) (round : Round) (left : List ℕ)
     (log : Option (List NetworkEvent)) (fleet : FleetState) : Type 0 where
   pub told : Tells old.log (woke (may_wait old) round.keys round.has_clients
@@ -192,7 +192,7 @@ pub record Works (old : LoopState) (round : Round) (left : List ℕ)
       (flat_map arrival_calls round.arrivals ++ flat_map service_calls round.services)
       fleet
 
--- a whole round of the loop was done
+-- whether a whole round of the loop was done
 pub record DoesRound (old : LoopState) (round : Round) (new : LoopState) : Type 0 where
   pub works : Works old round [] new.log new.fleet
   pub goes_on : flat_map key_again round.services ≡ new.ready
@@ -221,7 +221,7 @@ DoesRounds old (round ∷ rounds) new = (between : LoopState) × DoesRound old r
 abbrev pub start_of : Option (List NetworkEvent) → FleetState → LoopState
 start_of log fleet = record { log = log; fleet = fleet; ready = []; has_clients = false }
 
--- the loop did some rounds, and failed in the next
+-- whether the loop did some rounds, and failed in the next
 pub record ServesUntil (log : Option (List NetworkEvent)) (fleet : FleetState) (fault : FleetFault)
     (log' : Option (List NetworkEvent)) (fleet' : FleetState) : Type 0 where
   pub rounds : List Round
@@ -229,7 +229,7 @@ pub record ServesUntil (log : Option (List NetworkEvent)) (fleet : FleetState) (
   pub does : DoesRounds (start_of log fleet) rounds last
   pub fails : FailsBy last fault log' fleet'
 
--- a new fleet of meters with these terms was served
+-- whether a new fleet of meters with these terms was served
 pub record ServesFleet (terms : MeterTerms) (count : ℕ) (log : Option (List NetworkEvent))
     (fault : FleetFault) (log' : Option (List NetworkEvent)) : Type 0 where
   pub first : FleetState
