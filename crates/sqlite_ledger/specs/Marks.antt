@@ -23,7 +23,8 @@ IsBegun db place = IsTrue (list_any (has_rowid place) (db begun_tree))
 abbrev pub IsMarked : (Trees → Type 0) → ℤ → Type 0
 IsMarked may_leave place = (db : Trees) → may_leave db → IsBegun db place
 
--- the command of a place may have been sent, by these entries, exactly if the trees have its mark
+-- whether these entries report that the command of a place may have been sent exactly if the trees
+-- have its mark
 pub record IsLeft (db : Trees) (entries : ℕ → LedgerEntry) : Type 0 where
   pub gone : (place : ℕ) → IsBegun db (pos place) → HasGone (entries place)
   pub begun : (place : ℕ) → HasGone (entries place) → IsBegun db (pos place)
