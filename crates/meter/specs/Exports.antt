@@ -1,7 +1,10 @@
 -- What the exported functions do to the meter of a handle, and what they return.
---     OnOpen        a call on an open meter, or the result `NotOpen`
---     OpensTo       a meter is opened
---     FedAt, ..     the calls of a meter, with the numbers that C receives
+--     OnOpen                   a call on an open meter, or the result `NotOpen`
+--     OpenedTo, ResumedTo      a meter is opened, new or from a trace
+--     OpenedAt .. ClosedAt     the calls on a session
+--     PressedTo .. TickedTo    the meter's own events
+--     StateTo .. MomentTo      reads of the meter's state
+--     ExportedTo               the trace is written
 use Rattle.std.specs.Prelude.{◌≡◌, ◌⊎◌, ◌≤◌, ◌<◌, ◌++◌, ℕ, Bool, Option, Some, None, List, [], ◌∷◌, length, drop, Result, Ok, Err}
 use Rattle.cosem_names.specs.ResultCode as result_code
 use Rattle.cosem_names.specs.declared.result_code.ResultCode.{ResultCode}
@@ -111,8 +114,8 @@ abbrev pub FedAt : ℕ → List ℕ → MeterState → ℕ → MeterState → Ty
 FedAt session bytes m code m' =
     DoneTo (λ (r : Result Unit MeterFault). FeedsBy m session bytes r m') code
 
--- whether `meter_finish` returned this code on an open meter and left this one, where the session
--- has received all its input
+-- whether `meter_finish` returned this code on an open meter and left this one, whose session has
+-- received all its input
 abbrev pub FinishedAt : ℕ → MeterState → ℕ → MeterState → Type 0
 FinishedAt session m code m' =
     DoneTo (λ (r : Result Unit MeterFault). FinishesBy m session r m') code
