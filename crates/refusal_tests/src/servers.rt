@@ -152,6 +152,7 @@ fn serve<R: Threads + Wait + Copy + Send + 'static>(
 /// The result of serving two clients of a new meter, and the number of events that the meter kept.
 type Evening = (Result<Served, ServeFault>, Option<u16>);
 
+/// Serves two clients of a new meter.
 fn serve_new<R: Threads + Wait + Abort + Copy + Send + 'static>(
     rt: &R,
     alloc: Global,
@@ -194,7 +195,7 @@ fn stood(served: &Result<Served, ServeFault>, counts: Option<(usize, usize)>) ->
     }
 }
 
-/// Two connections were given to a session.
+/// The counts if both clients were served.
 const BOTH: Served = Served {
     served: 2,
     turned_away: 0,

@@ -54,8 +54,8 @@ abbrev pub MayContinue : Option SessionEnd → Type 0
 MayContinue None = ⊤
 MayContinue (Some end) = EndsWithInput end
 
--- whether a session whose input has ended has nothing left to do; one whose input may continue has
--- met no invalid header
+-- whether a session that ended in this way has nothing left to do, and one that has not ended may
+-- have more input and has found no invalid header
 abbrev pub IsDone : Option SessionEnd → Session → Type 0
 IsDone None s = (is_finished s ≡ false) × EndsWithInput (still_ends s [])
 IsDone (Some end) s = IsOver end s

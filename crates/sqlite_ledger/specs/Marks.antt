@@ -1,6 +1,6 @@
 -- The marks of a ledger's file: the places whose command may have been sent.
 --     IsBegun          the trees have the place's mark
---     IsMarked         whatever a crash leaves has it
+--     IsMarked         all trees that a crash may leave have it
 --     IsLeft           entries say of each place whether the trees have its mark
 --     LeavesEntries    entries that the next run may find after a crash
 --     LeavesCommit     while the connection is open, a crash leaves the last commit alone
