@@ -1,7 +1,10 @@
 -- What the exported functions do to the meter of a handle, and what they return.
---     OnOpen        a call on an open meter, or the result `NotOpen`
---     OpensTo       a meter is opened
---     FedAt, ..     the calls of a meter, with the numbers that C receives
+--     OnOpen                   a call on an open meter, or the result `NotOpen`
+--     OpenedTo, ResumedTo      a meter is opened, new or from a trace
+--     OpenedAt .. ClosedAt     the calls on a session
+--     PressedTo .. TickedTo    the meter's own events
+--     StateTo .. MomentTo      reads of the meter's state
+--     ExportedTo               the trace is written
 use Rattle.std.specs.Prelude.{◌≡◌, ◌⊎◌, ◌≤◌, ◌<◌, ◌++◌, ℕ, Bool, Option, Some, None, List, [], ◌∷◌, length, drop, Result, Ok, Err}
 use Rattle.cosem_names.specs.ResultCode as result_code
 use Rattle.cosem_names.specs.declared.result_code.ResultCode.{ResultCode}
@@ -74,8 +77,8 @@ pub record IsNoTrace (text : List ℕ) : Type 0 where
   pub told : trace_of text ≡ Err fault
 
 -- Whether opening a meter that continues from the trace `text` has this outcome and leaves this
--- meter. A text that is not a trace is a wrong argument. The name comes from the trace, so the one
--- that is judged here stands for any in range.
+-- meter. A text that is not a trace is a wrong argument. The name is that of the trace, so only the
+-- password and the number of kept events are judged.
 abbrev pub ResumesTo : List ℕ → List ℕ → ℕ → Option MeterState → CallResult → Option MeterState
     → Type 0
 ResumesTo text password kept None outcome.Done (Some m) = Resumes text password kept m
@@ -111,8 +114,8 @@ abbrev pub FedAt : ℕ → List ℕ → MeterState → ℕ → MeterState → Ty
 FedAt session bytes m code m' =
     DoneTo (λ (r : Result Unit MeterFault). FeedsBy m session bytes r m') code
 
--- whether `meter_finish` returned this code on an open meter and left this one, where the session
--- has received all its input
+-- whether `meter_finish` returned this code on an open meter and left this one, whose session has
+-- received all its input
 abbrev pub FinishedAt : ℕ → MeterState → ℕ → MeterState → Type 0
 FinishedAt session m code m' =
     DoneTo (λ (r : Result Unit MeterFault). FinishesBy m session r m') code

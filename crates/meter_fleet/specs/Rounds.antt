@@ -26,7 +26,7 @@ use Rattle.meter_fleet.specs.declared.serving.FleetFault.TheVariants.{Network, M
 abbrev pub frame_bytes : ℕ
 frame_bytes = 65543
 
--- the maximum number of clients that are met in a round
+-- the maximum number of clients that are accepted in a round
 abbrev pub max_accepted : ℕ
 max_accepted = 4096
 
@@ -56,7 +56,7 @@ abbrev pub arrival_calls : Arrival → List FleetCall
 arrival_calls (client key address stream refusal) = admission key stream refusal (meter_of address)
 arrival_calls gone = []
 
--- the reports of the clients that were accepted, until none was waiting or the maximum was met
+-- the reports of the clients that were accepted, until none was waiting or the maximum was reached
 abbrev pub arrival_events : List Arrival → Bool → List NetworkEvent
 arrival_events arrivals has_more =
     map arrival_event arrivals ++ (if has_more then [] else nobody ∷ [])
@@ -66,13 +66,13 @@ abbrev pub client_events : Bool → List Arrival → Bool → List NetworkEvent
 client_events true arrivals has_more = arrival_events arrivals has_more
 client_events false arrivals has_more = []
 
--- whether the clients were accepted: if some may be waiting, and there may be more only after the
+-- whether clients were accepted only if some may be waiting, and more may be waiting only after the
 -- maximum
 abbrev pub AreMet : Bool → List Arrival → Bool → Type 0
 AreMet true arrivals has_more = has_more ≡ true → length arrivals ≡ max_accepted
 AreMet false arrivals has_more = (arrivals ≡ []) × (has_more ≡ false)
 
--- the clients that were waiting were met
+-- whether the clients that were waiting were accepted, up to the maximum
 pub record MeetsClients (is_due : Bool) (log : Option (List NetworkEvent)) (old : FleetState)
     (has_more : Bool) (log' : Option (List NetworkEvent)) (new : FleetState) : Type 0 where
   pub arrivals : List Arrival
@@ -96,8 +96,9 @@ AdmitsAt old key stream number new = (refusal : Option Refusal)
 
 -- ---- connections
 
--- A connection that was ready, by its key: there is none; its stream blocked; it may go on at once;
--- or it was over. The number after a key is the place of its meter, which applied these events.
+-- A connection that was ready, by its key: there is none; its stream blocked; it may continue at
+-- once; or it was over. The number after a key is the place of its meter, which applied these
+-- events.
 pub data Service : Type 0 where
   absent : ℕ → Service
   idle : ℕ → ℕ → List Exchange → Service
@@ -118,21 +119,22 @@ service_calls (idle key place told) = ran key place Waits told ∷ []
 service_calls (busy key place told) = ran key place Again told ∷ []
 service_calls (over key place end told) = ran key place (Over end) told ∷ closed key ∷ []
 
--- the key of a connection that was served, if it may go on at once
+-- the key of a connection that was served, if it may continue at once
 abbrev pub key_again : Service → List ℕ
 key_again (absent key) = []
 key_again (idle key place told) = []
 key_again (busy key place told) = key ∷ []
 key_again (over key place end told) = []
 
--- the connections with these keys were served, in order; those in `again` may go on at once
+-- whether the connections with these keys were served, in order; those in `again` may continue at
+-- once
 pub record ServesKeys (old : FleetState) (keys again : List ℕ) (new : FleetState) : Type 0 where
   pub services : List Service
   pub keys_are : map service_key services ≡ keys
   pub again_are : flat_map key_again services ≡ again
   pub calls : Calls frame_bytes old (flat_map service_calls services) new
 
--- only the first of the connections with these keys were served
+-- whether only the first of the connections with these keys were served
 pub record StopsAfter (old : FleetState) (keys : List ℕ) (new : FleetState) : Type 0 where
   pub done : List ℕ
   pub left : List ℕ
@@ -147,8 +149,8 @@ ServesAll old keys (Ok done) again new = ServesKeys old keys again new
 ServesAll old keys (Err Network) again new = ⊥
 ServesAll old keys (Err Memory) again new = StopsAfter old keys new
 
--- whether the connections with these keys were served in order, and the keys of those that may go
--- on at once were appended to `next`; or memory ran out after the first of them
+-- whether the connections with these keys were served in order, and the keys of those that may
+-- continue at once were appended to `next`; or memory ran out after the first of them
 abbrev pub ServesOn : FleetState → List ℕ → List ℕ → Result Unit FleetFault → List ℕ → FleetState
     → Type 0
 ServesOn old keys next (Ok done) next' new = (again : List ℕ) × ServesKeys old keys again new
@@ -167,8 +169,8 @@ pub record Round : Type 0 where
   pub has_more : Bool
   pub services : List Service
 
--- between two rounds: what the network has reported, the fleet, the connections that may go on at
--- once, and whether clients may be waiting
+-- between two rounds: what the network has reported, the fleet, the connections that may continue
+-- at once, and whether clients may be waiting
 pub record LoopState : Type 0 where
   pub log : Option (List NetworkEvent)
   pub fleet : FleetState
@@ -179,9 +181,9 @@ pub record LoopState : Type 0 where
 abbrev pub may_wait : LoopState → Bool
 may_wait s = (length s.ready == 0) && not s.has_clients
 
--- The work of a round, up to the connections that are left: clients are met if some may be waiting,
--- and then the connections that could go on and those that were reported ready are served, in
--- order. No other calls change the fleet.
+-- Whether this work of a round was done, up to the connections that are left. Clients are accepted
+-- if some may be waiting, and then the connections that could continue and those that were reported
+-- ready are served, in order. No other calls change the fleet.
 pub record Works (old : LoopState) (round : Round) (left : List ℕ)
     (log : Option (List NetworkEvent)) (fleet : FleetState) : Type 0 where
   pub told : Tells old.log (woke (may_wait old) round.keys round.has_clients
@@ -192,7 +194,7 @@ pub record Works (old : LoopState) (round : Round) (left : List ℕ)
       (flat_map arrival_calls round.arrivals ++ flat_map service_calls round.services)
       fleet
 
--- a whole round of the loop was done
+-- whether a whole round of the loop was done
 pub record DoesRound (old : LoopState) (round : Round) (new : LoopState) : Type 0 where
   pub works : Works old round [] new.log new.fleet
   pub goes_on : flat_map key_again round.services ≡ new.ready
@@ -221,7 +223,7 @@ DoesRounds old (round ∷ rounds) new = (between : LoopState) × DoesRound old r
 abbrev pub start_of : Option (List NetworkEvent) → FleetState → LoopState
 start_of log fleet = record { log = log; fleet = fleet; ready = []; has_clients = false }
 
--- the loop did some rounds, and failed in the next
+-- whether the loop did some rounds, and failed in the next
 pub record ServesUntil (log : Option (List NetworkEvent)) (fleet : FleetState) (fault : FleetFault)
     (log' : Option (List NetworkEvent)) (fleet' : FleetState) : Type 0 where
   pub rounds : List Round
@@ -229,7 +231,7 @@ pub record ServesUntil (log : Option (List NetworkEvent)) (fleet : FleetState) (
   pub does : DoesRounds (start_of log fleet) rounds last
   pub fails : FailsBy last fault log' fleet'
 
--- a new fleet of meters with these terms was served
+-- whether a new fleet of meters with these terms was served
 pub record ServesFleet (terms : MeterTerms) (count : ℕ) (log : Option (List NetworkEvent))
     (fault : FleetFault) (log' : Option (List NetworkEvent)) : Type 0 where
   pub first : FleetState

@@ -7,7 +7,7 @@ use fleet_links::{Stream, Turn};
 use fleet_meters::Fleet;
 use std::alloc::Global;
 
-// Serves the connections with these keys. Appends the keys of those that may go on at once to
+// Serves the connections with these keys. Appends the keys of those that may continue at once to
 // `next`.
 pub(crate) fn serve_ready<S: Stream + Drop>(
     alloc: Global,
@@ -31,7 +31,7 @@ pub(crate) fn serve_ready<S: Stream + Drop>(
 }
 
 // Runs the connection with this key, and closes it if it is over. Appends its key to `next` if it
-// may go on at once.
+// may continue at once.
 fn serve_key<S: Stream + Drop>(
     alloc: Global,
     fleet: &mut Fleet<S>,

@@ -20,7 +20,7 @@ const FRAME_BYTES: usize = 65_543;
 // What the loop keeps between two rounds.
 #[derive(Drop)]
 pub(crate) struct Rounds {
-    // The keys of the connections that may go on at once.
+    // The keys of the connections that may continue at once.
     ready: Vec<usize>,
     // An empty list.
     next: Vec<usize>,

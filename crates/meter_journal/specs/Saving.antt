@@ -1,6 +1,6 @@
 -- What a file holds of the lines of a history, also if it was renewed since.
 --     IsSaved        the lines that it had first, followed by a front of the lines of the history
---     IsSavedFrom    the same, for a front of at least a number of lines
+--     IsSavedFrom    these, with a front of at least a number of lines
 --     IsStored       a sync returned while a file had at least a number of lines of a history
 --     Leaves         what the worker of a journal leaves of its file
 --     Keeps          what the worker of a journal does
@@ -17,7 +17,7 @@ use Rattle.shared_meter.specs.Calls.{Calls, IsLegal}
 use Rattle.shared_meter.specs.Handed.{MeterPort}
 use Rattle.shared_meter.specs.Pending.{lines_of_calls}
 
--- The file holds the lines that it had first, followed by the first n lines of the history.
+-- whether the file holds the lines that it had first, followed by the first n lines of the history
 pub record IsSaved (Renews : List ℕ → List ℕ → Type 0) (first : List (List ℕ)) (n : ℕ)
     (calls : Calls) (file : List ℕ) : Type 0 where
   pub within : n ≤ length (lines_of_calls calls)
@@ -33,8 +33,8 @@ abbrev pub IsAllSaved : (List ℕ → List ℕ → Type 0) → List (List ℕ) �
 IsAllSaved Renews first calls file =
     IsSaved Renews first (length (lines_of_calls calls)) calls file
 
--- A sync returned while a file held the first lines of a legal history, at least n of them, after
--- lines that it had before.
+-- whether a sync returned while a file held the first lines of a legal history, at least n of them,
+-- after lines that it had before
 pub record IsStored (Renews : List ℕ → List ℕ → Type 0) (stored : List ℕ → Type 0) (n : ℕ) : Type 0
   where
     pub file : List ℕ
@@ -47,9 +47,9 @@ pub record IsStored (Renews : List ℕ → List ℕ → Type 0) (stored : List �
     pub enough : n ≤ count
     pub saved : IsSaved Renews first count calls file
 
--- A crash at any moment of the worker's run leaves a file that holds the lines that it had first,
--- followed by a front of the lines of the history. If the worker ended as it was asked to, every
--- later crash leaves all lines.
+-- Whether a crash at any moment of the worker's run leaves a file that holds the lines that it had
+-- first, followed by a front of the lines of the history. If the worker ended as it was asked to,
+-- every later crash leaves all lines.
 pub record Leaves {F : Type 0} (seen : F → List ℕ) (may_leave : F → List ℕ → Type 0)
     (moment : F → ℕ) (left_since : F → ℕ → List ℕ → Type 0) (Renews : List ℕ → List ℕ → Type 0)
     (began ended : F) (calls : Calls) (end : Result (Unit {0}) CallFault) : Type 0 where
@@ -58,8 +58,9 @@ pub record Leaves {F : Type 0} (seen : F → List ℕ) (may_leave : F → List �
   pub all : OnOk end
       ((c : List ℕ) → may_leave ended c → IsAllSaved Renews (lines_in (seen began)) calls c)
 
--- The worker's port was p and is q, and made no call. The only fault is that of the journal. The
--- file was `began`, and is left as `Leaves` says if files of its type act as the crash model says.
+-- Whether the journal's worker, whose port was p and is q, ended with this result and made no call.
+-- Its only fault is that of the journal. The file was `began`, and is left as `Leaves` states if
+-- files of its type act as the crash model has them.
 pub record Keeps {F : Type 0} (acts : Type 0) (seen : F → List ℕ)
     (may_leave : F → List ℕ → Type 0) (moment : F → ℕ) (left_since : F → ℕ → List ℕ → Type 0)
     (Renews : List ℕ → List ℕ → Type 0) (began : F) (p q : MeterPort)

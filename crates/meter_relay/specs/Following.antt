@@ -15,8 +15,8 @@ use Rattle.trace_words.specs.declared.version.Version.TheVariants.{Two}
 use Rattle.meter_relay.specs.Relaying.{relay_text}
 use Rattle.meter_relay.specs.declared.relay.Relay.{Relay}
 
--- Since its output had these bytes, the relay was given what it is given in the run of these events
--- from a world, and its core is that of the meter after them.
+-- Whether the relay was given, since its output had these bytes, what it is given in the run of
+-- these events from a world, and its core is that of the meter after them.
 pub record Follows {W L : Type 0} (contents : W → Option (List ℕ)) (before : Option (List ℕ))
     (w : World) (events : List Event) (relay : Relay W L) : Type 0 where
   pub core : StandsFor relay.core (world_after events w)

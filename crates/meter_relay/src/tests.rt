@@ -21,7 +21,7 @@ moment 5
 moment 4
 ";
 
-// The first four of them: the supply stays off.
+// The first four events of `WORKED`: the supply stays off.
 const OFF: &[u8] = b"set 1 70 000060030AFF 4 0 1601
 execute 1 70 000060030AFF 1 0F00
 button

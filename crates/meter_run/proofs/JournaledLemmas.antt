@@ -209,7 +209,7 @@ module _ {F : Type 0} (acts : Type 0) (seen : F → List ℕ) (may_leave : F →
       (saved_none Renews calls (seen file)) in
       (0, omega arith, saved))
 
-  -- the same for the file of the worker
+  -- a run is journaled also by an equal file, that of the worker
   pub journaled_by : (recorder : Recording) (given : Given) (served : Result Served ServeFault)
       (trace : Result (List ℕ) Fault) (lent p q : MeterPort) (its : F) → its ≡ file
       → (acts → (calls : Calls)

@@ -21,11 +21,11 @@ use Rattle.shared_meter.specs.Handed.{MeterPort}
 use Rattle.turn_lock.specs.History.{calls_by}
 use Rattle.turn_lock.specs.declared.call_fault.CallFault.{CallFault}
 
--- A run in which the first port that was split off is the journal's. The calls of each session, all
--- but at most the last one, were answered from a front of the run's own history, once as many lines
--- as that front has were on the disk. If the file acts as the crash model says, a crash at any
--- moment of the run leaves a file that holds the lines that it had first, followed by a front of
--- the lines of the same history, however often it was renewed.
+-- Whether this is a run in which the first port that was split off is the journal's. The calls of
+-- each session, all but at most the last one, were answered from a front of the run's own history,
+-- once as many lines as that front has were on the disk. If the file acts as the crash model has
+-- it, a crash at any moment of the run leaves a file that holds the lines that it had first,
+-- followed by a front of the lines of the same history, however often it was renewed.
 pub record IsJournaledRun {F : Type 0} (acts : Type 0) (seen : F → List ℕ) (moment : F → ℕ)
     (left_since : F → ℕ → List ℕ → Type 0) (stored : List ℕ → Type 0)
     (Renews : List ℕ → List ℕ → Type 0) (file : F) (recorder : Recording) (given : Given)
@@ -36,16 +36,16 @@ pub record IsJournaledRun {F : Type 0} (acts : Type 0) (seen : F → List ℕ) (
   pub kept : acts → (ended : F) × LeavesOnly moment left_since file ended
       (IsSavedFrom Renews 0 (lines_in (seen file)) run.calls)
 
--- The port `lent`, which has made no call, was split off from the first port of a lock, whose later
--- state is p, before any other.
+-- whether the port `lent`, which has made no call, was split off from the first port of a lock,
+-- whose later state is p, before any other
 pub record IsStarted (origin : Opening) (lent p : MeterPort) : Type 0 where
   pub starts : StartsFrom 1 origin p
   pub lock : lent.lock ≡ p.lock
   pub number : lent.known.number ≡ 0 ∷ []
   pub fresh : calls_by lent.known.number lent.known.seen ≡ []
 
--- The port that was lent to the journal's worker was joined into the port `before`, and then the
--- trace was written.
+-- whether the port that was lent to the journal's worker was joined into the port `before`, and
+-- then the trace was written
 pub record IsFinished (did : MeterPort → MeterPort → Result (Unit {0}) CallFault → Type 0)
     (lent before : MeterPort) (trace : Result (List ℕ) Fault) : Type 0 where
   pub end : Option (Result (Unit {0}) CallFault)

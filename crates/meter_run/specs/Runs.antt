@@ -41,12 +41,12 @@ pub record Given : Type 0 where
 abbrev pub events_in : List ℕ → Calls → List Event
 events_in number calls = map (λ (call : Entry Event Reply). call.event) (calls_by number calls)
 
--- The calls of a run, in the order in which the meter applied them. Their replies are those of the
--- meter of the opening. If no worker stopped early, the calls of the port with the number `first`
--- are the blocks of the sampler with its reads, those of the next port the moments of the clock,
--- those of the port after it the presses of the button, all of them. The calls of each further port
--- are what one session requests for its bytes. The ports before `first`, and the port from which
--- all were split off, made no call.
+-- Whether these are the calls of a run, in the order in which the meter applied them. Their replies
+-- are those of the meter of the opening. If no worker stopped early, the calls of the port with the
+-- number `first` are the blocks of the sampler with its reads, those of the next port the moments
+-- of the clock, those of the port after it the presses of the button, all of them. The calls of
+-- each further port are what one session requests for its bytes. The ports before `first`, and the
+-- port from which all were split off, made no call.
 pub record AreOfRun (first : ℕ) (origin : Opening) (given : Given)
     (served : Result Served ServeFault) (calls : Calls) : Type 0 where
   pub lawful : IsLegal origin calls
@@ -60,9 +60,9 @@ pub record AreOfRun (first : ℕ) (origin : Opening) (given : Given)
   pub counted : IfOk served (IsServed (first + 3) ports)
   pub own : calls_by [] calls ≡ []
 
--- A run of the meter with this recorder: its calls, the recorder that represents them at its end,
--- and the text of that recorder's trace, which plays to the replies that were given. The ports
--- before `first` are not those of sources and sessions.
+-- Whether this is a run of the meter with this recorder: its calls, the recorder that represents
+-- them at its end, and the text of that recorder's trace, which plays to the replies that were
+-- given. The ports before `first` are not those of sources and sessions.
 pub record IsRunFrom (first : ℕ) (recorder : Recording) (given : Given)
     (served : Result Served ServeFault) (text : List ℕ) : Type 0 where
   pub kept : KeptRecorder
@@ -76,7 +76,7 @@ pub record IsRunFrom (first : ℕ) (recorder : Recording) (given : Given)
 abbrev pub IsRun : Recording → Given → Result Served ServeFault → List ℕ → Type 0
 IsRun = IsRunFrom 0
 
--- port p became port q: clients were served and sources passed on
+-- whether port p became port q: clients were served and sources passed on
 pub record ServesAll (given : Given) (p q : MeterPort) (served : Result Served ServeFault) : Type 0
   where
     pub goes : PortContinues p q
@@ -90,15 +90,15 @@ pub record ServesAll (given : Given) (p q : MeterPort) (served : Result Served S
     pub presses : OnEnded served
         (Acted q (child p.known.number (p.known.splits + 2)) (AllPresses given.presses))
 
--- Serving starts from the port p: the one of a lock over an opening from which the others are split
--- off, `first` of them already. Neither it nor those have made a call.
+-- Whether serving starts from the port p: the one of a lock over an opening, from which all others
+-- are split off, `first` of them already. Neither it nor those have made a call.
 pub record StartsFrom (first : ℕ) (origin : Opening) (p : MeterPort) : Type 0 where
   pub origin_is : p.known.origin ≡ Some origin
   pub number : p.known.number ≡ []
   pub splits : p.known.splits ≡ first
   pub own : calls_by [] p.known.seen ≡ []
 
--- the text is that of the trace of the meter in the lock, by what a port of the lock knows
+-- whether the text is that of the trace of the meter in the lock, by what a port of the lock knows
 pub record Traces (k : Known Event Reply Opening) (text : List ℕ) : Type 0 where
   pub kept : KeptRecorder
   pub yields : Yields (λ (x : KeptRecorder). x.origin) Stands IsLegal k kept

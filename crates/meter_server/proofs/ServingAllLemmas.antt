@@ -83,7 +83,7 @@ acted_on p q number Whole goes acted =
           (goes.own number (inr acted.joined)))) acted.whole;
     }
 
--- the same fact for an equal number
+-- the calls of a port are complete also for an equal number
 acted_by : (q : MeterPort) (m n : List ℕ) (Whole : List Event → Type 0) → m ≡ n → Acted q m Whole
     → Acted q n Whole
 acted_by q m n Whole e acted = let Q : List ℕ → Type 0 = λ k. Acted q k Whole in subst Q e acted
@@ -135,7 +135,7 @@ not_ended A call.Memory = tt
 not_ended A call.Exhausted = tt
 not_ended A call.Journal = tt
 
--- the same fact for equal counts of splits
+-- the served connections are counted also by equal counts of splits
 pub counted_by : (served : Result Served ServeFault) (from before splits later : ℕ) → from ≡ before
     → splits ≡ later → IfOk served (IsServed from splits) → IfOk served (IsServed before later)
 counted_by served from before splits later same still so =

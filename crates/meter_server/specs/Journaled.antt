@@ -22,7 +22,7 @@ use Rattle.turn_lock.specs.declared.call_fault.CallFault.TheVariants.{Memory, Ex
 abbrev pub IsOnDisk : (IsDurable : ℕ → Type 0) → Calls → Type 0
 IsOnDisk IsDurable calls = IsDurable (length (lines_of_calls calls))
 
--- The port passed the event on, had this reply, and made no further call.
+-- whether the port passed the event on, had this reply, and made no further call
 pub record HasCalled (p : MeterPort) (event : Event) (reply : Reply) (q : MeterPort) : Type 0 where
   pub between : MeterPort
   pub call : PortSteps p event (Ok reply) between
@@ -45,8 +45,8 @@ JournalSteps IsDurable p event (Err Exhausted) q = PortSteps p event (Err Exhaus
 JournalSteps IsDurable p event (Err Journal) q = IsHeldBack p event q
     ⊎ ((reply : Reply) × HasCalled p event reply q)
 
--- The history that port q knows begins with one that has the calls of these events, with these
--- replies, as the new calls of port p; the lines of that one are on the disk.
+-- whether the history that port q knows begins with one that has the calls of these events, with
+-- these replies, as the new calls of port p; the lines of that one are on the disk
 pub record IsWritten (IsDurable : ℕ → Type 0) (p : MeterPort) (events : List Event)
     (replies : List Reply) (q : MeterPort) : Type 0 where
   pub history : Calls

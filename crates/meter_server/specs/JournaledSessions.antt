@@ -34,7 +34,8 @@ abbrev pub client_steps : {D : Type 0} → (IsDurable : ℕ → Type 0) → Opti
 client_steps IsDurable None = PortSteps
 client_steps IsDurable (Some journal) = JournalSteps IsDurable
 
--- In the history, the calls of the port with this number are the earlier ones, then some that were
+-- Whether all calls of a port, except at most the last, were answered from the disk. In the
+-- history, the calls of the port with this number are the earlier ones, then some that were
 -- answered, and at most one that was not. A front of the same history has the earlier and the
 -- answered ones as the calls of this port, and its lines are on the disk if any was answered.
 pub record AreAnswered (IsDurable : ℕ → Type 0) (number : List ℕ) (earlier history : Calls)

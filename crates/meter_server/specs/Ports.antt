@@ -23,7 +23,8 @@ Calls p event (Ok reply) q = Called IsLegal p.known event reply q.known
 Calls p event (Err fault) q = Watches IsLegal p.known q.known
     × IsCause IsSure event p.bound q.known fault
 
--- a step of a port: passing an event on
+-- whether a call through a port had this result; the port's lock and its bound on turns are
+-- unchanged
 pub record PortSteps (p : MeterPort) (event : Event) (result : Result Reply CallFault)
     (q : MeterPort) : Type 0 where
   pub lock : q.lock ≡ p.lock

@@ -22,7 +22,7 @@ abbrev pub events_by : List ℕ → MeterPort → List Event
 events_by number port =
     map (λ (call : Entry Event Reply). call.event) (calls_by number port.known.seen)
 
--- the port with this number was joined in, and its calls are complete
+-- whether the port with this number was joined in, and its calls are complete
 pub record Acted (port : MeterPort) (number : List ℕ) (Whole : List Event → Type 0) : Type 0 where
   pub joined : IsAmong number port.known.joined
   pub whole : Whole (events_by number port)
@@ -31,8 +31,8 @@ pub record Acted (port : MeterPort) (number : List ℕ) (Whole : List Event → 
 abbrev pub IsLimit : ℕ → Served → Type 0
 IsLimit limit served = 0 < limit → served.served + served.turned_away ≡ limit
 
--- no more connections were served than ports were split off for them; and as many, if the count has
--- not saturated
+-- whether no more connections were served than ports were split off for them; and as many, if the
+-- count has not saturated
 pub record IsServed (splits later : ℕ) (served : Served) : Type 0 where
   pub most : splits + served.served ≤ later
   pub all : served.served < 18446744073709551615 → splits + served.served ≡ later
@@ -67,8 +67,8 @@ first_of (Err other) None = Err other
 first_of (Ok all) (Some stopped) = Err stopped
 first_of (Ok all) None = Ok all
 
--- the port that was lent to a worker was returned, and the result is the first of that of the
--- clients, served in parallel, and of the worker's
+-- whether the port that was lent to a worker was returned, and the result is the first of that of
+-- the clients, served in parallel, and of the worker's
 pub record EndsWith (did : MeterPort → MeterPort → Result (Unit {0}) CallFault
     → Type 0) (lent : MeterPort) (served result : Result Served ServeFault)
     (before after : MeterPort) : Type 0 where

@@ -6,13 +6,15 @@ use Rattle.port_threads.specs.Ports.{child}
 use Rattle.shared_meter.specs.Handed.{MeterPort}
 use Rattle.meter_server.specs.ServingAll.{events_by}
 
--- the events are the first of a session with some input; the management client has this password
+-- whether the events are the first of a session with some input, if the management client has this
+-- password
 pub record AreAsked (password : List ℕ) (events : List Event) : Type 0 where
   pub input : List ℕ
   pub later : List Event
   pub all : Asks password input ≡ events ++ later
 
--- q is the state of the port p after a session: its new calls are exactly those of the session
+-- whether q is the state of the port p after a session: its new calls are exactly those of the
+-- session
 pub record AsksThrough (password : List ℕ) (p q : MeterPort) : Type 0 where
   pub asked : List Event
   pub are : AreAsked password asked

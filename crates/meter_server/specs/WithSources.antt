@@ -17,9 +17,9 @@ abbrev pub first_then : (First : List Event → Type 0) → (Others : ℕ → Li
 first_then First Others zero = First
 first_then First Others (suc i) = Others i
 
--- Port p became port q: clients were served, and the events of `count` sources were passed on, each
--- by a port that was split off before those of the sessions. If no worker stopped early, the events
--- of each source are all its events.
+-- Whether port p became port q: clients were served, and the events of `count` sources were passed
+-- on, each by a port that was split off before those of the sessions. If no worker stopped early,
+-- the events of each source are all its events.
 pub record ServesWith (password : List ℕ) (count : ℕ) (CanFollow : ℕ → List Event → Type 0)
     (p q : MeterPort) (served : Result Served ServeFault) : Type 0 where
   pub goes : PortContinues p q

@@ -48,7 +48,7 @@ impl<'a, W: Wait> Model for PortMeter<'a, W> {
 }
 
 impl<'a, W: Wait> PortMeter<'a, W> {
-    /// Returns the meter of this port. Its calls wait for their turns by `rt`.
+    /// Returns the meter of this port. Its calls wait for their turns with `rt`.
     pub fn new(rt: &'a W, port: Port<Kept>) -> PortMeter<'a, W>
         ensures { result ≡ port }
     {

@@ -245,8 +245,8 @@ fn serve_with_three<
 /// Serves clients on these terms, and passes blocks of samples, moments and presses to one meter as
 /// [`serve_all`] does, with its results and its errors. If the meter has a journal, each session
 /// has a handle of it, and writes an answer only after the lines of all calls that its port has
-/// seen are on the disk. Of the calls of a session's port, all but at most the last one were then
-/// answered once they were on the disk. Sources do not wait for the journal.
+/// seen are on the disk. So all calls of a session's port, except at most the last, were answered
+/// after they were on the disk. Sources do not wait for the journal.
 ///
 /// A connection for which no handle of the journal is available is closed without a byte sent,
 /// counted as turned away, and leads to the fault `Memory`. A failure of the journal ends each
@@ -330,10 +330,10 @@ pub fn serve_all_journaled<
 /// each of at most eight open sessions and one for each of the three sources, each with a port of
 /// its own. The management client has this password, 1 to 32 bytes.
 ///
-/// Returns once every source is at its end, every session has ended, and `limit` connections came
-/// (0 means no limit) or the listener failed. A connection is closed without a byte sent and
-/// counted as turned away if eight sessions are open, if no port, thread or memory is available for
-/// it, or if its stream could not be set up.
+/// Returns once every source is at its end, every session has ended, and `limit` connections
+/// arrived (0 means no limit) or the listener failed. A connection is closed without a byte sent
+/// and counted as turned away if eight sessions are open, if no port, thread or memory is available
+/// for it, or if its stream could not be set up.
 ///
 /// Returns the port in every case: it has seen a legal history that begins with what it had seen
 /// before, and every port that was split off is joined in. After `Ok` all events that a source

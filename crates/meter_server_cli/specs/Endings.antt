@@ -28,7 +28,7 @@ Prints (Ok text) written (Ok done) written' = Appends written written' text
 Prints (Ok text) written (Err wrong) written' = wrong ≡ fault.Write
 Prints (Err given) written result written' = result ≡ Err given
 
--- a text of this kind was printed completely
+-- whether a text of this kind was printed completely
 pub record PrintsText (IsText : List ℕ → Type 0) (written written' : Option (List ℕ)) : Type 0 where
   pub text : List ℕ
   pub kind : IsText text

@@ -173,6 +173,7 @@ fn play(rt: &impl Abort, alloc: Global, steps: &[Step]) {
     drop(limiter);
 }
 
+/// The attributes of the limiter (class 71) after logical_name, each with its number.
 static NUMBERS: [(u8, LimiterAttribute); 10] = [
     (2, LimiterAttribute::MonitoredValue),
     (3, LimiterAttribute::ThresholdActive),
@@ -203,6 +204,8 @@ fn attributes_have_the_numbers_2_to_11(rt: HostRuntime) {
     }
 }
 
+/// Each limiter, with the Data of its monitored_value: the class, logical name and attribute of its
+/// register.
 static MONITORED: [(Which, &str); 2] = [
     (Which::Import, "020312000309060100010700FF0F02"),
     (Which::Export, "020312000309060100020700FF0F02"),
@@ -221,6 +224,7 @@ fn each_limiter_monitors_its_register(rt: HostRuntime) {
     drop(limiter);
 }
 
+/// Reads of a new limiter, each with the Data that is read.
 static OF_A_NEW_LIMITER: [Step; 9] = [
     Step::Read(LimiterAttribute::ThresholdActive, "06FFFFFFFF"),
     Step::Read(LimiterAttribute::ThresholdNormal, "06FFFFFFFF"),
@@ -244,6 +248,7 @@ fn a_new_limiter(rt: HostRuntime) {
     play(&rt, rt.alloc(), &OF_A_NEW_LIMITER);
 }
 
+/// Writes of thresholds and durations, and reads of them.
 static THRESHOLDS_AND_DURATIONS: [Step; 21] = [
     Step::Write(LimiterAttribute::ThresholdNormal, "0600000BB8"),
     Step::Write(LimiterAttribute::ThresholdEmergency, "06000001F4"),
@@ -274,6 +279,7 @@ fn thresholds_and_durations_are_read_back(rt: HostRuntime) {
     play(&rt, rt.alloc(), &THRESHOLDS_AND_DURATIONS);
 }
 
+/// Writes of an emergency profile, and reads before, during and after it.
 static EMERGENCY: [Step; 17] = [
     Step::Write(LimiterAttribute::ThresholdEmergency, "06000003E8"),
     Step::WriteIds("0101120007"),
@@ -299,6 +305,7 @@ fn an_emergency_profile_is_active_in_its_time(rt: HostRuntime) {
     play(&rt, rt.alloc(), &EMERGENCY);
 }
 
+/// A write of an emergency profile whose start is a date-time, and a read of it as an octet-string.
 static START_AS_A_DATE_TIME: [Step; 2] = [
     Step::Write(
         LimiterAttribute::EmergencyProfile,
@@ -460,6 +467,7 @@ const ACTIONS_OF_OTHER_TABLES: [&str; 4] = [
     "02020202090600000A006BFF1200010202090600000A006AFF120002",
 ];
 
+/// Attributes, Data that each refuses, and the fault.
 static REFUSED: [(LimiterAttribute, &[&str], SettingFault); 8] = [
     (
         LimiterAttribute::ThresholdNormal,

@@ -48,6 +48,7 @@ fn attribute_of(class: u16, name: Obis, number: u8) -> AttrRef {
     }
 }
 
+/// Logical names, each with the class of its object, if there is one.
 static CLASSES: [(Obis, Option<ClassId>); 12] = [
     (DISCONNECT_CONTROL_NAME, Some(ClassId(70))),
     (ASSOCIATION, Some(ClassId(15))),

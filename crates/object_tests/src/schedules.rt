@@ -10,7 +10,7 @@ use std::test::Fail;
 /// Script 1 of the script table. This text and those below are Data in hexadecimal digits.
 const SCRIPT: &str = "0202090600000A006AFF120001";
 
-/// The last second of each month.
+/// One entry, for the last second of each month.
 const LAST_SECOND: &str = "010102020904173B3B000905FFFFFFFEFF";
 
 /// 31 March 2028, 23:59:59, in seconds since 1 January 2000, as all moments here.
@@ -144,19 +144,19 @@ const OPEN: &str = "010202020904173BFF00090507EC0319FF02020904173BFF00090507EC03
 /// Two entries, one of which has an unspecified hour.
 const HALF_OPEN: &str = "010202020904FF3B0000090507EC0319FF02020904003B0000090507EC031AFF";
 
-/// Midnight of 25 March 2028.
+/// One entry, for midnight of 25 March 2028.
 const PLAIN: &str = "01010202090400000000090507EC0319FF";
 
-/// The year is not specified.
+/// One entry, whose year is not specified.
 const ANY_YEAR: &str = "010102020904000000000905FFFF031907";
 
-/// The month is not specified.
+/// One entry, whose month is not specified.
 const ANY_MONTH: &str = "01010202090400000000090507ECFF1907";
 
-/// The day of the month is not specified.
+/// One entry, whose day of the month is not specified.
 const ANY_DAY: &str = "01010202090400000000090507EC03FF07";
 
-/// The last day of a month.
+/// One entry, for the last day of a month.
 const LAST_DAY: &str = "01010202090400000000090507EC03FE07";
 
 /// Types, entries, and whether a schedule with these entries fits the type.
@@ -219,6 +219,7 @@ fn known(schedule: &ActionSchedule) -> (u16, ScheduleType) {
     (schedule.selector(), schedule.kind())
 }
 
+/// The attributes of a new schedule, each with the text that it is read as.
 static OF_A_NEW_SCHEDULE: [Written; 3] = [
     (
         ScheduleAttribute::ExecutedScript,
@@ -240,6 +241,7 @@ fn a_new_schedule(rt: HostRuntime) {
 /// Entries of the types time and date, instead of octet-strings.
 const LAST_SECOND_AS_A_TIME: &str = "010102021B173B3B001AFFFFFFFEFF";
 
+/// The attributes of a schedule of type 3, each with the text that it is read as.
 static OF_TYPE_3: [Written; 3] = [
     (ScheduleAttribute::ExecutedScript, SCRIPT),
     (ScheduleAttribute::Kind, "1603"),
@@ -256,6 +258,7 @@ fn attributes_are_written_back(rt: HostRuntime) {
     drop(schedule);
 }
 
+/// The entries of a copied schedule.
 static OF_A_COPY: [Written; 1] = [(ScheduleAttribute::ExecutionTime, LAST_SECOND)];
 
 /// Checks that a copy of a schedule of the null script has the entries of the last second.
@@ -310,6 +313,7 @@ static REFUSED_WRITES: [Write; 4] = [
     ),
 ];
 
+/// The attributes of a schedule of type 1, each with the text that it is read as.
 static OF_TYPE_1: [(ScheduleAttribute, &str); 3] = [
     (ScheduleAttribute::ExecutedScript, SCRIPT),
     (ScheduleAttribute::Kind, "1601"),

@@ -176,6 +176,7 @@ fn copy_table(alloc: Global, text: &str) -> Option<ScriptTable> {
     copy
 }
 
+/// Selectors, each with the number of steps of its script in `TABLE`, if there is one.
 static COUNTS_OF_THE_TABLE: [(u16, Option<u8>); 3] = [
     (3, Some(2)),
     (NULL_SCRIPT, Some(0)),
@@ -308,6 +309,7 @@ fn a_table_has_limits(rt: HostRuntime) {
     }
 }
 
+/// Data that are not a script table, each with the fault.
 static REFUSED_TABLES: [(&str, ScriptFault); 11] = [
     // Identifier 0 with a step that is not listed, and then Data that is not a script.
     (
@@ -338,6 +340,7 @@ fn tables_that_are_refused(rt: HostRuntime) {
     }
 }
 
+/// Steps that no script can have, each with the fault.
 static REFUSED_STEPS: [(&str, ScriptFault); 31] = [
     // Steps of a wrong type.
     (

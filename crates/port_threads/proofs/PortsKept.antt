@@ -59,7 +59,7 @@ module _ {H E R O : Type 0} (port_of : H → ShownPort E R O) (terms_of : H → 
         accounts = λ from a. t.accounts from (s.accounts from a);
       }
 
-  -- the same fact for equal terms
+  -- no port is lost also on equal terms
   pub keeps_by : (other : List ℕ) (p : ShownPort E R O) (held : Slab H) (q : ShownPort E R O)
       (later : Slab H) → terms ≡ other
       → KeepsPorts port_of terms_of did terms p held q later

@@ -5,8 +5,8 @@ use Rattle.turn_lock.specs.History.{StartsWith, IsAmong, calls_by}
 use Rattle.turn_lock.specs.Rule.{IsOwn}
 use Rattle.turn_lock.specs.Shown.{ShownPort}
 
--- q is the later state of the port p, which has made no call and may have split off other ports and
--- joined some in
+-- whether q is a later state of the port p, which has made no call and may have split off other
+-- ports and joined some in
 pub record PortContinues {E R O : Type 0} (p q : ShownPort E R O) : Type 0 where
   pub lock : q.lock ≡ p.lock
   pub bound : q.bound ≡ p.bound
@@ -27,7 +27,7 @@ abbrev pub AreJoined : {E R O : Type 0} → ℕ → ShownPort E R O → Type 0
 AreJoined from p = (i : ℕ) → from ≤ i → i < p.known.splits
     → IsAmong (child p.known.number i) p.known.joined
 
--- The port `own` was split off from p, whose later state is q
+-- whether the port `own` was split off from p, whose later state is q
 pub record SplitsOff {E R O : Type 0} (p own q : ShownPort E R O) : Type 0 where
   pub goes : PortContinues p q
   pub splits : q.known.splits ≡ p.known.splits + 1
@@ -36,7 +36,7 @@ pub record SplitsOff {E R O : Type 0} (p own q : ShownPort E R O) : Type 0 where
   pub number : own.known.number ≡ child p.known.number p.known.splits
   pub fresh : calls_by own.known.number own.known.seen ≡ []
 
--- the port r was joined into p, whose later state is q
+-- whether the port r was joined into p, whose later state is q
 pub record TakesIn {E R O : Type 0} (p r q : ShownPort E R O) : Type 0 where
   pub goes : PortContinues p q
   pub splits : q.known.splits ≡ p.known.splits
@@ -50,8 +50,8 @@ abbrev pub Returns : {E R O : Type 0} → (ShownPort E R O → ShownPort E R O �
     → ShownPort E R O → ShownPort E R O → Type 0
 Returns did p q = (q ≡ p) ⊎ did p q
 
--- A port with this number was new and did this work. The history begins with all that it has seen,
--- and its calls in the history are those that it made.
+-- Whether a port with this number was new and did this work. The history begins with all that it
+-- has seen, and its calls in the history are those that it made.
 pub record AreCallsOf {E R O : Type 0} (did : ShownPort E R O → ShownPort E R O
     → Type 0) (number : List ℕ) (history : List (Entry E R)) : Type 0 where
   pub lent : ShownPort E R O

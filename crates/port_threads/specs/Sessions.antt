@@ -24,14 +24,14 @@ abbrev pub terms_of : {T E R O C : Type 0} → (C → List ℕ)
     → PromisedHandle (Port T E R O) (Lent T C E R O) → List ℕ
 terms_of terms session = terms session.promise.connection.value
 
--- no session is open, and there is capacity for eight
+-- whether no session is open, and there is capacity for eight
 pub record IsEmpty {H : Type 0} (held : Slab H) : Type 0 where
   pub room : 8 ≤ held.capacity
   pub none : (key : ℕ) → get held key ≡ None
 
 module _ {H E R O : Type 0} (lent : H → ShownPort E R O) where
-  -- there is capacity for eight sessions, and each open one has a place below eight and a port of
-  -- the same lock
+  -- whether there is capacity for eight sessions, and each open one has a place below eight and a
+  -- port of the same lock
   pub record AreHeld (p : ShownPort E R O) (held : Slab H) : Type 0 where
     pub room : 8 ≤ held.capacity
     pub places : (key : ℕ) (session : H) → get held key ≡ Some session → key < 8
@@ -39,7 +39,7 @@ module _ {H E R O : Type 0} (lent : H → ShownPort E R O) where
 
 module _ {H E R O : Type 0} (lent : H → ShownPort E R O) (terms_of : H → List ℕ)
     (did : List ℕ → ShownPort E R O → ShownPort E R O → Type 0) (terms : List ℕ) where
-  -- an open session has the port with this number, which is new, and serves on these terms
+  -- whether an open session has the port with this number, which is new, and serves on these terms
   pub record IsOpen (held : Slab H) (number : List ℕ) : Type 0 where
     pub key : ℕ
     pub session : H
@@ -48,7 +48,8 @@ module _ {H E R O : Type 0} (lent : H → ShownPort E R O) (terms_of : H → Lis
     pub fresh : calls_by number (lent session).known.seen ≡ []
     pub on_terms : terms_of session ≡ terms
 
-  -- the port with this number was joined in, and its calls are those of a session on these terms
+  -- whether the port with this number was joined in, and its calls are those of a session on these
+  -- terms
   pub record IsEnded (p : ShownPort E R O) (number : List ℕ) : Type 0 where
     pub among : IsAmong number p.known.joined
     pub served : AreCallsOf (did terms) number p.known.seen
@@ -59,15 +60,15 @@ module _ {H E R O : Type 0} (lent : H → ShownPort E R O) (terms_of : H → Lis
   IsAccounted from p held = (i : ℕ) → from ≤ i → i < p.known.splits
       → IsEnded p (child p.known.number i) ⊎ IsOpen held (child p.known.number i)
 
-  -- sessions were opened and closed, and no port was lost
+  -- whether sessions were opened and closed, and no port was lost
   pub record KeepsPorts (p : ShownPort E R O) (held : Slab H) (q : ShownPort E R O) (later : Slab H)
       : Type 0 where
     pub goes : PortContinues p q
     pub holds : AreHeld lent p held → AreHeld lent q later
     pub accounts : (from : ℕ) → IsAccounted from p held → IsAccounted from q later
 
--- the limit of connections was reached, or fewer came and the listener failed; with the limit 0 the
--- listener failed
+-- whether the limit of connections was reached, or fewer came and the listener failed; with the
+-- limit 0 the listener failed
 pub record IsComplete (limit : ℕ) (a : Accepted) : Type 0 where
   pub reached : a.has_failed ≡ false → (0 < limit) × (a.served + a.turned_away ≡ limit)
   pub failed : a.has_failed ≡ true → 0 < limit → a.served + a.turned_away < limit
@@ -91,8 +92,8 @@ IsClosedFor incoming.SetupFailed outcome = outcome ≡ SetupFailed
 abbrev pub IsCrowd : {H : Type 0} → Admission → Slab H → Type 0
 IsCrowd outcome held = outcome ≡ Crowded → 8 ≤ slab_len held
 
--- No more connections were served than ports were split off; and as many, if none was closed for
--- lack of one and the count has not saturated
+-- whether no more connections were served than ports were split off; and as many, if none was
+-- closed for lack of one and the count has not saturated
 pub record IsServed (splits later : ℕ) (a : Accepted) : Type 0 where
   pub most : splits + a.served ≤ later
   pub all : a.has_starved ≡ false → a.served < 18446744073709551615 → splits + a.served ≡ later

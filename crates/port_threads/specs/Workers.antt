@@ -11,8 +11,8 @@ abbrev pub Ended : {E R O : Type 0}
 Ended did p q None = q ≡ p
 Ended did p q (Some end) = did p q end
 
--- the port that was lent to a worker was returned, and joined into the port whose states are
--- `before` and `after`
+-- whether the port that was lent to a worker was returned, and joined into the port whose states
+-- are `before` and `after`
 pub record ComesBack {E R O : Type 0} (did : ShownPort E R O → ShownPort E R O
     → Result (Unit {0}) CallFault
     → Type 0) (lent : ShownPort E R O) (end : Option (Result (Unit {0}) CallFault))

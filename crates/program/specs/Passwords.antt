@@ -26,7 +26,7 @@ abbrev pub SplitsLineEnd : List ℕ → List ℕ → Type 0
 SplitsLineEnd bytes line = (bytes ≡ line ++ 10 ∷ [])
     ⊎ ((bytes ≡ line) × ((front : List ℕ) → bytes ≢ front ++ 10 ∷ []))
 
--- the bytes of a file are this one line, with or without the byte 0A at its end
+-- whether the bytes of a file are this one line, with or without the byte 0A at its end
 pub record IsFileOf (text bytes : List ℕ) : Type 0 where
   pub one_line : HasNoLineEnd text
   pub bytes_are : (bytes ≡ text) ⊎ (bytes ≡ text ++ 10 ∷ [])
@@ -44,14 +44,14 @@ IsLineFault bytes password.Exposed = ⊥
 IsLineFault bytes password.Line = (text : List ℕ) → IsUtf8 text → ¬ (IsFileOf text bytes)
 IsLineFault bytes password.Memory = ⊤
 
--- a file was read to its end, and its bytes are this one line
+-- whether a file was read to its end, and its bytes are this one line
 pub record ReadsLine (left left' : Option (List ℕ)) (text : List ℕ) : Type 0 where
   pub bytes : List ℕ
   pub read : Consumes left left' bytes
   pub at_end : IsAtEnd left'
   pub is_file : IsFileOf text bytes
 
--- the bytes that were read of a file are more than 1,024, or they are all and not one line
+-- whether the bytes that were read of a file are more than 1,024, or they are all and not one line
 pub record HasNoLine (left left' : Option (List ℕ)) : Type 0 where
   pub bytes : List ℕ
   pub read : Consumes left left' bytes

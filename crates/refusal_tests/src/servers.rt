@@ -27,7 +27,7 @@ static ASKED: [u8; 39] = [
     0x04, 0x00, 0x00, 0x7E, 0x1F, 0x04, 0xB0,
 ];
 
-/// The AARE that answers it.
+/// The AARE that answers the public client's AARQ.
 static ANSWER: [u8; 51] = [
     0x00, 0x01, 0x00, 0x01, 0x00, 0x10, 0x00, 0x2B, 0x61, 0x29, 0xA1, 0x09, 0x06, 0x07, 0x60, 0x85,
     0x74, 0x05, 0x08, 0x01, 0x01, 0xA2, 0x03, 0x02, 0x01, 0x00, 0xA3, 0x05, 0xA1, 0x03, 0x02, 0x01,
@@ -152,6 +152,7 @@ fn serve<R: Threads + Wait + Copy + Send + 'static>(
 /// The result of serving two clients of a new meter, and the number of events that the meter kept.
 type Evening = (Result<Served, ServeFault>, Option<u16>);
 
+/// Serves two clients of a new meter.
 fn serve_new<R: Threads + Wait + Abort + Copy + Send + 'static>(
     rt: &R,
     alloc: Global,
@@ -194,7 +195,7 @@ fn stood(served: &Result<Served, ServeFault>, counts: Option<(usize, usize)>) ->
     }
 }
 
-/// Two connections were given to a session.
+/// The counts if both clients were served.
 const BOTH: Served = Served {
     served: 2,
     turned_away: 0,

@@ -40,7 +40,7 @@ moment 5
 moment 4
 ";
 
-/// The text that it prints.
+/// The output of the player for `TRACE`.
 const OUTPUT: &[u8] = b"1: code 0; state 1; supply on
 2: code 0; state 0; supply off
 3: code 2; state 0; supply off

@@ -53,13 +53,13 @@ world_of_opening o = record {
   schedules = o.schedules;
 }
 
--- A saved limiter that can occur: some samples give its runs, and it has at most 32 group ids.
+-- whether a saved limiter can occur: some samples give its runs, and it has at most 32 group ids
 pub record IsFitLimiterOpening (o : LimiterOpening) : Type 0 where
   pub runs : IsFit o.value o.over o.under
   pub groups : length o.settings.groups ≤ 32
 
--- A saved core that can occur: a device name of 1 to 16 bytes, mode 0 only in Connected, and
--- limiters that can occur.
+-- whether a saved core can occur: it has a device name of 1 to 16 bytes, mode 0 only in Connected,
+-- and limiters that can occur
 pub record IsFitOpening (o : Opening) : Type 0 where
   pub device_some : 1 ≤ length o.device
   pub device_few : length o.device ≤ 16

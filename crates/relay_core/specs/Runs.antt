@@ -32,14 +32,14 @@ abbrev pub lines_of : List Event → World → List Line
 lines_of [] w = []
 lines_of (event ∷ events) w = line_at event w ∷ lines_of events (at_event event w).world
 
--- A core ran through events: for every world that it represented, it represents the world after the
--- events, and their lines are these.
+-- whether a core ran through events: for every world that it represented, it represents the world
+-- after the events, and their lines are these
 pub record Runs (old new : RelayCore) (events : List Event) (lines : List Line) : Type 0 where
   pub world : (w : World) → StandsFor old w → StandsFor new (world_after events w)
   pub answered : (w : World) → StandsFor old w → lines ≡ lines_of events w
 
--- A core ran through the first of these events and stopped, either before the first event or at one
--- that may allocate.
+-- whether a core ran through the first of these events and stopped, either before the first event
+-- or at one that may allocate
 pub record StopsEarly (old new : RelayCore) (events : List Event) (done : List Line) : Type 0 where
   pub count : ℕ
   pub within : count ≤ length events

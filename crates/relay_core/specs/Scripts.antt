@@ -26,7 +26,7 @@ abbrev pub reconnect_by : Origin → Trigger
 reconnect_by Remote = RemoteReconnect
 reconnect_by Local = LocalReconnect
 
--- the effect of a step, which is that of the write or of the method that the step stands for
+-- the effect of a step: that of the write that it names, or of the trigger of its method
 unfoldable pub at_step : Origin → Step → World → Outcome
 at_step origin (WriteMode mode) w = at_mode mode w
 at_step origin Disconnect w = at_trigger (disconnect_by origin) w

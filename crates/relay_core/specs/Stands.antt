@@ -5,16 +5,16 @@ use Rattle.relay_core.specs.declared.relay.RelayCore.{RelayCore}
 use Rattle.limiter_core.specs.State.{State, CountsRows}
 use Rattle.relay_core.specs.World.{World, LimiterState}
 
--- A limiter represents one with all its samples, at a moment of the clock: it has the runs of those
--- samples.
+-- whether a limiter represents one with all its samples, at a moment of the clock: it has the runs
+-- of those samples
 pub record LimiterStateStands (limiter : State) (now : Option ℕ) (m : LimiterState) : Type 0 where
   pub settings : limiter.settings ≡ m.settings
   pub moment : limiter.moment ≡ now
   pub last : limiter.last ≡ m.last
   pub rows : CountsRows limiter m.rows
 
--- A core represents a world: it has all that the world has, with the moment in each limiter, and
--- the runs of the samples instead of the samples.
+-- whether a core represents a world: it has all that the world has, with the moment in each
+-- limiter, and the runs of the samples instead of the samples
 pub record StandsFor (core : RelayCore) (w : World) : Type 0 where
   pub device : core.device ≡ w.device
   pub control : core.control ≡ w.control

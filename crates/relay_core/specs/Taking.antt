@@ -10,8 +10,8 @@ use Rattle.relay_core.specs.World.{World}
 abbrev pub sampling_in : World → FiringCounts → SamplingState
 sampling_in w firings = record { world = w; firings = firings }
 
--- A core took samples: for every world that it represented, it represents the world after the
--- samples, and their firings were counted.
+-- whether a core took samples: for every world that it represented, it represents the world after
+-- the samples, and their firings were counted
 pub record Takes (old new : RelayCore) (before after : FiringCounts) (xs : List Measurement) : Type
     0
   where
@@ -20,7 +20,7 @@ pub record Takes (old new : RelayCore) (before after : FiringCounts) (xs : List 
     pub firings : (w : World) → StandsFor old w → after
         ≡ (after_samples xs (sampling_in w before)).firings
 
--- No side has fired more than `n` times.
+-- whether no side has fired more than `n` times
 pub record AreAtMost (n : ℕ) (firings : FiringCounts) : Type 0 where
   pub import_over : firings.import_over ≤ n
   pub import_under : firings.import_under ≤ n

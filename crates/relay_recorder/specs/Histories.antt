@@ -25,9 +25,9 @@ replies_of history = map (λ (told : Exchange). told.1) history
 abbrev pub replies_from : World → List Event → List Reply
 replies_from origin events = map (λ (line : Line). line.reply) (lines_of events origin)
 
--- The recorder results from a history that starts at world `origin`. The replies are those of the
--- run over the events; the core is in the world after all events; the kept events are the last
--- ones, at most `capacity`; and the opening core is in the world before the kept events.
+-- Whether the recorder results from a history that starts at world `origin`. The replies are those
+-- of the run over the events; the core is in the world after all events; the kept events are the
+-- last ones, at most `capacity`; and the opening core is in the world before the kept events.
 pub record StandsForHistory (r : Recording) (history : List Exchange)
     (origin : World) : Type 0 where
   pub legal : replies_of history ≡ replies_from origin (events_of history)
@@ -36,14 +36,14 @@ pub record StandsForHistory (r : Recording) (history : List Exchange)
   pub opening : StandsFor r.opening
       (world_after (all_but_last r.capacity (events_of history)) origin)
 
--- There are a world and a history that the recorder results from.
+-- whether there are a world and a history that the recorder results from
 pub record HasHistory (r : Recording) : Type 0 where
   pub history : List Exchange
   pub origin : World
   pub stands : StandsForHistory r history origin
 
--- The recorder took an event and replied to it: each history that it resulted from, with both
--- appended, now results in it.
+-- whether the recorder took an event and replied to it: each history that it resulted from, with
+-- both appended, now results in it
 pub record Continues (old new : Recording) (event : Event) (reply : Reply) : Type 0 where
   pub histories : (history : List Exchange) (origin : World) → StandsForHistory old history origin
       → StandsForHistory new (history ++ (event, reply) ∷ []) origin

@@ -17,8 +17,8 @@ abbrev pub recording : RelayCore → RelayCore → Buffer Event → Recording
 recording core opening kept =
     record { core = core; opening = opening; events = kept.items; capacity = kept.capacity }
 
--- What holds for every recorder: its capacity is 1 to 1,024 events, it keeps no more, and while it
--- keeps none the two cores are equal.
+-- whether a recorder is as each one is: its capacity is 1 to 1,024 events, it keeps no more, and
+-- while it keeps none the two cores are equal
 pub record IsRecording (r : Recording) : Type 0 where
   pub some : 1 ≤ r.capacity
   pub few : r.capacity ≤ 1024

@@ -5,8 +5,8 @@ use Rattle.relay_core.specs.World.{World}
 use Rattle.relay_recorder.specs.Histories.{Exchange, StandsForHistory, events_of, replies_of, replies_from}
 use Rattle.relay_recorder.specs.Recording.{Recording}
 
--- Run from `world`, the kept events give the last lines of the history's run, and the history's
--- last replies.
+-- whether the kept events, run from `world`, give the last lines of the history's run and the
+-- history's last replies
 pub record RunsAgain (r : Recording) (history : List Exchange) (origin world : World) : Type 0 where
   pub lines : lines_of r.events world
       ≡ drop (length history - length r.events) (lines_of (events_of history) origin)

@@ -21,8 +21,8 @@ pub record Lists : Type 0 where
   pub presses : ℕ
   pub password : List ℕ
 
--- The first port's calls are the blocks of the list, with reads between them; the second's are the
--- moments; the third's are the presses. Each further port's calls, one port for each client
+-- Whether the first port's calls are the blocks of the list, with reads between them; the second's
+-- are the moments; the third's are the presses. Each further port's calls, one port for each client
 -- served, are those of a session with this password.
 pub record AreListedCalls (lists : Lists) (clients : ℕ) (calls : Calls) : Type 0 where
   pub blocks : without_reads (events_in (0 ∷ []) calls) ≡ map event.Samples lists.blocks
@@ -31,8 +31,9 @@ pub record AreListedCalls (lists : Lists) (clients : ℕ) (calls : Calls) : Type
   pub sessions : (client : ℕ) → client < clients
       → AreAsked lists.password (events_in ((3 + client) ∷ []) calls)
 
--- There is one list of calls whose replies are those of the written rules, starting from the
--- recorder's state. The meter at the end results from it, and the text is the trace of that meter.
+-- Whether there is one list of calls whose replies are those of the written rules, starting from
+-- the recorder's state. The meter at the end results from it, and the text is the trace of that
+-- meter.
 pub record IsListedRun (recorder : Recording) (lists : Lists) (clients : ℕ) (text : List ℕ)
     : Type 0 where
   pub calls : Calls

@@ -61,8 +61,8 @@ is_allowed address =
     (address.service == write_attribute && (rights_of Management (attribute_at address)).write)
     || (address.service == execute_method && may_execute_of Management (method_at address))
 
--- the object table has the step's object, with its logical name and class, and management may do
--- there what the step does
+-- whether the object table has the step's object, with its logical name and class, and management
+-- may do there what the step does
 pub record IsInTable (step : Step) : Type 0 where
   pub named : option_map (λ row. row.instance) (object_of (address_named_by step).name)
       ≡ Some (instance_of step)

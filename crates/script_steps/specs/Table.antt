@@ -17,12 +17,14 @@ IsStep (WriteMinUnder which seconds) = seconds < 2 ^ 32
 IsStep (WriteProfile which profile) = IsDateTimeFields profile.start
 IsStep _ = Unit {0}
 
+-- whether a script can be in a script table: its identifier is not 0, and it has at most eight
+-- steps with numbers in their ranges
 pub record IsScript (script : Script) : Type 0 where
   pub named : 0 < script.identifier
   pub few : length script.steps ≤ max_steps
   pub fit : All IsStep script.steps
 
--- what holds of every script table
+-- whether scripts can be a script table: at most sixteen, with different identifiers
 pub record IsTable (scripts : List Script) : Type 0 where
   pub few : length scripts ≤ max_scripts
   pub distinct : are_distinct (λ script. script.identifier) scripts ≡ true

@@ -25,14 +25,15 @@ answer_lines world (request ∷ requests) =
 abbrev pub new_answers : List (List ℕ) → List ℕ
 new_answers requests = answer_lines (new_world (codes "RELAY1")) requests
 
--- a core answered a request, and its answer was appended as a line
+-- whether a core answered a request, and its answer was appended as a line
 pub record AddsAnswer (request : List ℕ) (old new : RelayCore) (before after : List ℕ) : Type 0
   where
     pub world : (w : World) → StandsFor old w → StandsFor new (answer_to_payload request w).world
     pub text : (w : World) → StandsFor old w → after ≡ before
         ++ hex_line (answer_to_payload request w).text
 
--- a core answered all of these requests but the last, and its answers were appended as lines
+-- whether a core answered all of these requests except those that are left in `last`, and its
+-- answers were appended as lines
 pub record AnswersOn (requests last : List (List ℕ)) (old new : RelayCore) (before after : List ℕ)
     : Type 0 where
   pub on : (w : World) → StandsFor old w
@@ -50,7 +51,7 @@ module _ {R W : Type 0}
   abbrev pub IsWholeText : List ℕ → R → Type 0
   IsWholeText text r = (length text ≤ max_bytes) × IsAtEnd (remaining r)
 
-  -- the effect of the bytes that were read, by the result
+  -- whether answering the requests in the bytes that were read has this result
   abbrev pub AnswersBytes : List ℕ → R → W → Result (Unit {0}) CommandFault → R → W → Type 0
   AnswersBytes text r w (Ok done) r' w' =
       (requests : List (List ℕ)) × (requests_of text ≡ Ok requests) × IsWholeText text r'
@@ -69,7 +70,7 @@ module _ {R W : Type 0}
   AnswersBytes text r w (Err fault.Password) r' w' = ⊥
   AnswersBytes text r w (Err fault.Device) r' w' = ⊥
 
-  -- a text was answered: these bytes were read, and this came of them
+  -- whether reading a text of requests and answering them has this result
   pub record AnswersText (r : R) (w : W) (result : Result (Unit {0}) CommandFault) (r' : R) (w' : W)
       : Type 0 where
     pub text : List ℕ

@@ -28,7 +28,7 @@ use Rattle.trace_player.specs.Versions.{IsCounted}
 use Rattle.text_lines.specs.Lines.{rows_of, unended_of}
 use Rattle.text_lines.specs.Words.{words_of}
 
--- of the input, the bytes of a whole trace were read, and no more
+-- whether the bytes of a whole trace were read from the input, and no more
 pub record TakesHead (left : Option (List ℕ)) (trace : Trace) (left' : Option (List ℕ)) : Type 0
   where
     pub text : List ℕ
@@ -36,7 +36,7 @@ pub record TakesHead (left : Option (List ℕ)) (trace : Trace) (left' : Option 
     pub told : trace_of text ≡ Ok trace
     pub fit : IsFitOpening trace.opening
 
--- the first of these bytes are the text of a trace that states the number of its events
+-- whether the first of these bytes are the text of a trace that states the number of its events
 pub record HasHead (bytes : List ℕ) : Type 0 where
   pub text : List ℕ
   pub rest : List ℕ
@@ -63,7 +63,7 @@ IsTextFault text counted fault.Device = ⊥
 IsTextFault text counted fault.Depth = ⊥
 IsTextFault text counted fault.Read = ⊥
 
--- the first bytes of the input, all that were read, are a text with this fault
+-- whether the first bytes of the input, all that were read, are a text with this fault
 pub record StartsWrong (left : Option (List ℕ)) (f : PlanFault) : Type 0 where
   pub text : List ℕ
   pub left' : Option (List ℕ)
@@ -88,14 +88,14 @@ IsReadFault failed input_fault.TooLong = ⊤
 IsReadFault failed input_fault.Read = failed ≡ true
 IsReadFault failed input_fault.Memory = ⊤
 
--- a text grew by the bytes that were read
+-- whether a text was extended by the bytes that were read
 pub record Grows (text : List ℕ) (left : Option (List ℕ)) (text' : List ℕ) (left' : Option (List ℕ))
     : Type 0 where
   pub bytes : List ℕ
   pub read : Consumes left left' bytes
   pub added : text' ≡ text ++ bytes
 
--- bytes are one line of these words
+-- whether bytes are one line of these words
 pub record IsLine (bytes : List ℕ) (row : Row) : Type 0 where
   pub line : List ℕ
   pub ended : bytes ≡ line ++ 10 ∷ []
@@ -112,8 +112,8 @@ abbrev pub first_line : Version → List ℕ
 first_line One = codes "RELAYTRACE 1" ++ 10 ∷ []
 first_line Two = codes "RELAYTRACE 2" ++ 10 ∷ []
 
--- the lines of a text have the number that a trace has: those before the number of events, that
--- one, and one for each event
+-- whether the lines of a text have the number that a trace has: those before the number of events,
+-- that one, and one for each event
 pub record IsLaidOut (text : List ℕ) : Type 0 where
   pub version : Version
   pub count : ℕ
@@ -132,8 +132,8 @@ pub record IsLaidOut (text : List ℕ) : Type 0 where
 abbrev pub rows_from_count : {text : List ℕ} → IsLaidOut text → List Row
 rows_from_count laid = laid.events_row ∷ (laid.events ++ [])
 
--- after what was read of a text, these lines of it are still to be read, followed by the rest of
--- the input
+-- whether these lines of a text are still to be read after what was read of it, followed by the
+-- rest of the input
 pub record Ahead (text rest : List ℕ) (rows : List Row) (so_far : List ℕ) (left : Option (List ℕ))
     : Type 0 where
   pub still : List ℕ

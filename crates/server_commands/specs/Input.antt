@@ -12,7 +12,7 @@ FailsToRead bytes failed fault.Read failed' = (length bytes ≤ 1048576) × (fai
 FailsToRead bytes failed fault.Memory failed' = ⊤
 FailsToRead bytes failed other failed' = ⊥
 
--- an input was not read to its end
+-- whether an input was not read to its end
 pub record StopsReading (left : Option (List ℕ)) (failed : ℕ) (f : CommandFault)
     (left' : Option (List ℕ)) (failed' : ℕ) : Type 0 where
   pub bytes : List ℕ

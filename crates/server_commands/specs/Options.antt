@@ -44,7 +44,7 @@ abbrev pub is_written : Found → List ℕ → Bool
 is_written found name = is_of_words (option_and_then (λ entry. entry.source)
     (matched_of found name))
 
--- the limits and flags of `serve`
+-- whether these are the limits and flags of `serve` that the command line gives
 pub record IsBounds (found : Found) (bounds : Bounds) : Type 0 where
   pub depth : IsNumber 16 found (codes "depth") bounds.depth
   pub journal_limit : IsNumber 32 found (codes "journal-limit") bounds.journal_limit

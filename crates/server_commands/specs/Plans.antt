@@ -13,9 +13,9 @@ use Rattle.server_commands.specs.declared.options.Bounds.{Bounds}
 use Rattle.server_commands.specs.declared.plan_fault.PlanFault.{PlanFault}
 use Rattle.server_commands.specs.declared.plan_fault.PlanFault.TheVariants as fault
 
--- The recorder of a meter that resumes from the trace at the head of its input: what follows the
--- trace is left of the input, the recorder's core represents the world after the trace's run, and
--- whatever comes next it answers as the meter that wrote it
+-- Whether this is the recorder of a meter that resumes from the trace at the head of its input.
+-- What follows the trace is left of the input, the recorder's core represents the world after the
+-- trace's run, and whatever event follows, it answers as the meter that wrote it.
 pub record Resumes (left left' : Option (List ℕ)) (recorder : Recording) : Type 0 where
   pub trace : Trace
   pub takes : TakesHead left trace left'

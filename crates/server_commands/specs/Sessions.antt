@@ -70,7 +70,7 @@ PlaysBytes device password text before (Err fault.Read) after = ⊥
 module _ {R W : Type 0}
     (remaining : R → Option (List ℕ)) (read_failures : R → ℕ)
     (contents : W → Option (List ℕ)) (write_failures : W → ℕ) where
-  -- the options are fit, and a whole text of a fit length was read
+  -- whether the options are fit, and a whole text of a fit length was read
   pub record ReadsWhole (password device : List ℕ) (r r' : R) (text : List ℕ) : Type 0 where
     pub password_fits : IsPassword password
     pub device_fits : IsDeviceName device
@@ -78,7 +78,7 @@ module _ {R W : Type 0}
     pub at_end : IsAtEnd (remaining r')
     pub within : length text ≤ max_bytes
 
-  -- a whole text was played
+  -- whether a whole text was played
   pub record PlaysWhole (password device : List ℕ) (r : R) (w : W)
       (result : Result (Unit {0}) CommandFault) (r' : R) (w' : W) : Type 0 where
     pub text : List ℕ
@@ -86,7 +86,7 @@ module _ {R W : Type 0}
     pub plays : PlaysBytes device password text (output_of contents write_failures w) result
         (output_of contents write_failures w')
 
-  -- the options are fit, and a text was not read to its end
+  -- whether the options are fit, and a text was not read to its end
   pub record StopsReading (password device : List ℕ) (r : R) (w : W) (r' : R) (w' : W)
       (Cause : List ℕ → Type 0) : Type 0 where
     pub password_fits : IsPassword password

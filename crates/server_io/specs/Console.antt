@@ -14,15 +14,15 @@ abbrev pub IsOwnWord : List ℕ → Type 0
 IsOwnWord word = (word ≡ codes "button") ⊎ (word ≡ codes "samples") ⊎ (word ≡ codes "pairs")
     ⊎ (word ≡ codes "moment")
 
--- the line begins with such a word
+-- whether a line begins with the first word of an event of the meter itself
 pub record IsOwnLine (line : List ℕ) : Type 0 where
   pub first : List ℕ
   pub others : List (List ℕ)
   pub words : words_of line ≡ first ∷ others
   pub own : IsOwnWord first
 
--- the line has the event: it is one of the meter itself, and the line is the one that a trace of
--- version 2 has for it
+-- whether a line has this event: it is one of the meter itself, and the line is the one that a
+-- trace of version 2 has for it
 pub record Brings (line : List ℕ) (event : Event) : Type 0 where
   pub own : IsOwnLine line
   pub written : event_of Two (words_of line) ≡ Ok event

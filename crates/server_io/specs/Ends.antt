@@ -25,8 +25,8 @@ abbrev pub TakesFrom : List ℕ → ℕ → Option (List Event) → Option (List
 TakesFrom line lost listed taken = (before : List Event) → listed ≡ Some before
     → (events : List Event) × Brought (line ∷ []) events lost × (taken ≡ Some (before ++ events))
 
--- the events of the first lines of an input were passed on, in order, each once; `lost` of these
--- lines were lost
+-- whether the events of the first lines of an input were passed on, in order, each once; `lost` of
+-- these lines were lost
 pub record HandsOn (input : List ℕ) (before : List Event) (lost : ℕ) (left : Option (List ℕ))
     (taken : Option (List Event)) : Type 0 where
   pub read : List (List ℕ)
@@ -51,8 +51,8 @@ has_failed end = end.has_failed
 abbrev pub lost_lines : ConsoleEnd → ℕ
 lost_lines end = end.lost
 
--- the console ended: the events of its lines were passed on, in order, each once; after a failed
--- read those of the last lines may be missing
+-- whether the console ended: the events of its lines were passed on, in order, each once; after a
+-- failed read those of the last lines may be missing
 pub record EndsSo (input : List ℕ) (before : List Event) (end : ConsoleEnd)
     (taken : Option (List Event)) : Type 0 where
   pub read : List (List ℕ)

@@ -19,14 +19,14 @@ IsShort line = length line + 1 ≤ max_line
 unfoldable pub lines_in : List ℕ → List (List ℕ)
 lines_in input = filter (λ line. nat_le (length line + 1) max_line) (lines_of input)
 
--- the first line was read, and what follows it is left
+-- whether the first line was read, and the text that follows it is left
 pub record TakesLine (input line : List ℕ) (left : Option (List ℕ)) : Type 0 where
   pub rest : List ℕ
   pub left_is : left ≡ Some rest
   pub lines : lines_of input ≡ line ∷ lines_of rest
   pub short : IsShort line
 
--- the first line is too long: it was skipped, and what follows it is left
+-- whether the first line is too long and was skipped, and the text that follows it is left
 pub record SkipsLine (input : List ℕ) (left : Option (List ℕ)) : Type 0 where
   pub line : List ℕ
   pub rest : List ℕ

@@ -94,7 +94,7 @@ short_form id (short.Get attr) = form.Get id
 short_form id (short.Set attr value) = form.Set id
 short_form id (short.Action method value) = form.Action id
 
--- The payload is this short request, whole.
+-- whether the payload is this short request, whole
 pub record IsShortRequest (conformance : ℕ) (payload : List ℕ) (id : InvokeId)
     (request : ShortRequest) : Type 0 where
   pub opens : is_opening payload ≡ false

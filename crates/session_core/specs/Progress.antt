@@ -22,7 +22,7 @@ use Rattle.session_core.specs.declared.step.TurnStep.TheVariants as step
 use Rattle.session_core.specs.declared.task.SessionTask.{SessionTask}
 use Rattle.session_core.specs.declared.task.SessionTask.TheVariants as task
 
--- A session has yet to do what a session with this password does, whatever its input is.
+-- whether a session has yet to do all that a session with this password does, whatever its input is
 pub record Owes (password : List ℕ) (s : Session) : Type 0 where
   pub asks : (input : List ℕ) → still_asks s input ≡ Asks password input
   pub sends : (input : List ℕ) (replies : List Reply)
@@ -31,7 +31,8 @@ pub record Owes (password : List ℕ) (s : Session) : Type 0 where
   pub silent : is_asking s ≡ false
   pub goes_on : is_finished s ≡ false
 
--- Bytes were fed.
+-- whether a session received bytes: they are now the first of its coming input, and nothing else
+-- has changed
 pub record Feeds (old : Session) (bytes : List ℕ) (new : Session) : Type 0 where
   pub asks : (more : List ℕ) → still_asks new more ≡ still_asks old (bytes ++ more)
   pub sends : (more : List ℕ) (replies : List Reply)
@@ -41,7 +42,7 @@ pub record Feeds (old : Session) (bytes : List ℕ) (new : Session) : Type 0 whe
   pub over : reported_end new ≡ reported_end old
   pub finished : is_finished new ≡ is_finished old
 
--- The input has ended.
+-- whether the input of a session ended: no more bytes will come, and nothing else has changed
 pub record Finishes (old new : Session) : Type 0 where
   pub asks : (more : List ℕ) → still_asks new more ≡ still_asks old []
   pub sends : (more : List ℕ) (replies : List Reply)
@@ -51,7 +52,7 @@ pub record Finishes (old new : Session) : Type 0 where
   pub over : reported_end new ≡ reported_end old
   pub finished : is_finished new ≡ true
 
--- These events were asked and these texts sent.
+-- whether a session asked these events and sent these texts, and has yet to do the rest
 pub record Steps (old : Session) (asked : List Event) (sent : List (List ℕ)) (new : Session)
     : Type 0 where
   pub asks : (more : List ℕ) → still_asks old more ≡ asked ++ still_asks new more
@@ -60,7 +61,8 @@ pub record Steps (old : Session) (asked : List Event) (sent : List (List ℕ)) (
   pub ends : (more : List ℕ) → still_ends old more ≡ still_ends new more
   pub finished : is_finished new ≡ is_finished old
 
--- A reply was taken in.
+-- whether a session took in a reply, which is now the first of the coming replies; the answer to it
+-- is the next text
 pub record Takes (old : Session) (reply : Reply) (new : Session) : Type 0 where
   pub asks : (more : List ℕ) → still_asks new more ≡ still_asks old more
   pub sends : (more : List ℕ) (replies : List Reply)
@@ -70,7 +72,7 @@ pub record Takes (old : Session) (reply : Reply) (new : Session) : Type 0 where
   pub finished : is_finished new ≡ is_finished old
   pub less : load_of new < load_of old
 
--- A reply was taken in, and then the bytes of its answer were sent.
+-- whether a session took in a reply, and then sent the bytes of its answer
 pub record AnswersBy (old : Session) (reply : Reply) (text : List ℕ) (new : Session) : Type 0 where
   pub between : Session
   pub takes : Takes old reply between
@@ -78,12 +80,12 @@ pub record AnswersBy (old : Session) (reply : Reply) (text : List ℕ) (new : Se
   pub silent : is_asking new ≡ false
   pub less : load_of new < load_of old
 
--- The session awaits the reply to an event, and sends nothing before it.
+-- whether the session awaits the reply to an event, and sends nothing before it
 pub record IsAwaiting (s : Session) : Type 0 where
   pub asking : is_asking s ≡ true
   pub sends : (more : List ℕ) → still_sends s more [] ≡ []
 
--- The session has asked the event of a short request, and awaits the reply.
+-- whether the session has asked the event of a short request, and awaits the reply
 pub record AsksShort (old : Session) (event : Event) (new : Session) : Type 0 where
   pub steps : Steps old (event ∷ []) [] new
   pub awaits : IsAwaiting new
@@ -106,7 +108,7 @@ abbrev pub StepsBy : {E : Type 0} → Session → Result Next E → Session → 
 StepsBy old (Ok next) new = Steps old (events_of_next next) (texts_of_next next) new
 StepsBy old (Err error) new = Steps old [] [] new
 
--- Without more input there is nothing to ask or to send, and no invalid header has arrived.
+-- whether there is nothing to ask or to send without more input, and no invalid header has arrived
 pub record IsQuiet (s : Session) : Type 0 where
   pub asks : still_asks s [] ≡ []
   pub sends : (replies : List Reply) → still_sends s [] replies ≡ []
@@ -114,7 +116,7 @@ pub record IsQuiet (s : Session) : Type 0 where
   pub silent : is_asking s ≡ false
   pub goes_on : is_finished s ≡ false
 
--- There is nothing left to ask or to send.
+-- whether the session is over with this end: there is nothing left to ask or to send
 pub record IsOver (end : SessionEnd) (s : Session) : Type 0 where
   pub asks : (more : List ℕ) → still_asks s more ≡ []
   pub sends : (more : List ℕ) (replies : List Reply) → still_sends s more replies ≡ []

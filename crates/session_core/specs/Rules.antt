@@ -252,7 +252,7 @@ is_settled (Ask event asked) = true
 is_settled (Say due) = true
 is_settled (Join joined) = false
 
--- A frame is this short request and ends the transfers, whatever the password is.
+-- whether a frame is this short request and ends the transfers, whatever the password is
 pub record HearsShort (old : State) (f : Frame) (asked : Asked) (heard : ShortRequest)
     (new : State) : Type 0 where
   pub outcome : (password : List ℕ)

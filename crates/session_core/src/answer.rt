@@ -16,14 +16,13 @@ pub(crate) const SERVER_PORT: u16 = 1;
 // The initial capacity of an answer in bytes. Most answers are shorter.
 const ROOM: usize = 64;
 
-// The tag of a Get-Response; below, the numbers of its form normal and of its choice data (IEC
-// 62056-5-3, GET).
+// The tag of a Get-Response (IEC 62056-5-3, GET).
 const GET_RESPONSE: u8 = 0xC4;
 
-// The form of a response with one result, GET-Response-Normal.
+// The choice of Get-Response for one result, get-response-normal.
 const NORMAL: u8 = 1;
 
-// The choice of Get-Data-Result that is a value.
+// The choice of Get-Data-Result for a value, data.
 const DATA: u8 = 0;
 
 // An answer of the server.

@@ -84,7 +84,7 @@ IsUndecoded text text_fault.TooLong = ⊥
 IsUndecoded text text_fault.Read = ⊥
 IsUndecoded text text_fault.Memory = ⊤
 
--- a text was read to its end, and its digits encode these bytes
+-- whether a text was read to its end, and its digits encode these bytes
 pub record ReadsHex (left left' : Option (List ℕ)) (input : List ℕ) : Type 0 where
   pub text : List ℕ
   pub read : Consumes left left' text
@@ -108,7 +108,7 @@ FailsToRead text before text_fault.Read after = (length text ≤ max_characters)
     × (before.failures < after.failures)
 FailsToRead text before text_fault.Memory after = ⊤
 
--- a text was not decoded
+-- whether a text was not decoded
 pub record StopsReading (before : Input) (f : TextFault) (after : Input) : Type 0 where
   pub text : List ℕ
   pub read : Consumes before.left after.left text
@@ -122,8 +122,8 @@ hex_fault_of text_fault.TooLong = fault.TooLong
 hex_fault_of text_fault.Read = fault.Read
 hex_fault_of text_fault.Memory = fault.Memory
 
--- The session of an input ran out of memory: a new meter was asked the first of the events, and the
--- first of the lines were written.
+-- Whether the session of an input ran out of memory: a new meter was asked the first of the events,
+-- and the first of the lines were written.
 pub record RunsShort (device password input : List ℕ) (before after : Output) : Type 0 where
   pub core : RelayCore
   pub core' : RelayCore
@@ -191,7 +191,7 @@ HexEffect device password text before (Err fault.Memory) after =
     ⊎ ((input : List ℕ) × IsHex text input × IsWholeText text after.input
     × RunsShort device password input before.output after.output)
 
--- A text was played: some characters were read, with this effect.
+-- whether playing a text has this result: some characters were read, with this effect
 pub record RunsHex (device password : List ℕ) (before : Streams)
     (result : Result (Unit {0}) HexFault) (after : Streams) : Type 0 where
   pub text : List ℕ

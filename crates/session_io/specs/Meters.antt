@@ -13,7 +13,7 @@ use Rattle.turn_lock.specs.declared.call_fault.CallFault.{CallFault}
 use Rattle.turn_lock.specs.declared.call_fault.CallFault.TheVariants.{Memory, Exhausted, Journal}
 
 module _ {M : Type 0} (steps : M → Event → Result Reply CallFault → M → Type 0) where
-  -- a meter took these events, one after the other, and returned these replies
+  -- whether a meter took these events, one after the other, and returned these replies
   abbrev pub RepliesTo : M → List Event → List Reply → M → Type 0
   RepliesTo first [] [] last = last ≡ first
   RepliesTo first [] (reply ∷ replies) last = ⊥
@@ -21,8 +21,8 @@ module _ {M : Type 0} (steps : M → Event → Result Reply CallFault → M → 
   RepliesTo first (event ∷ events) (reply ∷ replies) last = (next : M)
       × steps first event (Ok reply) next × RepliesTo next events replies last
 
-  -- A meter took all but the last of these events, returned these replies, and refused the last
-  -- event.
+  -- whether a meter took all but the last of these events, returned these replies, and refused the
+  -- last event
   pub record RefusesLast (first : M) (events : List Event) (replies : List Reply)
       (fault : CallFault) (last : M) : Type 0 where
     pub taken : List Event
@@ -32,7 +32,8 @@ module _ {M : Type 0} (steps : M → Event → Result Reply CallFault → M → 
     pub replied : RepliesTo first taken replies before
     pub refused : steps before event (Err fault) last
 
--- A core took an event: it represents the world after it, and the reply is that world's.
+-- whether a core took an event: it represents the world after it, and the reply is that of the
+-- world
 pub record TakesEvent (old : RelayCore) (event : Event) (reply : Reply) (new : RelayCore) : Type 0
   where
     pub world : (w : World) → StandsFor old w → StandsFor new (at_event event w).world

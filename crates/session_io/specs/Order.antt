@@ -125,8 +125,8 @@ module _ (written_as : List ℕ → List ℕ) (password : List ℕ) where
   IsOrdered (happening ∷ earlier) =
       (has_failed earlier ≡ false) × Follows happening earlier × IsOrdered earlier
 
-  -- The reads, writes and calls of a session were in this order, and its reads took these bytes
-  -- from the input.
+  -- whether the reads, writes and calls of a session were in this order, and its reads took these
+  -- bytes from the input
   pub record IsInOrder (before after : Option (List Happening)) (left left' : Option (List ℕ)) :
       Type 0 where
     pub happened : List Happening
@@ -136,8 +136,8 @@ module _ (written_as : List ℕ → List ℕ) (password : List ℕ) where
 
   -- ---- the position of a session
 
-  -- Of the texts for all further bytes and replies, those for the replies so far were written, and
-  -- the session has yet to send the rest.
+  -- whether, of the texts for all further bytes and replies, those for the replies so far were
+  -- written, and the session has yet to send the rest
   pub record IsAt (texts_of still : List ℕ → List Reply → List (List ℕ))
       (happened : List Happening) : Type 0 where
     pub texts : List (List ℕ)
@@ -149,7 +149,7 @@ module _ (written_as : List ℕ → List ℕ) (password : List ℕ) where
     pub ordered : IsOrdered happened
     pub fine : has_failed happened ≡ false
 
-  -- The session took a step further, without a read.
+  -- whether the session took a step further, without a read
   pub record ComesOn (texts_of still : List ℕ → List Reply → List (List ℕ))
       (happened : List Happening)
       (before after : Option (List Happening)) : Type 0 where
@@ -158,7 +158,8 @@ module _ (written_as : List ℕ → List ℕ) (password : List ℕ) where
     pub unread : bytes_read (new ++ happened) ≡ bytes_read happened
     pub is_at : IsAt texts_of still (new ++ happened)
 
-  -- The session stopped with an error.
+  -- whether the session stopped with an error: it read no more, and all that it did is in the order
+  -- of `IsOrdered`
   pub record StopsInOrder (happened : List Happening) (before after : Option (List Happening)) :
       Type 0 where
     pub new : List Happening
@@ -166,7 +167,7 @@ module _ (written_as : List ℕ → List ℕ) (password : List ℕ) where
     pub unread : bytes_read (new ++ happened) ≡ bytes_read happened
     pub ordered : IsOrdered (new ++ happened)
 
-  -- by the session's result: it took a step further, or it stopped
+  -- whether a session with this result took a step further or, on an error, stopped in order
   abbrev pub Orders : {X E : Type 0} → (List ℕ → List Reply → List (List ℕ))
       → (List ℕ → List Reply → List (List ℕ))
       → List Happening → Option (List Happening) → Result X E → Option (List Happening) → Type 0

@@ -68,14 +68,14 @@ WritesTexts written_as texts before after =
 module _ {M : Type 0}
     (steps : M → Event → Result Reply CallFault → M → Type 0)
     (written_as : List ℕ → List ℕ) where
-  -- All events were asked, and all answers to their replies were written.
+  -- whether all events were asked, and all answers to their replies were written
   pub record DoesAll (work : Work) (before after : Outlets M) : Type 0 where
     pub replies : List Reply
     pub replied : RepliesTo steps before.meter work.asks replies after.meter
     pub wrote : WritesTexts written_as (work.sends replies) before.output after.output
 
-  -- Out of memory: the first of the events were asked, the last of which may have been refused, and
-  -- the first of the answers to their replies were written.
+  -- whether memory ran out: the first of the events were asked, the last of which may have been
+  -- refused, and the first of the answers to their replies were written
   pub record StopsShort (work : Work) (before after : Outlets M) : Type 0 where
     pub asked : List Event
     pub later : List Event
@@ -88,8 +88,8 @@ module _ {M : Type 0}
     pub all_sent : work.sends replies ≡ sent ++ unsent
     pub wrote : WritesTexts written_as sent before.output after.output
 
-  -- The meter took the first of the events and refused the next with this fault, and all answers to
-  -- its replies were written.
+  -- whether the meter took the first of the events and refused the next with this fault, and all
+  -- answers to its replies were written
   pub record IsRefused (fault : CallFault) (work : Work) (before after : Outlets M) : Type 0 where
     pub asked : List Event
     pub later : List Event
@@ -98,7 +98,7 @@ module _ {M : Type 0}
     pub refused : RefusesLast steps before.meter asked replies fault after.meter
     pub wrote : WritesTexts written_as (work.sends replies) before.output after.output
 
-  -- A write failed: the first of the events were asked.
+  -- whether a write failed, after the first of the events were asked
   pub record IsUnwritten (work : Work) (before after : Outlets M) : Type 0 where
     pub asked : List Event
     pub later : List Event
@@ -126,7 +126,7 @@ max_reads = 4294967295
 abbrev pub longest_piece : ℕ
 longest_piece = 1024
 
--- No read follows the one that completes an invalid header.
+-- whether no read followed the one that completed an invalid header
 pub record StopsAtHeader (seen : List ℕ) : Type 0 where
   pub earlier : List ℕ
   pub last : List ℕ
@@ -134,8 +134,8 @@ pub record StopsAtHeader (seen : List ℕ) : Type 0 where
   pub short : length last ≤ longest_piece
   pub ends : EndsWithInput (end_of earlier)
 
--- The bytes arrived in pieces, one for each successful read, including the empty one at the end of
--- the input.
+-- whether the bytes arrived in pieces, one for each successful read, including the empty one at the
+-- end of the input
 pub record Pieces (seen : List ℕ) (before after : Input) : Type 0 where
   pub count : ℕ
   pub most : count ≤ max_reads
@@ -176,7 +176,7 @@ module _ {M : Type 0} (steps : M → Event → Result Reply CallFault → M → 
   HasEffect plan seen before (Err fault.Journal) after =
       IsRefused steps as_bytes call.Journal (work_for plan seen) before.outlets after.outlets
 
-  -- A session was served: some bytes were read, with this effect.
+  -- whether serving a session has this result: some bytes were read, with this effect
   pub record ServesSession (password : List ℕ) (before : Sides M)
       (result : Result SessionEnd ServeFault) (after : Sides M) : Type 0 where
     pub seen : List ℕ

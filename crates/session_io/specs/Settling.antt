@@ -37,7 +37,7 @@ FailsToWrite before fault.Exhausted after = ⊥
 FailsToWrite before fault.Listen after = ⊥
 FailsToWrite before fault.Journal after = ⊥
 
--- There is nothing to ask and nothing to send without more input.
+-- whether there is nothing to ask and nothing to send without more input
 pub record IsSettled (s : Session) : Type 0 where
   pub asks : still_asks s [] ≡ []
   pub sends : (replies : List Reply) → still_sends s [] replies ≡ []
@@ -54,8 +54,8 @@ abbrev pub MayContinue : Option SessionEnd → Type 0
 MayContinue None = ⊤
 MayContinue (Some end) = EndsWithInput end
 
--- whether a session whose input has ended has nothing left to do; one whose input may continue has
--- met no invalid header
+-- whether a session that ended in this way has nothing left to do, and one that has not ended may
+-- have more input and has found no invalid header
 abbrev pub IsDone : Option SessionEnd → Session → Type 0
 IsDone None s = (is_finished s ≡ false) × EndsWithInput (still_ends s [])
 IsDone (Some end) s = IsOver end s
@@ -63,8 +63,8 @@ IsDone (Some end) s = IsOver end s
 module _ {M : Type 0}
     (steps : M → Event → Result Reply CallFault → M → Type 0)
     (written_as : List ℕ → List ℕ) where
-  -- Of a plan for these bytes and all that may follow, some events were asked and some texts were
-  -- sent, and the session has yet to do the rest.
+  -- whether, of a plan for these bytes and all that may follow, some events were asked and some
+  -- texts were sent, and the session has yet to do the rest
   pub record HasDone (plan : Plan) (before : Outlets M) (seen : List ℕ) (s : Session)
       (after : Outlets M) : Type 0 where
     pub asked : List Event
@@ -77,7 +77,7 @@ module _ {M : Type 0}
     pub replied : RepliesTo steps before.meter asked replies after.meter
     pub wrote : WritesTexts written_as sent before.output after.output
 
-  -- A session took in bytes, and did everything that they ask for.
+  -- whether a session took in bytes and did everything that they ask for
   pub record Settles (old : Session) (before : Outlets M) (bytes : List ℕ)
       (end : Option SessionEnd) (new : Session) (after : Outlets M) : Type 0 where
     pub reached : HasDone (remaining_plan old) before bytes new after
@@ -86,7 +86,7 @@ module _ {M : Type 0}
     pub silent : is_asking new ≡ false
     pub finished : is_finished new ≡ is_finished old
 
-  -- A session after `count` reads, with everything done that the bytes read so far ask for.
+  -- whether a session has made `count` reads and done everything that the bytes read so far ask for
   pub record IsCaughtUp (old : Session) (before : Sides M) (count : ℕ) (s : Session)
       (after : Sides M) : Type 0 where
     pub seen : List ℕ

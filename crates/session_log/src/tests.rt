@@ -6,7 +6,7 @@ use std::test::Fail;
 use std::time::{Clock, Duration};
 use std::{fmt, io};
 
-// An AARE that accepts, and those that refuse a wrong password and a missing one.
+// The AARE with result 0, accepted.
 const ACCEPTED: [u8; 43] = [
     0x61, 0x29, 0xA1, 0x09, 0x06, 0x07, 0x60, 0x85, 0x74, 0x05, 0x08, 0x01, 0x01, 0xA2, 0x03, 0x02,
     0x01, 0x00, 0xA3, 0x05, 0xA1, 0x03, 0x02, 0x01, 0x00, 0xBE, 0x10, 0x04, 0x0E, 0x08, 0x00, 0x06,
@@ -25,6 +25,7 @@ struct Case {
     answer: AnswerKind,
 }
 
+// Payloads of answers, each with its meaning.
 static CASES: [Case; 14] = [
     // GET of control_state: the value, and not defined (4); an exception.
     Case {

@@ -71,6 +71,7 @@ fn has_output(
 /// A text, the lines that are written for it, and its result.
 type Played = (&'static str, &'static str, Result<(), HexFault>);
 
+/// Texts in hexadecimal, each with the lines that are written for it and the result.
 static TEXTS: [Played; 10] = [
     // Digits may be of either case and have blanks between them.
     (

@@ -62,6 +62,7 @@ fn ask_all(
 /// What a case shows, and requests to a new meter with their answers.
 type Asked = (&'static str, &'static [(&'static str, &'static str)]);
 
+/// Cases, each with requests to a new meter and their responses.
 static REQUESTS: [Asked; 6] = [
     (
         "attributes are read",

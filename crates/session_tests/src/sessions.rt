@@ -15,7 +15,7 @@ use std::process::Abort;
 use std::test::Fail;
 use turn_lock::CallFault;
 
-/// The AARQ of a public client at port 16, and its answer.
+/// The AARQ of a public client at port 16, in its frame.
 pub(crate) const PUBLIC_AARQ: &str =
     "000100100001001F601DA109060760857405080101BE10040E01000000065F1F0400007E1F04B0";
 
@@ -24,7 +24,7 @@ pub(crate) const PUBLIC_AARE: &str =
     "000100010010002B6129A109060760857405080101A203020100A305A103020100BE10040E0800065F1F0400001E19\
         04000007";
 
-/// The AARQ of the management client at port 1, with the password 12345678, and its answer.
+/// The AARQ of the management client at port 1, with the password 12345678, in its frame.
 const MANAGEMENT_AARQ: &str =
     "00010001000100386036A1090607608574050801018A0207808B0760857405080201AC0A80083132333435363738BE\
         10040E01000000065F1F0400001C190400";
@@ -34,10 +34,10 @@ const MANAGEMENT_AARE: &str =
     "000100010001002B6129A109060760857405080101A203020100A305A103020100BE10040E0800065F1F0400001C19\
         04000007";
 
-/// The public client's GET of the state of the switch, which is connected, and its answer.
+/// The public client's GET of the state of the switch, in its frame.
 pub(crate) const PUBLIC_GET: &str = "000100100001000DC001C10046000060030AFF0300";
 
-/// The response to the public client: state 1, in its frame.
+/// The response to the public client's GET of a switch that is connected: state 1, in its frame.
 pub(crate) const PUBLIC_STATE: &str = "0001000100100006C401C1001601";
 
 /// A stream that returns this number of bytes at each read. One of the reads may fail.
@@ -338,6 +338,7 @@ type Session = (
     SessionEnd,
 );
 
+/// Short sessions, each for one rule.
 static SESSIONS: [Session; 14] = [
     (
         "a public client associates",
@@ -502,12 +503,12 @@ const TEN_NAMES: &str =
         0060030AFF01000046000060030AFF01000046000060030AFF01000046000060030AFF01000046000060030AFF\
         01000046000060030AFF0100";
 
-/// The first block of that answer.
+/// The first block of the response to `TEN_NAMES`.
 const FIRST_BLOCK: &str =
     "C402C1000000000100340A000906000060030AFF000906000060030AFF000906000060030AFF000906000060030AFF\
         000906000060030AFF000906000060";
 
-/// The second block of that answer.
+/// The second block of the response to `TEN_NAMES`.
 const SECOND_BLOCK: &str =
     "C402C101000000020027030AFF000906000060030AFF000906000060030AFF000906000060030AFF00090600006003\
         0AFF";

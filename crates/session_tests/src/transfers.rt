@@ -368,6 +368,8 @@ fn read_wrong_block(alloc: Global, talk: &mut Talk) -> Result<(), Fail> {
     talk.ask_all(alloc, &AFTER_A_WRONG_BLOCK)
 }
 
+/// A GET-next with a wrong block number, which ends the transfer, one with the right number, and a
+/// GET, each with its response.
 static AFTER_A_WRONG_BLOCK: [(&str, &str); 3] = [
     ("C002C100000007", "C402C101000000070113"),
     ("C002C100000001", "C402C101000000010110"),
@@ -519,6 +521,8 @@ fn a_cut_disconnection_is_answered_so_far(rt: HostRuntime) -> Result<(), Fail> {
     checked
 }
 
+/// Blocks whose joined bytes are not one Data within the limits, and a block after a refusal, each
+/// with its response.
 static NO_VALUES: [(&str, &str); 6] = [
     // Nine structures in one another.
     (

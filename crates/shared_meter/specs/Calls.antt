@@ -24,14 +24,14 @@ IsLegal origin calls =
     replies_of (events_and_replies calls) ≡ replies_from (world_of_opening origin)
     (events_of (events_and_replies calls))
 
--- The recorder results from these calls, starting from the world of its origin, and the journal has
--- their lines.
+-- whether the recorder results from these calls, starting from the world of its origin, and the
+-- journal has their lines
 pub record Stands (kept : KeptRecorder) (calls : Calls) : Type 0 where
   pub history : StandsForHistory kept.recorder (events_and_replies calls)
       (world_of_opening kept.origin)
   pub pending : PendsIn kept.pending (lines_of_calls calls)
 
--- There are calls that the recorder results from.
+-- whether there are calls that the recorder results from
 pub record HasCalls (kept : KeptRecorder) : Type 0 where
   pub calls : Calls
   pub stands : Stands kept calls

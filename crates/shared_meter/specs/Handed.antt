@@ -34,7 +34,7 @@ without_reads events = filter (λ (e : Event). not (is_read e)) events
 abbrev pub Passes : Event → (before after : List Event) → Type 0
 Passes event before after = (after ≡ before ++ event ∷ []) ⊎ (¬ (IsSure event) × (after ≡ before))
 
--- The events that were passed on through a port since can be all those of a source.
+-- whether the events that were passed on through a port since can be all those of a source
 pub record PassesAll (CanFollow : List Event → Type 0) (p q : MeterPort) : Type 0 where
   pub events : List Event
   pub handed : own_events q ≡ own_events p ++ events

@@ -2,7 +2,7 @@
 --     event_lines, lines_of_calls   the lines of an event and of a history
 --     IsTextOfLine                  the text of one line
 --     PendingView, IsPending        the lines that were not taken yet
---     Pends                         the same, unless a line was lost
+--     Pends                         the lines are pending, unless one was lost
 --     Finds                         what a question finds
 use Rattle.std.specs.Prelude.{◌≡◌, ℕ, ◌≤◌, Bool, false, List, [], ◌∷◌, ◌++◌, length}
 use Rattle.std.specs.Prelude.{drop, Option, Some, None, if◌then◌else◌, ⊤}
@@ -40,7 +40,7 @@ pub record PendingView : Type 0 where
   pub count : ℕ
   pub is_lost : Bool
 
--- The text is that of all lines after those that were taken, and no line has a byte 0 or 0A.
+-- whether the text is that of all lines after those that were taken, and no line has a byte 0 or 0A
 pub record IsPending (pending : PendingView) (lines : List (List ℕ)) : Type 0 where
   pub plain : AllByRecursion IsPlain lines
   pub count : pending.count ≡ length lines
@@ -56,8 +56,8 @@ abbrev pub PendsIn : Option PendingView → List (List ℕ) → Type 0
 PendsIn None lines = ⊤
 PendsIn (Some pending) lines = Pends pending lines
 
--- The text is that of all lines after the first `taken`, and `count` is the number of all. No line
--- has a byte 0 or 0A.
+-- whether the text is that of all lines after the first `taken`, `count` is the number of all, and
+-- no line has a byte 0 or 0A
 pub record IsRest (lines : List (List ℕ)) (taken : ℕ) (text : List ℕ) (count : ℕ) : Type 0 where
   pub plain : AllByRecursion IsPlain lines
   pub within : taken ≤ length lines

@@ -6,7 +6,8 @@ use Rattle.shared_meter.specs.Calls.{IsLegal}
 use Rattle.shared_meter.specs.Handed.{MeterPort}
 use Rattle.shared_meter.specs.Pending.{lines_of_calls}
 
--- The port has made no further call, and the lines of all calls that it has seen are on the disk.
+-- whether the port has made no further call, and the lines of all calls that it has seen are on the
+-- disk
 pub record Settles (IsDurable : ℕ → Type 0) (p q : MeterPort) : Type 0 where
   pub same : IsSame p q
   pub watches : Watches IsLegal p.known q.known

@@ -1,6 +1,6 @@
 -- The marks of a ledger's file: the places whose command may have been sent.
 --     IsBegun          the trees have the place's mark
---     IsMarked         whatever a crash leaves has it
+--     IsMarked         all trees that a crash may leave have it
 --     IsLeft           entries say of each place whether the trees have its mark
 --     LeavesEntries    entries that the next run may find after a crash
 --     LeavesCommit     while the connection is open, a crash leaves the last commit alone
@@ -23,7 +23,8 @@ IsBegun db place = IsTrue (list_any (has_rowid place) (db begun_tree))
 abbrev pub IsMarked : (Trees → Type 0) → ℤ → Type 0
 IsMarked may_leave place = (db : Trees) → may_leave db → IsBegun db place
 
--- the command of a place may have been sent, by these entries, exactly if the trees have its mark
+-- whether these entries report that the command of a place may have been sent exactly if the trees
+-- have its mark
 pub record IsLeft (db : Trees) (entries : ℕ → LedgerEntry) : Type 0 where
   pub gone : (place : ℕ) → IsBegun db (pos place) → HasGone (entries place)
   pub begun : (place : ℕ) → HasGone (entries place) → IsBegun db (pos place)

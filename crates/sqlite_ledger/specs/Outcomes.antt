@@ -3,7 +3,7 @@
 --     number_of         its number, if it has one
 --     outcome_row       the row of an outcome
 --     IsRecorded        the trees have the outcome of the place
---     IsSafe            whatever a crash leaves has it
+--     IsSafe            all trees that a crash may leave have it
 use Rattle.std.specs.Prelude.{ℕ, ℤ, pos, List, [], ◌∷◌, codes}
 use Rattle.sqlite.specs.declared.types.Value.{Value}
 use Rattle.sqlite.specs.declared.types.Value.TheVariants.{Null, Int, Text as Words}

@@ -95,7 +95,7 @@ impl<S: Alter + Drop> Book for SqliteBook<S> {
         }
     }
 
-    // Beyond the trait's clauses: whatever a crash leaves has the outcome.
+    // In addition to the trait's clauses, all trees that a crash may leave have the outcome.
     fn record(&mut self, place: u32, outcome: Outcome) -> Result<(), LedgerFault>
         ensures honest { HasCleanDisk (state S.Store self.new)
             → HasCleanDisk (state S.Store self.old) }

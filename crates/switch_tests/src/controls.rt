@@ -42,6 +42,8 @@ fn check_steps(rt: &impl Abort, mode: ControlMode, steps: &[Step]) -> Disconnect
     control
 }
 
+/// A disconnection by the button, and a remote reconnection that is refused, each with the result
+/// and the state after it.
 static WAITING_FOR_THE_BUTTON: [Step; 2] = [
     (Trigger::ManualDisconnect, ResultCode::Success, READY),
     (
@@ -56,6 +58,8 @@ fn a_remote_reconnection_does_not_close_a_switch_that_waits_for_its_button(rt: H
     check_steps(&rt, ControlMode::Mode2, &WAITING_FOR_THE_BUTTON);
 }
 
+/// A remote disconnection, sent twice, and the reconnection by a client and by the button, each
+/// trigger with the result and the state after it.
 static RELEASED_AND_RESTORED: [Step; 4] = [
     (Trigger::RemoteDisconnect, ResultCode::Success, DISCONNECTED),
     (Trigger::RemoteDisconnect, ResultCode::Success, DISCONNECTED),

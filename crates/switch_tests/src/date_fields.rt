@@ -106,11 +106,13 @@ fn is_time(bytes: [u8; 4]) -> bool {
     }
 }
 
+/// Bytes that are no date, each with the fault.
 static NO_DATES: [(&[u8], PatternFault); 2] = [
     (&[0xFF, 0xFF, 0xFD, 0xFF, 0xFF], PatternFault::SeasonMonth),
     (&[0xFF, 0xFF, 13, 1, 0xFF], PatternFault::Range),
 ];
 
+/// Bytes that are no time, each with the fault.
 static NO_TIMES: [(&[u8], PatternFault); 1] = [(&[0, 60, 0, 0], PatternFault::Range)];
 
 #[test]
@@ -121,6 +123,8 @@ fn a_date_and_a_time_alone(rt: HostRuntime) {
     check_time_faults(&rt, &NO_TIMES);
 }
 
+/// Bytes that are no date for two reasons or of another length, each with the fault that is found
+/// first.
 static FIRST_FAULTS_OF_DATES: [(&[u8], PatternFault); 4] = [
     (&[0xFF, 0xFF, 0xFD, 0, 0], PatternFault::SeasonMonth),
     (&[0xFF, 0xFF, 0xFD, 1], PatternFault::Length),
@@ -128,6 +132,7 @@ static FIRST_FAULTS_OF_DATES: [(&[u8], PatternFault); 4] = [
     (&DATE_TIME, PatternFault::Length),
 ];
 
+/// Bytes of another length than a time, each with the fault.
 static FIRST_FAULTS_OF_TIMES: [(&[u8], PatternFault); 2] = [
     (&[24, 0, 0], PatternFault::Length),
     (&DATE, PatternFault::Length),

@@ -43,8 +43,10 @@ const LAST_SUNDAY: [u8; 5] = [0xFF, 0xFF, 3, 0xFE, 7];
 // The first Sunday of March from day 25 on, of any year.
 const SUNDAY_FROM_THE_25TH: [u8; 5] = [0xFF, 0xFF, 3, 25, 7];
 
+// A date whose day of the week is wrong: 25 March 2028 is a Saturday.
 static SUNDAY_25_MARCH_2028: [u8; 5] = [0x07, 0xEC, 3, 25, 7];
 
+// Dates, each with a moment of March 2028 and whether the date matches the moment's day.
 static SUNDAYS_OF_MARCH: [([u8; 5], u32, bool); 3] = [
     (LAST_SUNDAY, MARCH_26, true),
     (LAST_SUNDAY, MARCH_26 - 7 * DAY, false),
@@ -60,6 +62,8 @@ fn dates_of_march_2028(rt: HostRuntime) {
     }
 }
 
+// Dates, each with the moment 0, which is Saturday 1 January 2000, and whether the date matches
+// that day.
 static DAYS_AT_THE_TURN: [([u8; 5], u32, bool); 5] = [
     ([0xFF, 0xFF, 12, 31, 6], 0, true),
     ([0xFF, 0xFF, 12, 31, 7], 0, false),
@@ -79,6 +83,7 @@ const SECOND_LAST: [u8; 5] = [0xFF, 0xFF, 0xFF, 0xFD, 0xFF];
 // The last day of any month.
 const LAST: [u8; 5] = [0xFF, 0xFF, 0xFF, 0xFE, 0xFF];
 
+// Dates, each with a moment of March 2028 and whether the date matches the moment's day.
 static LAST_DAYS_OF_MARCH: [([u8; 5], u32, bool); 4] = [
     (SECOND_LAST, MARCH_26 + 4 * DAY, true),
     (LAST, MARCH_26 + 4 * DAY, false),
@@ -144,6 +149,7 @@ fn are_same(one: [u8; 4], other: [u8; 4]) -> Result<bool, PatternFault> {
 // The time 12:00:00.00.
 const NOON: [u8; 4] = [12, 0, 0, 0];
 
+// Two times, and whether they are equal but for the hundredths.
 static TIMES: [([u8; 4], [u8; 4], bool); 5] = [
     (NOON, [12, 0, 0, 0xFF], true),
     (NOON, [12, 0, 0xFF, 0], false),
@@ -167,6 +173,7 @@ fn moment(text: [u8; 12]) -> Result<Option<u32>, PatternFault> {
     Ok(moment_of(&read_date_time(&text)?))
 }
 
+// Date-times, each with its moment in seconds since 1 January 2000, if it has one.
 static MOMENTS: [([u8; 12], Option<u32>); 20] = [
     // 1 January 2000, 00:01:40.
     ([0x07, 0xD0, 1, 1, 0xFF, 0, 1, 40, 0, 0x80, 0, 0], Some(100)),
@@ -211,6 +218,7 @@ fn moments(rt: HostRuntime) {
     calendar_laws();
 }
 
+// A date-time in which no field is specified.
 static UNSPECIFIED: [u8; 12] = [
     0xFF, 0xFF, 0xFF, 0xFF, 0xFF, 0xFF, 0xFF, 0xFF, 0xFF, 0x80, 0x00, 0xFF,
 ];

@@ -123,8 +123,10 @@ fn the_last_scan_is_kept(rt: HostRuntime) -> Result<(), Fail> {
     Ok(())
 }
 
+// The import values of a block of three pairs.
 static IMPORTED: [u32; 3] = [1, 2, 3];
 
+// The export values of a block of three pairs.
 static EXPORTED: [u32; 3] = [30, 20, 10];
 
 // A threshold, and the values over and under it.

@@ -89,6 +89,8 @@ fn play(rt: &impl Abort, alloc: Global, seconds: u32, steps: &[Step]) {
     drop(limiter);
 }
 
+/// A limiter that fires at the tenth sample over its threshold, and again after the switch has
+/// closed.
 static TEN_OVER_TWICE: [Step; 7] = [
     Step::BeforeFire(Kind::Over, 9),
     Step::Samples(9, 5001, Fire::Quiet),
@@ -104,6 +106,7 @@ fn the_tenth_sample_over_the_threshold_fires(rt: HostRuntime) {
     play(&rt, rt.alloc(), 1, &TEN_OVER_TWICE);
 }
 
+/// Samples that are equal to the threshold, which never fire.
 static EQUAL: [Step; 2] = [
     Step::BeforeFire(Kind::Equal, u64::MAX),
     Step::Samples(10, 5000, Fire::Quiet),
@@ -114,6 +117,7 @@ fn an_equal_value_is_not_over(rt: HostRuntime) {
     play(&rt, rt.alloc(), 1, &EQUAL);
 }
 
+/// A limiter whose duration is shortened during a run, so that it fires at once, and only once.
 static OTHER_DURATIONS: [Step; 7] = [
     Step::Samples(70, 5001, Fire::Quiet),
     Step::MinOver(5),
@@ -129,6 +133,7 @@ fn a_shorter_duration_acts_at_once_and_a_run_fires_once(rt: HostRuntime) {
     play(&rt, rt.alloc(), 10, &OTHER_DURATIONS);
 }
 
+/// A limiter that fires once, at the tenth sample under its threshold.
 static TEN_UNDER: [Step; 5] = [
     Step::MinUnder(1),
     Step::Skip(Kind::Under, 9, 4999),
@@ -142,6 +147,7 @@ fn ten_samples_under_the_threshold_fire_once(rt: HostRuntime) {
     play(&rt, rt.alloc(), 1, &TEN_UNDER);
 }
 
+/// A run that has fired and does not fire again before it ends.
 static A_FIRED_RUN: [Step; 6] = [
     Step::Samples(1, 5001, Fire::Over),
     Step::Skip(Kind::Over, 42_949_672_950, 6000),

@@ -1,5 +1,4 @@
 -- The lines of an opening, one by one: a first word, the label, and its values.
---     words_after, labelled_value     the words after the label; a line of one value
 --     label                           the label of a limiter's line
 --     version_in .. entries_in        the value of a word
 --     version_from .. schedule_from   the value of a line of words

@@ -37,7 +37,7 @@ written_forms opening = record {
   fourth = entries_data opening.schedules.fourth.entries;
 }
 
--- these Datas are read as the table and the entries of the opening
+-- whether these Datas are read as the script table and the entries of the opening's schedules
 pub record AreFormsOf (opening : Opening) (forms : Forms) : Type 0 where
   pub table : table_of forms.table ≡ Ok opening.scripts
   pub first : entries_of forms.first ≡ Ok opening.schedules.first.entries

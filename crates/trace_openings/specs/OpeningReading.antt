@@ -81,7 +81,7 @@ schedules_from place = do
   fourth ← line_as (schedule_from 3) third.1
   Ok (record { first = first.0; second = second.0; third = third.0; fourth = fourth.0 }, fourth.1)
 
--- the device name has 1 to 16 bytes, and the control mode fits the control state
+-- whether the device name has 1 to 16 bytes, and the control mode fits the control state
 pub record IsFitStart (device : List ℕ) (state : ControlState) (mode : ControlMode) : Type 0 where
   pub device_some : 1 ≤ length device
   pub device_few : length device ≤ 16

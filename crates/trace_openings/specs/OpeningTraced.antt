@@ -22,8 +22,8 @@ use Rattle.script_steps.specs.declared.step.Step.TheVariants.{WriteNormal, Write
 abbrev pub AreIds : List ℕ → Type 0
 AreIds ids = Each (λ id. id ≤ 65535) ids
 
--- watts and seconds of 32 bits, ids and selectors of 16 bits, and a start with fields in their
--- ranges
+-- whether a saved limiter has watts and seconds of 32 bits, ids and selectors of 16 bits, and a
+-- start with fields in their ranges
 pub record IsTracedLimiter (o : LimiterOpening) : Type 0 where
   pub value : o.value ≤ 4294967295
   pub threshold_normal : o.settings.threshold_normal ≤ 4294967295
@@ -37,7 +37,7 @@ pub record IsTracedLimiter (o : LimiterOpening) : Type 0 where
   pub over_selector : o.settings.actions.over ≤ 65535
   pub under_selector : o.settings.actions.under ≤ 65535
 
--- a selector of 16 bits, and entries that a schedule can have
+-- whether a schedule has a selector of 16 bits and entries that a schedule can have
 pub record IsTracedSchedule (schedule : Schedule) : Type 0 where
   pub selector : schedule.selector ≤ 65535
   pub entries : AreEntries schedule.entries
@@ -50,12 +50,12 @@ IsTracedStep (WriteEmergency which watts) = watts ≤ 4294967295
 IsTracedStep (WriteProfile which profile) = (profile.id ≤ 65535) × (profile.duration ≤ 4294967295)
 IsTracedStep _ = Unit {0}
 
--- an identifier of 16 bits, and steps with numbers in their ranges
+-- whether a script has an identifier of 16 bits and steps with numbers in their ranges
 pub record IsTracedScript (script : Script) : Type 0 where
   pub identifier : script.identifier ≤ 65535
   pub steps : All IsTracedStep script.steps
 
--- an opening whose lines are read back
+-- whether the lines of an opening are read back
 pub record IsWritable (o : Opening) : Type 0 where
   pub fit : IsFitOpening o
   pub device : IsBytes o.device

@@ -33,7 +33,7 @@ events_text events = rows_text (map event_row events)
 abbrev pub with_events : Trace → List Event → Trace
 with_events trace more = record { opening = trace.opening; events = trace.events ++ more }
 
--- an opening that a core can have, and events that fit their lines
+-- whether a trace has an opening that a core can have, and events that fit their lines
 pub record FitsJournal (trace : Trace) : Type 0 where
   pub fit : IsFitOpening trace.opening
   pub events : All FitsLine trace.events

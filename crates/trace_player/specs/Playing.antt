@@ -30,8 +30,8 @@ lines_text number (line ∷ lines) = line_text number line ++ 10 ∷ lines_text 
 abbrev pub output_of_trace : Trace → List ℕ
 output_of_trace trace = lines_text 1 (lines_of trace.events (world_of_opening trace.opening))
 
--- the event of the next line was read and applied to a meter, and its line was written after the
--- others
+-- whether the event of the next line was read and applied to a meter, and its line was written
+-- after the others
 pub record PlaysEvent (version : Version) (number : ℕ) (place place' : Place)
     (core core' : RelayCore) (out out' : List ℕ) : Type 0 where
   pub event : Event
@@ -40,7 +40,7 @@ pub record PlaysEvent (version : Version) (number : ℕ) (place place' : Place)
   pub wrote : (w : World) → StandsFor core w
       → out' ≡ out ++ line_text number (line_at event w) ++ 10 ∷ []
 
--- the next `count` events were read and applied to a meter, and these lines were written
+-- whether the next `count` events were read and applied to a meter, and these lines were written
 pub record PlaysEvents (version : Version) (count : ℕ) (place place' : Place) (core : RelayCore)
     (out : List ℕ) : Type 0 where
   pub events : List Event
@@ -48,7 +48,7 @@ pub record PlaysEvents (version : Version) (count : ℕ) (place place' : Place) 
   pub counted : count ≡ length events
   pub wrote : (w : World) → StandsFor core w → out ≡ lines_text 1 (lines_of events w)
 
--- what was read is a trace of `count` events, and this is its output
+-- whether the bytes that were read are a trace of `count` events, and this is its output
 pub record PlaysTrace (given : Result Trace TraceFault) (out : List ℕ) (count : ℕ) : Type 0 where
   pub trace : Trace
   pub read : given ≡ Ok trace

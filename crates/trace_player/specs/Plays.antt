@@ -25,7 +25,7 @@ Gave bytes failed (Err fault.Read) left' failed' = (length bytes ≤ max_bytes) 
 Gave bytes failed (Err fault.Write) left' failed' = ⊥
 Gave bytes failed (Err fault.Memory) left' failed' = ⊤
 
--- bytes were read, and the result is that for these bytes
+-- whether taking in a trace has this result, which is that for the bytes that were read
 pub record TakesTrace (left : Option (List ℕ)) (failed : ℕ) (result : Result PlayedLines PlayFault)
     (left' : Option (List ℕ)) (failed' : ℕ) : Type 0 where
   pub bytes : List ℕ
@@ -54,7 +54,7 @@ module _ {R W : Type 0}
       × (write_failures w < write_failures w')
   Played bytes r w (Err fault.Memory) r' w' = Appends (contents w) (contents w') []
 
-  -- bytes were read, and the result is that of playing these bytes
+  -- whether playing a trace has this result, which is that of playing the bytes that were read
   pub record Plays (r : R) (w : W) (result : Result ℕ PlayFault) (r' : R) (w' : W) : Type 0 where
     pub bytes : List ℕ
     pub read : Consumes (remaining r) (remaining r') bytes

@@ -12,7 +12,7 @@ use Rattle.relay_recorder.specs.declared.trace.Trace.{Trace}
 abbrev pub world_of : Trace → World
 world_of trace = world_after trace.events (world_of_opening trace.opening)
 
--- the trace is the one that this recorder exports
+-- whether the trace is the one that this recorder exports
 pub record IsTraceOf (r : Recording) (trace : Trace) : Type 0 where
   pub opening : trace.opening ≡ opening_of r.opening
   pub events : trace.events ≡ r.events

@@ -10,9 +10,9 @@ use Rattle.trace_player.specs.Exported.{PrintsTheEnd}
 use Rattle.trace_lines.specs.Traced.{FitsLine}
 use Rattle.trace_player.specs.Traces.{trace_of, trace_text}
 
--- A text is that of the recorder's trace. Replayed, this trace runs as the meter did and prints the
--- lines of the kept events, and it is read back from the text if each of these events fits its
--- line.
+-- Whether a text is that of the recorder's trace. Replayed, this trace runs as the meter did and
+-- prints the lines of the kept events, and it is read back from the text if each of these events
+-- fits its line.
 pub record TellsRun (r : Recording) (text : List ℕ) : Type 0 where
   pub trace : Trace
   pub written : text ≡ trace_text trace

@@ -16,16 +16,16 @@ abbrev pub AreTraced : List Event → Type 0
 AreTraced [] = Unit {0}
 AreTraced (event ∷ events) = IsTraced event × AreTraced events
 
--- Lines can hold the opening and the events, and neither the number of events nor the length of the
--- text is above its maximum.
+-- whether lines can hold the opening and the events, and neither the number of events nor the
+-- length of the text is above its maximum
 pub record IsWritableTrace (trace : Trace) : Type 0 where
   pub opening : IsWritable trace.opening
   pub events : AreTraced trace.events
   pub few : length trace.events ≤ max_events
   pub short : length (trace_text trace) ≤ max_bytes
 
--- A core can have the opening, the events fit their lines, and their number is not above the
--- maximum.
+-- whether a core can have the opening, the events fit their lines, and their number is not above
+-- the maximum
 pub record FitsText (trace : Trace) : Type 0 where
   pub fit : IsFitOpening trace.opening
   pub events : All FitsLine trace.events

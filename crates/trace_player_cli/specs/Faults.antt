@@ -4,8 +4,8 @@ use Rattle.program.specs.declared.fault.Fault.TheVariants as program
 use Rattle.trace_player.specs.declared.fault.PlayFault.{PlayFault}
 use Rattle.trace_player.specs.declared.fault.PlayFault.TheVariants as fault
 
--- `Input` if the trace is not valid or too long; a failed read, a failed write or out of memory
--- keep their own faults
+-- the program's fault: `Input` for a trace that is not valid or too long; a failed read, a failed
+-- write and out of memory are passed on
 abbrev pub fault_of : PlayFault → Fault
 fault_of (fault.Line number) = program.Input
 fault_of fault.TooLong = program.Input

@@ -19,8 +19,8 @@ pub record IsSet (found : Found) (name : List ℕ) (value : Bool) : Type 0 where
   pub given : one_text found name ≡ Some (codes "true") → value ≡ true
   pub absent : one_text found name ≡ Some (codes "false") → value ≡ false
 
--- the number of the option of this name, which is written in decimal and fits in 32 bits; none if
--- the option is not given
+-- whether this is the number of the option of this name, which is written in decimal and fits in 32
+-- bits; there is none if the option is not given
 pub record IsBound (found : Found) (name : List ℕ) (bound : Option ℕ) : Type 0 where
   pub given : (text : List ℕ) → one_text found name ≡ Some text
       → IsNumeral 10 (without_leading_plus text)
@@ -28,14 +28,14 @@ pub record IsBound (found : Found) (name : List ℕ) (bound : Option ℕ) : Type
       → bound ≡ Some (digits_value 10 (without_leading_plus text))
   pub absent : one_text found name ≡ None → bound ≡ None
 
--- the format that the option `--format` names: comma-separated values or JSON; without the option
--- the lines that the player prints
+-- whether this is the format that the option `--format` names, comma-separated values or JSON;
+-- without the option it is that of the lines that the player prints
 pub record IsFormat (found : Found) (format : TraceFormat) : Type 0 where
   pub csv : first_value found (codes "format") ≡ Some (codes "csv") → format ≡ Csv
   pub json : first_value found (codes "format") ≡ Some (codes "json") → format ≡ Json
   pub absent : first_value found (codes "format") ≡ None → format ≡ Lines
 
--- the view that the options describe
+-- whether this is the view that the options describe
 pub record IsView (found : Found) (view : TraceView) : Type 0 where
   pub first : IsBound found (codes "from") view.first
   pub last : IsBound found (codes "to") view.last

@@ -41,7 +41,7 @@ moment 5
 moment 4
 ";
 
-// What it prints.
+// The output of the player for `TRACE`.
 const OUTPUT: &[u8] = b"1: code 0; state 1; supply on
 2: code 0; state 0; supply off
 3: code 2; state 0; supply off
@@ -53,7 +53,7 @@ const OUTPUT: &[u8] = b"1: code 0; state 1; supply on
 9: stale 5; state 1; supply on
 ";
 
-// The same meter, one sample before its run over 5,000 watts is long enough.
+// The meter of `TRACE`, one sample before its run over 5,000 watts is long enough.
 const LONG_RUN: &[u8] = b"RELAYTRACE 1
 device 52454C415931
 state 1
@@ -116,7 +116,7 @@ button
 pairs 0 5001
 ";
 
-// What it prints.
+// The output of the player for `PAIRS`.
 const PAIRS_OUTPUT: &[u8] = b"1: sampled 0 1 1 0; state 2; supply off
 2: code 0; state 1; supply on
 3: sampled 0 1 0 0; state 1; supply on

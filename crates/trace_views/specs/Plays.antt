@@ -2,7 +2,7 @@
 --     Viewed       the text of a view of the trace of a text, or why the text is none
 --     ViewsFront   the text of a view of the front of a text
 --     PlaysView    a view was written to a writer, or this fault
---     PlaysFront   the same for the front of a text
+--     PlaysFront   the front of a text was written as a view shows it, or this fault
 use Rattle.std.specs.Prelude.{◌≡◌, ◌<◌, ℕ, Option, List, [], Result, Ok, Err, IfErr, length}
 use Rattle.std.specs.Io.KnownBytes.{Appends}
 use Rattle.relay_recorder.specs.declared.trace.Trace.{Trace}
@@ -21,13 +21,13 @@ play_fault_of (trace_fault.Line number) = fault.Line number
 play_fault_of trace_fault.TooLong = fault.TooLong
 play_fault_of trace_fault.Memory = fault.Memory
 
--- the text is that of a trace, and this is what the view shows of the trace
+-- whether the text is that of a trace, and this is what the view shows of the trace
 pub record Viewed (view : TraceView) (text : List ℕ) (shown : List ℕ) : Type 0 where
   pub trace : Trace
   pub read : trace_of text ≡ Ok trace
   pub wrote : shown ≡ view_text view trace
 
--- the text has a front, and this is what the view shows of it
+-- whether the text has a front, and this is what the view shows of it
 pub record ViewsFront (view : TraceView) (text : List ℕ) (shown : List ℕ) (end : End) : Type 0 where
   pub trace : Trace
   pub read : front_of text ≡ Ok (trace, end)
@@ -35,8 +35,8 @@ pub record ViewsFront (view : TraceView) (text : List ℕ) (shown : List ℕ) (e
   pub line : IfErr end IsLine
 
 module _ {W : Type 0} (contents : W → Option (List ℕ)) (write_failures : W → ℕ) where
-  -- the result of playing a text in a view: nothing is written but the whole text of the view of
-  -- its trace
+  -- whether playing a text in a view has this result; nothing is written but the whole text of the
+  -- view of its trace
   abbrev pub PlaysView : TraceView → List ℕ → W → Result (Unit {0}) PlayFault → W → Type 0
   PlaysView view text w (Ok done) w' =
       (trace : Trace) × (trace_of text ≡ Ok trace)
@@ -50,8 +50,8 @@ module _ {W : Type 0} (contents : W → Option (List ℕ)) (write_failures : W �
       (trace : Trace) × (trace_of text ≡ Ok trace) × (write_failures w < write_failures w')
   PlaysView view text w (Err fault.Memory) w' = Appends (contents w) (contents w') []
 
-  -- the result of playing the front of a text in a view: what the view shows of it was written,
-  -- even if a line is wrong, whose fault is that of the trace
+  -- whether playing the front of a text in a view has this result: what the view shows of it was
+  -- written, even if a line is wrong, whose fault is that of the trace
   abbrev pub PlaysFront : TraceView → List ℕ → W → Result (Unit {0}) PlayFault → W → Type 0
   PlaysFront view text w (Ok done) w' =
       (trace : Trace) × (trace_of text ≡ Ok trace)

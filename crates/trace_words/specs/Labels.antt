@@ -27,7 +27,7 @@ labelled_value label value_in row = do
   words ← words_after label row
   last_as value_in words.1
 
--- whether whatever this code can return for a word is what the definition says
+-- whether whatever this code can return for a word is what the definition gives
 abbrev pub IsWordReader : {F X : Type 0} → Once F (Bor Word × Unit {0}) (Result X RowFault) → F
     → (Word → Result X RowFault) → Type 0
 IsWordReader {F} {X} calls read value_in = (word : Word) (given : Result X RowFault)

@@ -4,7 +4,7 @@
 --     items_to_end             items up to the end of the line
 --     counted_items            a number of items, and the items
 --     only_if                  a part of which only some values are written
---     same_word, word_forms    a choice by the next word
+--     Forms, one_of            a choice by the next word
 --     labelled_part            a first word, and a part
 --     line_read                the value of a whole line
 use Rattle.std.specs.Prelude.{◌≡◌, ℕ, ◌≤◌, Bool, nat_eq, decimal, List, [], ◌∷◌, ◌++◌, length}

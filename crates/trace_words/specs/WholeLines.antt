@@ -44,15 +44,15 @@ whole_text text = rows_text (before_zero (rows_of text))
 abbrev pub IsTail : List ℕ → Type 0
 IsTail bytes = before_zero (rows_of bytes) ≡ []
 
--- the first line of a text is whole, and has no byte 0
+-- whether the first line of a text is whole, and has no byte 0
 pub record FirstWhole (text rest : List ℕ) : Type 0 where
   pub line : List ℕ
   pub lines : lines_of text ≡ line ∷ lines_of rest
   pub unended : unended_of text ≡ unended_of rest
   pub plain : has_zero line ≡ false
 
--- the first bytes of a text, of this length, are its lines before the first byte 0, this number of
--- them
+-- whether the first bytes of a text, of this length, are the lines before its first byte 0, and
+-- this is their number
 pub record IsWhole (text : List ℕ) (len count : ℕ) : Type 0 where
   pub within : len ≤ length text
   pub rows : rows_of (take len text) ≡ before_zero (rows_of text)

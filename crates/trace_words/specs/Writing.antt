@@ -39,6 +39,6 @@ data_word value = encode_upper (text (tree_of value))
 abbrev pub value_words : ℕ → Row → Row
 value_words value words = decimal value ∷ words
 
--- a Data within the limits of a reader, so that its text is read back
+-- whether a Data is within the limits of a reader, so that its text is read back
 pub record IsHeld (value : Data) : Type 0 where
   pub fits : IsFit (tree_of value)

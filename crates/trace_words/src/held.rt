@@ -12,7 +12,7 @@ use std::marker::Model;
 use text_lines::split_line;
 
 /// The lines of a trace that are still to be read, with their text; text that has been read is
-/// dropped. Contracts see the same as for `TraceLines`.
+/// dropped. Contracts see the lines that are left, as those of `TraceLines`.
 #[derive(Drop)]
 pub struct HeldLines {
     text: Vec<u8>,

@@ -9,15 +9,15 @@ use Rattle.turn_lock.specs.declared.call_fault.CallFault.TheVariants.{Memory, Ex
 use Rattle.turn_lock.specs.History.{StartsWith, IsAmong, entry, calls_by}
 use Rattle.turn_lock.specs.Rule.{fresh_known, IsOwn}
 
--- The port has an origin, and the history that it has seen is legal from that origin.
+-- whether the port has an origin, and the history that it has seen is legal from that origin
 pub record IsLegal {E R O : Type 0} (legal : O → List (Entry E R) → Type 0) (known : Known E R O)
     : Type 0 where
   pub origin : O
   pub origin_is : known.origin ≡ Some origin
   pub legal_history : legal origin known.seen
 
--- The port has seen a legal history that begins with the one it saw before and has no further call
--- of the port's own number or of a number joined into it.
+-- whether the port has seen a legal history that begins with the one it saw before and has no
+-- further call of the port's own number or of a number joined into it
 pub record Sees {E R O : Type 0} (legal : O → List (Entry E R) → Type 0)
     (before after : Known E R O) : Type 0 where
   pub origin : after.origin ≡ before.origin
@@ -29,15 +29,15 @@ pub record Sees {E R O : Type 0} (legal : O → List (Entry E R) → Type 0)
   pub lawful : IsLegal legal after
   pub own_calls : (q : List ℕ) → IsOwn before q → calls_by q after.seen ≡ calls_by q before.seen
 
--- The port has seen what `Sees` says, and no port was joined in.
+-- whether `Sees` holds, and no port was joined in
 pub record Watches {E R O : Type 0} (legal : O → List (Entry E R) → Type 0)
     (before after : Known E R O) : Type 0 where
   pub sees : Sees legal before after
   pub joined : after.joined ≡ before.joined
 
--- The port has seen a legal history that begins with the one it saw before and ends with this call,
--- the only further call of the port's number. No further call has a number that was joined into the
--- port.
+-- Whether the port has seen a legal history that begins with the one it saw before and ends with
+-- this call, the only further call of the port's number. No further call has a number that was
+-- joined into the port.
 pub record Called {E R O : Type 0} (legal : O → List (Entry E R) → Type 0) (before : Known E R O)
     (event : E) (reply : R) (after : Known E R O) : Type 0 where
   pub origin : after.origin ≡ before.origin
@@ -70,8 +70,8 @@ EndsTurn before after (Err Memory) = before.drawn < after.drawn
 EndsTurn before after (Err Exhausted) = Unit {0}
 EndsTurn before after (Err Journal) = ⊥
 
--- Why a lock was not closed: the port read that `served` turns had ended, at least one for each
--- call it had seen, and then that more had been drawn.
+-- whether a lock was not closed because it was busy: the port read that `served` turns had ended,
+-- at least one for each call it had seen, and then that more had been drawn
 pub record IsBusy {E R O : Type 0} (before after : Known E R O) (busy : Busy) : Type 0 where
   pub served : busy.served ≡ after.served
   pub counted : length before.seen ≤ busy.served
@@ -87,15 +87,15 @@ parent_after_split known = record known { splits = known.splits + 1 }
 abbrev pub child_after_split : {E R O : Type 0} → Known E R O → Known E R O
 child_after_split known = fresh_known known.origin (known.number ++ known.splits ∷ []) known.seen
 
--- The port has seen all that the note has, and both have the same origin.
+-- whether the port has seen all that the note has, and both have the same origin
 pub record Meets {E R O : Type 0} (legal : O → List (Entry E R) → Type 0) (before : Known E R O)
     (origin : Option O) (note : List (Entry E R)) (after : Known E R O) : Type 0 where
   pub watches : Watches legal before after
   pub note_seen : StartsWith after.seen note
   pub same_origin : origin ≡ before.origin
 
--- The port has taken in the other port, which has the same origin: its number, the numbers joined
--- into it, and all that it had seen. There is no further call of these numbers.
+-- Whether the port has taken in the other port, which has the same origin: its number, the numbers
+-- joined into it, and all that it had seen. There is no further call of these numbers.
 pub record Joins {E R O : Type 0} (legal : O → List (Entry E R) → Type 0)
     (before other after : Known E R O) : Type 0 where
   pub sees : Sees legal before after
@@ -105,8 +105,8 @@ pub record Joins {E R O : Type 0} (legal : O → List (Entry E R) → Type 0)
   pub same_origin : other.origin ≡ before.origin
   pub other_calls : (q : List ℕ) → IsOwn other q → calls_by q after.seen ≡ calls_by q other.seen
 
--- The value results from a legal history that begins with all that the port had seen and has no
--- further call of the port's number or of a number joined into it.
+-- whether the value results from a legal history that begins with all that the port had seen and
+-- has no further call of the port's number or of a number joined into it
 pub record Yields {T E R O : Type 0} (origin : T → O) (stands : T → List (Entry E R) → Type 0)
     (legal : O → List (Entry E R) → Type 0) (known : Known E R O) (value : T) : Type 0 where
   pub origin_is : known.origin ≡ Some (origin value)

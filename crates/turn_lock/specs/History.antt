@@ -18,8 +18,8 @@ is_same_number [] (y ∷ ys) = false
 is_same_number (x ∷ xs) [] = false
 is_same_number (x ∷ xs) (y ∷ ys) = (x == y) && is_same_number xs ys
 
--- q is the number of a port that a later split of a port, or of its descendants, may make: the
--- port's number, then a count of splits that is no less than the port's, then anything
+-- whether q is the number of a port that a later split of a port, or of its descendants, may make:
+-- the port's number, then a count of splits that is no less than the port's, then anything
 pub record IsFuture (number : List ℕ) (splits : ℕ) (q : List ℕ) : Type 0 where
   pub count : ℕ
   pub rest : List ℕ

@@ -24,7 +24,7 @@ pub record Move (T E R O : Type 0) : Type 0 where
   pub after : SeatState T E R O
 
 module _ {T E R O : Type 0} where
-  -- a relation on moves, in the form that the table takes
+  -- whether a step on the table is a move with this relation, for a seat before and after it
   abbrev pub play : (Move T E R O → Type 0) → Step (Slot T E R) → Me (Slot T E R) (View E R O) → ℕ
       → Me (Slot T E R) (View E R O) → Type 0
   play Holds step before found after = Holds record {
@@ -34,20 +34,21 @@ module _ {T E R O : Type 0} where
     after = seat_state after;
   }
 
-  -- The first step of a seat: it is idle. A seat that was split off learns that it has no calls.
+  -- Whether a seat took its first step and is idle. A seat that was split off learns that it has no
+  -- calls.
   pub record Settles (move : Move T E R O) : Type 0 where
     pub after_is : move.after ≡ at_stage move.before Idle
     pub no_calls : move.before.view.stage ≡ Young → HasNoCalls move.before.view.known
 
-  -- A compare-exchange that draws a turn: the seat waits for it, or is unchanged if another seat
-  -- was first.
+  -- whether a compare-exchange draws a turn: the seat waits for it, or is unchanged if another seat
+  -- was first
   pub record Draws (move : Move T E R O) : Type 0 where
     pub if_expected : move.found ≡ move.expected
         → move.after ≡ at_stage move.before (Waiting move.found)
     pub if_other : move.found ≢ move.expected → move.after ≡ move.before
 
-  -- A load of the count of ended turns: no less than the seat had read before, at least one for
-  -- each call that it has seen, and at most one more than a lock can have turns.
+  -- whether a seat loaded the count of ended turns: no less than the seat had read before, at least
+  -- one for each call that it has seen, and at most one more than a lock can have turns
   pub record SeesServing (move : Move T E R O) : Type 0 where
     pub view : move.after.view ≡ view_with_served move.before.view move.found
     pub carried : move.after.carried ≡ move.before.carried
@@ -56,7 +57,8 @@ module _ {T E R O : Type 0} where
     pub within : move.found ≤ max_turns + 1
 
 module _ {E R O : Type 0} (legal : O → List (Entry E R) → Type 0) where
-  -- A turn has ended: its call, if it made one, is the only further entry that the port has seen.
+  -- whether a turn has ended: its call, if it made one, is the only further entry that the port has
+  -- seen
   pub record AddsCall (last : LastCall E R) (before after : View E R O) : Type 0 where
     pub view : after ≡ view_after_turn before last
     pub lawful : IsLegal legal after.known
@@ -66,8 +68,8 @@ module _ {E R O : Type 0} (legal : O → List (Entry E R) → Type 0) where
         → calls_by q after.known.seen ≡ calls_by q before.known.seen
     pub within : (turn : ℕ) → before.stage ≡ Turn turn → length after.known.seen ≤ turn + 1
 
-  -- A port that has taken in another seat has seen all that both had seen. If the other seat was a
-  -- port's, there is no further call of its numbers, which are the port's now.
+  -- Whether a port that took in another seat has seen all that both had seen. If the other seat was
+  -- a port's, there is no further call of its numbers, which are the port's now.
   pub record KnowsBoth (before : Known E R O) (other after : View E R O) : Type 0 where
     pub port : after.is_port ≡ true
     pub stage_is : after.stage ≡ Idle
@@ -80,31 +82,32 @@ module _ {E R O : Type 0} (legal : O → List (Entry E R) → Type 0) where
         → calls_by q after.known.seen ≡ calls_by q other.known.seen
 
 module _ {T E R O : Type 0} (legal : O → List (Entry E R) → Type 0) where
-  -- The seat is still a port's, is at this stage and has only watched.
+  -- whether the seat is still a port's, is at this stage and has only watched
   pub record MovesTo (stage : Stage E R O) (before after : SeatState T E R O) : Type 0 where
     pub port : after.view.is_port ≡ true
     pub stage_is : after.view.stage ≡ stage
     pub watches : Watches legal before.view.known after.view.known
 
-  -- A load of the count of drawn turns.
+  -- whether a seat loaded the count of drawn turns
   pub record Looks (move : Move T E R O) : Type 0 where
     pub moves : MovesTo Idle move.before move.after
     pub carried : move.after.carried ≡ move.before.carried
     pub drawn : move.after.view.known.drawn ≡ move.found
 
-  -- The end of a turn: the seat returns the slot, whose call is added to the history.
+  -- whether a seat ended its turn: it returns the slot, whose call is added to the history
   pub record Ends (move : Move T E R O) : Type 0 where
     pub carried : move.after.carried ≡ []
     pub adds : AddsCall legal (last_call move.before.carried) move.before.view move.after.view
 
-  -- The load after another seat was taken in.
+  -- whether a seat that took in another loaded the count of drawn turns, and so knows what both had
+  -- seen
   pub record Merges (move : Move T E R O) : Type 0 where
     pub carried : move.after.carried ≡ move.before.carried
     pub knows_both : (other : View E R O)
         → move.before.view.stage ≡ Met other.is_port other.known
         → KnowsBoth legal move.before.view.known other move.after.view
 
-  -- A compare-exchange that found the lock busy: more turns were drawn than had ended.
+  -- whether a compare-exchange found the lock busy: more turns were drawn than had ended
   pub record FindsBusy (move : Move T E R O) : Type 0 where
     pub moves : MovesTo Idle move.before move.after
     pub carried : move.after.carried ≡ move.before.carried
@@ -114,7 +117,8 @@ module _ {T E R O : Type 0} (legal : O → List (Entry E R) → Type 0) where
 
 module _ {T E R O : Type 0} (origin : T → O) (stands : T → List (Entry E R) → Type 0)
     (legal : O → List (Entry E R) → Type 0) where
-  -- The seat has taken the slot, and the value in it results from all that the seat has seen.
+  -- whether the seat has taken the slot, and the value in it results from all that the seat has
+  -- seen
   pub record TakesValue (stage : Stage E R O) (before after : SeatState T E R O) : Type 0 where
     pub moves : MovesTo legal stage before after
     pub value : T
@@ -123,21 +127,23 @@ module _ {T E R O : Type 0} (origin : T → O) (stands : T → List (Entry E R) 
     pub results : stands value after.view.known.seen
     pub origin_is : before.view.known.origin ≡ Some (origin value)
 
-  -- The seat has taken the value at this turn, and has read that the turn was drawn.
+  -- whether the seat has taken the value at this turn, and has read that the turn was drawn
   pub record TakesTurn (turn : ℕ) (before after : SeatState T E R O) : Type 0 where
     pub takes : TakesValue (Turn turn) before after
     pub drawn : turn < after.view.known.drawn
 
-  -- The seat takes this turn if all turns before it have ended, and is unchanged otherwise.
+  -- whether the seat takes this turn if all turns before it have ended, and is unchanged otherwise
   pub record ReachesTurn (turn : ℕ) (move : Move T E R O) : Type 0 where
     pub if_served : move.found ≡ turn → TakesTurn turn move.before move.after
     pub if_not : move.found ≢ turn → move.after ≡ move.before
 
-  -- a load of the count of ended turns by a seat that waits for a turn
+  -- whether a seat that waits for a turn loaded the count of ended turns and took its turn if it is
+  -- reached
   abbrev pub Reaches : Move T E R O → Type 0
   Reaches move = (turn : ℕ) → move.before.view.stage ≡ Waiting turn → ReachesTurn turn move
 
-  -- A compare-exchange that draws the last turn, if all drawn turns have ended.
+  -- whether a compare-exchange draws the last turn, if all drawn turns have ended, or finds the
+  -- lock busy
   pub record Closes (move : Move T E R O) : Type 0 where
     pub if_expected : move.found ≡ move.expected → TakesValue Idle move.before move.after
     pub if_other : move.found ≢ move.expected → FindsBusy legal move

@@ -75,21 +75,21 @@ pub record Moment (T E R O : Type 0) : Type 0 where
   pub closed : ℕ
 
 module _ {T E R O : Type 0} where
-  -- The seat drew this turn, which has not ended.
+  -- whether the seat drew this turn, which has not ended
   pub record HoldsTurn (now : Moment T E R O) (seat turn : ℕ) : Type 0 where
     pub not_ended : now.serving ≤ turn
     pub drawn : turn < now.ticket
     pub owner_is : now.owner turn ≡ seat
 
-  -- The seat has taken the slot at this turn, and has seen the whole history.
+  -- whether the seat has taken the slot at this turn, and has seen the whole history
   pub record HoldsSlot (now : Moment T E R O) (seat turn : ℕ) (known : Known E R O) : Type 0 where
     pub holds : HoldsTurn now seat turn
     pub served : turn ≡ now.serving
     pub seen : known.seen ≡ now.history
     pub not_closed : now.closed ≡ 0
 
-  -- The number of a port that this seat has taken in is the seat's now, and neither the seat's own
-  -- port nor a split of it has this number. The other port had seen all calls of it.
+  -- Whether the number of a port that this seat has taken in is the seat's now, and neither the
+  -- seat's own port nor a split of it has this number. The other port had seen all calls of it.
   pub record OwnsNumber (now : Moment T E R O) (seat : ℕ) (known other : Known E R O) (q : List ℕ)
       : Type 0 where
     pub holder_is : now.holder q ≡ seat
@@ -97,7 +97,7 @@ module _ {T E R O : Type 0} where
     pub not_own : q ≢ known.number
     pub not_future : ¬ IsFuture known.number known.splits q
 
-  -- The seat has taken in another seat, and if that was a port's, its numbers.
+  -- whether the seat has taken in another seat, and if that was a port's, its numbers
   pub record HasMet (now : Moment T E R O) (seat : ℕ) (known : Known E R O) (other_is_port : Bool)
       (other : Known E R O) : Type 0 where
     pub seen : StartsWith now.history other.seen
@@ -107,7 +107,7 @@ module _ {T E R O : Type 0} where
         → OwnsNumber now seat known other q
 
 module _ {T E R O : Type 0} (origin : T → O) (stands : T → List (Entry E R) → Type 0) where
-  -- The value is in the slot and results from the history, and the lock is not closed.
+  -- whether the value is in the slot and results from the history, and the lock is not closed
   pub record IsHome (now : Moment T E R O) : Type 0 where
     pub value : T
     pub last : LastCall E R
@@ -129,8 +129,8 @@ module _ {T E R O : Type 0} (origin : T → O) (stands : T → List (Entry E R) 
   FitsStage first now seat known (Met other_is_port other) =
       HasMet now seat known other_is_port other
 
--- A port has seen all calls of its own numbers. The numbers that its later splits may give have no
--- calls, and all these numbers are distinct.
+-- Whether a port has seen all calls of its own numbers. The numbers that its later splits may have,
+-- have no calls, and all these numbers are distinct.
 pub record IsPort {E R O : Type 0} (start : O) (holder : List ℕ → ℕ) (seat : ℕ)
     (history : List (Entry E R)) (known : Known E R O) : Type 0 where
   pub origin_is : known.origin ≡ Some start
@@ -141,7 +141,7 @@ pub record IsPort {E R O : Type 0} (start : O) (holder : List ℕ → ℕ) (seat
   pub apart : (q : List ℕ) → IsAmong q known.joined
       → (q ≢ known.number) × ¬ IsFuture known.number known.splits q
 
--- The view of a seat agrees with the moment.
+-- whether the view of a seat agrees with the moment
 pub record Fits {T E R O : Type 0} (origin : T → O) (stands : T → List (Entry E R) → Type 0)
     (first : T) (now : Moment T E R O) (seat : ℕ) (view : View E R O) : Type 0 where
   pub origin_is : (o : O) → view.known.origin ≡ Some o → o ≡ now.start
@@ -152,8 +152,9 @@ pub record Fits {T E R O : Type 0} (origin : T → O) (stands : T → List (Entr
   pub stage : FitsStage origin stands first now seat view.known view.stage
   pub port : view.is_port ≡ true → IsPort now.start now.holder seat now.history view.known
 
--- The longest history is legal and has at most one call for each turn that has ended; the value is
--- in the slot or a turn is held; each view agrees with the moment.
+-- whether all of this holds at a moment: the longest history is legal and has at most one call for
+-- each turn that has ended; the value is in the slot or a turn is held; each view agrees with the
+-- moment
 pub record Facts {T E R O : Type 0} (origin : T → O) (stands : T → List (Entry E R) → Type 0)
     (legal : O → List (Entry E R) → Type 0) (first : T) (now : Moment T E R O)
     (views : List (View E R O)) : Type 0 where
@@ -166,7 +167,8 @@ pub record Facts {T E R O : Type 0} (origin : T → O) (stands : T → List (Ent
   pub fits : (seat : ℕ) (view : View E R O) → get_elem? views seat ≡ some view
       → Fits origin stands first now seat view
 
--- The invariant: the words and the slot are those of a moment, at which these facts hold.
+-- whether the invariant of the table holds: the words and the slot are those of a moment at which
+-- `Facts` holds
 pub record IsLockState {T E R O : Type 0} (origin : T → O) (stands : T → List (Entry E R) → Type 0)
     (legal : O → List (Entry E R) → Type 0) (first : T) (s : State (Slot T E R) (View E R O))
     : Type 0 where

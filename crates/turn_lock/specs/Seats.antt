@@ -107,16 +107,19 @@ module _ {T E R O : Type 0} where
   abbrev pub seat_state : Me (Slot T E R) (View E R O) → SeatState T E R O
   seat_state (view, carried) = seat_with view carried
 
-  -- the parts of a seat
+  -- the view and the slots of a seat
   abbrev pub state_of : Seat (Slot T E R) (View E R O) → SeatState T E R O
   state_of seat = seat_state seat.me
 
+  -- the view of a seat
   abbrev pub view_of : Seat (Slot T E R) (View E R O) → View E R O
   view_of seat = (state_of seat).view
 
+  -- the knowledge of a seat
   abbrev pub known_of : Seat (Slot T E R) (View E R O) → Known E R O
   known_of seat = (view_of seat).known
 
+  -- the slots that a seat carries
   abbrev pub carried_of : Seat (Slot T E R) (View E R O) → Carried T E R
   carried_of seat = (state_of seat).carried
 
@@ -124,15 +127,15 @@ module _ {T E R O : Type 0} where
   abbrev pub at_stage : SeatState T E R O → Stage E R O → SeatState T E R O
   at_stage seat stage = seat_with (with_stage seat.view stage) seat.carried
 
-  -- The seat is a port's, is at this stage and carries these slots.
+  -- whether the seat is a port's, is at this stage and carries these slots
   pub record IsReady (seat : Seat (Slot T E R) (View E R O)) (stage : Stage E R O)
       (carried : Carried T E R) : Type 0 where
     pub port : (view_of seat).is_port ≡ true
     pub stage_is : (view_of seat).stage ≡ stage
     pub carried_is : carried_of seat ≡ carried
 
-  -- What always holds of a port: its seat is at its table, idle and without a slot, the history
-  -- that it has seen is legal, and its bound is one that a lock may be made with.
+  -- whether a seat is as that of a port always is: at its table, idle and without a slot, with a
+  -- legal history that it has seen, and with a bound that a lock may be made with
   pub record IsPortSeat (legal : O → List (Entry E R) → Type 0) (table : TableId)
       (seat : Seat (Slot T E R) (View E R O)) (bound : ℕ) : Type 0 where
     pub table_is : seat.table_id ≡ table
@@ -141,8 +144,8 @@ module _ {T E R O : Type 0} where
     pub lawful : IsLegal legal (known_of seat)
     pub within_most : bound ≤ max_turns
 
-  -- What always holds of a note: its seat carries no slot and is no port's, and the history that it
-  -- has seen is legal.
+  -- whether a seat is as that of a note always is: without a slot and not a port's, with a legal
+  -- history that it has seen
   pub record IsNoteSeat (legal : O → List (Entry E R) → Type 0)
       (seat : Seat (Slot T E R) (View E R O)) : Type 0 where
     pub carried_is : carried_of seat ≡ []

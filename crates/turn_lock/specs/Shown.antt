@@ -10,7 +10,8 @@ pub record ShownPort (E R O : Type 0) : Type 0 where
   pub bound : ℕ
   pub known : Known E R O
 
--- the port after any number of calls: no split, no join
+-- whether these are states of one port between which it was not split and none was joined in; it
+-- may have made calls
 pub record IsSame {E R O : Type 0} (before after : ShownPort E R O) : Type 0 where
   pub lock : after.lock ≡ before.lock
   pub bound : after.bound ≡ before.bound

@@ -18,7 +18,7 @@ abbrev pub count_after : {E : Type 0} → ℕ → List (Entry E ℕ) → ℕ
 count_after n [] = n
 count_after n (call ∷ calls) = count_after (next_count n) calls
 
--- The second call is after the first in one legal history, which the port has seen.
+-- whether the second call is after the first in one legal history, which the port has seen
 pub record FollowsCall {E R O : Type 0} (legal : O → List (Entry E R) → Type 0)
     (first second : Entry E R) (known : Known E R O) : Type 0 where
   pub before : List (Entry E R)

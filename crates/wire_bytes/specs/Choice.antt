@@ -1,5 +1,5 @@
 -- A choice of formats by the first tokens.
---     Choice                    what stands after each first token, and the fault of any other
+--     Choice                    what follows each first token, and the fault of any other
 --     Parts, value_of           what was read after the first tokens, and the value made of it
 --     next_read                 reads one of a choice
 --     is_distinct               whether no two formats of a choice have the same first token

@@ -2,7 +2,7 @@
 --     Format                    a format: how it is read, written and spelled
 --     IsJoined, IsTagged        two spellings, one after the other; a spelling after one token
 --     IsMade                    a spelling of what a value is made of
---     iso, narrow               the same tokens, as another value; as one of the known values
+--     iso, narrow               a format seen as that of another value; of one of the known values
 --     empty, ◌▷◌, ◌&◌           no tokens; one format, and then another
 --     exactly, placeholder      one token; a part whose value is not kept
 --     items_read, AreItems      consecutive items
@@ -26,7 +26,7 @@ pub record Format (T F A : Type 0) : Type 1 where
 
 -- ---- what spells two parts
 
--- a first spelling, followed by others
+-- whether the tokens are a first spelling, followed by others
 pub record IsJoined {T : Type 0} (IsFirst AreOthers : List T → Type 0) (tokens : List T) : Type 0
   where
     pub first : List T
@@ -35,7 +35,7 @@ pub record IsJoined {T : Type 0} (IsFirst AreOthers : List T → Type 0) (tokens
     pub is_first : IsFirst first
     pub are_others : AreOthers others
 
--- one token, followed by contents
+-- whether the tokens are one token, followed by contents
 pub record IsTagged {T : Type 0} (tag : T) (IsContents : List T → Type 0) (tokens : List T) : Type 0
   where
     pub contents : List T

@@ -64,7 +64,7 @@ abbrev pub BeginsWithNone : List ℕ → Type 0
 BeginsWithNone bytes = (frame : Frame) (more : List ℕ) → IsFrame frame
     → bytes ≢ frame_text frame ++ more
 
--- bytes are the texts of these frames, followed by a rest that begins with none
+-- whether bytes are the texts of these frames, followed by a rest that begins with none
 pub record Messages (bytes : List ℕ) (frames : List Frame) (rest : List ℕ) : Type 0 where
   pub spelled : bytes ≡ flat_map frame_text frames ++ rest
   pub fit : AreFrames frames

@@ -9,13 +9,14 @@ use Rattle.wrapper_frame.specs.declared.header.Head.TheVariants.{Part, BadVersio
 use Rattle.wrapper_frame.specs.Header.{header_size, max_payload, head_of}
 use Rattle.wrapper_frame.specs.Messages.{first_frame, after_first, frames_of, rest_of}
 
--- the frame at the front of the old bytes, and the bytes after it
+-- whether this is the frame at the front of the old bytes, and the new bytes are those after it
 pub record IsFirst (old : List ℕ) (frame : Frame) (new : List ℕ) : Type 0 where
   pub front : head_of old ≡ Whole (length frame.payload)
   pub frame_is : frame ≡ first_frame (length frame.payload) old
   pub after : new ≡ after_first (length frame.payload) old
 
--- part of a frame: no frame, no fault, and no more bytes than the longest frame
+-- whether bytes are part of a frame: they have no whole frame and no fault, and are shorter than
+-- the longest frame
 pub record IsPart (bytes : List ℕ) : Type 0 where
   pub front : head_of bytes ≡ Part
   pub few : length bytes < header_size + max_payload
@@ -27,13 +28,14 @@ abbrev pub TakesFirst : List ℕ → Option Frame → List ℕ → Type 0
 TakesFirst old (Some frame) new = IsFirst old frame new
 TakesFirst old None new = IsPart old × (new ≡ old)
 
--- whatever bytes follow, all frames are the one taken, followed by those of the bytes kept
+-- whether all frames, whatever bytes follow, are the one that was taken, followed by those of the
+-- bytes that are left
 pub record KeepsFrames (old : List ℕ) (taken : Option Frame) (new : List ℕ) : Type 0 where
   pub frames : (more : List ℕ)
       → frames_of (old ++ more) ≡ option_to_list taken ++ frames_of (new ++ more)
   pub rest : (more : List ℕ) → rest_of (old ++ more) ≡ rest_of (new ++ more)
 
--- whatever bytes follow, there is no frame, and the front remains as it is
+-- whether there is no frame, whatever bytes follow, and the front remains as it is
 pub record Stops (front : Head) (bytes : List ℕ) : Type 0 where
   pub frames : (more : List ℕ) → frames_of (bytes ++ more) ≡ []
   pub rest : (more : List ℕ) → rest_of (bytes ++ more) ≡ bytes ++ more

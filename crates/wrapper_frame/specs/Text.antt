@@ -13,7 +13,7 @@ header_text src dst size =
 unfoldable pub frame_text : Frame → List ℕ
 frame_text frame = header_text frame.src frame.dst (length frame.payload) ++ frame.payload
 
--- a frame that can be written: its ports fit in two bytes, and its payload is not too long
+-- whether a frame can be written: its ports fit in two bytes, and its payload is not too long
 pub record IsFrame (frame : Frame) : Type 0 where
   pub src : frame.src < 2 ^ 16
   pub dst : frame.dst < 2 ^ 16

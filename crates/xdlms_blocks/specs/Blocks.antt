@@ -43,7 +43,7 @@ pieces_of text size = pieces_in (length text) (new_sending text size)
 abbrev pub new_joining : Joining
 new_joining = record { number = 0; bytes = []; is_open = true }
 
--- a piece is accepted: no fault refuses it
+-- whether a piece is accepted: no fault refuses it
 pub record IsDue (j : Joining) (piece : Piece) : Type 0 where
   pub going : j.is_open ≡ true
   pub next : piece.number ≡ j.number + 1

@@ -17,7 +17,8 @@ pub record Joining : Type 0 where
   pub bytes : List ℕ
   pub is_open : Bool
 
--- there are numbers for all blocks of the text, and while the transfer is open it has another block
+-- whether there are numbers for all blocks of the text, and while the transfer is open it has
+-- another block
 pub record CanGoOn (sending : Sending) : Type 0 where
   pub numbered : length sending.text ≤ max_blocks * sending.size
   pub more : sending.is_open ≡ true → sending.number * sending.size < length sending.text

@@ -1,4 +1,4 @@
--- `of_parts` moves two fields, together with what they own.
+-- `from_parts` moves two fields, together with what they own.
 use mathlib.Core.Path.{refl, sym, subst}
 use mathlib.Core.List.{List, [], ◌∷◌, ◌++◌}
 use Rattle.std.specs.Prelude.{Some}
