@@ -1,6 +1,6 @@
 //! The findings of `check --verbose`: all wrong lines of a list, and all bytes of it that a reader
 //! may not see.
-use crate::telling::{LineFault, check_job_line};
+use crate::messages::{LineFault, check_job_line};
 use crate::text_filter::TextFilter;
 use text_lines::Words;
 use thiserror::Error;

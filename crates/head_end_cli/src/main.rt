@@ -13,7 +13,7 @@ mod ledgered;
 mod passwords;
 mod progress;
 mod status;
-mod telling;
+mod messages;
 mod text_filter;
 mod warnings;
 
@@ -22,7 +22,7 @@ use crate::campaign::{CampaignPlan, PASSWORD_VARIABLE};
 use crate::findings::report_findings;
 use crate::ledgered::{LedgeredCampaign, plan_ledgered, run_on_ledger};
 use crate::status::print_status;
-use crate::telling::{ListFault, input_fault, jobs_fault};
+use crate::messages::{ListFault, input_fault, jobs_fault};
 use crate::warnings::warn;
 use clap::ArgMatches;
 use counted_io::{Counted, read_to_end_within};

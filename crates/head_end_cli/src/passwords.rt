@@ -6,7 +6,7 @@ ghost use Rattle.acse_ber.specs.Password.{IsPassword};
 ghost use Rattle.clap.specs.Matches.{first_value, found_of};
 ghost use Rattle.head_end_cli.specs.Passwords.{ArePasswords};
 
-use crate::telling::{LineFault, why_no_password};
+use crate::messages::{LineFault, why_no_password};
 use crate::text_filter::TextFilter;
 use clap::ArgMatches;
 use cosem_axdr::Octets;

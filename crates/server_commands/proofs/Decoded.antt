@@ -5,8 +5,8 @@ use Rattle.hex.specs.Hex.{decode_of, decode_sized}
 use Rattle.hex.specs.declared.error.FromHexError.{FromHexError}
 use Rattle.hex.specs.declared.error.FromHexError.TheVariants as hex_fault
 use Rattle.server_commands.specs.Requests.{AddsRequest, line_request, request_fault}
-use Rattle.server_commands.specs.declared.telling.CommandFault.TheVariants as fault
-use Rattle.server_commands.specs.declared.telling.RequestFault.{RequestFault}
+use Rattle.server_commands.specs.declared.messages.CommandFault.TheVariants as fault
+use Rattle.server_commands.specs.declared.messages.RequestFault.{RequestFault}
 
 -- in half as many bytes as it has digits a line is decoded as it is
 half_sized : (s : List ℕ) (n : ℕ) → n ≡ length s / 2 → decode_sized s n ≡ decode_of s

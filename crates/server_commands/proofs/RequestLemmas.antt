@@ -6,8 +6,8 @@ use Rattle.std.proofs.lemmas.List.Splits.{length-slice_split}
 use Rattle.memchr.specs.Find.{is_byte}
 use Rattle.text_lines.specs.Parts.{parts_at}
 use Rattle.server_commands.specs.Requests.{AddsLine, ReadsLines, before_others, line_request, requests_from}
-use Rattle.server_commands.specs.declared.telling.CommandFault.{CommandFault}
-use Rattle.server_commands.specs.declared.telling.CommandFault.TheVariants as fault
+use Rattle.server_commands.specs.declared.messages.CommandFault.{CommandFault}
+use Rattle.server_commands.specs.declared.messages.CommandFault.TheVariants as fault
 
 -- requests followed by others; a fault of the others is kept
 abbrev pub joined : List (List ℕ) → Result (List (List ℕ)) CommandFault

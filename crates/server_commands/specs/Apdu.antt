@@ -11,8 +11,8 @@ use Rattle.relay_core.specs.declared.relay.RelayCore.{RelayCore}
 use Rattle.relay_core.specs.Stands.{StandsFor}
 use Rattle.relay_core.specs.World.{World, new_world}
 use Rattle.server_commands.specs.Requests.{requests_of}
-use Rattle.server_commands.specs.declared.telling.CommandFault.{CommandFault}
-use Rattle.server_commands.specs.declared.telling.CommandFault.TheVariants as fault
+use Rattle.server_commands.specs.declared.messages.CommandFault.{CommandFault}
+use Rattle.server_commands.specs.declared.messages.CommandFault.TheVariants as fault
 
 -- the answers to requests, one after the other, each a line of hexadecimal in capitals
 unfoldable pub answer_lines : World → List (List ℕ) → List ℕ

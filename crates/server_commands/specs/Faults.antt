@@ -1,8 +1,8 @@
 -- The fault of the program for each fault of `apdu` and `hex`, and of the plan of `serve`.
 use Rattle.program.specs.declared.fault.Fault.{Fault}
 use Rattle.program.specs.declared.fault.Fault.TheVariants as program
-use Rattle.server_commands.specs.declared.telling.CommandFault.{CommandFault}
-use Rattle.server_commands.specs.declared.telling.CommandFault.TheVariants as fault
+use Rattle.server_commands.specs.declared.messages.CommandFault.{CommandFault}
+use Rattle.server_commands.specs.declared.messages.CommandFault.TheVariants as fault
 use Rattle.server_commands.specs.declared.plan_fault.PlanFault.{PlanFault}
 use Rattle.server_commands.specs.declared.plan_fault.PlanFault.TheVariants as plan
 use Rattle.session_io.specs.declared.fault.TextFault.{TextFault}

@@ -1,8 +1,8 @@
 -- Standard input that could not be read to its end.
 use Rattle.std.specs.Prelude.{◌<◌, ◌≤◌, ℕ, Option, List, length, ⊤}
 use Rattle.std.specs.Io.KnownBytes.{Consumes}
-use Rattle.server_commands.specs.declared.telling.CommandFault.{CommandFault}
-use Rattle.server_commands.specs.declared.telling.CommandFault.TheVariants as fault
+use Rattle.server_commands.specs.declared.messages.CommandFault.{CommandFault}
+use Rattle.server_commands.specs.declared.messages.CommandFault.TheVariants as fault
 
 -- Whether reading may have failed with this fault after these bytes: more than 1,048,576 bytes, a
 -- failed read, or out of memory. The two numbers count the failed reads before and after.

@@ -8,10 +8,10 @@ use Rattle.std.specs.Prelude.{◌≡◌, ◌+◌, ◌==◌, ◌&&◌, ℕ, suc, 
 use Rattle.hex.specs.Hex.{decode_of, is_hex_digit}
 use Rattle.hex.specs.declared.error.FromHexError.{FromHexError}
 use Rattle.text_lines.specs.Parts.{parts_at}
-use Rattle.server_commands.specs.declared.telling.CommandFault.{CommandFault}
-use Rattle.server_commands.specs.declared.telling.CommandFault.TheVariants as fault
-use Rattle.server_commands.specs.declared.telling.RequestFault.{RequestFault}
-use Rattle.server_commands.specs.declared.telling.RequestFault.TheVariants.{Odd, Character, Blank, CarriageReturn}
+use Rattle.server_commands.specs.declared.messages.CommandFault.{CommandFault}
+use Rattle.server_commands.specs.declared.messages.CommandFault.TheVariants as fault
+use Rattle.server_commands.specs.declared.messages.RequestFault.{RequestFault}
+use Rattle.server_commands.specs.declared.messages.RequestFault.TheVariants.{Odd, Character, Blank, CarriageReturn}
 
 -- why a character is not a hexadecimal digit, by its place in the line, counted from 1, and whether
 -- it is the last: a carriage return at the end, a blank, or another character

@@ -10,8 +10,8 @@ use Rattle.relay_core.specs.World.{IsDeviceName}
 use Rattle.session_io.specs.Hexadecimal.{IsHex, RunsShort, WritesLines, is_taken}
 use Rattle.session_io.specs.Sides.{Output, WritesNothing, output_of}
 use Rattle.server_commands.specs.Apdu.{max_bytes}
-use Rattle.server_commands.specs.declared.telling.CommandFault.{CommandFault}
-use Rattle.server_commands.specs.declared.telling.CommandFault.TheVariants as fault
+use Rattle.server_commands.specs.declared.messages.CommandFault.{CommandFault}
+use Rattle.server_commands.specs.declared.messages.CommandFault.TheVariants as fault
 
 -- whether this is the fault of an option's text of this length: the option's own fault if the text
 -- is empty or too long, or out of memory

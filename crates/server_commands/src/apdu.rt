@@ -4,7 +4,7 @@ ghost use Rattle.server_commands.specs.Apdu.{AnswersText};
 use crate::answers::answers;
 use crate::input::read_all;
 use crate::requests::read_requests;
-use crate::telling::CommandFault;
+use crate::messages::CommandFault;
 use counted_io::{Reader, Writer};
 use std::alloc::Global;
 

@@ -5,7 +5,7 @@ ghost use Rattle.relay_core.specs.World.{IsDeviceName};
 ghost use Rattle.server_commands.specs.Sessions.{IsOptionFault, PlaysInput, PlaysText};
 ghost use Rattle.session_io.specs.Sides.{output_of};
 
-use crate::telling::CommandFault;
+use crate::messages::CommandFault;
 use crate::texts::octets_of;
 use acse_ber::MAX_PASSWORD;
 use cosem_axdr::Octets;

@@ -3,7 +3,7 @@ ghost use Rattle.std.specs.Prelude.{◌≤◌, length, IfOk, IfErr};
 ghost use Rattle.std.specs.Io.KnownBytes.{Consumes, IsAtEnd};
 ghost use Rattle.server_commands.specs.Input.{StopsReading};
 
-use crate::telling::CommandFault;
+use crate::messages::CommandFault;
 use counted_io::{Reader, read_to_end_within};
 use std::alloc::Global;
 

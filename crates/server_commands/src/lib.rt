@@ -15,7 +15,7 @@ mod plan;
 mod plan_fault;
 mod reading;
 mod requests;
-mod telling;
+mod messages;
 mod texts;
 
 pub use apdu::answer_text;
@@ -25,5 +25,5 @@ pub use options::{Bounds, HexOptions, ServeOptions};
 pub use plan::{ServePlan, has_name, make_plan};
 pub use plan_fault::PlanFault;
 pub use reading::{Work, parse_command_line};
-pub use telling::{CommandFault, RequestFault, report_fault};
+pub use messages::{CommandFault, RequestFault, report_fault};
 pub use texts::octets_of;

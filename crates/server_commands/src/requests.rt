@@ -5,7 +5,7 @@ ghost use Rattle.hex.specs.Hex.{decode_of, is_hex_digit};
 ghost use Rattle.server_commands.specs.Requests.{AddsLine, AddsRequest, IsRequestFault, ReadsRequests, character_fault, pieces_of, request_fault, total};
 
 use crate::lines::cut_line;
-use crate::telling::{CommandFault, RequestFault};
+use crate::messages::{CommandFault, RequestFault};
 use hex::FromHexError;
 use std::alloc::{AllocError, Global};
 use std::marker::Model;

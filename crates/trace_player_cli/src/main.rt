@@ -10,12 +10,12 @@ ghost use Rattle.trace_player_cli.specs.Faults.{fault_of};
 mod arguments;
 mod opening;
 mod options;
-mod telling;
+mod messages;
 
 use crate::arguments::command_line;
 use crate::opening::report_not_opened;
 use crate::options::{Options, is_in_order, options_of};
-use crate::telling::{tell, tell_left_out};
+use crate::messages::{tell, tell_left_out};
 use clap::error::ErrorKind;
 use counted_io::{Counted, read_to_end_within};
 use program::{Fault, exit_code, print_help_or_error, read_arguments};
