@@ -65,14 +65,14 @@ impl<'a> Watcher for ProgressWatch<'a> {
             .fetch_add(more, Ordering::SeqCst)
             .wrapping_add(more);
         if self.is_shown {
-            self.tell(done, unknown);
+            self.print(done, unknown);
         }
     }
 }
 
 impl<'a> ProgressWatch<'a> {
     // Writes a line of progress to standard error.
-    fn tell(&self, done: usize, unknown: usize) {
+    fn print(&self, done: usize, unknown: usize) {
         let all = self.progress.all;
         let _ = match self.progress.remaining_seconds(self.rt, done) {
             Some(seconds) => {

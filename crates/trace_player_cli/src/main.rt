@@ -15,7 +15,7 @@ mod messages;
 use crate::arguments::command_line;
 use crate::opening::report_not_opened;
 use crate::options::{Options, is_in_order, options_of};
-use crate::messages::{tell, tell_left_out};
+use crate::messages::{report_fault, report_left_out};
 use clap::error::ErrorKind;
 use counted_io::{Counted, read_to_end_within};
 use program::{Fault, exit_code, print_help_or_error, read_arguments};
@@ -66,7 +66,7 @@ fn report(
     ensures { result ≡ fault_of fault }
 {
     if options.describes_faults() {
-        tell(rt, name, text, fault);
+        report_fault(rt, name, text, fault);
     }
     fault_of(fault)
 }
@@ -87,7 +87,7 @@ fn play_text(
     match played {
         Ok(()) => {
             if options.is_verbose {
-                tell_left_out(rt, name, text);
+                report_left_out(rt, name, text);
             }
             Ok(())
         }

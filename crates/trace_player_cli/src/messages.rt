@@ -98,9 +98,9 @@ enum Why {
 
 // Writes to standard error, in one line, why a trace was not played. `text` is the trace as far as
 // it was read, and `name` what it was read from.
-pub(crate) fn tell(rt: &HostRuntime, name: &str, text: &[u8], fault: PlayFault) {
+pub(crate) fn report_fault(rt: &HostRuntime, name: &str, text: &[u8], fault: PlayFault) {
     let _ = match fault {
-        PlayFault::Line(number) => return tell_line(rt, text, number),
+        PlayFault::Line(number) => return report_line(rt, text, number),
         PlayFault::TooLong => {
             eprintln!(rt;
                 "byte {}: the trace has more than 33,554,432 bytes",
@@ -114,7 +114,7 @@ pub(crate) fn tell(rt: &HostRuntime, name: &str, text: &[u8], fault: PlayFault) 
 }
 
 // Writes to standard error why the line with this number is wrong.
-fn tell_line(rt: &HostRuntime, text: &[u8], number: u64) {
+fn report_line(rt: &HostRuntime, text: &[u8], number: u64) {
     let why = why_wrong(text, number);
     let _ = match shown_word(text, number) {
         Some(word) if why == Why::NoEvent => eprintln!(rt; "line {number}: {why} `{word}`"),
@@ -151,7 +151,7 @@ fn why_wrong(text: &[u8], number: u64) -> Why {
 
 // Writes to standard error, in one line, how many bytes of a journal were left out, if any. `text`
 // is a trace that was read from `name`.
-pub(crate) fn tell_left_out(rt: &HostRuntime, name: &str, text: &[u8]) {
+pub(crate) fn report_left_out(rt: &HostRuntime, name: &str, text: &[u8]) {
     let count = count_left_out(text);
     if count > 0 {
         let _ = eprintln!(rt;
