@@ -15,7 +15,7 @@ use Rattle.fleet_runs.specs.Calls.{FleetCall, Calls}
 use Rattle.fleet_runs.proofs.Steps.{calls_on}
 use Rattle.meter_fleet.specs.Networks.{NetworkEvent, accepted, rejected, nobody, Tells}
 use Rattle.meter_fleet.specs.Rounds.{Arrival, client, gone, arrival_event, arrival_calls}
-use Rattle.meter_fleet.specs.Rounds.{MeetsClients, MeetsOne, AdmitsAt, max_accepted, frame_bytes}
+use Rattle.meter_fleet.specs.Rounds.{AcceptsClients, AcceptsOne, AdmitsAt, max_accepted, frame_bytes}
 
 -- ---- reports
 
@@ -52,7 +52,7 @@ refused_at f f' key number stream meter why is admits =
 pub meets_client : (log log' : Option (List NetworkEvent)) (f f' : FleetState) (key vacant : ℕ)
     (address : List ℕ) (stream : StreamState) → key ≡ vacant
     → Tells log (accepted key address stream ∷ []) log'
-    → AdmitsAt f vacant stream (meter_of address) f' → MeetsOne log f true log' f'
+    → AdmitsAt f vacant stream (meter_of address) f' → AcceptsOne log f true log' f'
 meets_client log log' f f' key vacant address stream same tells admits = (
   client vacant address stream admits.0,
   subst (λ (k : ℕ). Tells log (accepted k address stream ∷ []) log') same tells,
@@ -60,7 +60,7 @@ meets_client log log' f f' key vacant address stream same tells admits = (
 )
 
 pub meets_gone : (log log' : Option (List NetworkEvent)) (f : FleetState)
-    → Tells log (rejected ∷ []) log' → MeetsOne log f true log' f
+    → Tells log (rejected ∷ []) log' → AcceptsOne log f true log' f
 meets_gone log log' f tells = (gone, tells, refl)
 
 -- ---- several clients
@@ -77,7 +77,7 @@ pub met_none : (log : Option (List NetworkEvent)) (f : FleetState) → MetSome l
 met_none log f = record { arrivals = []; told = tells_nothing log; counted = refl; calls = refl }
 
 pub met_on : (log log' log'' : Option (List NetworkEvent)) (f f' f'' : FleetState) (count : ℕ)
-    → MetSome log f count log' f' → MeetsOne log' f' true log'' f''
+    → MetSome log f count log' f' → AcceptsOne log' f' true log'' f''
     → MetSome log f (count + 1) log'' f''
 met_on log log' log'' f f' f'' count first then_ = record {
   arrivals = first.arrivals ++ then_.0 ∷ [];
@@ -96,7 +96,7 @@ met_on log log' log'' f f' f'' count first then_ = record {
 }
 
 pub met_most : (log log' : Option (List NetworkEvent)) (f f' : FleetState)
-    → MetSome log f max_accepted log' f' → MeetsClients true log f true log' f'
+    → MetSome log f max_accepted log' f' → AcceptsClients true log f true log' f'
 met_most log log' f f' met = record {
   arrivals = met.arrivals;
   told = subst (λ (es : List NetworkEvent). Tells log es log')
@@ -106,8 +106,8 @@ met_most log log' f f' met = record {
 }
 
 pub met_last : (log log' log'' : Option (List NetworkEvent)) (f f' f'' : FleetState) (count : ℕ)
-    → MetSome log f count log' f' → MeetsOne log' f' false log'' f''
-    → MeetsClients true log f false log'' f''
+    → MetSome log f count log' f' → AcceptsOne log' f' false log'' f''
+    → AcceptsClients true log f false log'' f''
 met_last log log' log'' f f' f'' count met last = record {
   arrivals = met.arrivals;
   told = tells_on log log' log'' (map arrival_event met.arrivals) (nobody ∷ []) met.told last.0;
@@ -117,7 +117,7 @@ met_last log log' log'' f f' f'' count met last = record {
 }
 
 pub met_not : (log : Option (List NetworkEvent)) (f : FleetState)
-    → MeetsClients false log f false log f
+    → AcceptsClients false log f false log f
 met_not log f = record {
   arrivals = [];
   told = tells_nothing log;

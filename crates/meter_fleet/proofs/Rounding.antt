@@ -6,7 +6,7 @@ use Rattle.fleet_meters.specs.Fleets.{FleetState, IsNewFleet}
 use Rattle.fleet_meters.specs.declared.terms.MeterTerms.{MeterTerms}
 use Rattle.fleet_runs.proofs.Steps.{calls_on}
 use Rattle.meter_fleet.specs.Networks.{NetworkEvent, woke, Tells}
-use Rattle.meter_fleet.specs.Rounds.{service_calls, arrival_calls, client_events, MeetsClients}
+use Rattle.meter_fleet.specs.Rounds.{service_calls, arrival_calls, client_events, AcceptsClients}
 use Rattle.meter_fleet.specs.Rounds.{ServesKeys, ServesAll, Round, LoopState, may_wait, Works}
 use Rattle.meter_fleet.specs.Rounds.{DoesRound, FailsBy, RoundBy, DoesRounds, ServesUntil, ServesBy}
 use Rattle.meter_fleet.specs.Rounds.{start_of, frame_bytes}
@@ -19,7 +19,7 @@ use Rattle.meter_fleet.proofs.Meeting.{tells_on}
 works : (old : LoopState) (keys : List ℕ) (has_clients has_more : Bool) (left done again : List ℕ)
     (log log' : Option (List NetworkEvent)) (f f' : FleetState)
     → Tells old.log (woke (may_wait old) keys has_clients ∷ []) log
-    → (meets : MeetsClients (old.has_clients || has_clients) log old.fleet has_more log' f)
+    → (meets : AcceptsClients (old.has_clients || has_clients) log old.fleet has_more log' f)
     → done ++ left ≡ old.ready ++ keys → (serves : ServesKeys f done again f')
     → Works old (record {
       keys = keys;
@@ -41,7 +41,7 @@ works old keys has_clients has_more left done again log log' f f' tells meets sp
 round_by : (old new : LoopState) (keys all : List ℕ) (has_clients : Bool)
     (log : Option (List NetworkEvent)) (f : FleetState) (result : Result Unit FleetFault)
     → Tells old.log (woke (may_wait old) keys has_clients ∷ []) log
-    → MeetsClients (old.has_clients || has_clients) log old.fleet new.has_clients new.log f
+    → AcceptsClients (old.has_clients || has_clients) log old.fleet new.has_clients new.log f
     → all ≡ old.ready ++ keys → ServesAll f all result new.ready new.fleet
     → RoundBy old result new
 round_by old new keys all has_clients log f (Ok done) tells meets is serves = (
@@ -79,7 +79,7 @@ pub round_next : (log log' log'' : Option (List NetworkEvent)) (f f' f'' : Fleet
     (result : Result Unit FleetFault)
     → waits ≡ may_wait (record { log = log; fleet = f; ready = ready; has_clients = had })
     → Tells log (woke waits keys has ∷ []) log'
-    → MeetsClients (had || has) log' f has_more log'' f' → had' ≡ has_more
+    → AcceptsClients (had || has) log' f has_more log'' f' → had' ≡ has_more
     → ready' ≡ ready ++ keys → ServesAll f' ready' result again f''
     → RoundBy (record { log = log; fleet = f; ready = ready; has_clients = had }) result
     (record { log = log''; fleet = f''; ready = again; has_clients = had' })
@@ -88,7 +88,7 @@ round_next log log' log'' f f' f'' ready ready' again keys waits had has has_mor
     round_by (record { log = log; fleet = f; ready = ready; has_clients = had })
     (record { log = log''; fleet = f''; ready = again; has_clients = had' }) keys ready' has log'
     f' result (subst (λ (w : Bool). Tells log (woke w keys has ∷ []) log') is tells)
-    (subst (λ (m : Bool). MeetsClients (had || has) log' f m log'' f') (sym same) meets) grown
+    (subst (λ (m : Bool). AcceptsClients (had || has) log' f m log'' f') (sym same) meets) grown
     serves
 
 -- ---- several rounds

@@ -73,7 +73,7 @@ AreMet true arrivals has_more = has_more ≡ true → length arrivals ≡ max_ac
 AreMet false arrivals has_more = (arrivals ≡ []) × (has_more ≡ false)
 
 -- whether the clients that were waiting were accepted, up to the maximum
-pub record MeetsClients (is_due : Bool) (log : Option (List NetworkEvent)) (old : FleetState)
+pub record AcceptsClients (is_due : Bool) (log : Option (List NetworkEvent)) (old : FleetState)
     (has_more : Bool) (log' : Option (List NetworkEvent)) (new : FleetState) : Type 0 where
   pub arrivals : List Arrival
   pub told : Tells log (client_events is_due arrivals has_more) log'
@@ -82,11 +82,11 @@ pub record MeetsClients (is_due : Bool) (log : Option (List NetworkEvent)) (old 
 
 -- whether the network was asked for one client: if there was one, the fleet admitted or refused it;
 -- if there was none, the fleet is unchanged
-abbrev pub MeetsOne : Option (List NetworkEvent) → FleetState → Bool → Option (List NetworkEvent)
+abbrev pub AcceptsOne : Option (List NetworkEvent) → FleetState → Bool → Option (List NetworkEvent)
     → FleetState → Type 0
-MeetsOne log old true log' new = (arrival : Arrival) × Tells log (arrival_event arrival ∷ []) log'
+AcceptsOne log old true log' new = (arrival : Arrival) × Tells log (arrival_event arrival ∷ []) log'
     × Calls frame_bytes old (arrival_calls arrival) new
-MeetsOne log old false log' new = Tells log (nobody ∷ []) log' × (new ≡ old)
+AcceptsOne log old false log' new = Tells log (nobody ∷ []) log' × (new ≡ old)
 
 -- Whether a client asked for the meter with this number. The meter admits it under this key or
 -- refuses it; without a number there is no call.

@@ -1,5 +1,5 @@
 //! Accepts the clients that are waiting.
-ghost use Rattle.meter_fleet.specs.Rounds.{MeetsClients, MeetsOne, AdmitsAt};
+ghost use Rattle.meter_fleet.specs.Rounds.{AcceptsClients, AcceptsOne, AdmitsAt};
 ghost use Rattle.fleet_links.specs.Addresses.{meter_of};
 
 use crate::network::{Network, NextClient};
@@ -11,20 +11,20 @@ use std::alloc::Global;
 const MAX_ACCEPTED: u16 = 4_096;
 
 // Accepts the clients that are waiting, if `is_due`. Returns whether more may be waiting.
-pub(crate) fn meet_clients<N: Network>(
+pub(crate) fn accept_clients<N: Network>(
     alloc: Global,
     network: &mut N,
     fleet: &mut Fleet<N::Stream>,
     is_due: bool,
 ) -> bool
-    ensures { MeetsClients is_due (N.log network.old) fleet.old result (N.log network.new)
+    ensures { AcceptsClients is_due (N.log network.old) fleet.old result (N.log network.new)
         fleet.new }
 {
     if !is_due {
         return false;
     }
     'clients: for _ in 0..MAX_ACCEPTED {
-        if !meet_client(alloc, network, fleet) {
+        if !accept_client(alloc, network, fleet) {
             return false;
         }
     }
@@ -33,8 +33,8 @@ pub(crate) fn meet_clients<N: Network>(
 
 // Accepts a client, and admits it to the meter at the address that it named. Returns whether a
 // client was waiting, even if its connection was closed at once.
-fn meet_client<N: Network>(alloc: Global, network: &mut N, fleet: &mut Fleet<N::Stream>) -> bool
-    ensures { MeetsOne (N.log network.old) fleet.old result (N.log network.new) fleet.new }
+fn accept_client<N: Network>(alloc: Global, network: &mut N, fleet: &mut Fleet<N::Stream>) -> bool
+    ensures { AcceptsOne (N.log network.old) fleet.old result (N.log network.new) fleet.new }
 {
     match network.accept(fleet.next_key()) {
         NextClient::Client(stream, address) => {

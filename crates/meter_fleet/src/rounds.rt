@@ -2,7 +2,7 @@
 ghost use Rattle.std.specs.Prelude.{◌≡◌, ◌==◌, ◌&&◌, [], false, not, IfOk, length};
 ghost use Rattle.meter_fleet.specs.Rounds.{frame_bytes};
 
-use crate::clients::meet_clients;
+use crate::clients::accept_clients;
 use crate::connections::serve_ready;
 use crate::network::Network;
 use crate::serving::FleetFault;
@@ -76,7 +76,7 @@ impl Rounds {
         match network.wait(self.may_wait(), &mut self.ready) {
             Ok(has_clients) => {
                 let is_due = self.has_clients | has_clients;
-                self.has_clients = meet_clients(alloc, network, fleet, is_due);
+                self.has_clients = accept_clients(alloc, network, fleet, is_due);
                 self.serve(alloc, fleet)
             }
             Err(_) => Err(FleetFault::Network),

@@ -3,5 +3,5 @@ use Rattle.meter_fleet.proofs.rounds.Rounds.run.Goals as goal
 
 pub returns-in-Ok-clause-round : goal.returns-in-Ok-clause-round
 returns-in-Ok-clause-round g c = round_next _ _ _ _ _ _ _ _ _ _ _ _ _ _ _ _ c.may_wait.ensures
-    c.in-Ok.ensures.2 c.meet_clients-self.ensures c.serve.ensures.clients c.in-Ok.ensures.1
+    c.in-Ok.ensures.2 c.accept_clients-self.ensures c.serve.ensures.clients c.in-Ok.ensures.1
     c.serve.ensures.serves

@@ -1,5 +1,0 @@
-use Rattle.meter_fleet.proofs.Meeting.{met_on}
-use Rattle.meter_fleet.proofs.clients.meet_clients.Goals as goal
-
-pub clients-preserved : goal.clients-preserved
-clients-preserved g c = met_on _ _ _ _ _ _ _ c.clients.invariant c.if-not-meet_client.ensures
