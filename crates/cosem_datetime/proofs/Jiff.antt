@@ -6,7 +6,7 @@ use Rattle.jiff_core.specs.declared.civil.date.Date.{Date}
 use Rattle.jiff_core.specs.Date.{epoch_day, weekday_of, IsYmd}
 use Rattle.jiff_core.proofs.DateLemmas.{civil}
 use Rattle.cosem_datetime.specs.declared.calendar.CivilDate.{CivilDate}
-use Rattle.cosem_datetime.specs.Calendar.{is_date, days_of_years, day_count, first_day, date_of_day, weekday}
+use Rattle.cosem_datetime.specs.Calendar.{is_date, days_of_years, day_count, first_day_of_2000, date_of_day, weekday}
 use Rattle.cosem_datetime.proofs.Days.{IsDate, count_parts, months_same, years_more, is_day, date_from, date_true}
 use Rattle.jiff_core.specs.Calendar.{day_count as jiff_count, IsCivilDate}
 use Rattle.jiff_core.proofs.CalendarLemmas.{day_count-next_year, day_count-day_of_year, day_count-lt_year, day_count-end, days_from_civil-day_count, weekday_number-parts}
@@ -45,8 +45,8 @@ jiff_count_is y m d h =
       count_parts (record { year = y; month = m; day = d }),
     )
 
-pub first_day_is : first_day ≡ 730_485
-unfolding first_day
+pub first_day_is : first_day_of_2000 ≡ 730_485
+unfolding first_day_of_2000
 first_day_is = omega (
   arith,
   jiff_count_is 2000 1 1 (omega arith),

@@ -7,7 +7,7 @@ use Rattle.cosem_datetime.specs.declared.calendar.CivilDate.{CivilDate}
 use Rattle.cosem_datetime.proofs.Days.{at_if, count_parts, years_to}
 use Rattle.cosem_datetime.proofs.Jiff.{first_day_is, days_to_10000}
 use Rattle.cosem_datetime.specs.Fields.{DateTimeFields, IsDeviationWithin}
-use Rattle.cosem_datetime.specs.Calendar.{is_date, day_count, first_day, weekday}
+use Rattle.cosem_datetime.specs.Calendar.{is_date, day_count, first_day_of_2000, weekday}
 use Rattle.cosem_datetime.specs.Matching.{holds}
 use Rattle.cosem_datetime.specs.Moment.{plain_date, second_of_day, is_right_date, in_u32, seconds_since, moment_of}
 
@@ -66,14 +66,14 @@ both_true a b e h = rw (e, h) refl
 pub right_date : (f : DateTimeFields) (c : CivilDate) (s n : ℕ) → plain_date f.date ≡ Some c
     → second_of_day f.time ≡ Some s → cond (is_date c) (Some (day_count c)) None ≡ Some n
     → holds f.date.weekday (weekday n) ≡ true → moment_of f
-    ≡ in_u32 ((pos (86400 * n + s) -ℤ pos (86400 * first_day)) +ℤ
+    ≡ in_u32 ((pos (86400 * n + s) -ℤ pos (86400 * first_day_of_2000)) +ℤ
     (pos 60 *ℤ unwrap_or f.deviation (pos 0)))
 right_date f c s n e h k w =
     let day = some_means_true (is_date c) (day_count c) n k in
     let right = both_true (is_date c) (holds f.date.weekday (weekday (day_count c))) day.0
     (ap (λ d. holds f.date.weekday (weekday d)) day.1 ∙ w) in
     all_given f c s e h ∙ (ap (λ b. cond b (in_u32 (seconds_since c s f.deviation)) None) right
-    ∙ ap (λ d. in_u32 ((pos (86400 * d + s) -ℤ pos (86400 * first_day)) +ℤ
+    ∙ ap (λ d. in_u32 ((pos (86400 * d + s) -ℤ pos (86400 * first_day_of_2000)) +ℤ
     (pos 60 *ℤ unwrap_or f.deviation (pos 0)))) day.1)
 
 past_u32 : (z : ℤ) → pos (2 ^ 32) ≤ℤ z → in_u32 z ≡ None
@@ -100,7 +100,7 @@ too_late f c s d e h lt =
       days_to_10000,
     ) in
     let none = past_u32 (seconds_since c s f.deviation)
-    (late_seconds (day_count c) s first_day (unwrap_or f.deviation (pos 0)) late first_day_is
+    (late_seconds (day_count c) s first_day_of_2000 (unwrap_or f.deviation (pos 0)) late first_day_is
     (least_deviation f.deviation d)) in
     all_given f c s e h ∙ at_if (λ o. o ≡ None) (is_right_date f.date c) _ _ (λ _. none) (λ _. refl)
 

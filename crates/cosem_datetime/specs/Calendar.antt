@@ -44,8 +44,8 @@ pub record IsDay (n : ℕ) (c : CivilDate) : Type 0 where
   pub count : day_count c ≡ n
 
 -- the first day of the meter's time, 1 January 2000
-unfoldable pub first_day : ℕ
-first_day = day_count (record { year = 2000; month = 1; day = 1 })
+unfoldable pub first_day_of_2000 : ℕ
+first_day_of_2000 = day_count (record { year = 2000; month = 1; day = 1 })
 
 -- the date of the next day
 abbrev pub next_date : CivilDate → CivilDate

@@ -6,7 +6,7 @@ use Rattle.cosem_datetime.specs.declared.date.DayOfMonth.{DayOfMonth}
 use Rattle.cosem_datetime.specs.declared.date.DayOfMonth.TheVariants.{Any, Number, SecondLast, Last}
 use Rattle.cosem_datetime.specs.declared.entry.EntryPattern.{EntryPattern}
 use Rattle.cosem_datetime.specs.Fields.{DateFields, TimeFields}
-use Rattle.cosem_datetime.specs.Calendar.{month_length, weekday, first_day, date_of_day}
+use Rattle.cosem_datetime.specs.Calendar.{month_length, weekday, first_day_of_2000, date_of_day}
 
 -- whether the test holds of some number below n
 unfoldable pub some_below : (ℕ → Bool) → ℕ → Bool
@@ -60,7 +60,7 @@ time_matches t s = holds t.hour (s / 3600) &&
 -- whether the entry matches a second of the meter's time (IEC 62056-6-2, class 22, execution_time)
 unfoldable pub matches : EntryPattern → ℕ → Bool
 matches entry s =
-    date_matches entry.date (first_day + s / 86400) && time_matches entry.time (s % 86400)
+    date_matches entry.date (first_day_of_2000 + s / 86400) && time_matches entry.time (s % 86400)
 
 -- whether some second of (after, upto] matches
 unfoldable pub matches_in : EntryPattern → ℕ → ℕ → Bool

@@ -4,7 +4,7 @@ use Rattle.cosem_datetime.specs.declared.calendar.CivilDate.{CivilDate}
 use Rattle.cosem_datetime.specs.declared.date.DayOfMonth.{DayOfMonth}
 use Rattle.cosem_datetime.specs.declared.date.DayOfMonth.TheVariants.{Number}
 use Rattle.cosem_datetime.specs.Fields.{DateFields, TimeFields, DateTimeFields}
-use Rattle.cosem_datetime.specs.Calendar.{is_date, day_count, first_day, weekday}
+use Rattle.cosem_datetime.specs.Calendar.{is_date, day_count, first_day_of_2000, weekday}
 use Rattle.cosem_datetime.specs.Matching.{holds}
 
 infixl 10 ◌>>=◌
@@ -47,7 +47,7 @@ in_u32 (negsuc s) = None
 -- minutes, gives UTC
 abbrev pub seconds_since : CivilDate → ℕ → Option ℤ → ℤ
 seconds_since c second deviation =
-    (pos (86400 * day_count c + second) -ℤ pos (86400 * first_day)) +ℤ
+    (pos (86400 * day_count c + second) -ℤ pos (86400 * first_day_of_2000)) +ℤ
     (pos 60 *ℤ unwrap_or deviation (pos 0))
 
 -- the seconds, if all six fields are numbers, the date is right, and the seconds fit 32 bits

@@ -22,10 +22,10 @@ pub struct CivilDate {
 pub const SECONDS_OF_DAY: u32 = 86_400;
 
 /// 1 January 2000, as the number of days since 1 January of the year 0.
-pub const FIRST_DAY: u32 = 730_485;
+pub const FIRST_DAY_OF_2000: u32 = 730_485;
 
 // The number of days from `jiff`'s first day to 1 January of the year 0.
-const YEAR_ZERO: u32 = 3_652_059;
+const DAYS_BEFORE_YEAR_0: u32 = 3_652_059;
 
 /// Returns the date of a day, counted from 1 January of the year 0.
 pub fn date_of_day(day: u32) -> CivilDate
@@ -34,7 +34,7 @@ pub fn date_of_day(day: u32) -> CivilDate
     ensures year { result.year ≤ 9999 }
     ensures day { result.day ≤ 31 }
 {
-    let date = Date::from_plain(civil::Date::from_days_since_min(day + YEAR_ZERO)).to_plain();
+    let date = Date::from_plain(civil::Date::from_days_since_min(day + DAYS_BEFORE_YEAR_0)).to_plain();
     CivilDate {
         year: date.year as u16,
         month: date.month,
@@ -48,7 +48,7 @@ pub fn weekday(day: u32) -> u8
     requires { day ≤ 3_652_424 }
     ensures { result ≡ calendar.weekday day }
 {
-    let date = Date::from_plain(civil::Date::from_days_since_min(day + YEAR_ZERO));
+    let date = Date::from_plain(civil::Date::from_days_since_min(day + DAYS_BEFORE_YEAR_0));
     date.weekday().to_monday_one_offset() as u8
 }
 
@@ -71,7 +71,7 @@ pub fn day_of_date(date: CivilDate) -> Option<u32>
     ensures bound { IfSome result (λ day. day ≤ 3_652_424) }
 {
     match Date::new(date.year as i16, date.month as i8, date.day as i8) {
-        Ok(date) => Some(date.to_plain().days_since_min() - YEAR_ZERO),
+        Ok(date) => Some(date.to_plain().days_since_min() - DAYS_BEFORE_YEAR_0),
         Err(_) => None,
     }
 }
@@ -81,6 +81,6 @@ pub fn day_of_date(date: CivilDate) -> Option<u32>
 /// no effect; its contract states the laws.
 pub fn calendar_laws()
     ensures one_date { (n : ℕ) (c : CivilDate) → calendar.IsDay n c ↔ (c ≡ calendar.date_of_day n) }
-    ensures first_day { calendar.first_day ≡ 730_485 }
-    ensures saturday { calendar.weekday calendar.first_day ≡ 6 }
+    ensures first_day_of_2000 { calendar.first_day_of_2000 ≡ 730_485 }
+    ensures saturday { calendar.weekday calendar.first_day_of_2000 ≡ 6 }
 {}

@@ -2,7 +2,7 @@
 //! against seconds of the meter's clock.
 ghost use Rattle.std.specs.Prelude.{◌≡◌, ◌+◌, ◌*◌, ◌<◌, ◌≤◌, ◌↔◌, ℕ, IsTrue};
 
-use crate::calendar::{FIRST_DAY, SECONDS_OF_DAY};
+use crate::calendar::{FIRST_DAY_OF_2000, SECONDS_OF_DAY};
 use crate::date::DatePattern;
 use crate::time::TimePattern;
 
@@ -25,7 +25,7 @@ impl EntryPattern {
     pub fn matches(&self, second: u32) -> bool
         ensures { result ≡ matches self.now second }
     {
-        self.date.matches_day(FIRST_DAY + second / SECONDS_OF_DAY)
+        self.date.matches_day(FIRST_DAY_OF_2000 + second / SECONDS_OF_DAY)
             && self.time.matches_second(second % SECONDS_OF_DAY)
     }
 
@@ -70,6 +70,6 @@ impl EntryPattern {
         requires to_in_day { to < 86400 }
         ensures { TellsPassing (matches self.now) (86400 * day + from) (86400 * day + to) result }
     {
-        self.date.matches_day(FIRST_DAY + day) && self.time.matches_between(from, to)
+        self.date.matches_day(FIRST_DAY_OF_2000 + day) && self.time.matches_between(from, to)
     }
 }

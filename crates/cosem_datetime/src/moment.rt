@@ -2,7 +2,7 @@
 //! deviation (IEC 62056-6-2).
 ghost use Rattle.std.specs.Prelude.{◌≡◌, ◌+◌, ◌*◌, ◌^◌, ◌<◌, ◌≤◌, pos, ◌+ℤ◌, ◌-ℤ◌, ◌*ℤ◌};
 ghost use Rattle.jiff_core.specs.Calendar.{IsWithin};
-ghost use Rattle.cosem_datetime.specs.Calendar.{first_day};
+ghost use Rattle.cosem_datetime.specs.Calendar.{first_day_of_2000};
 ghost use Rattle.cosem_datetime.specs.Moment.{in_u32, moment_of};
 
 use crate::calendar::{SECONDS_OF_DAY, day_of_date};
@@ -18,7 +18,7 @@ const LAST_YEAR: u16 = 9999;
 fn written_seconds(day: u32, second: u32) -> i64
     requires day { day ≤ 3_652_424 }
     requires second { second < 86400 }
-    ensures value { result ≡ pos (86400 * day + second) -ℤ pos (86400 * first_day) }
+    ensures value { result ≡ pos (86400 * day + second) -ℤ pos (86400 * first_day_of_2000) }
     ensures bound { IsWithin (2 ^ 40) result }
 {
     let seconds = u64::from(SECONDS_OF_DAY) * u64::from(day) + u64::from(second);

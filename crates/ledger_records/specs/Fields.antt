@@ -54,9 +54,9 @@ abbrev pub seconds_taken : LedgerTimes → Option ℕ
 seconds_taken times = seconds_between times.begun times.ended
 
 -- 1 January 1970
-unfoldable pub first_day : ℕ
-first_day = day_count (record { year = 1970; month = 1; day = 1 })
+unfoldable pub first_day_of_1970 : ℕ
+first_day_of_1970 = day_count (record { year = 1970; month = 1; day = 1 })
 
 -- a second since the beginning of 1970, YYYY-MM-DDThh:mm:ssZ (ISO 8601)
 abbrev pub utc_text : ℕ → List ℕ
-utc_text second = civil_text first_day second ++ codes "Z"
+utc_text second = civil_text first_day_of_1970 second ++ codes "Z"

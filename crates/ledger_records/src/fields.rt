@@ -10,7 +10,7 @@ use record_parts::civil_text;
 use std::alloc::{AllocError, Global};
 
 // 1 January 1970, as the number of days since 1 January of the year 0.
-const FIRST_DAY: u32 = 719_528;
+const FIRST_DAY_OF_1970: u32 = 719_528;
 
 // Returns the word of a standing.
 pub(crate) fn outcome_word(standing: Standing) -> &'static str
@@ -60,13 +60,13 @@ pub(crate) fn seconds_taken(times: LedgerTimes) -> Option<u32>
 }
 
 // Returns a second, if there is one, as a date and time in UTC.
-#[tactic(auto, using(crate::proofs::Days::first_day_is))]
+#[tactic(auto, using(crate::proofs::Days::first_day_of_1970_is))]
 pub(crate) fn utc_text(alloc: Global, second: Option<u32>) -> Result<Option<String>, AllocError>
     ensures { IfOk result (λ text. option_map string_bytes text ≡ option_map utc_text second) }
 {
     match second {
         Some(second) => {
-            let mut text = civil_text(alloc, FIRST_DAY, second)?;
+            let mut text = civil_text(alloc, FIRST_DAY_OF_1970, second)?;
             text.push_str("Z")?;
             Ok(Some(text))
         }

@@ -20,7 +20,7 @@ struct CalendarDate {
 const SECONDS_OF_DAY: u32 = 86_400;
 
 // The number of days from `jiff`'s first day to 1 January of the year 0.
-const YEAR_ZERO: u32 = 3_652_059;
+const DAYS_BEFORE_YEAR_0: u32 = 3_652_059;
 
 // The number of bytes of a date and time.
 const BYTES: usize = 19;
@@ -32,7 +32,7 @@ fn date_of_day(day: u32) -> CalendarDate
     ensures month { result.month ≡ (date_of_day day).month }
     ensures day { result.day ≡ (date_of_day day).day }
 {
-    let date = Date::from_plain(civil::Date::from_days_since_min(day + YEAR_ZERO)).to_plain();
+    let date = Date::from_plain(civil::Date::from_days_since_min(day + DAYS_BEFORE_YEAR_0)).to_plain();
     CalendarDate {
         year: date.year as u16,
         month: date.month,

@@ -4,7 +4,7 @@
 use Rattle.std.specs.Prelude.{ℕ, Bool, true, false, codes, decimal, option_map, List, [], ◌∷◌}
 use Rattle.std.specs.Prelude.{Option, Some, None}
 use Rattle.csv.specs.Writing.{default_writer, row_text}
-use Rattle.cosem_datetime.specs.Calendar.{first_day}
+use Rattle.cosem_datetime.specs.Calendar.{first_day_of_2000}
 use Rattle.trace_lines.specs.Replies.{supply_text}
 use Rattle.record_parts.specs.Civil.{civil_text}
 use Rattle.record_parts.specs.Columns.{column}
@@ -30,5 +30,5 @@ csv_head with_events =
 abbrev pub csv_line : Fields → List ℕ
 csv_line r =
     row_text default_writer (decimal r.number ∷ r.reply ∷ decimal r.state ∷ supply_text r.output
-    ∷ column (option_map decimal r.moment) ∷ column (option_map (civil_text first_day) r.moment)
+    ∷ column (option_map decimal r.moment) ∷ column (option_map (civil_text first_day_of_2000) r.moment)
     ∷ last_column r.event)

@@ -5,7 +5,7 @@ use Rattle.std.specs.Prelude.{ℕ, codes, option_map, List, [], ◌∷◌, ◌++
 use Rattle.serde_json.specs.Data.{Data, Members, member, no_members, number, object, string}
 use Rattle.serde_json.specs.Data.{unsigned}
 use Rattle.serde_json.specs.Written.{compact_text}
-use Rattle.cosem_datetime.specs.Calendar.{first_day}
+use Rattle.cosem_datetime.specs.Calendar.{first_day_of_2000}
 use Rattle.trace_lines.specs.Replies.{supply_text}
 use Rattle.record_parts.specs.Civil.{civil_text}
 use Rattle.record_parts.specs.Values.{nullable}
@@ -24,7 +24,7 @@ plain_members r =
     member (codes "reply") (string r.reply) (
     member (codes "state") (number (unsigned r.state)) (
     member (codes "supply") (string (supply_text r.output)) (
-    member (codes "time") (nullable (option_map (λ n. string (civil_text first_day n)) r.moment)) (
+    member (codes "time") (nullable (option_map (λ n. string (civil_text first_day_of_2000 n)) r.moment)) (
     no_members))))))
 
 -- a record as a JSON object, whose members are in the order of their keys
