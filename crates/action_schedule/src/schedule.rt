@@ -12,7 +12,7 @@ use crate::attribute::ScheduleAttribute;
 use crate::fitting::{fits_type, has_match, window_start};
 use crate::kind::ScheduleType;
 use crate::reading::{judge_entries, read_entries, read_kind, read_selector};
-use crate::writing::{write_entries, write_script};
+use crate::writing::{write_entries, script_to_data};
 use cosem_axdr::Data;
 use cosem_datetime::EntryPattern;
 use cosem_names::WriteFault;
@@ -131,7 +131,7 @@ impl ActionSchedule {
         ensures plain { IsTrue (is_plain attribute) → IsOk result }
     {
         match attribute {
-            ScheduleAttribute::ExecutedScript => write_script(alloc, self.selector),
+            ScheduleAttribute::ExecutedScript => script_to_data(alloc, self.selector),
             ScheduleAttribute::Kind => Ok(Data::Enum(u8::from(self.kind))),
             ScheduleAttribute::ExecutionTime => write_entries(alloc, self.entries.as_slice()),
         }

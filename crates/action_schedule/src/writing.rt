@@ -10,7 +10,7 @@ use cosem_names::NamedScript;
 use std::alloc::{AllocError, Global};
 
 // Returns the Data of a script of the script table: a structure of a logical name and a selector.
-pub(crate) fn write_script(alloc: Global, selector: u16) -> Result<Data, AllocError>
+pub(crate) fn script_to_data(alloc: Global, selector: u16) -> Result<Data, AllocError>
     ensures { IfOk result (λ value. value ≡ script_data (script_at selector)) }
 {
     NamedScript::in_the_table(selector).to_data(alloc)

@@ -7,9 +7,9 @@ use Rattle.action_schedule.proofs.schedule.ActionSchedule.to_data.Goals as goal
 
 pub returns-in-ExecutedScript-clause-read_back : goal.returns-in-ExecutedScript-clause-read_back
 returns-in-ExecutedScript-clause-read_back c =
-    reads_back c.write_script.result ExecutedScript c.args.attribute _ c.args.self.now
+    reads_back c.script_to_data.result ExecutedScript c.args.attribute _ c.args.self.now
     c.in-ExecutedScript.is c.self.view_is
-    (selector_written c.write_script.result c.self.inside.selector c.write_script.ensures)
+    (selector_written c.script_to_data.result c.self.inside.selector c.script_to_data.ensures)
 
 pub returns-in-Kind-clause-read_back : goal.returns-in-Kind-clause-read_back
 returns-in-Kind-clause-read_back c =
