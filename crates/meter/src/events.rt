@@ -1,7 +1,7 @@
 //! The events of the meter itself: presses, samples and moments.
 ghost use Rattle.std.specs.Prelude.{◌≡◌};
 ghost use Rattle.lane_sampler.specs.Samples.{values_alone, pairs_of};
-ghost use Rattle.meter.specs.Exports.{OnOpen, PressedTo, SampledTo, TickedTo, no_fired, tells_samples, firings_of_result, firings_of};
+ghost use Rattle.meter.specs.Exports.{OnOpen, MeterPress, MeterSamples, MeterMoment, no_fired, samples_outcome, firings_of_result, firings_of};
 ghost use Rattle.meter.specs.Outcomes.{code_of, of_tick, run_count_of};
 
 use crate::handle::MeterHandle;
@@ -22,7 +22,7 @@ pub struct Firings {
 /// Applies a press of the meter's button. `code` is its result. Error: `NotOpen`, and `code` is 0.
 #[unsafe(no_mangle)]
 pub extern "C" fn meter_press(alloc: Global, meter: &mut MeterHandle, code: &mut u8) -> u32
-    ensures { OnOpen (code.new ≡ 0) (PressedTo code.new) meter.old.slot.held result
+    ensures { OnOpen (code.new ≡ 0) (MeterPress code.new) meter.old.slot.held result
         meter.new.slot.held }
 {
     *code = 0;
@@ -43,7 +43,7 @@ pub extern "C" fn meter_samples(
     fired: &mut Firings,
 ) -> u32
     ensures { OnOpen (fired.new ≡ firings_of no_fired)
-        (SampledTo (values_alone watts.now) fired.new) meter.old.slot.held result
+        (MeterSamples (values_alone watts.now) fired.new) meter.old.slot.held result
         meter.new.slot.held }
 {
     *fired = no_firings();
@@ -66,7 +66,7 @@ pub extern "C" fn meter_sample_pairs(
     fired: &mut Firings,
 ) -> u32
     ensures { OnOpen (fired.new ≡ firings_of no_fired)
-        (SampledTo (pairs_of imported.now exported.now) fired.new) meter.old.slot.held result
+        (MeterSamples (pairs_of imported.now exported.now) fired.new) meter.old.slot.held result
         meter.new.slot.held }
 {
     *fired = no_firings();
@@ -88,7 +88,7 @@ pub extern "C" fn meter_moment(
     moment: u32,
     ran: &mut u8,
 ) -> u32
-    ensures { OnOpen (ran.new ≡ 0) (TickedTo moment ran.new) meter.old.slot.held result
+    ensures { OnOpen (ran.new ≡ 0) (MeterMoment moment ran.new) meter.old.slot.held result
         meter.new.slot.held }
 {
     *ran = 0;
@@ -128,7 +128,7 @@ fn firings_of(sampled: Result<Fired, MeterFault>) -> Firings
 }
 
 fn sampled_outcome(sampled: Result<Fired, MeterFault>) -> CallResult
-    ensures { result ≡ tells_samples sampled }
+    ensures { result ≡ samples_outcome sampled }
 {
     match sampled {
         Ok(_) => CallResult::Done,

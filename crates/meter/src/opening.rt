@@ -1,6 +1,6 @@
 //! Opens and closes a meter.
 ghost use Rattle.std.specs.Prelude.{◌≡◌, None, IfOk, IsTrue, ◌↔◌};
-ghost use Rattle.meter.specs.Exports.{AreFit, OpensTo, OpenedTo};
+ghost use Rattle.meter.specs.Exports.{AreFit, OpenOutcome, MeterOpen};
 ghost use Rattle.embedded_meter.specs.Calls.{IsNew};
 
 use crate::handle::MeterHandle;
@@ -20,7 +20,7 @@ pub extern "C" fn meter_open(
     password: &[u8],
     kept_events: u16,
 ) -> u32
-    ensures { OpenedTo name.now password.now kept_events meter.old.slot.held result
+    ensures { MeterOpen name.now password.now kept_events meter.old.slot.held result
         meter.new.slot.held }
 {
     open(alloc, meter, name, password, kept_events).code()
@@ -34,7 +34,7 @@ fn open(
     password: &[u8],
     kept_events: u16,
 ) -> CallResult
-    ensures { OpensTo name.now password.now kept_events meter.old.slot.held result
+    ensures { OpenOutcome name.now password.now kept_events meter.old.slot.held result
         meter.new.slot.held }
 {
     if let Some(held) = meter.take(alloc) {

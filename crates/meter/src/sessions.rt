@@ -1,6 +1,6 @@
 //! The sessions of a meter.
 ghost use Rattle.std.specs.Prelude.{◌≡◌, ℕ};
-ghost use Rattle.meter.specs.Exports.{OnOpen, OpenedAt, FedAt, FinishedAt, GivenAt, ClosedAt, tells_next, next_length};
+ghost use Rattle.meter.specs.Exports.{OnOpen, MeterOpenSession, MeterFeed, MeterFinish, MeterNext, MeterCloseSession, next_outcome, next_length};
 ghost use Rattle.meter.specs.Outcomes.{code_of, outcome_of_call, of_end};
 ghost use Rattle.embedded_meter.specs.MeterStates.{MeterState};
 
@@ -13,7 +13,7 @@ use std::alloc::Global;
 /// Opens a session with a number of 0 to 7.
 #[unsafe(no_mangle)]
 pub extern "C" fn meter_open_session(alloc: Global, meter: &mut MeterHandle, session: u8) -> u32
-    ensures { OnOpen Unit (OpenedAt session) meter.old.slot.held result meter.new.slot.held }
+    ensures { OnOpen Unit (MeterOpenSession session) meter.old.slot.held result meter.new.slot.held }
 {
     let Some(mut held) = meter.take(alloc) else {
         return CallResult::NotOpen.code();
@@ -31,7 +31,7 @@ pub extern "C" fn meter_feed(
     session: u8,
     bytes: &[u8],
 ) -> u32
-    ensures { OnOpen Unit (FedAt session bytes.now) meter.old.slot.held result meter.new.slot.held }
+    ensures { OnOpen Unit (MeterFeed session bytes.now) meter.old.slot.held result meter.new.slot.held }
 {
     let Some(mut held) = meter.take(alloc) else {
         return CallResult::NotOpen.code();
@@ -44,7 +44,7 @@ pub extern "C" fn meter_feed(
 /// Ends the input of a session.
 #[unsafe(no_mangle)]
 pub extern "C" fn meter_finish(alloc: Global, meter: &mut MeterHandle, session: u8) -> u32
-    ensures { OnOpen Unit (FinishedAt session) meter.old.slot.held result meter.new.slot.held }
+    ensures { OnOpen Unit (MeterFinish session) meter.old.slot.held result meter.new.slot.held }
 {
     let Some(mut held) = meter.take(alloc) else {
         return CallResult::NotOpen.code();
@@ -65,7 +65,7 @@ pub extern "C" fn meter_next(
     length: &mut usize,
 ) -> u32
     ensures { OnOpen ((frame.new ≡ frame.old)
-        × (length.new ≡ 0)) (GivenAt session frame.old frame.new length.new) meter.old.slot.held
+        × (length.new ≡ 0)) (MeterNext session frame.old frame.new length.new) meter.old.slot.held
         result meter.new.slot.held }
 {
     *length = 0;
@@ -81,7 +81,7 @@ pub extern "C" fn meter_next(
 /// Closes a session.
 #[unsafe(no_mangle)]
 pub extern "C" fn meter_close_session(alloc: Global, meter: &mut MeterHandle, session: u8) -> u32
-    ensures { OnOpen Unit (ClosedAt session) meter.old.slot.held result meter.new.slot.held }
+    ensures { OnOpen Unit (MeterCloseSession session) meter.old.slot.held result meter.new.slot.held }
 {
     let Some(mut held) = meter.take(alloc) else {
         return CallResult::NotOpen.code();
@@ -103,7 +103,7 @@ fn done_code(done: Result<(), MeterFault>) -> u32
 
 // Returns the result for C of a call of `SupplyMeter::next`.
 fn given_outcome(given: Result<Given, MeterFault>) -> CallResult
-    ensures { result ≡ tells_next given }
+    ensures { result ≡ next_outcome given }
 {
     match given {
         Ok(Given::Frame(_)) => CallResult::Done,

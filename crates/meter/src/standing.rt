@@ -1,6 +1,6 @@
 //! Reads the state of the meter.
 ghost use Rattle.std.specs.Prelude.{◌≡◌, false};
-ghost use Rattle.meter.specs.Exports.{OnOpen, StateTo, ModeTo, SupplyTo, MomentTo, tells_moment, moment_of};
+ghost use Rattle.meter.specs.Exports.{OnOpen, MeterControlState, MeterControlMode, MeterSupply, MeterLastMoment, last_moment_outcome, moment_of};
 
 use crate::handle::MeterHandle;
 use crate::outcome::CallResult;
@@ -9,7 +9,7 @@ use std::alloc::Global;
 /// Reads the control state (class 70, attribute 3).
 #[unsafe(no_mangle)]
 pub extern "C" fn meter_control_state(alloc: Global, meter: &mut MeterHandle, state: &mut u8) -> u32
-    ensures { OnOpen (state.new ≡ 0) (StateTo state.new) meter.old.slot.held result
+    ensures { OnOpen (state.new ≡ 0) (MeterControlState state.new) meter.old.slot.held result
         meter.new.slot.held }
 {
     *state = 0;
@@ -24,7 +24,7 @@ pub extern "C" fn meter_control_state(alloc: Global, meter: &mut MeterHandle, st
 /// Reads the control mode (class 70, attribute 4).
 #[unsafe(no_mangle)]
 pub extern "C" fn meter_control_mode(alloc: Global, meter: &mut MeterHandle, mode: &mut u8) -> u32
-    ensures { OnOpen (mode.new ≡ 0) (ModeTo mode.new) meter.old.slot.held result
+    ensures { OnOpen (mode.new ≡ 0) (MeterControlMode mode.new) meter.old.slot.held result
         meter.new.slot.held }
 {
     *mode = 0;
@@ -39,7 +39,7 @@ pub extern "C" fn meter_control_mode(alloc: Global, meter: &mut MeterHandle, mod
 /// Reads whether the supply is on.
 #[unsafe(no_mangle)]
 pub extern "C" fn meter_supply(alloc: Global, meter: &mut MeterHandle, is_on: &mut bool) -> u32
-    ensures { OnOpen (is_on.new ≡ false) (SupplyTo is_on.new) meter.old.slot.held result
+    ensures { OnOpen (is_on.new ≡ false) (MeterSupply is_on.new) meter.old.slot.held result
         meter.new.slot.held }
 {
     *is_on = false;
@@ -54,7 +54,7 @@ pub extern "C" fn meter_supply(alloc: Global, meter: &mut MeterHandle, is_on: &m
 /// Reads the last moment of the clock.
 #[unsafe(no_mangle)]
 pub extern "C" fn meter_last_moment(alloc: Global, meter: &mut MeterHandle, moment: &mut u32) -> u32
-    ensures { OnOpen (moment.new ≡ 0) (MomentTo moment.new) meter.old.slot.held result
+    ensures { OnOpen (moment.new ≡ 0) (MeterLastMoment moment.new) meter.old.slot.held result
         meter.new.slot.held }
 {
     *moment = 0;
@@ -78,7 +78,7 @@ fn moment_or_zero(last: Option<u32>) -> u32
 }
 
 fn moment_outcome(last: Option<u32>) -> CallResult
-    ensures { result ≡ tells_moment last }
+    ensures { result ≡ last_moment_outcome last }
 {
     match last {
         Some(_) => CallResult::Done,

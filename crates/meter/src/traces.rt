@@ -1,6 +1,6 @@
 //! The meter as the text of a trace.
 ghost use Rattle.std.specs.Prelude.{◌≡◌};
-ghost use Rattle.meter.specs.Exports.{OnOpen, ResumesTo, ResumedTo, ExportedTo, WritesBy};
+ghost use Rattle.meter.specs.Exports.{OnOpen, ResumeOutcome, MeterResume, MeterExport, WritesBy};
 
 use crate::handle::MeterHandle;
 use crate::opening::are_fit;
@@ -18,7 +18,7 @@ pub extern "C" fn meter_resume(
     password: &[u8],
     kept_events: u16,
 ) -> u32
-    ensures { ResumedTo trace.now password.now kept_events meter.old.slot.held result
+    ensures { MeterResume trace.now password.now kept_events meter.old.slot.held result
         meter.new.slot.held }
 {
     resume(alloc, meter, trace, password, kept_events).code()
@@ -32,7 +32,7 @@ fn resume(
     password: &[u8],
     kept_events: u16,
 ) -> CallResult
-    ensures { ResumesTo trace.now password.now kept_events meter.old.slot.held result
+    ensures { ResumeOutcome trace.now password.now kept_events meter.old.slot.held result
         meter.new.slot.held }
 {
     if let Some(held) = meter.take(alloc) {
@@ -72,7 +72,7 @@ pub extern "C" fn meter_export(
     length: &mut usize,
 ) -> u32
     ensures { OnOpen ((text.new ≡ text.old)
-        × (length.new ≡ 0)) (ExportedTo text.old text.new length.new) meter.old.slot.held result
+        × (length.new ≡ 0)) (MeterExport text.old text.new length.new) meter.old.slot.held result
         meter.new.slot.held }
 {
     *length = 0;
