@@ -67,12 +67,12 @@ impl Clients {
 
 /// The response that a client expects.
 #[derive(Drop)]
-struct Answered {
+struct AnswerChecker {
     clients: Arc<Clients, Global>,
     at: usize,
 }
 
-impl Write for Answered {
+impl Write for AnswerChecker {
     fn write(&mut self, bytes: &[u8]) -> io::Result<usize> {
         let end = self.at.saturating_add(bytes.len());
         if ANSWER.get(self.at..end) != Some(bytes) {
@@ -90,7 +90,7 @@ impl Write for Answered {
     }
 }
 
-impl Observer for Answered {}
+impl Observer for AnswerChecker {}
 
 /// Accepts clients that ask for an association and close their connections.
 #[derive(Drop)]
@@ -101,12 +101,12 @@ struct ClientListener {
 impl Listener for ClientListener {
     type Input = &'static [u8];
 
-    type Output = Answered;
+    type Output = AnswerChecker;
 
-    fn accept(&mut self) -> Result<Option<(&'static [u8], Answered)>, ListenFault> {
+    fn accept(&mut self) -> Result<Option<(&'static [u8], AnswerChecker)>, ListenFault> {
         let clients = Arc::try_clone(&self.clients).map_err(|_| ListenFault)?;
         self.clients.accepted.fetch_add(1, Ordering::SeqCst);
-        Ok(Some((&ASKED, Answered { clients, at: 0 })))
+        Ok(Some((&ASKED, AnswerChecker { clients, at: 0 })))
     }
 }
 

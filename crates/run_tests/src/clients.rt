@@ -40,13 +40,13 @@ impl Line {
 
 /// A client's output stream, which compares each byte with the expected one.
 #[derive(Drop)]
-pub(crate) struct Answered {
+pub(crate) struct AnswerChecker {
     line: Arc<Line, Global>,
     expected: Vec<u8>,
     at: usize,
 }
 
-impl Write for Answered {
+impl Write for AnswerChecker {
     fn write(&mut self, bytes: &[u8]) -> io::Result<usize> {
         for byte in bytes {
             let is_right = self.expected.as_slice().get(self.at) == Some(byte);
@@ -67,7 +67,7 @@ impl Write for Answered {
 }
 
 /// Counts the sessions whose input ended between two frames.
-impl Observer for Answered {
+impl Observer for AnswerChecker {
     fn on_session_end(&self, end: &Result<SessionEnd, ServeFault>) {
         if *end == Ok(SessionEnd::Closed) {
             self.line.closed.fetch_add(1, Ordering::SeqCst);
@@ -76,7 +76,7 @@ impl Observer for Answered {
 }
 
 /// A client: what it sends, and what it is expected to receive.
-pub(crate) type Client = (Cursor<Vec<u8>>, Answered);
+pub(crate) type Client = (Cursor<Vec<u8>>, AnswerChecker);
 
 /// Returns a client that sends the first text and expects the second one.
 pub(crate) fn client(
@@ -84,7 +84,7 @@ pub(crate) fn client(
     asked: Vec<u8>,
     expected: Vec<u8>,
 ) -> Result<Client, AllocError> {
-    let answered = Answered {
+    let answered = AnswerChecker {
         line: Arc::try_clone(line)?,
         expected,
         at: 0,
@@ -116,7 +116,7 @@ impl ClientListener {
 impl Listener for ClientListener {
     type Input = Cursor<Vec<u8>>;
 
-    type Output = Answered;
+    type Output = AnswerChecker;
 
     ghost has_failed = { λ listener. IsTrue listener.has_failed };
 

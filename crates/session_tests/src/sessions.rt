@@ -203,7 +203,7 @@ pub(crate) fn run(alloc: Global, plan: &Plan, input: &[u8]) -> Result<Ran, Alloc
 }
 
 /// Returns whether a session with the input gives this output and this end.
-pub(crate) fn gives(
+pub(crate) fn has_output(
     alloc: Global,
     plan: &Plan,
     input: &[u8],
@@ -218,7 +218,7 @@ pub(crate) fn gives(
 
 /// Returns whether a session gives this output and this end, with the input in one piece and byte
 /// by byte.
-pub(crate) fn gives_both(
+pub(crate) fn has_output_either_way(
     alloc: Global,
     password: &'static str,
     input: &[u8],
@@ -231,8 +231,8 @@ pub(crate) fn gives_both(
         ..BY_BYTES
     };
     Ok(
-        gives(alloc, &whole, input, output, Ok(end))?
-            && gives(alloc, &by_bytes, input, output, Ok(end))?,
+        has_output(alloc, &whole, input, output, Ok(end))?
+            && has_output(alloc, &by_bytes, input, output, Ok(end))?,
     )
 }
 
@@ -468,7 +468,7 @@ fn is_talked(
     end: SessionEnd,
 ) -> Result<bool, Fail> {
     let texts = texts_of(alloc, talk)?;
-    let is_so = gives_both(
+    let is_so = has_output_either_way(
         alloc,
         password,
         texts.asked.as_slice(),
@@ -626,7 +626,7 @@ fn is_cut(alloc: Global, opening: &[u8], size: usize) -> Result<bool, AllocError
     } else {
         SessionEnd::Cut
     };
-    gives(
+    has_output(
         alloc,
         &AMPLE,
         &opening[..size.min(opening.len())],
@@ -680,7 +680,7 @@ fn fails_after(
     fault: ServeFault,
 ) -> Result<bool, AllocError> {
     let written = front(texts.answered.as_slice(), size);
-    gives(alloc, plan, texts.asked.as_slice(), written, Err(fault))
+    has_output(alloc, plan, texts.asked.as_slice(), written, Err(fault))
 }
 
 /// Returns the number of bytes that are written before read number `read` fails, byte by byte.

@@ -1,7 +1,7 @@
 //! Sessions with block transfers: long object lists and script tables, wrong block numbers, and cut
 //! or changed frames.
 use crate::sessions::{
-    AMPLE, BY_BYTES, MANAGEMENT, PUBLIC_AARQ, SMALL, front, gives, gives_both, push_payload, run,
+    AMPLE, BY_BYTES, MANAGEMENT, PUBLIC_AARQ, SMALL, front, has_output, has_output_either_way, push_payload, run,
 };
 use session_core::SessionEnd;
 use std::alloc::{AllocError, Global};
@@ -228,7 +228,7 @@ impl Talk {
         } else {
             SessionEnd::Cut
         };
-        gives_both(
+        has_output_either_way(
             alloc,
             "12345678",
             front(self.input.as_slice(), size),
@@ -562,7 +562,7 @@ fn is_alike(alloc: Global, text: &[u8]) -> Result<bool, AllocError> {
     let end = Ok(SessionEnd::Closed);
     let whole = run(alloc, &AMPLE, text)?;
     let is_answered = whole.result == end && !whole.bytes.is_empty();
-    let is_same = gives(alloc, &BY_BYTES, text, whole.bytes.as_slice(), end);
+    let is_same = has_output(alloc, &BY_BYTES, text, whole.bytes.as_slice(), end);
     drop(whole);
     Ok(is_same? && is_answered)
 }

@@ -6,7 +6,7 @@ ghost use Rattle.turn_lock.specs.Trials.{FollowsCall};
 
 pub(crate) mod counter;
 
-use counter::{Bump, Counter, Gate, Gated, Moody, Wish};
+use counter::{Bump, Counter, Gate, Gated, RefusingCounter, Wish};
 use std::alloc::{AllocError, Global};
 use std::sync::{Arc, Wait};
 use std::test::Fail;
@@ -126,7 +126,7 @@ fn exhausts_three_ports(rt: HostRuntime) -> Result<(), Fail> {
     Ok(())
 }
 
-fn ask_moody<W: Wait>(rt: &W, alloc: Global, port: &mut Port<Moody>) -> [Answer; 4]
+fn ask_moody<W: Wait>(rt: &W, alloc: Global, port: &mut Port<RefusingCounter>) -> [Answer; 4]
     ensures { port.new.lock ≡ port.old.lock }
 {
     [
@@ -137,9 +137,9 @@ fn ask_moody<W: Wait>(rt: &W, alloc: Global, port: &mut Port<Moody>) -> [Answer;
     ]
 }
 
-// Returns the results of the calls on a moody counter, and its count when the lock is closed.
+// Returns the results of the calls on a refusing counter, and its count when the lock is closed.
 fn call_moody<W: Wait>(rt: &W, alloc: Global) -> Result<([Answer; 4], Option<u64>), AllocError> {
-    let (shared, mut port) = Shared::new(alloc, Moody::new(), 3).map_err(|_| AllocError)?;
+    let (shared, mut port) = Shared::new(alloc, RefusingCounter::new(), 3).map_err(|_| AllocError)?;
     let answers = ask_moody(rt, alloc, &mut port);
     match shared.close(port) {
         Ok(value) => {

@@ -138,7 +138,7 @@ impl Turned for Gated {
     ghost is_legal = { λ _ _ s. s.0 };
 }
 
-/// An event of the moody counter.
+/// An event of the refusing counter.
 #[derive(Clone, Copy)]
 pub(super) enum Wish {
     Bump,
@@ -147,19 +147,19 @@ pub(super) enum Wish {
 
 /// A counter that returns `AllocError` for the event `Refuse`.
 #[derive(Drop)]
-pub(super) struct Moody {
+pub(super) struct RefusingCounter {
     pub(super) count: u64,
 }
 
-impl Moody {
-    pub(super) fn new() -> Moody
+impl RefusingCounter {
+    pub(super) fn new() -> RefusingCounter
         ensures { result.count ≡ 0 }
     {
-        Moody { count: 0 }
+        RefusingCounter { count: 0 }
     }
 }
 
-impl Turned for Moody {
+impl Turned for RefusingCounter {
     ghost use Rattle.thread_tests.specs.declared.locks.counter.Wish.TheVariants.{Bump};
 
     type Event = Wish;
