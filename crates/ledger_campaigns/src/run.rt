@@ -84,7 +84,7 @@ pub fn run_ledgered_campaign<
     drop(rounds);
     meet_all(&mut port, places.as_mut_slice());
     // (no effect: the contract needs these laws)
-    port.has_a_legal_history();
+    port.history_is_legal();
     grants_add_up::<B>();
     let ledger = close(shared, port);
     Ok(LedgeredRun {

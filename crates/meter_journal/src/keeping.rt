@@ -39,7 +39,7 @@ pub(crate) fn keep_lines<F: DurableFile, W: Wait>(
         (IsSavedFrom F.renews 0 (lines_in (F.seen file.old)) port.new.known.seen) }
 {
     // (no effect: the contract needs this law)
-    port.has_a_legal_history();
+    port.history_is_legal();
     let mut saved = Saved { count: 0, room };
     'saving: for _ in rt.forever() {
         let seen = progress.requests();

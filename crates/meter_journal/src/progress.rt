@@ -87,7 +87,7 @@ impl<F: DurableFile> JournalProgress<F> {
         ensures { OnOk result (F.acts_as_file → IsStored F.renews F.stored 0) }
     {
         // (no effect: the contract needs this law)
-        port.has_a_legal_history();
+        port.history_is_legal();
         let _file = file;
         let state = ProgressState {
             lines: AtomicIn::new(0),

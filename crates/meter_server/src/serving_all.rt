@@ -319,7 +319,7 @@ pub fn serve_all_journaled<
     let events = (blocks, (moments, presses));
     let served = serve_with_three(rt, alloc, listener, events, &mut port, terms);
     // (no effect: the contract needs this law)
-    port.has_a_legal_history();
+    port.history_is_legal();
     match served {
         Ok(served) => Ok((port, served)),
         Err(fault) => Err((port, fault)),

@@ -139,6 +139,6 @@ where
     let accepted = accept_all(rt, alloc, listener, &mut sessions, port, limit);
     sessions.close_all(rt, port);
     // (no effect: the contract needs this law)
-    port.has_a_legal_history();
+    port.history_is_legal();
     Ok(accepted)
 }

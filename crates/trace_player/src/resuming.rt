@@ -39,7 +39,7 @@ pub fn resume_recorder(alloc: Global, trace: &Trace, capacity: u16) -> Result<Re
     ensures continues_run { ContinuesRun trace.now (world_of trace.now) }
 {
     // (no effect: the contract needs this law)
-    has_range(&trace.opening);
+    opening_has_range(&trace.opening);
     let mut core = RelayCore::from_fit_opening(alloc, &trace.opening)?;
     match take_events(alloc, &mut core, trace.events.as_slice()) {
         Ok(()) => Recorder::from_core(alloc, core, capacity),
@@ -61,7 +61,7 @@ fn limiter_has_range(opening: &LimiterOpening)
 // Proves that the durations of a core's saved state are numbers of 32 bits, including those in the
 // steps of its scripts.
 #[tactic(auto, using(crate::proofs::ScriptRanges::scripts_in_range))]
-fn has_range(opening: &Opening)
+fn opening_has_range(opening: &Opening)
     ensures { IsWorld (world_of_opening opening.now) }
 {
     limiter_has_range(&opening.import);

@@ -64,7 +64,7 @@ impl<T: Turned> Model for Note<T> {
 impl<T: Turned> Port<T> {
     /// Proves that the port has the lock's origin and has seen a history that is legal from it.
     /// Does nothing at run time.
-    pub fn has_a_legal_history(&self)
+    pub fn history_is_legal(&self)
         ensures { IsLegal T.legal self.now.known }
     {
         let _bound = self.bound;

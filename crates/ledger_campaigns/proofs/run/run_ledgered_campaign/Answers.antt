@@ -47,7 +47,7 @@ returns-clause-run g c =
     (λ i below is. permits_kept c.run_places.new.places (λ p. p.port.known.seen)
     c.meet_all.new.port.known.seen (rw met at c.meet_all.ensures.seen) i
     (omega (arith, count, below, c.in_ok-places.ensures.count, c.len.ensures.count)) is)
-    c.has_a_legal_history.ensures c.close-ledger.ensures))
+    c.history_is_legal.ensures c.close-ledger.ensures))
 
 pub returns-clause-safe : goal.returns-clause-safe
 returns-clause-safe g c =

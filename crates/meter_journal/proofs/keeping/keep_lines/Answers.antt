@@ -8,7 +8,7 @@ pub saving-init : goal.saving-init
 saving-init g c =
     let D = g.F.DurableFile in
     run_begins D.acts_as_file D.seen D.may_leave D.stored D.moment D.left_since D.renews
-    c.args.file.now c.args.port.now c.has_a_legal_history.ensures
+    c.args.file.now c.args.port.now c.history_is_legal.ensures
     (g.met.F.DurableFile.only_now c.args.file.now)
     c.requires.settled
 

@@ -5,4 +5,4 @@ pub new-requires : goal.new-requires
 new-requires g c =
     let D = g.F.DurableFile in
     λ acts. stored_none D.seen D.may_leave D.stored D.renews c.args.file.now c.args.port.now
-    c.has_a_legal_history.ensures (c.requires acts)
+    c.history_is_legal.ensures (c.requires acts)
