@@ -14,7 +14,7 @@ mod field;
 mod moment;
 mod time;
 
-pub use calendar::calendar_laws;
+pub use calendar::{CivilDate, FIRST_DAY_OF_2000, SECONDS_OF_DAY, calendar_laws, date_of_day};
 pub use date::{DatePattern, DayOfMonth, read_date};
 pub use date_time::{DateTimeField, read_date_time};
 pub use entry::EntryPattern;

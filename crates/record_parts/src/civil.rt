@@ -1,44 +1,14 @@
-//! Writes a second as a civil date and time. `jiff` computes the date.
+//! Writes a second as a civil date and time.
 ghost use Rattle.std.specs.Prelude.{◌≡◌, ◌≤◌, ◌++◌, IfOk, OnOk, string_bytes};
 ghost use Rattle.cosem_datetime.specs.Calendar.{date_of_day};
 ghost use Rattle.record_parts.specs.Civil.{civil_text, date_text, time_text, two_digits};
 
 use crate::text::text_of;
-use jiff::civil::Date;
-use jiff_core::civil;
+use cosem_datetime::{SECONDS_OF_DAY, date_of_day};
 use std::alloc::{AllocError, Global};
-
-// A date of the calendar.
-#[derive(Clone, Copy, Debug)]
-struct CalendarDate {
-    year: u16,
-    month: u8,
-    day: u8,
-}
-
-// The number of seconds of a day.
-const SECONDS_OF_DAY: u32 = 86_400;
-
-// The number of days from `jiff`'s first day to 1 January of the year 0.
-const DAYS_BEFORE_YEAR_0: u32 = 3_652_059;
 
 // The number of bytes of a date and time.
 const BYTES: usize = 19;
-
-// Returns the date of a day, counted from 1 January of the year 0.
-fn date_of_day(day: u32) -> CalendarDate
-    requires { day ≤ 1_000_000 }
-    ensures year { result.year ≡ (date_of_day day).year }
-    ensures month { result.month ≡ (date_of_day day).month }
-    ensures day { result.day ≡ (date_of_day day).day }
-{
-    let date = Date::from_plain(civil::Date::from_days_since_min(day + DAYS_BEFORE_YEAR_0)).to_plain();
-    CalendarDate {
-        year: date.year as u16,
-        month: date.month,
-        day: date.day,
-    }
-}
 
 // Appends the tens and the ones of a number.
 fn add_two_digits(out: &mut Vec<u8>, number: u32) -> Result<(), AllocError>

@@ -3,11 +3,9 @@ ghost use Rattle.std.specs.Prelude.{◌≡◌, IfOk, option_map, string_bytes};
 ghost use Rattle.cosem_datetime.specs.Calendar.{first_day_of_2000};
 ghost use Rattle.record_parts.specs.Civil.{civil_text};
 
+use cosem_datetime::FIRST_DAY_OF_2000;
 use record_parts::civil_text;
 use std::alloc::{AllocError, Global};
-
-// 1 January 2000, as the number of days since 1 January of the year 0.
-const FIRST_DAY: u32 = 730_485;
 
 // Returns a moment, if there is one, as a civil date and time. A moment is in seconds since
 // 2000-01-01 00:00:00 of the meter's time.
@@ -17,7 +15,7 @@ pub(crate) fn civil_time(alloc: Global, moment: Option<u32>) -> Result<Option<St
         ≡ option_map (civil_text first_day_of_2000) moment) }
 {
     match moment {
-        Some(moment) => Ok(Some(civil_text(alloc, FIRST_DAY, moment)?)),
+        Some(moment) => Ok(Some(civil_text(alloc, FIRST_DAY_OF_2000, moment)?)),
         None => Ok(None),
     }
 }
