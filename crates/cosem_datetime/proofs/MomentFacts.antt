@@ -99,9 +99,10 @@ too_late f c s d e h lt =
       years_to 10000 c.year (omega arith),
       days_to_10000,
     ) in
+    let deviation = least_deviation f.deviation d in
     let none = past_u32 (seconds_since c s f.deviation)
-    (late_seconds (day_count c) s first_day_of_2000 (unwrap_or f.deviation (pos 0)) late first_day_is
-    (least_deviation f.deviation d)) in
+    (late_seconds (day_count c) s first_day_of_2000 (unwrap_or f.deviation (pos 0)) late
+    first_day_is deviation) in
     all_given f c s e h ∙ at_if (λ o. o ≡ None) (is_right_date f.date c) _ _ (λ _. none) (λ _. refl)
 
 -- the last steps, without the casts

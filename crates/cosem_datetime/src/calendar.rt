@@ -34,7 +34,9 @@ pub fn date_of_day(day: u32) -> CivilDate
     ensures year { result.year ≤ 9999 }
     ensures day { result.day ≤ 31 }
 {
-    let date = Date::from_plain(civil::Date::from_days_since_min(day + DAYS_BEFORE_YEAR_0)).to_plain();
+    let date = Date::from_plain(civil::Date::from_days_since_min(
+        day + DAYS_BEFORE_YEAR_0,
+    )).to_plain();
     CivilDate {
         year: date.year as u16,
         month: date.month,

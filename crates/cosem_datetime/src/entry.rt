@@ -25,7 +25,8 @@ impl EntryPattern {
     pub fn matches(&self, second: u32) -> bool
         ensures { result ≡ matches self.now second }
     {
-        self.date.matches_day(FIRST_DAY_OF_2000 + second / SECONDS_OF_DAY)
+        self.date
+            .matches_day(FIRST_DAY_OF_2000 + second / SECONDS_OF_DAY)
             && self.time.matches_second(second % SECONDS_OF_DAY)
     }
 

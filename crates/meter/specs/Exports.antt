@@ -1,10 +1,10 @@
 -- What the exported functions do to the meter of a handle, and what they return.
---     OnOpen                   a call on an open meter, or the result `NotOpen`
---     MeterOpen, MeterResume      a meter is opened, new or from a trace
---     MeterOpenSession .. MeterCloseSession     the calls on a session
---     MeterPress .. MeterMoment    the meter's own events
---     MeterControlState .. MeterLastMoment      reads of the meter's state
---     MeterExport               the trace is written
+--     OnOpen                                     a call on an open meter, or the result `NotOpen`
+--     MeterOpen, MeterResume                     a meter is opened, new or from a trace
+--     MeterOpenSession .. MeterCloseSession      the calls on a session
+--     MeterPress .. MeterMoment                  the meter's own events
+--     MeterControlState .. MeterLastMoment       reads of the meter's state
+--     MeterExport                                the trace is written
 use Rattle.std.specs.Prelude.{◌≡◌, ◌⊎◌, ◌≤◌, ◌<◌, ◌++◌, ℕ, Bool, Option, Some, None, List, [], ◌∷◌, length, drop, Result, Ok, Err}
 use Rattle.cosem_names.specs.ResultCode as result_code
 use Rattle.cosem_names.specs.declared.result_code.ResultCode.{ResultCode}
@@ -82,8 +82,8 @@ pub record IsNoTrace (text : List ℕ) : Type 0 where
 abbrev pub ResumeOutcome : List ℕ → List ℕ → ℕ → Option MeterState → CallResult → Option MeterState
     → Type 0
 ResumeOutcome text password kept None outcome.Done (Some m) = Resumes text password kept m
-ResumeOutcome text password kept None outcome.WrongArgument None = (¬ (AreFit (0 ∷ []) password kept))
-    ⊎ IsNoTrace text
+ResumeOutcome text password kept None outcome.WrongArgument None =
+    (¬ (AreFit (0 ∷ []) password kept)) ⊎ IsNoTrace text
 ResumeOutcome text password kept None outcome.NoMemory None = AreFit (0 ∷ []) password kept
 ResumeOutcome text password kept None _ new = ⊥
 ResumeOutcome text password kept (Some m) outcome.IsOpen new = new ≡ Some m
@@ -106,7 +106,8 @@ pub record ReturnsOutcome (does : Result Unit MeterFault → Type 0) (code : ℕ
 
 -- whether `meter_open_session` returned this code on an open meter and left this one
 abbrev pub MeterOpenSession : ℕ → MeterState → ℕ → MeterState → Type 0
-MeterOpenSession session m code m' = ReturnsOutcome (λ (r : Result Unit MeterFault). OpensBy m session r m') code
+MeterOpenSession session m code m' =
+    ReturnsOutcome (λ (r : Result Unit MeterFault). OpensBy m session r m') code
 
 -- whether `meter_feed` returned this code on an open meter and left this one, with the bytes that
 -- the session received
@@ -122,7 +123,8 @@ MeterFinish session m code m' =
 
 -- whether `meter_close_session` returned this code on an open meter and left this one
 abbrev pub MeterCloseSession : ℕ → MeterState → ℕ → MeterState → Type 0
-MeterCloseSession session m code m' = ReturnsOutcome (λ (r : Result Unit MeterFault). ClosesBy m session r m') code
+MeterCloseSession session m code m' =
+    ReturnsOutcome (λ (r : Result Unit MeterFault). ClosesBy m session r m') code
 
 -- the outcome of `meter_next`
 abbrev pub next_outcome : Result Given MeterFault → CallResult
@@ -206,11 +208,13 @@ pub record OnlyReads (code : ℕ) (m m' : MeterState) (tells : World → Type 0)
 -- whether `meter_control_state` returned the number of control_state (class 70, attribute 3): 0
 -- disconnected, 1 connected, 2 ready for reconnection
 abbrev pub MeterControlState : ℕ → MeterState → ℕ → MeterState → Type 0
-MeterControlState state m code m' = OnlyReads code m m' (λ (w : World). state ≡ state_number w.control.state)
+MeterControlState state m code m' =
+    OnlyReads code m m' (λ (w : World). state ≡ state_number w.control.state)
 
 -- whether `meter_control_mode` returned the number of control_mode (class 70, attribute 4), 0 to 6
 abbrev pub MeterControlMode : ℕ → MeterState → ℕ → MeterState → Type 0
-MeterControlMode mode m code m' = OnlyReads code m m' (λ (w : World). mode ≡ mode_number w.control.mode)
+MeterControlMode mode m code m' =
+    OnlyReads code m m' (λ (w : World). mode ≡ mode_number w.control.mode)
 
 -- whether `meter_supply` returned that the supply is on, which it is exactly if control_state
 -- (class 70, attribute 3) is Connected
@@ -231,7 +235,8 @@ moment_of (Some moment) = moment
 -- whether `meter_last_moment` returned this code and this moment, and changed nothing
 pub record MeterLastMoment (moment : ℕ) (m : MeterState) (code : ℕ) (m' : MeterState) : Type 0 where
   pub same : m' ≡ m
-  pub returns : (w : World) → StandsFor m.recorder.core w → code ≡ code_of (last_moment_outcome w.moment)
+  pub returns : (w : World) → StandsFor m.recorder.core w
+      → code ≡ code_of (last_moment_outcome w.moment)
   pub value : (w : World) → StandsFor m.recorder.core w → moment ≡ moment_of w.moment
 
 -- ---- the trace

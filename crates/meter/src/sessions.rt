@@ -13,7 +13,8 @@ use std::alloc::Global;
 /// Opens a session with a number of 0 to 7.
 #[unsafe(no_mangle)]
 pub extern "C" fn meter_open_session(alloc: Global, meter: &mut MeterHandle, session: u8) -> u32
-    ensures { OnOpen Unit (MeterOpenSession session) meter.old.slot.held result meter.new.slot.held }
+    ensures { OnOpen Unit (MeterOpenSession session) meter.old.slot.held result
+        meter.new.slot.held }
 {
     let Some(mut held) = meter.take(alloc) else {
         return CallResult::NotOpen.code();
@@ -31,7 +32,8 @@ pub extern "C" fn meter_feed(
     session: u8,
     bytes: &[u8],
 ) -> u32
-    ensures { OnOpen Unit (MeterFeed session bytes.now) meter.old.slot.held result meter.new.slot.held }
+    ensures { OnOpen Unit (MeterFeed session bytes.now) meter.old.slot.held result
+        meter.new.slot.held }
 {
     let Some(mut held) = meter.take(alloc) else {
         return CallResult::NotOpen.code();
@@ -81,7 +83,8 @@ pub extern "C" fn meter_next(
 /// Closes a session.
 #[unsafe(no_mangle)]
 pub extern "C" fn meter_close_session(alloc: Global, meter: &mut MeterHandle, session: u8) -> u32
-    ensures { OnOpen Unit (MeterCloseSession session) meter.old.slot.held result meter.new.slot.held }
+    ensures { OnOpen Unit (MeterCloseSession session) meter.old.slot.held result
+        meter.new.slot.held }
 {
     let Some(mut held) = meter.take(alloc) else {
         return CallResult::NotOpen.code();

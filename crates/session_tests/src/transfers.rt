@@ -1,7 +1,8 @@
 //! Sessions with block transfers: long object lists and script tables, wrong block numbers, and cut
 //! or changed frames.
 use crate::sessions::{
-    AMPLE, BY_BYTES, MANAGEMENT, PUBLIC_AARQ, SMALL, front, has_output, has_output_either_way, push_payload, run,
+    AMPLE, BY_BYTES, MANAGEMENT, PUBLIC_AARQ, SMALL, front, has_output, has_output_either_way,
+    push_payload, run,
 };
 use session_core::SessionEnd;
 use std::alloc::{AllocError, Global};

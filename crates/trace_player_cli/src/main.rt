@@ -8,14 +8,14 @@ ghost use Rattle.std.specs.Prelude.{◌≡◌};
 ghost use Rattle.trace_player_cli.specs.Faults.{fault_of};
 
 mod arguments;
+mod messages;
 mod opening;
 mod options;
-mod messages;
 
 use crate::arguments::command_line;
+use crate::messages::{report_fault, report_left_out};
 use crate::opening::report_not_opened;
 use crate::options::{Options, is_in_order, options_of};
-use crate::messages::{report_fault, report_left_out};
 use clap::error::ErrorKind;
 use counted_io::{Counted, read_to_end_within};
 use program::{Fault, exit_code, print_help_or_error, read_arguments};

@@ -30,5 +30,6 @@ csv_head with_events =
 abbrev pub csv_line : Fields → List ℕ
 csv_line r =
     row_text default_writer (decimal r.number ∷ r.reply ∷ decimal r.state ∷ supply_text r.output
-    ∷ column (option_map decimal r.moment) ∷ column (option_map (civil_text first_day_of_2000) r.moment)
+    ∷ column (option_map decimal r.moment)
+    ∷ column (option_map (civil_text first_day_of_2000) r.moment)
     ∷ last_column r.event)

@@ -24,7 +24,8 @@ plain_members r =
     member (codes "reply") (string r.reply) (
     member (codes "state") (number (unsigned r.state)) (
     member (codes "supply") (string (supply_text r.output)) (
-    member (codes "time") (nullable (option_map (λ n. string (civil_text first_day_of_2000 n)) r.moment)) (
+    member (codes "time")
+    (nullable (option_map (λ n. string (civil_text first_day_of_2000 n)) r.moment)) (
     no_members))))))
 
 -- a record as a JSON object, whose members are in the order of their keys
