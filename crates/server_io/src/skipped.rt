@@ -4,7 +4,7 @@ use std::fmt;
 // The maximum number of bytes of a line that a message quotes.
 const MAX_QUOTED: usize = 60;
 
-/// Why a line of the console is skipped.
+// Why a line of the console is skipped.
 #[derive(Clone, Copy, Debug, PartialEq, Eq)]
 pub(crate) enum SkipReason {
     // It begins with another word than an event of the meter itself.
@@ -50,8 +50,8 @@ fn expected(reason: SkipReason) -> &'static str {
     }
 }
 
-/// The number of lines that were skipped, by reason; each number stops at 2^64 - 1. Empty lines are
-/// not counted.
+// The number of lines that were skipped, by reason; each number stops at 2^64 - 1. Empty lines are
+// not counted.
 #[derive(Clone, Copy, Debug, PartialEq, Eq)]
 pub(crate) struct SkippedLines {
     is_verbose: bool,
