@@ -101,6 +101,7 @@ pub extern "C" fn meter_moment(
     tick_outcome(tick).code()
 }
 
+// Returns the firings after an error: all 0.
 fn no_firings() -> Firings
     ensures { result ≡ firings_of no_fired }
 {
@@ -127,6 +128,7 @@ fn firings_of(sampled: Result<Fired, MeterFault>) -> Firings
     }
 }
 
+// Returns the result for C of a block of samples.
 fn sampled_outcome(sampled: Result<Fired, MeterFault>) -> CallResult
     ensures { result ≡ samples_outcome sampled }
 {
@@ -146,6 +148,7 @@ fn tick_outcome(tick: Tick) -> CallResult
     }
 }
 
+// Returns the number of schedules that a moment ran, or 0 if it was stale.
 fn ran_schedules(tick: Tick) -> u8
     ensures { result ≡ run_count_of tick }
 {

@@ -131,6 +131,7 @@ fn given_length(given: Result<Given, MeterFault>) -> usize
     }
 }
 
+// Returns the result for C of the end of a session.
 fn end_outcome(end: SessionEnd) -> CallResult
     ensures { result ≡ of_end end }
 {

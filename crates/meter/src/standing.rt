@@ -77,6 +77,7 @@ fn moment_or_zero(last: Option<u32>) -> u32
     }
 }
 
+// Returns the outcome of reading the last moment: done, or that there was none.
 fn moment_outcome(last: Option<u32>) -> CallResult
     ensures { result ≡ last_moment_outcome last }
 {

@@ -169,8 +169,8 @@ pub record Round : Type 0 where
   pub has_more : Bool
   pub services : List Service
 
--- between two rounds: what the network has reported, the fleet, the connections that may continue
--- at once, and whether clients may be waiting
+-- The state of the loop between two rounds: what the network has reported, the fleet, the
+-- connections that may continue at once, and whether clients may be waiting.
 pub record LoopState : Type 0 where
   pub log : Option (List NetworkEvent)
   pub fleet : FleetState

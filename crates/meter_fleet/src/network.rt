@@ -24,6 +24,7 @@ pub enum NextClient<S> {
 /// A network that reports which connections are ready. It reports each change once: a connection
 /// is ready again after it has blocked.
 pub trait Network {
+    /// The stream of a connection.
     type Stream: Stream + Drop;
 
     // Ghost value: what the network has reported so far, if that is known.

@@ -125,7 +125,7 @@ fn program<'a>(alloc: Global) -> Result<Command<'a>, AllocError> {
     Ok(program)
 }
 
-/// Returns the command line of the program.
+// Returns the command line of the program.
 pub(crate) fn command_line<'a>(alloc: Global) -> Result<Command<'a>, AllocError> {
     with_subcommand(program(alloc), serve_command(alloc))
 }

@@ -107,8 +107,8 @@ fn report_address(rt: &HostRuntime, sockets: &FleetSockets) {
     }
 }
 
-/// Serves the clients of the meters until that fails. Errors: `Input` if the password, the trace or
-/// the address is not valid, `Read`, `Listen`, `Memory`.
+// Serves the clients of the meters until that fails. Errors: `Input` if the password, the trace or
+// the address is not valid, `Read`, `Listen`, `Memory`.
 pub(crate) fn serve<N: Net + Wait>(
     rt: &HostRuntime,
     net: &N,

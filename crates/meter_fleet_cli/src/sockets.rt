@@ -17,7 +17,7 @@ const LISTENER: Token = Token(usize::MAX);
 // The maximum number of events that are taken at once.
 const MAX_EVENTS: usize = 1_024;
 
-/// A connection of a client, and two flags that change when it blocks and when it ends.
+// A connection of a client, and two flags that change when it blocks and when it ends.
 #[derive(Drop)]
 pub(crate) struct Socket {
     stream: TcpStream,
@@ -64,7 +64,7 @@ impl Stream for Socket {
     }
 }
 
-/// The listening socket and the connections of a fleet.
+// The listening socket and the connections of a fleet.
 #[derive(Drop)]
 pub(crate) struct FleetSockets {
     poll: Poll,
@@ -73,7 +73,7 @@ pub(crate) struct FleetSockets {
 }
 
 impl FleetSockets {
-    /// Listens on an address.
+    // Listens on an address.
     pub(crate) fn bind(
         net: &impl Net,
         alloc: Global,
@@ -91,7 +91,7 @@ impl FleetSockets {
         })
     }
 
-    /// Returns the address that it listens on.
+    // Returns the address that it listens on.
     pub(crate) fn local_addr(&self) -> io::Result<SocketAddr> {
         self.listener.local_addr()
     }

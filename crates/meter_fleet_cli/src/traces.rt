@@ -37,7 +37,7 @@ events 0
 // The digits of the control modes.
 const MODES: &[u8; 7] = b"0123456";
 
-/// Returns the trace of a new meter in a control mode of 0 to 6.
+// Returns the trace of a new meter in a control mode of 0 to 6.
 pub(crate) fn trace_in_mode(alloc: Global, mode: u8) -> Result<Octets, AllocError> {
     let mut trace = Octets::new(alloc);
     trace.extend_from_slice(TRACE_START)?;
@@ -57,8 +57,8 @@ fn read_file(rt: &HostRuntime, path: &str) -> Result<Octets, InputFault> {
     Ok(Octets::from_vec(text))
 }
 
-/// Returns the text of the file that meters resume from. Errors: `Read`, with a line on standard
-/// error; `Input` if it is too long; `Memory`.
+// Returns the text of the file that meters resume from. Errors: `Read`, with a line on standard
+// error; `Input` if it is too long; `Memory`.
 pub(crate) fn read_trace_file(rt: &HostRuntime, path: &str) -> Result<Octets, Fault> {
     match read_file(rt, path) {
         Ok(text) => Ok(text),
@@ -71,7 +71,7 @@ pub(crate) fn read_trace_file(rt: &HostRuntime, path: &str) -> Result<Octets, Fa
     }
 }
 
-/// Reports on standard error why a file is not a trace, and returns the program's fault.
+// Reports on standard error why a file is not a trace, and returns the program's fault.
 pub(crate) fn report_wrong_trace(rt: &HostRuntime, path: &str, fault: TraceFault) -> Fault {
     if fault == TraceFault::Memory {
         return Fault::Memory;

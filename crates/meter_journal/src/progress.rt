@@ -13,11 +13,11 @@ use std::sync::{Arc, Condvar, Wait};
 use std::time::Duration;
 use turn_lock::Port;
 
-/// The time after which the worker looks for lines that no session waits for, in milliseconds.
+// The time after which the worker looks for lines that no session waits for, in milliseconds.
 const PERIOD: u64 = 50;
 
-/// The time after which a session looks again at the number of lines, in milliseconds. It is woken
-/// when the number changes.
+// The time after which a session looks again at the number of lines, in milliseconds. It is woken
+// when the number changes.
 const PATIENCE: u64 = 1_000;
 
 // The rule of the number of lines on the disk: a sync of a file of this type returned while the

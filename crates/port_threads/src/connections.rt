@@ -14,8 +14,10 @@ use thiserror::Error;
 /// these terms does with the port: for [`serve_connections`](crate::serve_connections) it must
 /// imply `IsSame` of turn_lock.
 pub trait PortConnection<P>: Drop + Send {
+    /// Ghost value: the terms on which the peer is served, as bytes.
     ghost terms: { Self → List ℕ } = { λ _. [] };
 
+    /// Ghost relation: what a session on these terms does with its port.
     ghost hands_back: { List ℕ → P → P → Type 0 };
 
     /// Serves the peer to the end, closes the connection, and returns the port.
@@ -44,6 +46,7 @@ pub struct ListenFault;
 
 /// A source of connections.
 pub trait ConnectionSource<P> {
+    /// A connection that the source accepts.
     type Connection: PortConnection<P> + 'static;
 
     /// Ghost predicate: the listener has failed. The default claims nothing.

@@ -16,6 +16,7 @@ pub(crate) struct Flags {
 }
 
 impl Flags {
+    // Returns cleared flags for all places.
     pub(crate) fn new() -> Flags {
         Flags {
             ended: new_flags(),
@@ -38,6 +39,7 @@ impl Flags {
         self.ended[key].store(true, Ordering::SeqCst);
     }
 
+    // Returns whether the session at this place has ended.
     pub(crate) fn has_ended(&self, key: usize) -> bool
         requires { key < SESSIONS }
     {
@@ -51,6 +53,7 @@ impl Flags {
         self.refused[key].store(true, Ordering::SeqCst);
     }
 
+    // Returns whether no thread could be started for the session at this place.
     pub(crate) fn is_refused(&self, key: usize) -> bool
         requires { key < SESSIONS }
     {

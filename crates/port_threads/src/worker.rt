@@ -20,6 +20,7 @@ pub trait Worker<P>: Drop + Send {
     ghost use Rattle.std.specs.Prelude.{Result};
     ghost use Rattle.turn_lock.specs.declared.call_fault.CallFault.{CallFault};
 
+    /// Ghost relation: what the worker did with its port, and its result.
     ghost did: { Self → P → P → Result Unit CallFault → Type 0 };
 
     /// Works until nothing is left to do or a call is refused, and returns the port and the result.

@@ -1,5 +1,5 @@
-//! The beginning and the end of each program: the words of its command line, a command line without
-//! work, the word of the line `fault: WORD` on standard error, and the exit status.
+//! How each program begins and ends: the words of its command line, one that asks only for help or
+//! is wrong, the word of the line `fault: WORD` on standard error, and the exit status.
 #![tactic(auto)]
 
 mod fault;

@@ -24,13 +24,21 @@ pub(crate) struct Address {
 // A listed step without the value that it writes.
 #[derive(Clone, Copy, Debug, PartialEq, Eq)]
 pub(crate) enum Action {
+    // Writes control_mode (class 70, attribute 4).
     Mode,
+    // Writes threshold_normal (class 71, attribute 4) of a limiter.
     Normal(Which),
+    // Writes threshold_emergency (class 71, attribute 5) of a limiter.
     Emergency(Which),
+    // Writes min_over_threshold_duration (class 71, attribute 6) of a limiter.
     MinOver(Which),
+    // Writes min_under_threshold_duration (class 71, attribute 7) of a limiter.
     MinUnder(Which),
+    // Writes emergency_profile (class 71, attribute 8) of a limiter.
     Profile(Which),
+    // Executes remote_disconnect (class 70, method 1).
     Disconnect,
+    // Executes remote_reconnect (class 70, method 2).
     Reconnect,
 }
 

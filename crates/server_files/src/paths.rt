@@ -2,10 +2,10 @@
 use durable_lines::PlacePaths;
 use std::alloc::{AllocError, Global};
 
-// What follows the path of the journal in that of its lock file.
+// The suffix of the path of a journal's lock file.
 pub(crate) const LOCK_SUFFIX: &str = ".lock";
 
-// What follows the path of the journal in that of the draft by which it is replaced.
+// The suffix of the path of the draft that replaces a journal.
 const DRAFT_SUFFIX: &str = ".new";
 
 // Returns a path with this suffix.

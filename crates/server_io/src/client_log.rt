@@ -19,19 +19,20 @@ pub(crate) struct LoggedClient {
     pub(crate) address: SocketAddr,
 }
 
-// The news of a client in a line of the log.
+// What a line of the log reports of a client.
 #[derive(Drop)]
 enum ClientNews<'a> {
+    // The client connected.
     Connected,
-    // Its association is open, as that of this client.
+    // The association is open, of the `public` or of the `management` client.
     Associated(&'static str),
-    // Its association was refused, with this diagnostic.
+    // The association was refused, with this diagnostic.
     NotAssociated(u8),
-    // Its session ended; the answers are those to its requests.
+    // The session ended in this way, after this number of answers to requests.
     Ended(&'a Result<SessionEnd, ServeFault>, AnswerCount),
     // All sessions were taken, or no port or thread was available.
     TurnedAway,
-    // Its stream could not be set up.
+    // The stream could not be set up, because of this error.
     NotSetUp(&'a io::Error),
 }
 
@@ -63,7 +64,7 @@ impl fmt::Display for ClientNews<'_> {
     }
 }
 
-// Writes a line on standard error: the time, the client, and the news of it.
+// Writes a line on standard error: the time, the client, and what is reported of it.
 fn write_line<R: Clock + Eprint>(rt: &R, client: LoggedClient, news: &ClientNews<'_>) {
     let now = LogTime::now(rt);
     let LoggedClient { number, address } = client;

@@ -37,9 +37,9 @@ impl ConsoleEnd {
 // The result of one line.
 #[derive(Clone, Copy, Debug, PartialEq, Eq, Drop)]
 enum LineResult {
-    // Its event was passed on.
+    // The event of the line was passed on.
     Passed,
-    // It has no event.
+    // The line has no event, for this reason.
     Skipped(SkipReason),
     // The line was lost: out of memory.
     Lost,

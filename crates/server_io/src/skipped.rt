@@ -4,18 +4,18 @@ use std::fmt;
 // The maximum number of bytes of a line that a message quotes.
 const MAX_QUOTED: usize = 60;
 
-/// Why a line of the console is skipped.
+// Why a line of the console is skipped.
 #[derive(Clone, Copy, Debug, PartialEq, Eq)]
 pub(crate) enum SkipReason {
-    // It begins with another word than an event of the meter itself.
+    // The line does not begin with the first word of an event of the meter itself.
     OtherWord,
-    // It begins as an event, and is none.
+    // The line begins with the first word of an event, but has another form.
     NoEvent,
-    // It begins as an event, and ends with CR LF.
+    // The line begins with the first word of an event, but ends with CR LF.
     CarriageReturn,
-    // It has more than 8,192 bytes with its end.
+    // The line has more than 8,192 bytes with its end.
     TooLong,
-    // It is the last one, and does not end with the byte 0A.
+    // The line is the last one, and does not end with the byte 0A.
     NotEnded,
 }
 
@@ -50,8 +50,8 @@ fn expected(reason: SkipReason) -> &'static str {
     }
 }
 
-/// The number of lines that were skipped, by reason; each number stops at 2^64 - 1. Empty lines are
-/// not counted.
+// The number of lines that were skipped, by reason; each number stops at 2^64 - 1. Empty lines are
+// not counted.
 #[derive(Clone, Copy, Debug, PartialEq, Eq)]
 pub(crate) struct SkippedLines {
     is_verbose: bool,

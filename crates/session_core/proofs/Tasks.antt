@@ -1022,7 +1022,7 @@ takes_any s t asked reply text outgoing awaiting e o after =
     (Send text))) s s.is_finished (Await asked) refl awaiting
     (takes_reply s.password s.deframer s.is_finished s.state asked reply text outgoing e o))
 
--- a session that awaits a reply returns no event and no text before it
+-- a session that awaits a reply sends no text before it
 pub waits_again : (s : Session) → is_asking s ≡ true → IsAwaiting s
 unfolding is_asking still_sends
 waits_again s = awaiting_by s.password s.deframer s.is_finished s.state s.task

@@ -61,8 +61,8 @@ pub record Steps (old : Session) (asked : List Event) (sent : List (List ℕ)) (
   pub ends : (more : List ℕ) → still_ends old more ≡ still_ends new more
   pub finished : is_finished new ≡ is_finished old
 
--- whether a session took in a reply, which is now the first of the coming replies; the answer to it
--- is the next text
+-- whether a session took in a reply: it is now the first of the coming replies, and the session no
+-- longer awaits one
 pub record Takes (old : Session) (reply : Reply) (new : Session) : Type 0 where
   pub asks : (more : List ℕ) → still_asks new more ≡ still_asks old more
   pub sends : (more : List ℕ) (replies : List Reply)

@@ -155,8 +155,8 @@ abbrev pub link_in : Frame → Option Link → Option Link
 link_in f None = None
 link_in f (Some link) = if is_closing link f then None else Some link
 
--- the association after a frame: that of an AARQ, if it was accepted; else the one before, unless
--- the frame released it
+-- the association after a frame: an AARQ ends the one before and opens another if it is accepted; a
+-- release by its client ends it, and any other frame leaves it
 unfoldable pub link_after : List ℕ → Frame → Option Link → Option Link
 link_after password f link = if is_aarq f then link_by_opening password f else link_in f link
 

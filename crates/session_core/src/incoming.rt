@@ -16,7 +16,9 @@ use xdlms_blocks::{BlockFault, JoinBlocks};
 // The services whose requests may arrive in blocks.
 #[derive(Clone, Copy, PartialEq, Eq)]
 pub(crate) enum LongService {
+    // A SET in datablocks.
     Set,
+    // An ACTION in pblocks.
     Action,
 }
 

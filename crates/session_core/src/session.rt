@@ -36,7 +36,7 @@ pub struct Session {
     task: SessionTask,
 }
 
-// It shows neither the password nor bytes that may contain one.
+// Shows neither the password nor bytes that may contain one.
 impl Debug for Session {
     fn fmt<W: fmt::Write>(&self, f: &mut Formatter<W>) -> fmt::Result {
         f.debug_struct("Session").finish_non_exhaustive()

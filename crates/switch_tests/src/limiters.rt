@@ -40,7 +40,7 @@ fn skip(limiter: &mut Limiter, kind: Kind, n: u64, last: u32) -> bool {
 
 /// A step of a test of a limiter, with what it then shows.
 enum Step {
-    /// That many samples of a value, of which the last fires this and those before it nothing.
+    /// Takes a number of samples of a value; the last one fires this, those before it nothing.
     Samples(u32, u32, Fire),
     /// Skips a number of samples of a kind, the last of which has this value.
     Skip(Kind, u64, u32),
@@ -50,9 +50,9 @@ enum Step {
     MinOver(u32),
     /// Sets min_under_threshold_duration, in seconds.
     MinUnder(u32),
-    /// That many further samples of a kind do not fire.
+    /// Expects that this number of further samples of a kind do not fire.
     BeforeFire(Kind, u64),
-    /// The last sample is this.
+    /// Expects this value of the last sample.
     Value(u32),
 }
 

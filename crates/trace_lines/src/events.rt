@@ -33,6 +33,8 @@ fn next_level(words: &mut Words) -> Result<Level, RowFault>
     parse_level(next_word(words)?)
 }
 
+// Reads the words of a GET after the first: the client's port, the attribute, and whether a part of
+// it is requested.
 fn read_get(alloc: Global, words: &mut Words) -> Result<Event, RowFault>
     ensures { Reads (λ event. event) result words.new
         (read_as (λ p. event.Get p.0 p.1.attr p.1.selected)
@@ -47,6 +49,8 @@ fn read_get(alloc: Global, words: &mut Words) -> Result<Event, RowFault>
     })
 }
 
+// Reads the words of a GET with list after the first: the client's port, the number of attributes
+// and the attributes.
 fn read_get_list(alloc: Global, words: &mut Words) -> Result<Event, RowFault>
     ensures { Reads (λ event. event) result words.new
         (read_as (λ p. event.GetList p.0 p.1)
@@ -60,6 +64,8 @@ fn read_get_list(alloc: Global, words: &mut Words) -> Result<Event, RowFault>
     })
 }
 
+// Reads the words of a SET after the first: the client's port, the attribute, whether a part of it
+// is meant, and the value.
 fn read_set(alloc: Global, words: &mut Words) -> Result<Event, RowFault>
     ensures { Reads (λ event. event) result words.new
         (read_as (λ p. event.Set p.0 p.1.0.attr p.1.0.selected p.1.1)
@@ -86,6 +92,7 @@ fn parse_parameter(alloc: Global, word: &[u8]) -> Result<Option<Data>, RowFault>
     Ok(Some(parse_data(alloc, word)?))
 }
 
+// Reads the words of an ACTION after the first: the client's port, the method and its parameter.
 fn read_execute(alloc: Global, words: &mut Words) -> Result<Event, RowFault>
     ensures { Reads (λ event. event) result words.new
         (read_as (λ p. event.Execute p.0 p.1.0 p.1.1)
@@ -101,6 +108,7 @@ fn read_execute(alloc: Global, words: &mut Words) -> Result<Event, RowFault>
     })
 }
 
+// Reads the words of a block of samples after the first: up to 256 samples.
 fn read_samples(alloc: Global, words: &mut Words) -> Result<Event, RowFault>
     ensures { Reads (λ event. event) result words.new
         (read_as (λ values. event.Samples (values_alone values))
@@ -127,6 +135,7 @@ fn copy_exports(alloc: Global, pairs: &[(u32, u32)]) -> Result<Vec<u32>, AllocEr
     pairs.iter().map(|pair| pair.1).collect(alloc)
 }
 
+// Reads the words of a block of pairs after the first: up to 256 pairs of samples.
 fn read_sample_pairs(alloc: Global, words: &mut Words) -> Result<Event, RowFault>
     ensures { Reads (λ event. event) result words.new
         (read_as (λ pairs. event.Samples
@@ -142,6 +151,7 @@ fn read_sample_pairs(alloc: Global, words: &mut Words) -> Result<Event, RowFault
     }
 }
 
+// Reads the word of a moment after the first, in seconds.
 fn read_moment(words: &mut Words) -> Result<Event, RowFault>
     ensures { Reads (λ event. event) result words.new
         (read_as event.Moment ((number_part 4294967295).read words.old)) }

@@ -27,12 +27,14 @@ pub fn fits_line(event: &Event) -> bool
     }
 }
 
+// Returns whether a value is within the limits of a written Data.
 fn is_held(value: &Data) -> bool
     ensures { IsTrue result ↔ IsHeld value.now }
 {
     fits(value)
 }
 
+// Returns whether a parameter, if there is one, is within the limits of a written Data.
 fn is_parameter_held(parameter: &Option<Data>) -> bool
     ensures { IsTrue result ↔ IfSome parameter.now IsHeld }
 {
@@ -78,22 +80,26 @@ pub(crate) fn event_is_named(event: &Event)
 // Proves, by a read, that a borrowed number is in the range of its type.
 fn look_at(_number: u32) {}
 
+// Proves that the numbers and the bytes of an attribute are in the ranges of their types.
 fn attribute_is_named(attr: &AttrRef)
     ensures { attribute_part.Fits attr.now }
 {
     is_named(attr.class.0, attr.name.0, attr.number);
 }
 
+// Proves that the numbers and the bytes of a method are in the ranges of their types.
 fn method_is_named(method: &MethodRef)
     ensures { method_part.Fits method.now }
 {
     is_named(method.class.0, method.name.0, method.number);
 }
 
+// Proves that a class_id, a logical name and a number are in the ranges of their types.
 fn is_named(_class: u16, _name: [u8; 6], _number: u8)
     ensures { (_class ≤ 65535) × ((length _name ≡ 6) × IsBytes _name) × (_number ≤ 255) }
 {}
 
+// Proves that the numbers and the bytes of attributes are in the ranges of their types.
 fn attributes_are_named(items: &[AttributeSelection])
     ensures { Each selection_part.Fits items.now }
 {
@@ -102,11 +108,13 @@ fn attributes_are_named(items: &[AttributeSelection])
     }
 }
 
+// Proves that samples are numbers of 32 bits.
 #[tactic(auto, using(crate::proofs::Ranges::samples_in_range))]
 fn are_samples(_values: &[u32])
     ensures { Each sample_part.Fits _values.now }
 {}
 
+// Proves that a block of samples is read back from its line.
 #[tactic(auto, unfolding(crate::specs::Traced::IsTraced), using(crate::proofs::Ranges::pairs_fit))]
 fn block_is_traced(block: &Block)
     ensures { IsTraced (event.Samples block.now) }

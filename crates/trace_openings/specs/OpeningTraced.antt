@@ -55,7 +55,8 @@ pub record IsTracedScript (script : Script) : Type 0 where
   pub identifier : script.identifier ≤ 65535
   pub steps : All IsTracedStep script.steps
 
--- whether the lines of an opening are read back
+-- whether a core can have an opening and all its numbers are in the ranges of their types, so that
+-- its lines are read back
 pub record IsWritable (o : Opening) : Type 0 where
   pub fit : IsFitOpening o
   pub device : IsBytes o.device

@@ -37,15 +37,18 @@ pub fn opening_is_writable(opening: &Opening)
 // Proves, by a read, that a borrowed number is in the range of its type.
 fn look_at<T: Drop>(_number: T) {}
 
+// Proves that bytes are numbers below 256.
 fn are_bytes(_bytes: &[u8])
     ensures { IsBytes _bytes.now }
 {}
 
+// Proves that group ids are numbers of 16 bits.
 #[tactic(auto, using(crate::proofs::RangeLemmas::ids_in_range))]
 fn are_ids(_ids: &[u16])
     ensures { AreIds _ids.now }
 {}
 
+// Proves that a moment, if there is one, is a number of 32 bits.
 fn moment_is_traced(moment: Option<u32>)
     ensures { IfSome moment (λ moment. moment ≤ 4294967295) }
 {
@@ -55,6 +58,7 @@ fn moment_is_traced(moment: Option<u32>)
     }
 }
 
+// Proves that the numbers of an emergency profile are in the ranges of their types.
 fn profile_is_traced(profile: &Profile)
     ensures id { profile.now.id ≤ 65535 }
     ensures start { IsDateTimeFields profile.now.start }
@@ -65,6 +69,7 @@ fn profile_is_traced(profile: &Profile)
     look_at(profile.duration);
 }
 
+// Proves that the numbers of a saved limiter are in the ranges of their types.
 fn limiter_is_traced(limiter: &LimiterOpening)
     ensures { IsTracedLimiter limiter.now }
 {
@@ -80,6 +85,7 @@ fn limiter_is_traced(limiter: &LimiterOpening)
     look_at(settings.actions.under);
 }
 
+// Proves that the numbers of a step are in the ranges of their types.
 fn step_is_traced(step: &Step)
     ensures { IsTracedStep step.now }
 {
@@ -94,6 +100,7 @@ fn step_is_traced(step: &Step)
     }
 }
 
+// Proves that the numbers of steps are in the ranges of their types.
 fn steps_are_traced(steps: &[Step])
     ensures { All IsTracedStep steps.now }
 {
@@ -102,6 +109,7 @@ fn steps_are_traced(steps: &[Step])
     }
 }
 
+// Proves that the numbers of a script are in the ranges of their types.
 fn script_is_traced(script: &Script)
     ensures { IsTracedScript script.now }
 {
@@ -109,6 +117,7 @@ fn script_is_traced(script: &Script)
     steps_are_traced(script.steps.as_slice());
 }
 
+// Proves that the numbers of scripts are in the ranges of their types.
 fn scripts_are_traced(scripts: &[Script])
     ensures { All IsTracedScript scripts.now }
 {
@@ -117,6 +126,7 @@ fn scripts_are_traced(scripts: &[Script])
     }
 }
 
+// Proves that the numbers of a schedule are in the ranges of their types.
 fn schedule_is_traced(schedule: &ActionSchedule)
     ensures { IsTracedSchedule schedule.now }
 {

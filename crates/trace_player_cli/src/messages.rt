@@ -252,7 +252,8 @@ fn why_not(form: &'static str, line: &[u8]) -> Why {
 }
 
 // Returns why a word cannot be the word `name` of a form, or `None` if it can. A name in capitals
-// stands for a number or for bytes, or `-` for no value; any other name is the word itself.
+// is a placeholder for a number or for bytes, or for `-`, which is no value; any other name is the
+// word itself.
 fn why_not_word(form: &'static str, name: &'static str, word: &[u8]) -> Option<Why> {
     let is_none = word == b"-".as_slice();
     match name {

@@ -240,9 +240,9 @@ fn add_without_line(out: &mut Vec<u8>, text: &[u8], at: u64) -> Result<(), Alloc
 // The expected result of playing a text.
 #[derive(Clone, Copy)]
 enum Asked {
-    // It is refused at this line.
+    // The text is refused at this line.
     WrongAt(u64),
-    // It plays to this one line.
+    // The text plays to this one line.
     Prints(&'static [u8]),
 }
 

@@ -29,7 +29,7 @@ use Rattle.trace_views.specs.declared.format.TraceFormat.TheVariants.{Lines, Csv
 use Rattle.trace_views.specs.declared.view.Switch.{Switch}
 use Rattle.trace_views.specs.declared.view.TraceView.{TraceView}
 
--- each line as the player prints it, without its event
+-- the view that shows each line as the player prints it, without its event
 abbrev pub whole_view : TraceView
 whole_view = record {
   first = None;

@@ -28,13 +28,13 @@ pub enum Stage<E, R, O> {
     Young,
     /// Between two calls.
     Idle,
-    /// It has drawn this turn and waits for it.
+    /// The seat has drawn this turn and waits for it.
     Waiting(u64),
-    /// It holds this turn and the slot.
+    /// The seat holds this turn and the slot.
     Turn(u64),
-    /// It has read that this number of turns have ended.
+    /// The seat has read that this number of turns have ended.
     SawServing(u64),
-    /// It has joined another seat: whether that was a port, and the knowledge of that seat.
+    /// The seat has joined another: whether that was a port's, and its knowledge.
     Met(bool, Known<E, R, O>),
 }
 

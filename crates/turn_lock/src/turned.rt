@@ -18,22 +18,29 @@ pub struct Entry<E, R> {
 
 /// A value that results from a history of calls and takes one event at a time.
 ///
-/// `origin` is the value's initial state, which no turn changes. `legal` says which histories are
-/// possible from an origin. `stands` says that the value is the one that a history results in; it
-/// holds only for legal histories. `sure` names the events whose turn never runs out of memory.
+/// Contracts describe the value by its `origin`, the initial state; by the histories that are
+/// `legal` from an origin; by the histories that the value `stands` for, which are legal; and by
+/// the events that are `sure`, whose turn never runs out of memory.
 pub trait Turned: Drop {
+    /// What a call passes to the value.
     type Event: Drop;
 
+    /// What the value returns to the call.
     type Reply: Drop;
 
+    /// What contracts see of the value's initial state.
     type Origin;
 
+    /// Ghost value: the initial state, which no turn changes.
     ghost origin: { Self → Self.Origin };
 
+    /// Ghost predicate: the history is possible from this origin.
     ghost legal: { Self.Origin → List (Entry Self.Event Self.Reply) → Type 0 };
 
+    /// Ghost predicate: the value is the one that the history results in.
     ghost stands: { Self → List (Entry Self.Event Self.Reply) → Type 0 };
 
+    /// Ghost predicate: the turn of this event never runs out of memory.
     ghost sure: { Self.Event → Type 0 };
 
     /// Takes one event. After `Ok` the history is one entry longer, with that event and that reply,
@@ -47,14 +54,17 @@ pub trait Turned: Drop {
             → stands self.old h → stands self.new h) }
         ensures unsure { IfErr result (λ _. ¬ sure event) };
 
+    /// Ghost proof: a history that a value results from is legal.
     ghost is_legal: { (x : Self) (h : List (Entry Self.Event Self.Reply)) → stands x h
         → legal (origin x) h };
 }
 
 /// A value that also answers questions about its history. No history records a question.
 pub trait Inspected: Turned {
+    /// What a caller asks.
     type Question: Drop;
 
+    /// The answer to a question.
     type Finding: Drop;
 
     /// Ghost relation: the finding is right for a value that results from this history.

@@ -41,7 +41,8 @@ pub record Stops (front : Head) (bytes : List ℕ) : Type 0 where
   pub rest : (more : List ℕ) → rest_of (bytes ++ more) ≡ bytes ++ more
   pub heads : (more : List ℕ) → head_of (bytes ++ more) ≡ front
 
--- whether this fault of the bytes remains, whatever bytes follow
+-- whether this fault of the bytes remains, whatever bytes follow; nothing is claimed of a fault
+-- that is out of memory
 abbrev pub StopsBy : WrapperFault → List ℕ → Type 0
 StopsBy fault.Version bytes = Stops BadVersion bytes
 StopsBy fault.TooLong bytes = Stops TooLong bytes

@@ -82,12 +82,14 @@ pub(crate) fn read_code(reader: &mut Cursor) -> Result<ResultCode, ApduFault>
     Ok(ResultCode::try_from(reader.read_byte(ApduFault::Unreadable)?)?)
 }
 
+// Reads a Cosem-Class-Id.
 fn read_class(reader: &mut Cursor) -> Result<ClassId, ApduFault>
     ensures { Reads (λ class. class) result reader.new (class_part.read reader.old) }
 {
     Ok(ClassId(BigEndian::read_u16(reader.read_bytes(2, ApduFault::Unreadable)?)))
 }
 
+// Reads a Cosem-Object-Instance-Id: a logical name, six bytes.
 fn read_name(reader: &mut Cursor) -> Result<Obis, ApduFault>
     ensures { Reads (λ name. name) result reader.new (name_part.read reader.old) }
 {

@@ -14,8 +14,8 @@ pub fn text_of_request_spells()
     ensures spelled { (bytes : List ℕ) (request : Request) → IsBytes bytes
         → SpellsRequest bytes request → SpellsRequest (request_text request) request }
 
-    // This holds if the numbers, lengths and each Data are within their limits; the text is then
-    // read back as the same request.
+    // A request whose numbers, lengths and Data are within their limits has a text that spells it
+    // and is read back.
     ensures fit { (request : Request) → IsFitRequest request
         → SpellsRequest (request_text request) request }
     ensures read_back { (request : Request) → IsFitRequest request
@@ -27,8 +27,8 @@ pub fn text_of_response_spells()
     ensures spelled { (bytes : List ℕ) (response : Response) → IsBytes bytes
         → SpellsResponse bytes response → SpellsResponse (response_text response) response }
 
-    // This holds if the numbers, lengths and each Data are within their limits; the text is then
-    // read back as the same response.
+    // A response whose numbers, lengths and Data are within their limits has a text that spells it
+    // and is read back.
     ensures fit { (response : Response) → IsFitResponse response
         → SpellsResponse (response_text response) response }
     ensures read_back { (response : Response) → IsFitResponse response
