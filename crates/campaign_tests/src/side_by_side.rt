@@ -78,6 +78,7 @@ impl Two {
         })
     }
 
+    // Returns the connection to the meter `m1` or to the other one.
     fn meet(&self, address: &Octets) -> Result<Waiting, AllocError> {
         let first = Arc::try_clone(&self.first)?;
         let second = Arc::try_clone(&self.second)?;
