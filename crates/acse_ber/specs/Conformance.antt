@@ -5,30 +5,30 @@ use Rattle.std.specs.Prelude.{ℕ, ◌-◌, ◌^◌}
 abbrev pub conformance_bit : ℕ → ℕ
 conformance_bit n = 2 ^ (23 - n)
 
--- block-transfer-with-get-or-read
+-- the bit block-transfer-with-get-or-read: a GET may be answered in blocks
 abbrev pub get_in_blocks : ℕ
 get_in_blocks = conformance_bit 11
 
--- block-transfer-with-set-or-write
+-- the bit block-transfer-with-set-or-write: a SET may be sent in blocks
 abbrev pub set_in_blocks : ℕ
 set_in_blocks = conformance_bit 12
 
--- block-transfer-with-action
+-- the bit block-transfer-with-action: an ACTION may be sent and answered in blocks
 abbrev pub action_in_blocks : ℕ
 action_in_blocks = conformance_bit 13
 
--- multiple-references
+-- the bit multiple-references: a request may name several attributes or methods
 abbrev pub multiple_references : ℕ
 multiple_references = conformance_bit 14
 
--- get
+-- the bit get: attributes may be read
 abbrev pub get_service : ℕ
 get_service = conformance_bit 19
 
--- set
+-- the bit set: attributes may be written
 abbrev pub set_service : ℕ
 set_service = conformance_bit 20
 
--- action
+-- the bit action: methods may be invoked
 abbrev pub action_service : ℕ
 action_service = conformance_bit 23

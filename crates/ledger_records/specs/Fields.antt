@@ -53,7 +53,7 @@ seconds_between None ended = None
 abbrev pub seconds_taken : LedgerTimes → Option ℕ
 seconds_taken times = seconds_between times.begun times.ended
 
--- 1 January 1970
+-- the day number of 1 January 1970, from which the seconds of a ledger count
 unfoldable pub first_day : ℕ
 first_day = day_count (record { year = 1970; month = 1; day = 1 })
 
