@@ -65,6 +65,7 @@ fn zero(alloc: Global) -> Result<Count, AllocError> {
 }
 
 impl Counting {
+    // Returns the meters with all counts at 0.
     fn new(alloc: Global) -> Result<Counting, AllocError> {
         Ok(Counting {
             connects: zero(alloc)?,

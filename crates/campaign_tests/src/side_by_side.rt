@@ -71,6 +71,7 @@ struct Two {
 }
 
 impl Two {
+    // Returns the meters, neither of which was asked.
     fn new(alloc: Global) -> Result<Two, AllocError> {
         Ok(Two {
             first: Arc::new(alloc, AtomicBool::new(false))?,

@@ -23,7 +23,8 @@ pub enum LimiterAttribute {
     MinUnderThresholdDuration = 7,
     /// Attribute 8, emergency_profile: its group id, its start and its duration in seconds.
     EmergencyProfile = 8,
-    /// Attribute 9, emergency_profile_group_id_list: the groups whose emergency profiles apply to the meter.
+    /// Attribute 9, emergency_profile_group_id_list: the groups whose emergency profiles apply to
+    /// the meter.
     EmergencyProfileGroupIdList = 9,
     /// Attribute 10, emergency_profile_active: a boolean.
     EmergencyProfileActive = 10,

@@ -48,7 +48,8 @@ pub struct Settings {
     pub min_under_threshold_duration: u32,
     /// `emergency_profile` (attribute 8): when the emergency threshold applies.
     pub profile: Profile,
-    /// `emergency_profile_group_id_list` (attribute 9): the groups whose emergency profiles apply to the meter.
+    /// `emergency_profile_group_id_list` (attribute 9): the groups whose emergency profiles apply
+    /// to the meter.
     pub groups: Listed<u16>,
     /// `actions` (attribute 11): the scripts that run over and under the threshold.
     pub actions: Actions,
