@@ -85,7 +85,7 @@ TRACE_FILE = str(TOP / "crates" / "trace_player_cli" / "stdin")
 PLAYED_FILE = str(TOP / "crates" / "trace_player_cli" / "stdout")
 TRACE = pathlib.Path(TRACE_FILE).read_bytes()
 PLAYED = pathlib.Path(PLAYED_FILE).read_bytes()
-# Its run with the event at the end of each line.
+# The run of the worked trace, with the event at the end of each line.
 WITH_EVENTS = [
     b"1: code 0; state 1; supply on; event set 1 70 000060030AFF 4 0 1601\n",
     b"2: code 0; state 0; supply off; event execute 1 70 000060030AFF 1 0F00\n",
@@ -97,7 +97,7 @@ WITH_EVENTS = [
     b"8: ran 0; state 1; supply on; event moment 5\n",
     b"9: stale 5; state 1; supply on; event moment 4\n",
 ]
-# Its events as comma-separated values: each line of docs/TRACE.md taken apart, with the clock, whose
+# The events of the worked trace as comma-separated values: each line of docs/TRACE.md taken apart, with the clock, whose
 # first moment is that of event 8.
 CSV_HEAD = b"number,reply,state,supply,moment,time\n"
 CSV = [
@@ -111,7 +111,7 @@ CSV = [
     b"8,ran 0,1,on,5,2000-01-01T00:00:05\n",
     b"9,stale 5,1,on,5,2000-01-01T00:00:05\n",
 ]
-# Its events as JSON.
+# The events of the worked trace as JSON.
 NO_MOMENT = b'{"moment":null,"number":%d,"reply":"%s","state":%d,"supply":"%s","time":null}\n'
 AT_MOMENT = b'{"moment":%d,"number":%d,"reply":"%s","state":1,"supply":"on","time":"%s"}\n'
 JSON = [

@@ -118,7 +118,7 @@ fn stands_after_three(rt: &impl Abort, recorder: &Recorder) {
     assert!(rt; letter_at(recorder, 1) == 'b');
 }
 
-/// Returns the moment of a Moment, or 0.
+// Returns the second of a moment of the clock, or 0 for any other event.
 fn moment(event: &Event) -> u32 {
     match event {
         Event::Moment(now) => *now,

@@ -16,7 +16,7 @@ use Rattle.ledger_reports.specs.declared.state.Standing.{Standing}
 use Rattle.ledger_reports.specs.declared.state.Standing.TheVariants.{Done, Refused, Rejected}
 use Rattle.ledger_reports.specs.declared.state.Standing.TheVariants.{Unknown, NotSent}
 
--- the outcome as a word
+-- the word for the standing of a job in the column `outcome`
 abbrev pub outcome_word : Standing → List ℕ
 outcome_word Done = codes "done"
 outcome_word Refused = codes "refused"
