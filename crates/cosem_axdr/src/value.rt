@@ -56,7 +56,7 @@ pub enum Data {
 }
 
 /// The items of an array or structure, in order. Contracts refer to their trees, so that equal
-/// Datas have equal trees wherever they are stored.
+/// values have equal trees wherever they are stored.
 #[cycle(value)]
 #[derive(Debug, Drop)]
 pub struct Items {
