@@ -33,6 +33,7 @@ FOLDER = tempfile.TemporaryDirectory(prefix="passwords-")
 
 
 def password_file(name, text, mode=0o600):
+    """Writes a file with a password and this mode; returns its path."""
     path = pathlib.Path(FOLDER.name) / name
     path.touch(0o600)
     path.write_bytes(text)
@@ -141,6 +142,7 @@ LONG_RUN = OPENING.replace(b"value 0", b"value 5001").replace(b"normal 429496729
 
 
 def with_events(opening, *lines):
+    """A trace with this opening and these lines of events."""
     return opening + b"events %d\n" % len(lines) + b"".join(line + b"\n" for line in lines)
 
 
@@ -164,6 +166,7 @@ def largest_trace():
 
 
 def played(*replies):
+    """The lines that a run with these replies prints."""
     return b"".join(b"%d: %s\n" % (n, reply) for n, reply in enumerate(replies, 1))
 
 LARGEST, LARGEST_PLAYED = largest_trace()
@@ -644,6 +647,7 @@ for what, path, line, fault_status in WRONG_FILES[:6]:
 
 
 def differs(want, got):
+    """Whether an output is not the expected one; `None` expects any text."""
     return got == b"" if want is None else want != got
 
 

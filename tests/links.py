@@ -27,10 +27,12 @@ LINK = re.compile(r"\[[^\]]*\]\(([^)\s]+)\)")
 
 
 def pages():
+    """The documents that are checked."""
     return [TOP / it for it in ("README.md", "CONTRIBUTING.md", "CHANGELOG.md")] + sorted((TOP / "docs").glob("*.md")) + sorted(TOP.glob("crates/*/README.md"))
 
 
 def sources(crate):
+    """The sources of a crate as one text."""
     return "\n".join(it.read_text() for it in sorted((CRATES[crate] / "src").rglob("*.rt")))
 
 
@@ -50,12 +52,14 @@ def prose(text):
 
 
 def anchors(path):
+    """The places of a document that a link may name."""
     text = prose(path.read_text())
     heads = [re.sub(r"[^\w\- ]", "", it.lower()).replace(" ", "-") for it in re.findall(r"(?m)^#+ (.*)$", text)]
     return {*heads, *re.findall(r'<a id="([^"]+)"', text)}
 
 
 def links(page, text):
+    """The links of a document that lead to no file or place."""
     for target in LINK.findall(text):
         if re.match(r"https?:", target):
             continue
@@ -85,6 +89,7 @@ def is_shortened(path):
 
 
 def functions(text):
+    """The functions of crates that a document names and that do not exist."""
     for it in CODE.findall(text):
         words = re.fullmatch(r"(\w+)((?:::\w+)+)(?:\(\))?", it)
         if words and words[1] in CRATES:
@@ -109,6 +114,7 @@ def steps(text):
 
 
 def edits(text):
+    """The edits of crates that a document names and that do not exist."""
     for it in CODE.findall(text):
         words = re.fullmatch(r"(\w+)/(\w+)", it)
         if words and words[1] in CRATES and words[2] not in EDITS[words[1]] and not (CRATES[words[1]] / words[2]).exists():
@@ -116,6 +122,7 @@ def edits(text):
 
 
 def wrong_bodies(text):
+    """The edits and tests that the page of wrong bodies names and that do not exist."""
     for row in text.split("\n"):
         cells = row.split(" | ")
         if len(cells) == 2 and row.startswith("| "):
@@ -146,6 +153,7 @@ def definitions(text):
 
 
 def examples():
+    """The crates whose README names a test that does not exist, or is missing."""
     for name, folder in CRATES.items():
         if name.endswith("_tests"):
             continue
@@ -181,6 +189,7 @@ def crates_in_heads():
 
 
 def lost():
+    """All that documents name and that does not exist."""
     for page in pages():
         text = prose(page.read_text())
         for what in (links(page, text), paths(page, text), functions(text), types(text), edits(text)):
