@@ -60,6 +60,7 @@ pub enum Data {
 #[cycle(value)]
 #[derive(Debug, Drop)]
 pub struct Items {
+    /// The items, in order.
     pub items: Vec<Data>,
 }
 
