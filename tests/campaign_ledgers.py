@@ -400,6 +400,7 @@ class ByMachines(Long):
         self.there.chmod(0o700)
 
     def words(self, *names):
+        """The options of a campaign on these machines."""
         logins = ",".join([self.shell.login(it) for it in names or self.names]
                           + [self.dead] * self.has_dead)
         return ("--machine-folder", str(self.path.parent / "far"), "--sshlogin", logins,
@@ -411,6 +412,7 @@ class ByMachines(Long):
         return dict(line.split()[1:] for line in text.splitlines() if line.startswith("part "))
 
     def far_ledgers(self):
+        """The ledgers in the folders of the machines."""
         return sorted(self.path.parent.glob("far/jobs.*/ledger.[0-9]"))
 
 

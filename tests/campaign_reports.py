@@ -65,6 +65,7 @@ keep = None
 
 
 def make_ledger(path, jobs):
+    """Writes a ledger in which these jobs have these entries and times."""
     with contextlib.closing(sqlite3.connect(path)) as database:
         database.executescript(TABLES)
         for place, (name, verb, begun, outcome) in enumerate(jobs):
@@ -98,10 +99,12 @@ def record_of(place, job):
 
 
 def records_of(jobs):
+    """The records of jobs, as `head_end status --format json` has them."""
     return [record_of(place, job) for place, job in enumerate(jobs)]
 
 
 def run(*words, text=None):
+    """Runs a command with this input; returns its status, output and errors."""
     return subprocess.run([str(it) for it in words], input=text, capture_output=True,
                           timeout=PATIENCE)
 
@@ -200,6 +203,7 @@ class Page(html.parser.HTMLParser):
 
 
 def cells_of(record):
+    """The cells of a record in the table of a page."""
     return ["" if it is None else str(it) for it in record.values()]
 
 

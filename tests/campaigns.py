@@ -134,6 +134,7 @@ class OddMeter:
         self.port = self.meter.port
 
     def wanted(self):
+        """The results that the meter's jobs must have."""
         return [self.outcomes[verb] for verb in self.verbs]
 
     def check_talks(self, name):
@@ -155,6 +156,7 @@ class Place:
         self.times = times
 
     def wanted(self):
+        """The results that the meter's jobs must have."""
         return ["unknown"] * self.times
 
 
@@ -179,6 +181,7 @@ def mixed(many, few):
 
 
 def report_of(rows):
+    """The report with these rows."""
     return "".join(f"{name} {row}\n" for name, row in rows)
 
 
@@ -431,6 +434,7 @@ if grep -q '^fails1 ' "$jobs"; then exit 4; fi
     return path
 
 def own_lines(errors):
+    """The lines of the errors that bin/campaign itself wrote."""
     return [line for line in errors.splitlines() if line.startswith("campaign:")]
 
 def a_part_that_fails_is_named(name, crowd, folder):
@@ -697,10 +701,12 @@ class Shell:
         self.process = subprocess.Popen(words, stdin=subprocess.DEVNULL, stdout=subprocess.DEVNULL, stderr=subprocess.DEVNULL)
 
     def login(self, host):
+        """The command that logs in to a host of the test's sshd."""
         return (f"ssh -F /dev/null -p {self.port} -i {self.folder}/own -o BatchMode=yes -o IdentitiesOnly=yes -o StrictHostKeyChecking=no"
                 f" -o UserKnownHostsFile={self.folder}/known -o LogLevel=ERROR {host}")
 
     def logs_in(self):
+        """Whether the test's sshd accepts a login."""
         words = [*self.login("127.0.0.1").split(), "true"]
         try:
             return subprocess.run(words, stdin=subprocess.DEVNULL, capture_output=True, timeout=PATIENCE).returncode == 0
@@ -708,6 +714,7 @@ class Shell:
             return False
 
     def answers(self):
+        """Waits until the test's sshd accepts a login; returns whether it does."""
         return wait_until(lambda: self.process.poll() is not None or self.logs_in(), pause=0.1) \
             and self.process.poll() is None
 

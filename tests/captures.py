@@ -30,14 +30,17 @@ class Capture:
         self.connections = 0
 
     def connection(self):
+        """Returns a new connection of the capture, with a client port of its own."""
         self.connections += 1
         return Connection(self, FIRST_CLIENT_PORT + self.connections)
 
     def add(self, packet):
+        """Adds a packet; returns its number, counted from 1."""
         self.packets.append(packet)
         return len(self.packets)
 
     def write(self, path):
+        """Writes the packets as a capture file (pcap)."""
         records = [struct.pack(">IHHIIII", 0xA1B2C3D4, 2, 4, 0, 0, 65_535, RAW_IP)]
         for number, packet in enumerate(self.packets):
             kept = packet[:self.limit]

@@ -67,6 +67,7 @@ def long_trace():
 
 
 def finds(svg, name):
+    """The group of a chart with this name, or `None`."""
     return next((it for it in svg.iter(f"{SVG}g") if it.get("id") == name), None)
 
 
@@ -77,10 +78,12 @@ def marks(svg, name):
 
 
 def texts(svg):
+    """All texts of a chart."""
     return ["".join(it.itertext()).strip() for it in svg.iter(f"{SVG}text")]
 
 
 def worked_rows(svg):
+    """Checks of the chart of the worked trace."""
     labels = texts(svg)
     for label in WORKED_LABELS:
         yield f"the label {label}", label in labels
@@ -93,6 +96,7 @@ def worked_rows(svg):
 
 
 def long_rows(svg):
+    """Checks of the chart of a trace of 65,536 events."""
     labels = texts(svg)
     yield "the title", any(it.startswith("RELAY1: 65,536 events") for it in labels)
     yield "both powers and thresholds", all(finds(svg, f"{which}-{what}") is not None for which in ("import", "export") for what in ("power", "threshold"))
@@ -106,6 +110,7 @@ def long_rows(svg):
 
 
 def charted(path, to, *options):
+    """Runs bin/trace_chart with its output in a file; returns what it printed."""
     with open(to, "wb") as file:
         return subprocess.run([TOP / "bin" / "trace_chart", *options, path], stdout=file, stderr=subprocess.PIPE, timeout=600)
 
@@ -199,6 +204,7 @@ def sampler_rows(room):
 
 
 def command_rows(room):
+    """Checks of the command line of bin/trace_chart."""
     script = TOP / "bin" / "trace_chart"
     for words in (["--help"], ["-h"], ["--version"], ["-V"]):
         ran = subprocess.run([script, *words], capture_output=True, timeout=60)
@@ -230,6 +236,7 @@ def rendered(browser, svg, picture):
 
 
 def judged(name, path, room, rows_of, browser):
+    """Draws a chart, and checks it by these rows, also as a browser shows it."""
     svg = room / f"{name}.svg"
     ran = charted(path, svg)
     yield f"{name}: drawn", ran.returncode == 0 and not ran.stderr
@@ -243,6 +250,7 @@ def judged(name, path, room, rows_of, browser):
 
 
 def all_rows(room, browser):
+    """All checks, each with its name and whether it holds."""
     yield from judged("worked_trace", WORKED, room, worked_rows, browser)
     for what, is_so in worked_rows(Tree.parse(COMMITTED).getroot()):
         yield f"docs/worked_trace.svg: {what}", is_so
@@ -255,6 +263,7 @@ def all_rows(room, browser):
 
 
 def wrong_rows(room):
+    """Checks that a wrong or missing trace writes no chart and one line of errors."""
     wrong = room / "wrong.trace"
     wrong.write_text("RELAYTRACE 3\n")
     ran = charted(wrong, room / "wrong.svg")
@@ -267,6 +276,7 @@ def wrong_rows(room):
 
 
 def has_matplotlib():
+    """Whether a Python with matplotlib is installed."""
     return any(subprocess.run([it, "-c", "import matplotlib"], capture_output=True).returncode == 0 for it in (sys.executable, "/usr/bin/python3"))
 
 

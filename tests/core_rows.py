@@ -43,10 +43,12 @@ NEW_METER = ["RELAYTRACE 2", "device 52454C415931", "state 1", "mode 0", "value 
 
 # Data of the standard, as bytes.
 def long_number(number):
+    """A double-long-unsigned as a trace writes it."""
     return f"06{number:08X}"
 
 
 def mode(number):
+    """The enum of a mode as a trace writes it."""
     return f"16{number:02X}"
 
 
@@ -63,6 +65,7 @@ def scripts(**steps_of):
 
 
 def actions(over, under):
+    """The actions of a limiter, by the selectors of their two scripts."""
     return "0202" + "".join(f"0202090600000A006AFF12{selector:04X}" for selector in (over, under))
 
 
@@ -77,22 +80,27 @@ def limit(which, watts):
 
 # Rows.
 def write(place, data, code=0, client=MANAGEMENT):
+    """The event of a SET by a client, and its reply."""
     return f"set {client} {place} 0 {data}", f"code {code}"
 
 
 def read(place, data):
+    """The event of a GET by the management client, and its reply."""
     return f"get {MANAGEMENT} {place} 0", f"value {data}"
 
 
 def refused(place, code, selected=0):
+    """The event of a GET that is refused, and its reply."""
     return f"get {MANAGEMENT} {place} {selected}", f"code {code}"
 
 
 def call(place, code, parameter="-"):
+    """The event of an ACTION, and its reply."""
     return f"execute {MANAGEMENT} {place} {parameter}", f"code {code}"
 
 
 def press(code=0):
+    """The event of a press of the button, and its reply."""
     return "button", f"code {code}"
 
 
@@ -109,10 +117,12 @@ def pairs(count, imported, exported, *fired):
 
 
 def moment(second, due):
+    """The event of a moment at which this number of schedules is due, and its reply."""
     return f"moment {second}", f"ran {due}"
 
 
 def stale(second, last):
+    """The event of a moment that is not after the last one, and its reply."""
     return f"moment {second}", f"stale {last}"
 
 
@@ -140,6 +150,7 @@ EACH_MONTH = [write(TABLE, scripts(s1=[DISCONNECT])), write(MODE, mode(1)), writ
 
 
 def emergency(which):
+    """The rows of a limiter whose emergency profile is active for ten seconds."""
     threshold = f"{which} 3"
     return [write(f"{which} 4", long_number(5000)), write(f"{which} 5", long_number(3000)), write(f"{which} 9", "0101120007"), write(f"{which} 8", PROFILE),
             moment(99, 0), read(f"{which} 10", "0300"), read(threshold, long_number(5000)),
@@ -251,6 +262,7 @@ SWITCH_OPENINGS = [
 
 
 def opening_with(changes):
+    """The opening of a new meter with other words on some lines."""
     lines = []
     for line in NEW_METER:
         word = line.split(" ")[0]
@@ -259,15 +271,18 @@ def opening_with(changes):
 
 
 def trace_text(opening, events):
+    """The text of a trace with this opening and these events."""
     return "\n".join([*opening, f"events {len(events)}", *events]) + "\n"
 
 
 def play(opening, events):
+    """Plays a trace; returns the status, the output and the errors."""
     ran = subprocess.run([PLAYER], input=trace_text(opening, events).encode(), capture_output=True, timeout=60)
     return ran.returncode, ran.stdout.decode(), ran.stderr.decode()
 
 
 def lines_wanted(rows, state=1):
+    """The lines that a trace of these rows must print."""
     lines = []
     for number, (_, reply, *after) in enumerate(rows, 1):
         state = after[0] if after else state
@@ -276,11 +291,13 @@ def lines_wanted(rows, state=1):
 
 
 def tables():
+    """Whether each table of rows is played as expected."""
     for name, rows in TABLES.items():
         yield name, play(NEW_METER, [row[0] for row in rows]) == (0, lines_wanted(rows), "")
 
 
 def openings():
+    """Whether each opening is accepted or refused as expected."""
     for prefix in ("", "x"):
         for changes, is_fit in OPENINGS:
             changes = {prefix + word: value for word, value in changes.items()}
@@ -322,6 +339,7 @@ def blocks_and_singles(seed):
 
 
 def fired(line):
+    """How often the limiters fired, in the order of a line `sampled`."""
     return [int(it) for it in line.split("sampled ")[1].split(";")[0].split()]
 
 
@@ -350,6 +368,7 @@ def is_one_by_one(late, seeds=range(12)):
 
 
 def twins():
+    """Whether a block of samples has the effect of its samples one by one."""
     yield "a block is its samples one by one", is_one_by_one([])
     yield "a block is its samples one by one, with longer durations", is_one_by_one(BUSY_LATE)
 

@@ -53,6 +53,7 @@ class CountedMeters:
         raise AssertionError(f"clients stay connected: {found}")
 
     def stop(self):
+        """Ends the process of the meters."""
         self.process.kill()
         self.process.join(PATIENCE)
 
@@ -99,6 +100,7 @@ class Process:
             self.poll.register(one, select.EPOLLIN)
 
     def accept(self, number):
+        """Accepts a client of the meter with this listener."""
         meter, listener = self.listeners[number]
         try:
             stream, _ = listener.accept()
@@ -113,10 +115,12 @@ class Process:
         self.poll.register(stream.fileno(), select.EPOLLIN)
 
     def close(self, client):
+        """Closes the connection of a client."""
         if self.clients.pop(client.stream.fileno(), None):
             client.stream.close()
 
     def hear(self, client):
+        """Counts the frames that arrived from a client, and answers them."""
         for name in client.frames():
             if name is None:
                 self.close(client)
@@ -144,6 +148,7 @@ class Process:
         return max(0, self.pending[0][0] - time.monotonic()) if self.pending else -1
 
     def obey(self, command):
+        """Does what the test asks for: the counts, or the clients that are connected."""
         if command == "counts":
             self.is_asked = True
         else:  # the clients that are connected: the meter of each, and its TCP state
@@ -152,6 +157,7 @@ class Process:
                             for it in self.clients.values()])
 
     def run(self):
+        """Serves clients and the test's commands until the process is ended."""
         while True:
             pause = self.answer()
             if self.is_asked and not self.clients:

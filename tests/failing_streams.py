@@ -41,6 +41,7 @@ def after_failure(ran, ample):
 
 
 def after_harmless(ran, ample):
+    """Returns `same output` if a short or interrupted call changed nothing, or what is wrong."""
     return "same output" if ran[:3] == ample[:3] else f"WRONG: {ran}"
 
 
@@ -57,6 +58,7 @@ def programs_have_failing_streams(name):
 
 
 def campaign(jobs, **which):
+    """Runs a campaign with one worker, in which one call may fail."""
     return refusing.run([HEAD_END, "run", "--password", PASSWORD, "--workers", "1", "--timeout", "5"], jobs, **which)
 
 

@@ -108,6 +108,7 @@ def from_what_ci_left(rt, crate, target):
 
 
 def program(name, *sources, compiler="cc", words=()):
+    """Compiles a C program; returns its path."""
     made(compiler, *WARNINGS, *words, *INCLUDES, *sources, "-o", place / name)
     return place / name
 
@@ -115,6 +116,7 @@ def program(name, *sources, compiler="cc", words=()):
 # ---- sessions
 
 def frame(payload):
+    """A frame of the management client with this payload."""
     return bytes.fromhex("000100010001") + len(payload).to_bytes(2, "big") + payload
 
 
@@ -140,10 +142,12 @@ def session(chance):
 
 
 def by_program(stream, *words):
+    """What `meter_server hex` answers to a stream."""
     return made_text(["hex", "--password", PASSWORD], SERVER, stream)
 
 
 def made_text(words, executable, stream, **environment):
+    """Runs a program with a stream in hexadecimal; returns status, output and errors."""
     ran = subprocess.run([str(executable), *words], input=stream.hex().encode(), capture_output=True, timeout=60, env={**os.environ, **environment})
     return ran.returncode, ran.stdout, ran.stderr
 
@@ -174,6 +178,7 @@ def is_reply(reply, played):
 
 
 def run_of(trace):
+    """The replies of a trace that `trace_player` plays."""
     ran = subprocess.run([str(PLAYER)], input=trace, capture_output=True, timeout=60)
     return [line.split("; ")[0].split(": ", 1)[1] for line in ran.stdout.decode().splitlines()] if ran.returncode == 0 else None
 
@@ -361,6 +366,7 @@ def valgrind_finds_nothing(name):
 
 
 def has_arm():
+    """Whether a compiler for 64-bit ARM and QEMU are installed."""
     return all(map(shutil.which, ARM))
 
 

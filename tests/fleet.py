@@ -106,6 +106,7 @@ class Fleet:
         self.process.stderr.close()
 
     def connect(self, meter):
+        """Connects to a meter of the fleet."""
         return socket.create_connection((address_of(meter), self.port), timeout=PATIENCE)
 
 
@@ -203,10 +204,12 @@ def connections_end(fleet):
 
 
 def stops_in_a_frame(client, choose):
+    """A client that stops within a frame."""
     client.sendall(AARQ[:choose.randrange(1, len(AARQ))])
 
 
 def resets(client, choose):
+    """A client that resets its connection after a request."""
     client.sendall(AARQ + STATE)
     client.setsockopt(socket.SOL_SOCKET, socket.SO_LINGER, b"\1\0\0\0\0\0\0\0")
 
@@ -220,18 +223,21 @@ def never_reads(client, choose):
 
 
 def babbles(client, choose):
+    """A client that sends random bytes."""
     client.sendall(choose.randbytes(choose.randrange(1, 4_000)))
     client.settimeout(0.2)
     client.recv(4_096)
 
 
 def sends_wrong_blocks(client, choose):
+    """A client that sends blocks of transfers that were not begun."""
     client.sendall(AARQ + b"".join(WRONG_BLOCKS))
     client.settimeout(0.2)
     received(client, 4_096)
 
 
 def has_a_wrong_password(client, choose):
+    """A client with a wrong password."""
     client.sendall(AARQ.replace(PASSWORD.encode(), b"87654321") + DISCONNECT)
     client.settimeout(0.2)
     client.recv(4_096)
@@ -258,6 +264,7 @@ def memory_of(process):
 
 
 def files_of(process):
+    """The number of open files of a process."""
     return len(os.listdir(f"/proc/{process}/fd"))
 
 

@@ -27,8 +27,8 @@ from serving import PASSWORD, PLAYER, SERVER, TOP, check
 
 CORPUS = TOP / "tests" / "corpus"
 SLOWEST = 10  # the time limit of a run, in seconds
-LONGEST_SEED = 4_096
-FAULTS = (b"fault: input\n",)
+LONGEST_SEED = 4_096  # the maximum length of a stored input that is changed, in bytes
+FAULTS = (b"fault: input\n",)  # the standard error of a run with a wrong input
 
 
 def stored(words):
@@ -154,6 +154,7 @@ def is_right(made):
 
 
 def keep(title, text):
+    """Writes an input to tests/corpus/ under the name of its target; returns the file."""
     CORPUS.mkdir(exist_ok=True)
     place = CORPUS / f"{title.replace(' ', '_')}.{abs(hash(text)) % 10**9}"
     place.write_bytes(text)
@@ -217,6 +218,7 @@ def by_afl(title, program, words, seeds, seconds):
 
 
 def main():
+    """Fuzzes each target for its share of the time. The status is 1 if anything is wrong."""
     parser = argparse.ArgumentParser()
     parser.add_argument("--minutes", type=float, default=1.0)
     parser.add_argument("--seed", type=int, default=1)

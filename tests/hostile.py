@@ -31,6 +31,7 @@ is_long = False
 
 
 def count_of(folder):
+    """The number of entries of a folder."""
     return len(os.listdir(folder))
 
 
@@ -181,6 +182,7 @@ def busy_console(server, rounds):
 
 
 def started(works):
+    """Starts a thread for each work; returns the threads."""
     threads = [threading.Thread(target=work, args=words, daemon=True) for work, *words in works]
     for thread in threads:
         thread.start()
@@ -239,12 +241,14 @@ def a_soak_keeps_its_memory(name):
 
 
 def stops_within_a_frame(server, chance):
+    """A client that stops within a frame."""
     client = again_served(server)
     client.send_bytes(bytes.fromhex("000100010001000DC001C1")[:chance.randrange(1, 11)])
     client.close()
 
 
 def resets(server, chance):
+    """A client that resets its connection after a request."""
     client = again_served(server)
     client.send("C001C10046000060030AFF0300")
     client.socket.setsockopt(serving.socket.SOL_SOCKET, serving.socket.SO_LINGER, b"\1\0\0\0\0\0\0\0")
@@ -265,6 +269,7 @@ def never_reads(server, chance):
 
 
 def babbles(server, chance):
+    """A client that sends random bytes."""
     client = Client(server.port)
     try:
         client.send_bytes(chance.randbytes(chance.randrange(1, 4_000)))
@@ -276,6 +281,7 @@ def babbles(server, chance):
 
 
 def sends_wrong_blocks(server, chance):
+    """A client that sends blocks of transfers that were not begun."""
     client = again_served(server)
     for payload in ("C002C100000005", "C103C1010000000201AA", "C102C100470000110000FF0400000000000102" + "0600", "C103C1010000000902" + "0000", "C306C10100000007020100"):
         client.ask(payload)
@@ -286,6 +292,7 @@ HOSTILE = (stops_within_a_frame, resets, never_reads, babbles, sends_wrong_block
 
 
 def attack(server, script, count):
+    """Lets a hostile client connect this many times."""
     chance = random.Random(script.__name__)
     for _ in range(count):
         try:

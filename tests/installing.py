@@ -36,11 +36,13 @@ PAGES = {
 
 
 def run(*words, **more):
+    """Runs a command without input; returns its status, output and errors."""
     return subprocess.run([str(it) for it in words], stdin=subprocess.DEVNULL, capture_output=True,
                           text=True, timeout=300, **more)
 
 
 def install(*words, destination=None):
+    """Runs bin/install, with DESTDIR if a destination is given."""
     environment = {name: it for name, it in os.environ.items() if name != "DESTDIR"}
     environment |= {"DESTDIR": str(destination)} if destination else {}
     return run(TOP / "bin" / "install", *words, env=environment)
@@ -53,11 +55,13 @@ def tree(folder):
 
 
 def recorded(root):
+    """The files that the record of an installation lists."""
     lines = (root / RECORD).read_text().splitlines()
     return {it.split("  ", 1)[1] for it in lines if not it.startswith("#")}
 
 
 def destinations(room):
+    """Checks of an installation into DESTDIR, and of its removal."""
     prefix, stage = room / "prefix", room / "stage"
     ran = install(prefix, destination=stage)
     root = Path(f"{stage}{prefix}")
@@ -80,6 +84,7 @@ def destinations(room):
 
 
 def removals(room):
+    """Checks that --remove removes exactly what was installed and is unchanged."""
     root = room / "some"
     (root / "bin").mkdir(parents=True)
     (root / "bin" / "other").write_text("a file of another package\n")
@@ -117,6 +122,7 @@ def an_earlier_file(root):
 
 
 def arguments():
+    """Checks of wrong command lines, and of the help."""
     for words in ([], ["a", "b"], ["--remove"], ["--remove", "a", "b"], ["--other", "a"]):
         ran = install(*words)
         yield f"arguments {words}", ran.returncode == 2 and "usage: bin/install" in ran.stderr
@@ -150,6 +156,7 @@ def versions_of(root, program, number):
 
 
 def versions(root):
+    """Checks of the version that each command prints."""
     first = (root / RECORD).read_text().partition("\n")[0]
     number = re.match(r"# wesplina (\d+\.\d+\.\d+)", first)
     yield "the record has the version", number is not None
@@ -174,6 +181,7 @@ def options_of(root, name):
 
 
 def pages(root):
+    """Checks that the manual pages and completions have all options."""
     has_man = shutil.which("man")
     if not has_man:
         print("SKIPPED rendered pages: man is not installed")
@@ -196,6 +204,7 @@ def pages(root):
 
 
 def completions(root):
+    """Checks that bash completes an option of each script."""
     cases = (("campaign", "--jobl", "--joblog"), ("trace_chart", "--fr", "--from"),
              ("campaign_report", "--ti", "--title"),
              ("meter_service", "--se", "--server"))
@@ -243,6 +252,7 @@ def linked_scripts(folder):
 
 
 def all_rows(room):
+    """All checks, each with its name and whether it holds."""
     yield from arguments()
     yield from destinations(room)
     yield from removals(room)

@@ -143,6 +143,7 @@ def end_in_order(name, journal):
 
 
 def start_and_kill(path, choose):
+    """Kills a server within its start."""
     server = Server.__new__(Server)
     server.start([str(SERVER), "serve", "--password", PASSWORD,
                   "--listen", f"127.0.0.1:{free_port()}", "--journal", str(path)])
@@ -228,6 +229,7 @@ def start_on(path, *options):
 
 
 def is_fault(made, status, word):
+    """Whether a start ended with this status and fault, before the server listened."""
     has_word = made[2].endswith(f"fault: {word}\n") and "listening on" not in made[2]
     return made[:2] == (status, "") and has_word
 
@@ -417,6 +419,7 @@ class SmallDisk:
         (self.path / file).write_bytes(bytes(space.f_bavail * space.f_frsize - room))
 
     def stop(self):
+        """Ends the process that holds the mount."""
         self.holder.stdin.close()
         self.holder.wait(PATIENCE)
 
@@ -566,6 +569,7 @@ class FailingRuns:
         return is_front and end_of_a_run(journal)
 
     def judge(self, seen, status, trace, errors):
+        """What happened in a run in which one call failed; `WRONG` if an answer was lost."""
         last = errors.splitlines()[-1] if errors else ""
         if "listening on" not in errors:
             return f"no start, {last}"
@@ -581,10 +585,12 @@ class FailingRuns:
 
 
 def all_calls(count):
+    """The numbers of all calls."""
     return range(1, count + 1)
 
 
 def some_calls(count):
+    """The numbers of some calls, or of all with --long."""
     return turns(count, is_long)
 
 

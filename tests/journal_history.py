@@ -106,6 +106,7 @@ def restart(journal, *options, **how):
 
 
 def check_restart(journal, server, tail):
+    """Checks a restarted server: its journal, what it cut, and the state of its meter."""
     errors = server.errors.decode()
     assert "listening on" in errors, f"no restart: {errors}"
     if journal.model is None:
@@ -182,6 +183,7 @@ class Talker(threading.Thread):
         self.answered.set()
 
     def ask(self):
+        """Sends one request, chosen by chance."""
         what = self.choose.random()
         if what < 0.3:
             self.client.get(self.choose.choice((STATE, MODE)))
@@ -221,9 +223,11 @@ class Console(threading.Thread):
             pass
 
     def channel(self, line):
+        """The source of an event of the console."""
         return self.CHANNELS[line.split()[0]]
 
     def line(self):
+        """A line of the console, chosen by chance."""
         kind = self.choose.choice(("button", "button", "samples", "pairs", "moment"))
         if kind == "button":
             return kind

@@ -73,6 +73,7 @@ class Campaign:
 
 
 def text_of(jobs):
+    """The list of these jobs."""
     return "".join(f"{' '.join(job)}\n" for job in jobs)
 
 
@@ -82,10 +83,12 @@ def any_verb(place):
 
 
 def report_of(jobs, rows):
+    """The report in which jobs have these results."""
     return "".join(f"{job[0]} {row}\n" for job, row in zip(jobs, rows))
 
 
 def words_of(ledger, workers=4):
+    """The command line of a campaign on a ledger."""
     return [str(HEAD_END), "run", "--password", PASSWORD, "--ledger", str(ledger), "--workers",
             str(workers), "--timeout", "10", "--connect-timeout", "5"]
 
@@ -169,6 +172,7 @@ class History:
                 for place, row in enumerate(self.campaign.rows)]
 
     def check_end(self, name, ran):
+        """Checks the report of the last run, and that each command was sent once."""
         wanted = report_of(self.campaign.jobs, self.expected_rows())
         check(f"{name}: the report", (ran.status, ran.report) == (0, wanted), ran.status,
               first_differences(wanted, ran.report), ran.errors[-500:])
@@ -420,6 +424,7 @@ def state_of(found):
 
 
 def status(ledger):
+    """Runs `head_end status` on a ledger."""
     ran = subprocess.run([str(HEAD_END), "status", "--ledger", str(ledger)], capture_output=True,
                          stdin=subprocess.DEVNULL, text=True, timeout=LONGEST)
     return Ran(ran.returncode, ran.stdout, ran.stderr)
@@ -555,6 +560,7 @@ def a_failed_call_commands_nobody_twice(name, folder):
 
 @contextlib.contextmanager
 def running_meters(count=JOBS):
+    """Meters that count their commands, and are stopped at the end."""
     meters = CountedMeters(count)
     try:
         yield meters
@@ -571,6 +577,7 @@ TESTS = (a_ledger_changes_no_row, killed_campaigns_command_nobody_twice, another
 
 
 def has_ledger():
+    """Whether `head_end` has the option --ledger."""
     ran = subprocess.run([str(HEAD_END), "run", "--help"], capture_output=True, text=True,
                          timeout=PATIENCE)
     return "--ledger" in ran.stdout

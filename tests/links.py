@@ -1,16 +1,16 @@
 #!/usr/bin/env python3
-"""Tests that what README.md, docs/ and the crates' READMEs name is there: links and their places,
+"""Tests that what README.md, docs/ and the crates' READMEs name exists: links and their places,
 files, functions, definitions, edits, tests.
 
 - A link leads to a file, and to a heading or an anchor in it.
-- A path in code or prose (docs/TRACE.md, bin/build, crates/NAME/..) is one of a file or folder.
-- `CRATE::NAME` is declared in that crate's sources; a crate of the toolchain's is not looked into.
+- A path in code or prose (docs/TRACE.md, bin/build, crates/NAME/..) is that of a file or folder.
+- `CRATE::NAME` is declared in that crate's sources; the toolchain's crates are not checked.
 - `CRATE/EDIT` and each name in docs/WRONG_BODIES.md's last column is an edit, or a test; its tables
   are what bin/wrong_page writes, so no edit is missing there.
 - A definition that docs/DEFINITIONS.md names is in a file of its row, and each file of specs/ is
   linked there.
 - A name in code in the first comment of a source is declared, or is a crate.
-- Each crate has a README, whose example is from a test that is there and has its calls, or is a
+- Each crate has a README. Its example names a test that exists and makes the same calls, or is a
   file that the gate runs.
 """
 import re
@@ -27,10 +27,12 @@ LINK = re.compile(r"\[[^\]]*\]\(([^)\s]+)\)")
 
 
 def pages():
+    """The documents that are checked."""
     return [TOP / it for it in ("README.md", "CONTRIBUTING.md", "CHANGELOG.md")] + sorted((TOP / "docs").glob("*.md")) + sorted(TOP.glob("crates/*/README.md"))
 
 
 def sources(crate):
+    """The sources of a crate as one text."""
     return "\n".join(it.read_text() for it in sorted((CRATES[crate] / "src").rglob("*.rt")))
 
 
@@ -50,12 +52,14 @@ def prose(text):
 
 
 def anchors(path):
+    """The places of a document that a link may name."""
     text = prose(path.read_text())
     heads = [re.sub(r"[^\w\- ]", "", it.lower()).replace(" ", "-") for it in re.findall(r"(?m)^#+ (.*)$", text)]
     return {*heads, *re.findall(r'<a id="([^"]+)"', text)}
 
 
 def links(page, text):
+    """The links of a document that lead to no file or place."""
     for target in LINK.findall(text):
         if re.match(r"https?:", target):
             continue
@@ -68,8 +72,8 @@ def links(page, text):
 
 
 def paths(page, text):
-    """Paths in code and in prose, from the top of the repository, or in a crate's README from its
-    own folder."""
+    """The paths in code and prose that lead to no file, from the top of the repository, or in a
+    crate's README from its own folder."""
     plain = LINK.sub("", text)
     found = set(re.findall(r"(?<![\w/.-])(?:docs|bin|tests|bench|crates|share)/[\w./*<>-]*[\w/]", plain))
     found |= {it for it in CODE.findall(plain) if re.fullmatch(r"(?:src|specs|proofs|wrong)/[\w./-]+", it)}
@@ -79,12 +83,12 @@ def paths(page, text):
 
 
 def is_shortened(path):
-    """A path of a crate's file told from its crate's folder, as `src/tests.rt`, where some crate
-    has it."""
+    """Whether a path is that of a file in the folder of some crate, such as `src/tests.rt`."""
     return path.startswith(("src/", "specs/", "proofs/", "wrong/")) and any((it / path).exists() for it in CRATES.values())
 
 
 def functions(text):
+    """The functions of crates that a document names and that do not exist."""
     for it in CODE.findall(text):
         words = re.fullmatch(r"(\w+)((?:::\w+)+)(?:\(\))?", it)
         if words and words[1] in CRATES:
@@ -94,7 +98,7 @@ def functions(text):
 
 
 def types(text):
-    """`TYPE::NAME` of whichever crate."""
+    """The names `TYPE::NAME` that no crate declares."""
     for it in CODE.findall(text):
         words = re.fullmatch(r"([A-Z]\w+)::(\w+)", it)
         if words and not all(re.search(DECLARED.format(name), ALL_SOURCES, re.M) for name in words.groups()):
@@ -102,13 +106,14 @@ def types(text):
 
 
 def steps(text):
-    """A name alone, where it is no number."""
+    """The single names in code that no crate declares."""
     for it in CODE.findall(text):
         if re.fullmatch(r"[a-zA-Z_]+", it) and it not in CRATES and not re.search(DECLARED.format(it), ALL_SOURCES, re.M) and it not in TESTS:
             yield f"no {it}"
 
 
 def edits(text):
+    """The edits of crates that a document names and that do not exist."""
     for it in CODE.findall(text):
         words = re.fullmatch(r"(\w+)/(\w+)", it)
         if words and words[1] in CRATES and words[2] not in EDITS[words[1]] and not (CRATES[words[1]] / words[2]).exists():
@@ -116,6 +121,7 @@ def edits(text):
 
 
 def wrong_bodies(text):
+    """The edits and tests that the page of wrong bodies names and that do not exist."""
     for row in text.split("\n"):
         cells = row.split(" | ")
         if len(cells) == 2 and row.startswith("| "):
@@ -129,8 +135,8 @@ def wrong_bodies(text):
 
 
 def definitions(text):
-    """A row has links to its files of specs/ in the first cell, and names that these define in the
-    second."""
+    """The names in the second cell of a row that the files of specs/ in its first cell do not
+    define, and the files of specs/ that no row links to."""
     for row in text.split("\n"):
         cells = row.strip("| ").split(" | ")
         files = [TOP / "docs" / it for it in LINK.findall(cells[0]) if it.endswith(".antt")]
@@ -146,6 +152,7 @@ def definitions(text):
 
 
 def examples():
+    """The crates whose README names a test that does not exist, or is missing."""
     for name, folder in CRATES.items():
         if name.endswith("_tests"):
             continue
@@ -170,8 +177,8 @@ def missing_calls(text, test):
 
 
 def crates_in_heads():
-    """A crate that the first comment of a source names in code: a name of several words that is
-    neither a crate nor declared nor a crate of the toolchain's."""
+    """The names of several words in the first comment of a source that are neither declared nor
+    those of a crate, here or of the toolchain."""
     kit = set(re.findall(r"\w+", (TOP / "crates.txt").read_text()))
     for source in sorted(TOP.glob("crates/*/src/**/*.rt")):
         for it in CODE.findall("\n".join(re.findall(r"(?m)^//!(.*)$", source.read_text()))):
@@ -181,6 +188,7 @@ def crates_in_heads():
 
 
 def lost():
+    """All that documents name and that does not exist."""
     for page in pages():
         text = prose(page.read_text())
         for what in (links(page, text), paths(page, text), functions(text), types(text), edits(text)):

@@ -31,6 +31,7 @@ static const char exporting[] =
     "scripts 010102021200010101020516021200460906000060030AFF0F010F00\n"
     "schedule 0 0 5 0100\nschedule 1 0 5 0100\nschedule 2 0 5 0100\nschedule 3 0 5 0100\nevents 0\n";
 
+/* Ends the program with status 1 and this description unless `is_so`. */
 static void need(bool is_so, const char *what)
 {
     if (!is_so) {
@@ -39,6 +40,7 @@ static void need(bool is_so, const char *what)
     }
 }
 
+/* Checks control_state, control_mode and output_state of a meter. */
 static void check_state(struct meter *meter, uint8_t wanted_state, uint8_t wanted_mode, bool wanted_supply)
 {
     uint8_t state, mode;
@@ -48,11 +50,13 @@ static void check_state(struct meter *meter, uint8_t wanted_state, uint8_t wante
     need(meter_supply(meter, &is_on) == METER_OK && is_on == wanted_supply, "meter_supply");
 }
 
+/* Whether the limiters fired this many times. */
 static bool is_fired(struct meter_fired fired, uint16_t over, uint16_t under, uint16_t export_over, uint16_t export_under)
 {
     return fired.over == over && fired.under == under && fired.export_over == export_over && fired.export_under == export_under;
 }
 
+/* Checks that the next frame of a session is this answer. */
 static void answers(struct meter *meter, uint8_t session, const uint8_t *answer, size_t count)
 {
     uint8_t frame[LONGEST_FRAME];
@@ -86,6 +90,7 @@ static void nothing_is_open(struct meter *meter)
     need(meter_export(meter, frame, 1, &length) == METER_NOT_OPEN && length == 0 && frame[0] == 7, "the trace of a closed handle");
 }
 
+/* Only names of 1 to 16 bytes, passwords of 1 to 32 bytes and 1 to 1,024 events open a meter. */
 static void arguments_have_ranges(struct meter *meter)
 {
     static const uint8_t seventeen[17] = "ABCDEFGHIJKLMNOPQ", thirty_three[33] = { 1 };
@@ -95,6 +100,7 @@ static void arguments_have_ranges(struct meter *meter)
     nothing_is_open(meter);
 }
 
+/* A session is opened once, answers each whole frame, and is closed; its client cuts the supply. */
 static void sessions_switch_the_supply(struct meter *meter)
 {
     uint8_t frame[LONGEST_FRAME], code;
@@ -116,6 +122,7 @@ static void sessions_switch_the_supply(struct meter *meter)
     need(meter_next(meter, 7, frame, sizeof frame, &length) == METER_CLOSED && length == 0, "an input that ended between two frames");
 }
 
+/* A moment before the last one is stale and changes nothing. */
 static void moments_go_on(struct meter *meter)
 {
     uint32_t moment = 1;
@@ -125,6 +132,7 @@ static void moments_go_on(struct meter *meter)
     need(meter_last_moment(meter, &moment) == METER_OK && moment == 5, "meter_last_moment");
 }
 
+/* A meter that is resumed from its exported trace has the same state, and no session. */
 static void traces_are_gone_on_from(struct meter *meter)
 {
     static uint8_t text[65536];

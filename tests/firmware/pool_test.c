@@ -10,23 +10,28 @@
 #include <stdlib.h>
 #include <string.h>
 
+/* The number of blocks that may be allocated at once, and the number of calls. */
 #define BLOCKS 200
 #define CALLS 200000
 
+/* The memory of the pool; it begins five bytes later, which is not aligned. */
 static _Alignas(16) unsigned char memory[65536 + 5];
 
+/* An allocated block: its address, its size, and the value of each of its bytes. */
 struct taken {
     unsigned char *at;
     size_t size;
     unsigned char mark;
 };
 
+/* Ends the program with status 1 and this description. */
 static _Noreturn void wrong(const char *what)
 {
     printf("failed: %s\n", what);
     exit(1);
 }
 
+/* Checks that a block is aligned, is within the pool and has kept its bytes. */
 static void look(const struct taken *block)
 {
     if ((uintptr_t)block->at % 16 != 0)
@@ -38,6 +43,7 @@ static void look(const struct taken *block)
             wrong("the bytes of a block changed");
 }
 
+/* A pseudorandom number below a bound; each run has the same sequence. */
 static unsigned chance(unsigned below)
 {
     static uint64_t state = 20260101;

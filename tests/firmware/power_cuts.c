@@ -28,6 +28,7 @@
 
 /* ---- the run */
 
+/* What happens to the meter in a step. */
 enum kind { REQUEST, PRESS, SAMPLES, MOMENT };
 
 /* What is checked of the meter: control_state and control_mode of class 70; the last moment, 0 if
@@ -40,6 +41,7 @@ struct row {
     bool has_script;
 };
 
+/* A step of the run: an event, its expected result, and the state of the meter after it. */
 struct step {
     const char *name;
     enum kind kind;
@@ -50,6 +52,8 @@ struct step {
     struct row after;
 };
 
+/* The class_id and the logical name of each object, and the values that are written, in
+ * hexadecimal. */
 #define SWITCH "0046 000060030AFF"
 #define LIMITER "0047 0000110000FF"
 #define REGISTER "0003 0100010700FF"
@@ -57,6 +61,7 @@ struct step {
 #define SCRIPTS "01 01 0202 12 0001 01 01 0205 16 02 12 0046 09 06 000060030AFF 0F 01 0F 00"
 #define ACTION_TO(number) "0202 09 06 00000A006AFF 12 00" number
 
+/* The state of a new meter: connected, mode 0, and a threshold that no sample exceeds. */
 static const struct row new_meter = { 1, 0, 0, 0, NEVER, 0, 0, false };
 
 static const struct step steps[] = {
@@ -82,11 +87,13 @@ static const struct step steps[] = {
 
 enum { STEPS = sizeof steps / sizeof steps[0] };
 
+/* The state after this number of steps. */
 static const struct row *row_after(size_t step_count)
 {
     return step_count == 0 ? &new_meter : &steps[step_count - 1].after;
 }
 
+/* Whether two states are the same in all that is checked. */
 static bool is_same_row(const struct row *one, const struct row *other)
 {
     return one->state == other->state && one->mode == other->mode && one->moment == other->moment && one->watts == other->watts && one->normal == other->normal
@@ -117,6 +124,7 @@ static struct stored_meter stored;
 
 static const uint8_t name[] = "RELAY1", password[] = "12345678";
 
+/* Ends the program with status 1, this description and the cuts so far, unless `is_so`. */
 static void need(bool is_so, const char *what)
 {
     if (!is_so) {
@@ -128,17 +136,20 @@ static void need(bool is_so, const char *what)
     }
 }
 
+/* Continues in `run` after a cut: the meter lost its power. */
 static void power_cut(void)
 {
     longjmp(power, 1);
 }
 
+/* Erases the RAM of the meter. */
 static void lose_ram(void)
 {
     memset(&stored, 0, sizeof stored);
     heap_pool_begin(pool, sizeof pool);
 }
 
+/* Opens the meter from the slots, as after a start. */
 static enum stored_result open_stored(void)
 {
     return stored_open(&stored, name, sizeof name - 1, password, sizeof password - 1);
@@ -146,6 +157,7 @@ static enum stored_result open_stored(void)
 
 /* ---- exchanges */
 
+/* The value of a digit in hexadecimal. */
 static unsigned digit(char letter)
 {
     return (unsigned)(letter <= '9' ? letter - '0' : letter - 'A' + 10);
@@ -180,6 +192,7 @@ static size_t exchange(const char *request, uint8_t *frame)
     return length;
 }
 
+/* Sends a request, and checks its answer. */
 static void ask(const char *request, const char *answer)
 {
     uint8_t frame[LONGEST_FRAME], wanted[LONGEST_FRAME];
@@ -187,6 +200,7 @@ static void ask(const char *request, const char *answer)
     need(length == count && memcmp(frame, wanted, count) == 0, request);
 }
 
+/* Opens a session, and checks that the AARQ of the management client is accepted. */
 static void associate(void)
 {
     need(meter_open_session(&stored.meter, 0) == METER_OK, "meter_open_session");
@@ -213,6 +227,7 @@ static bool is_at(const struct row *row, const uint8_t *values, size_t count)
         && moment == row->moment;
 }
 
+/* Reads the list of values that `is_at` compares; returns the length of the answer. */
 static size_t read_values(uint8_t *values)
 {
     return exchange("C0 03 C1 05" REGISTER "02 00" LIMITER "04 00" LIMITER "06 00" LIMITER "0B 00" SCRIPT_TABLE "02 00", values);
@@ -229,6 +244,7 @@ static void find_place(void)
     begun = seen;
 }
 
+/* Checks that the meter is in this state. */
 static void need_row(const struct row *row, const char *what)
 {
     uint8_t values[LONGEST_FRAME];
@@ -238,6 +254,7 @@ static void need_row(const struct row *row, const char *what)
 
 /* ---- one run */
 
+/* Applies the samples of a step, and checks how often the limiters fire. */
 static void take_samples(const struct step *step)
 {
     uint32_t watts[20];
@@ -339,6 +356,7 @@ static void need_last_text(void)
     need(slots_hold(&stored.slots, last_text, last_length), "the text of the last state");
 }
 
+/* Runs the table with one cut at each place, or at every `every`th, in each manner. */
 static void cut_once(unsigned long every)
 {
     unsigned long places = run_whole(), runs = 0;
@@ -356,6 +374,7 @@ static void cut_once(unsigned long every)
     printf("runs with one cut: %lu\n", runs);
 }
 
+/* A pseudorandom number below a bound; each run has the same sequence. */
 static unsigned long chance(unsigned long below)
 {
     static uint64_t state = 20260101;
@@ -378,6 +397,7 @@ static void cut_twice(unsigned long count)
 
 /* ---- damage */
 
+/* The bytes of all slots after a run without a cut. */
 static uint8_t image[FLASH_SLOTS][FLASH_SLOT_BYTES];
 
 /* Starts again with the flash of `image`, changed by the caller afterwards. */
@@ -388,6 +408,7 @@ static void restore(void)
     lose_ram();
 }
 
+/* Checks that the meter is not opened, with this result, and that no memory stays allocated. */
 static void need_closed(enum stored_result wanted, const char *what)
 {
     bool is_on;
@@ -395,6 +416,7 @@ static void need_closed(enum stored_result wanted, const char *what)
     need(meter_supply(&stored.meter, &is_on) == METER_NOT_OPEN && heap_pool_used() == 0, what);
 }
 
+/* Checks that the meter is opened, in this state. */
 static void need_open(const struct row *row, const char *what)
 {
     need(open_stored() == STORED_OK, what);
@@ -445,6 +467,7 @@ static void damage_all(unsigned newest)
     need_row(&new_meter, "empty flash");
 }
 
+/* A text that is too long, the longest, damaged, or not a trace: each has a defined result. */
 static void store_others(void)
 {
     static const uint8_t text[] = "RELAYTRACE 3\n";
@@ -540,6 +563,7 @@ static void erase_ahead(void)
     need(open_stored() == STORED_OK && flash_erases() == erases + 1, "an erase after a start");
 }
 
+/* Checks the result of each kind of damage, of worn slots and of a full heap. */
 static void damage(void)
 {
     need(slots_crc(0, (const uint8_t *)"123456789", 9) == 0xCBF43926u, "the check value of the CRC-32");

@@ -6,14 +6,18 @@
 #include <stdio.h>
 #include <stdlib.h>
 
+/* The address that a refused call returns. */
 static char nothing;
+/* The number of calls so far, and of blocks that are not freed. */
 static long calls, blocks;
 
+/* Prints the numbers of calls and of blocks that were not freed. */
 static void report(void)
 {
     fprintf(stderr, "calls %ld, blocks left %ld\n", calls, blocks);
 }
 
+/* Counts a call, and returns whether it is the one that is refused. */
 static bool is_refused(void)
 {
     static long refused;
@@ -25,6 +29,7 @@ static bool is_refused(void)
     return ++calls == refused;
 }
 
+/* Allocates a block, unless the call is refused. */
 struct rattle_tried rattle_alloc(size_t size, size_t align)
 {
     void *p = is_refused() ? NULL : malloc(size != 0 ? size : 1);
@@ -33,6 +38,7 @@ struct rattle_tried rattle_alloc(size_t size, size_t align)
     return (struct rattle_tried){ p != NULL, p != NULL ? p : &nothing };
 }
 
+/* Changes the size of a block, unless the call is refused. */
 struct rattle_tried rattle_realloc(void *p, size_t kept, size_t size, size_t align)
 {
     void *moved = is_refused() ? NULL : realloc(p, size != 0 ? size : 1);
@@ -41,6 +47,7 @@ struct rattle_tried rattle_realloc(void *p, size_t kept, size_t size, size_t ali
     return (struct rattle_tried){ moved != NULL, moved != NULL ? moved : &nothing };
 }
 
+/* Frees a block, which is never refused. */
 void rattle_dealloc(void *p)
 {
     blocks--;

@@ -1,3 +1,4 @@
+-- What the contracts of the association's APDUs and of the decision on an AARQ refer to.
 pub mod Conformance
 pub mod Diagnostics
 pub mod Fit

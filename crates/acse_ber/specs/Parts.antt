@@ -26,7 +26,7 @@ Part A = Format ℕ AcseFault A
 
 -- ---- bytes
 
--- one byte
+-- one byte of any value
 abbrev pub byte_part : Part ℕ
 byte_part = byte Unreadable
 

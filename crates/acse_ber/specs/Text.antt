@@ -41,7 +41,7 @@ abbrev pub aarq_body : Aarq → List ℕ
 aarq_body aarq = context_text aarq.context
     ++ (mechanism_text aarq.mechanism ++ (password_text aarq.password ++ user_text aarq.user))
 
--- the text of an AARQ
+-- the bytes of an AARQ: its tag, its length and its fields
 unfoldable pub aarq_text : Aarq → List ℕ
 aarq_text aarq = tagged_text 0x60 (aarq_body aarq)
 
@@ -88,7 +88,7 @@ abbrev pub aare_body : Aare → List ℕ
 aare_body aare = context_text ln_context
     ++ (result_text aare.result ++ (diagnostic_text aare.diagnostic ++ info_text aare.info))
 
--- the text of an AARE
+-- the bytes of an AARE: its tag, its length and its fields
 unfoldable pub aare_text : Aare → List ℕ
 aare_text aare = tagged_text 0x61 (aare_body aare)
 

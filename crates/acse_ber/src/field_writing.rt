@@ -19,7 +19,7 @@ pub(crate) fn put_context(alloc: Global, context: &[u8], out: &mut Octets) -> Re
     )
 }
 
-// Appends user information.
+// Appends the field user-information with these bytes as its octet-string.
 pub(crate) fn put_user(alloc: Global, user: &[u8], out: &mut Octets) -> Result<(), AllocError>
     ensures { OnOk result (out.new ≡ out.old ++ user_text user.now) }
 {

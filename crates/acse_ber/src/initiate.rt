@@ -34,7 +34,7 @@ const CONFORMANCE_HEAD: [u8; 4] = [0x5F, 0x1F, 0x04, 0x00];
 // The number of values of a conformance block's 24 bits.
 const CONFORMANCE_VALUES: u32 = 1 << 24;
 
-// The DLMS version.
+// The DLMS version that a client proposes and the meter answers with.
 pub(crate) const VERSION: u8 = 6;
 
 // The name of the virtual application entity (VAA) for logical names.
@@ -49,9 +49,9 @@ const PRESENT: u8 = 1;
 // The proposal of a client in an InitiateRequest.
 #[derive(Clone, Copy)]
 pub(crate) struct Proposal {
-    // The DLMS version.
+    // The proposed DLMS version.
     pub(crate) version: u8,
-    // The conformance.
+    // The proposed services, as a conformance block.
     pub(crate) conformance: Conformance,
     // The maximum APDU size that the client receives, in bytes; 0 means no limit.
     pub(crate) size: u16,

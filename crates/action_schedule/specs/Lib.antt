@@ -1,3 +1,4 @@
+-- What the contracts of single action schedules (class 22) refer to.
 pub mod Attributes
 pub mod Fitting
 pub mod Forms

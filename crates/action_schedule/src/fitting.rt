@@ -10,7 +10,7 @@ use cosem_datetime::{EntryPattern, TimePattern};
 /// The greatest number of seconds that are searched before a moment: a day.
 pub const SECONDS_LOOKED_BACK: u32 = 86_400;
 
-// Returns whether two times are written in the same way.
+// Returns whether two times have the same hour, minute and second, as written.
 fn is_same_time(one: &TimePattern, other: &TimePattern) -> bool
     ensures { result ≡ is_same_time one.now other.now }
 {
@@ -34,7 +34,7 @@ fn have_one_time(entries: &[EntryPattern]) -> bool
     }
 }
 
-// Returns whether no date has a wildcard.
+// Returns whether year, month and day of every entry's date are plain numbers.
 fn have_plain_dates(entries: &[EntryPattern]) -> bool
     ensures { result ≡ have_plain_dates entries.now }
 {

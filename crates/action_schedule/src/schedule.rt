@@ -144,7 +144,7 @@ impl ActionSchedule {
         self.selector
     }
 
-    /// Returns the type.
+    /// Returns the type of the schedule.
     pub fn kind(&self) -> ScheduleType
         ensures { result ≡ self.now.kind }
     {

@@ -61,6 +61,7 @@ fn method(number: u8) -> MethodRef {
     }
 }
 
+// Returns a data block with these bytes.
 fn block(alloc: Global, last: bool, number: u32, raw: &[u8]) -> Result<DataBlock, AllocError> {
     Ok(DataBlock {
         last,
@@ -445,14 +446,17 @@ pub(crate) fn request_of(alloc: Global, bytes: &[u8]) -> Result<Request, ApduFau
     read_request(alloc, bytes)
 }
 
+// Returns the response that the bytes are, or the fault of reading them.
 fn response_of(alloc: Global, bytes: &[u8]) -> Result<Response, ApduFault> {
     read_response(alloc, bytes)
 }
 
+// Returns the bytes of a request.
 fn text_of_request(alloc: Global, request: &Request) -> Result<Octets, AllocError> {
     write_request(alloc, request)
 }
 
+// Returns the bytes of a response.
 fn text_of_response(alloc: Global, response: &Response) -> Result<Octets, AllocError> {
     write_response(alloc, response)
 }
@@ -560,10 +564,12 @@ pub(crate) fn request_fault(alloc: Global, bytes: &[u8]) -> Option<ApduFault> {
     request_of(alloc, bytes).err()
 }
 
+// Returns the fault of reading these bytes as a response.
 pub(crate) fn response_fault(alloc: Global, bytes: &[u8]) -> Option<ApduFault> {
     response_of(alloc, bytes).err()
 }
 
+// Returns a text followed by a byte 0, or `None` if out of memory.
 fn with_one_more_byte(alloc: Global, text: &[u8]) -> Option<Vec<u8>> {
     let mut longer = text.to_vec(alloc).ok()?;
     if longer.push(0).is_ok() {
@@ -583,6 +589,7 @@ fn late_request_fault(alloc: Global, text: &[u8]) -> Option<ApduFault> {
     fault
 }
 
+// Returns the fault of reading a response that is followed by one more byte.
 fn late_response_fault(alloc: Global, text: &[u8]) -> Option<ApduFault> {
     let longer = with_one_more_byte(alloc, text)?;
     let fault = response_fault(alloc, longer.as_slice());
@@ -607,6 +614,7 @@ fn all_unless(is_so: bool, text: &[u8]) -> Wrong {
     if is_so { None } else { Some(text.len()) }
 }
 
+// Returns the length of the shortest front of a request that is not unreadable, if there is one.
 fn early_request_wrong(alloc: Global, text: &[u8]) -> Wrong {
     for end in 1..text.len() {
         if request_fault(alloc, &text[..end]) != Some(ApduFault::Unreadable) {
@@ -616,6 +624,7 @@ fn early_request_wrong(alloc: Global, text: &[u8]) -> Wrong {
     None
 }
 
+// Returns the length of the bytes for which a trial of a request fails, if it fails.
 fn request_wrong(alloc: Global, trial: Trial, text: &[u8], request: &Request) -> Wrong {
     match trial {
         Trial::Spells => all_unless(spells_request(alloc, text, request), text),
@@ -674,6 +683,7 @@ fn a_request_that_ends_too_late_is_unreadable(rt: HostRuntime) {
     assert_all_well(&rt, try_requests(rt.alloc(), Trial::EndsLate));
 }
 
+// Returns the length of the shortest front of a response that is not unreadable, if there is one.
 fn early_response_wrong(alloc: Global, text: &[u8]) -> Wrong {
     for end in 1..text.len() {
         if response_fault(alloc, &text[..end]) != Some(ApduFault::Unreadable) {
@@ -683,6 +693,7 @@ fn early_response_wrong(alloc: Global, text: &[u8]) -> Wrong {
     None
 }
 
+// Returns the length of the bytes for which a trial of a response fails, if it fails.
 fn response_wrong(alloc: Global, trial: Trial, text: &[u8], response: &Response) -> Wrong {
     match trial {
         Trial::Spells => all_unless(spells_response(alloc, text, response), text),

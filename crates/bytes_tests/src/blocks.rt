@@ -60,6 +60,7 @@ fn sends(
     }
 }
 
+// Sends the blocks of all rows, and checks each.
 fn send_all(
     rt: &impl Abort,
     alloc: Global,
@@ -103,6 +104,7 @@ fn joins(joined: &mut JoinBlocks, (block, expected): &Joining<'_>) -> Result<boo
     }
 }
 
+// Joins the blocks of all rows, and checks the result of each.
 fn join_all(
     rt: &impl Abort,
     joined: &mut JoinBlocks,
@@ -290,6 +292,7 @@ fn next_again(alloc: Global, sent: &mut GetBlocks, after: u32) -> Result<Piece, 
     }
 }
 
+// Sends and joins a text of two blocks, and repeats each call that is out of memory.
 fn check_repeated(
     rt: &impl Abort,
     alloc: Global,

@@ -17,6 +17,7 @@ struct Scripted {
 }
 
 impl Scripted {
+    // Returns a stream whose call with this number fails with this kind of error.
     fn new(failing: u32, kind: ErrorKind) -> Scripted {
         Scripted {
             calls: 0,

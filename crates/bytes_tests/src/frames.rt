@@ -106,6 +106,7 @@ fn is_fed(
     Ok(was_empty == (at == 0 || at == 39) && is_taken == (at == 38 || at == 59))
 }
 
+// Feeds a stream byte by byte, and checks that its frames come at their last bytes.
 fn check_bytes(
     rt: &impl Abort,
     alloc: Global,
@@ -239,6 +240,7 @@ fn a_wrong_header_is_answered_for_good(rt: HostRuntime) -> Result<(), Fail> {
     Ok(())
 }
 
+// Checks that the frames before a wrong header are taken, and then its fault.
 fn check_before_wrong(
     rt: &impl Abort,
     alloc: Global,
@@ -348,6 +350,7 @@ fn take_again(deframer: &mut Deframer, alloc: Global) -> Result<Option<Frame>, W
     }
 }
 
+// Feeds the stream and takes its two frames, and repeats each call that is out of memory.
 fn check_repeated(rt: &impl Abort, alloc: Global, deframer: &mut Deframer) -> Result<(), Fail> {
     feed_again(rt, deframer)?;
     let is_first_so = is_of(take_again(deframer, alloc), &ASSOCIATION)?;

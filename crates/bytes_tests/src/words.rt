@@ -85,6 +85,7 @@ fn add_some_lines(alloc: Global, out: &mut Vec<u8>) -> Result<(), AllocError> {
 // A word, the largest number allowed, and the expected result of reading it.
 type Number = (&'static [u8], u64, Option<u64>);
 
+// Reads the words of all rows, and checks each number.
 fn read_all(rt: &impl Abort, numbers: &[Number]) {
     for (word, limit, number) in numbers {
         assert!(*rt; read_number(word, *limit) == *number, "of {word:?}");

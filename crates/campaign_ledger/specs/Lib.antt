@@ -1,3 +1,4 @@
+-- What the contracts of a campaign's ledger refer to: its entries, its permits and its runs.
 pub mod Entries
 pub mod Faults
 pub mod Grants

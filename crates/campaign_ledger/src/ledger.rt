@@ -52,7 +52,7 @@ impl<B: Book> Ledger<B> {
         }
     }
 
-    /// Returns the book.
+    /// Returns the book in which the ledger stores its entries.
     pub fn book(&self) -> &B
         ensures { result.now ≡ self.now.book }
     {
@@ -157,7 +157,7 @@ impl<B: Book> Ledger<B> {
         }
     }
 
-    /// Returns the book.
+    /// Drops the ledger, and returns the book in which it stored its entries.
     pub fn into_book(self) -> B
         ensures { result ≡ self.book }
     {

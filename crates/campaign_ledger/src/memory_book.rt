@@ -60,7 +60,7 @@ impl MemoryBook {
         self.entries
     }
 
-    // Counts a call.
+    // Counts a call of the book. Fails if no more calls are left, or one has failed.
     fn count_call(&mut self) -> Result<(), LedgerFault>
         ensures entries { self.new.entries ≡ self.old.entries }
     {

@@ -26,7 +26,7 @@ impl Permit {
         Permit { place }
     }
 
-    /// Returns the place.
+    /// Returns the place whose command may be sent.
     pub fn place(&self) -> u32
         ensures { result ≡ self.now }
     {

@@ -176,6 +176,7 @@ const ROWS: &[(&[u8], Outcome)] = &[
     (b"m4", Outcome::Refused(2)),
 ];
 
+// Returns whether each job has its expected outcome.
 fn are_rows(alloc: Global, rows: &[(&[u8], Outcome)]) -> Result<bool, AllocError> {
     for (name, outcome) in rows {
         if row_of(alloc, name)? != Row::Came(*outcome) {

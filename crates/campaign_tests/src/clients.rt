@@ -86,6 +86,7 @@ enum Step {
     Tells(Option<Outcome>),
 }
 
+// Starts the client of a job with the meter's password.
 fn client_for(alloc: Global, job: &Job) -> Result<Client, AllocError> {
     let password = password(alloc)?;
     let client = Client::start(alloc, job, &password);
@@ -253,6 +254,7 @@ fn is_asked(alloc: Global, asked: &Asked) -> Result<bool, AllocError> {
     follows_steps(alloc, verb, steps.as_slice())
 }
 
+// Returns whether the client of each row sends its expected messages.
 fn are_asked(alloc: Global, rows: &[Asked]) -> Result<bool, AllocError> {
     for row in rows {
         if !is_asked(alloc, row)? {

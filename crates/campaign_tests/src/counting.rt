@@ -59,11 +59,13 @@ struct Counting {
     wrong: Count,
 }
 
+// Returns a shared count that is 0.
 fn zero(alloc: Global) -> Result<Count, AllocError> {
     Ok(Arc::new(alloc, AtomicU64::new(0))?)
 }
 
 impl Counting {
+    // Returns the meters with all counts at 0.
     fn new(alloc: Global) -> Result<Counting, AllocError> {
         Ok(Counting {
             connects: zero(alloc)?,
@@ -72,6 +74,7 @@ impl Counting {
         })
     }
 
+    // Returns a connection that returns these bytes and compares what is written.
     fn meet(&self, bytes: &'static [u8]) -> Result<Compared, AllocError> {
         Ok(Compared {
             bytes,

@@ -28,6 +28,7 @@ fn within<R>(rt: R, millis: u64) -> TcpConnector<R> {
     TcpConnector::new(rt, limits)
 }
 
+// Runs a job over a connector, and returns its row.
 fn row_of<C: Connector>(alloc: Global, connector: &C, job: &Job) -> Result<Row, AllocError> {
     let password = password(alloc)?;
     let mut attempt = Attempt::new(connector);

@@ -71,6 +71,7 @@ struct Two {
 }
 
 impl Two {
+    // Returns the meters, neither of which was asked.
     fn new(alloc: Global) -> Result<Two, AllocError> {
         Ok(Two {
             first: Arc::new(alloc, AtomicBool::new(false))?,
@@ -78,6 +79,7 @@ impl Two {
         })
     }
 
+    // Returns the connection to the meter `m1` or to the other one.
     fn meet(&self, address: &Octets) -> Result<Waiting, AllocError> {
         let first = Arc::try_clone(&self.first)?;
         let second = Arc::try_clone(&self.second)?;

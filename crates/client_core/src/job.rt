@@ -21,7 +21,7 @@ pub struct Job {
     pub id: Octets,
     /// The address of the meter.
     pub address: Octets,
-    /// The request.
+    /// What the meter is asked to do.
     pub verb: Verb,
 }
 

@@ -110,6 +110,7 @@ impl<R: Wait> EventSink for Listing<R> {
 }
 
 impl<R> Listing<R> {
+    // Returns a listing without events.
     fn new(rt: R, alloc: Global) -> Listing<R>
         ensures { result.events.items ≡ [] }
     {

@@ -38,6 +38,7 @@ const MODE: Place = (70, DISCONNECT_CONTROL, 4);
 // The attribute scripts of the script table.
 const SCRIPTS: Place = (9, SCRIPT_TABLE, 2);
 
+// Returns a new meter with the device name `A`.
 fn new_core(alloc: Global) -> Result<RelayCore, AllocError> {
     let device = Octets::from_slice(alloc, b"A")?;
     let made = RelayCore::new(alloc, &device);
@@ -45,6 +46,7 @@ fn new_core(alloc: Global) -> Result<RelayCore, AllocError> {
     made
 }
 
+// Returns the reference to the attribute of a place.
 fn attribute_at(place: Place) -> AttrRef {
     AttrRef {
         class: ClassId(place.0),

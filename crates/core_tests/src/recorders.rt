@@ -11,6 +11,7 @@ use std::process::Abort;
 // The logical name of the disconnect control.
 const DISCONNECT_CONTROL: Obis = Obis([0, 0, 96, 3, 10, 255]);
 
+// Returns a new recorder of the device `RELAY1` that keeps `capacity` events.
 fn new_recorder(rt: &impl Abort, alloc: Global, capacity: u16) -> Result<Recorder, AllocError> {
     let device = Octets::from_slice(alloc, b"RELAY1")?;
     assert!(rt; device.len() == 6);
@@ -117,7 +118,7 @@ fn stands_after_three(rt: &impl Abort, recorder: &Recorder) {
     assert!(rt; letter_at(recorder, 1) == 'b');
 }
 
-/// Returns the moment of a Moment, or 0.
+// Returns the second of a moment of the clock, or 0 for any other event.
 fn moment(event: &Event) -> u32 {
     match event {
         Event::Moment(now) => *now,
@@ -167,6 +168,7 @@ pub(crate) enum Scenario {
     Export { count: u32 },
 }
 
+// Leads a recorder through a scenario, and checks its state.
 fn lead(
     rt: &impl Abort,
     recorder: &mut Recorder,

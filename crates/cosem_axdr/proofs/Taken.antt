@@ -407,7 +407,7 @@ leaf_takes levels tag place x e =
           ]
     ]
 
--- bytes spell a Data nested at most to this depth, and consecutive Datas
+-- bytes spell a Data nested at most to this depth, and consecutive values
 abbrev pub IsValue : ℕ → List ℕ → Data → Type 0
 IsValue levels text d = Spells text (tree_of d) × (nesting (tree_of d) ≤ levels)
 

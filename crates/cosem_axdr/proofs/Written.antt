@@ -6,7 +6,7 @@ use Rattle.cosem_axdr.specs.View.{all_trees}
 use Rattle.cosem_axdr.specs.declared.value.Data.{Data}
 use Rattle.cosem_axdr.proofs.OneTree.{count_of-trees_of}
 
--- the texts of consecutive Datas
+-- the texts of consecutive values
 abbrev all_texts : List Data → List ℕ
 all_texts ds = texts (trees_of (all_trees ds))
 

@@ -1,4 +1,4 @@
--- `==` of Datas, and of items, is equality, and so an equivalence relation. It compares codes: the
+-- `==` of values, and of items, is equality, and so an equivalence relation. It compares codes: the
 -- code of a value is the tree of numbers that `stored` makes of it (Stored.antt).
 use Rattle.std.proofs.Common.{◌≡◌, ◌↔◌, IsTrue, Bool, true, refl, sym, ap, ap₂, ◌∙◌, subst}
 use Rattle.std.specs.Cmp.{IsEquivalence}
@@ -48,7 +48,7 @@ equivalence same one itself = record {
   congr = λ x y z e. ap (λ w. same w z) (one x y e);
 }
 
--- Datas that compare as the same are equal
+-- values of type Data that compare as the same are equal
 pub is_same-true : (d e : Data) → is_same d e ≡ true → d ≡ e
 is_same-true d e same =
     one_tree d e (sym (stored_back (tree_of d)) ∙ ap (λ g. (decoded_cell g).0)

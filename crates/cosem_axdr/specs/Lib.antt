@@ -1,3 +1,4 @@
+-- What the contracts of Data values and their A-XDR encoding refer to.
 pub mod Appending
 pub mod Equality
 pub mod EqualityLaws

@@ -1,9 +1,9 @@
--- The number of each fault.
+-- The public numbers of the faults of reading Data.
 use Rattle.std.specs.Prelude.{ℕ}
 use Rattle.cosem_axdr.specs.declared.fault.DataFault.{DataFault}
 use Rattle.cosem_axdr.specs.declared.fault.DataFault.TheVariants as fault
 
--- the number of a fault
+-- the public number of a fault of reading a Data, as `u8::from` returns it
 abbrev pub fault_number : DataFault → ℕ
 fault_number fault.Truncated = 1
 fault_number fault.UnknownTag = 2

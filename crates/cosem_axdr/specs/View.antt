@@ -1,6 +1,6 @@
 -- A Data as its tree, and the inverse.
 --     tree_of, data_of         a Data's tree, and the Data of a tree
---     all_trees, list_of       the trees of a list of Datas, and the Datas of items
+--     all_trees, list_of       the trees of a list of values, and the values of items
 use Rattle.std.specs.Prelude.{List, [], ◌∷◌, map}
 use Rattle.cosem_axdr.specs.Tree.{Tree, Trees, null, array, structure, boolean, bit_string, double_long, double_long_unsigned, octet_string, visible_string, utf8_string, integer, long, unsigned, long_unsigned, long64, long64_unsigned, enumerated, date_time, date, time, no_trees, tree}
 use Rattle.cosem_axdr.specs.declared.value.Data.{Data}
@@ -52,11 +52,11 @@ data_of (date_time bytes) = variants.DateTime bytes
 data_of (date bytes) = variants.Date bytes
 data_of (time bytes) = variants.Time bytes
 
--- the trees of Datas, in order
+-- the trees of values of type Data, in order
 abbrev pub all_trees : List Data → List Tree
 all_trees ds = map tree_of ds
 
--- items as Datas, in order
+-- items as values of type Data, in order
 abbrev pub list_of : Trees → List Data
 list_of no_trees = []
 list_of (tree t ts) = data_of t ∷ list_of ts

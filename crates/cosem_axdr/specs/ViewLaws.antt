@@ -51,6 +51,6 @@ tree_of-data_of (date_time bytes) = refl
 tree_of-data_of (date bytes) = refl
 tree_of-data_of (time bytes) = refl
 
--- Datas with equal trees are equal
+-- values of type Data with equal trees are equal
 pub one_tree : (d e : Data) → tree_of d ≡ tree_of e → d ≡ e
 one_tree d e same = sym (data_of-tree_of d) ∙ ap data_of same ∙ data_of-tree_of e

@@ -44,7 +44,7 @@ impl Eq for Items {
     ghost laws = { are_same-equivalence };
 }
 
-// Returns whether two Datas are equal.
+// Returns whether two values of type Data are equal.
 #[cycle(comparing)]
 fn is_same(value: &Data, other: &Data) -> bool
     ensures { IsTrue result ↔ (value.now ≡ other.now) }
@@ -82,7 +82,7 @@ fn items_are_same(items: &Items, others: &Items) -> bool
     all_are_same(&items.items, &others.items)
 }
 
-// Returns whether two lists have the same length and equal Datas at each index.
+// Returns whether two lists have the same length and equal values at each index.
 #[cycle(comparing)]
 fn all_are_same(values: &[Data], others: &[Data]) -> bool
     ensures { IsTrue result ↔ (values.now ≡ others.now) }

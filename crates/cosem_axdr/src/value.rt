@@ -12,40 +12,40 @@ use wire_bytes::Octets;
 #[cycle(value)]
 #[derive(Debug, Drop)]
 pub enum Data {
-    /// null-data, tag 00
+    /// null-data, tag 00: no value
     Null,
     /// array, tag 01: its items
     Array(Items),
     /// structure, tag 02: its items
     Structure(Items),
-    /// boolean, tag 03
+    /// boolean, tag 03: false for 0, true for any other byte
     Boolean(bool),
     /// bit-string, tag 04: the number of bits, and the bytes that hold them; the first bit is the
     /// highest bit of the first byte
     BitString { bits: usize, bytes: Octets },
-    /// double-long, tag 05
+    /// double-long, tag 05: a signed number of four bytes
     DoubleLong(i32),
-    /// double-long-unsigned, tag 06
+    /// double-long-unsigned, tag 06: an unsigned number of four bytes
     DoubleLongUnsigned(u32),
-    /// octet-string, tag 09
+    /// octet-string, tag 09: any bytes
     OctetString(Octets),
     /// visible-string, tag 0A: any bytes
     VisibleString(Octets),
     /// utf8-string, tag 0C: any bytes
     Utf8String(Octets),
-    /// integer, tag 0F
+    /// integer, tag 0F: a signed number of one byte
     Integer(i8),
-    /// long, tag 10
+    /// long, tag 10: a signed number of two bytes
     Long(i16),
-    /// unsigned, tag 11
+    /// unsigned, tag 11: an unsigned number of one byte
     Unsigned(u8),
-    /// long-unsigned, tag 12
+    /// long-unsigned, tag 12: an unsigned number of two bytes
     LongUnsigned(u16),
-    /// long64, tag 14
+    /// long64, tag 14: a signed number of eight bytes
     Long64(i64),
-    /// long64-unsigned, tag 15
+    /// long64-unsigned, tag 15: an unsigned number of eight bytes
     Long64Unsigned(u64),
-    /// enum, tag 16
+    /// enum, tag 16: the number of an enumerated value
     Enum(u8),
     /// date-time, tag 19: any bytes
     DateTime([u8; 12]),
@@ -56,10 +56,11 @@ pub enum Data {
 }
 
 /// The items of an array or structure, in order. Contracts refer to their trees, so that equal
-/// Datas have equal trees wherever they are stored.
+/// values have equal trees wherever they are stored.
 #[cycle(value)]
 #[derive(Debug, Drop)]
 pub struct Items {
+    /// The items, in order.
     pub items: Vec<Data>,
 }
 

@@ -1,3 +1,4 @@
+-- What the contracts of dates, times and the seconds that match them refer to.
 pub mod Fields
 pub mod Reading
 pub mod Calendar

@@ -16,9 +16,13 @@ use std::marker::Model;
 /// and the clock status.
 #[derive(Clone, Copy, Debug)]
 pub struct DateTimeField {
+    // The date.
     pub(crate) date: DatePattern,
+    // The time of day.
     pub(crate) time: TimePattern,
+    // The minutes from local time to UTC, -720 to 840, or `None` if not specified.
     pub(crate) deviation: Option<i16>,
+    // The clock status, any byte.
     status: u8,
 }
 

@@ -12,7 +12,7 @@ use crate::time::TimePattern;
 pub struct EntryPattern {
     /// The time of day.
     pub time: TimePattern,
-    /// The days.
+    /// The days on which the time counts.
     pub date: DatePattern,
 }
 

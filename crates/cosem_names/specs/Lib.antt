@@ -1,3 +1,4 @@
+-- What the contracts of the object table and of the clients' rights refer to.
 pub mod Forms
 pub mod Judging
 pub mod ObjectList

@@ -18,13 +18,13 @@ pub enum Access {
 /// The number of a schedule, first to fourth: the value group B of its logical name is one less.
 #[derive(Clone, Copy, Debug, PartialEq, Eq)]
 pub enum ScheduleNumber {
-    /// 0.0.15.0.1.255.
+    /// The schedule with the logical name 0.0.15.0.1.255.
     First,
-    /// 0.1.15.0.1.255.
+    /// The schedule with the logical name 0.1.15.0.1.255.
     Second,
-    /// 0.2.15.0.1.255.
+    /// The schedule with the logical name 0.2.15.0.1.255.
     Third,
-    /// 0.3.15.0.1.255.
+    /// The schedule with the logical name 0.3.15.0.1.255.
     Fourth,
 }
 
@@ -66,7 +66,7 @@ pub struct Object {
     pub class: ClassId,
     /// The version of its interface class.
     pub version: u8,
-    /// Its logical name.
+    /// The logical name of the object.
     pub name: Obis,
 }
 

@@ -9,7 +9,7 @@ use crate::unknown_number::UnknownNumber;
 /// The result of a service: Data-Access-Result and Action-Result (IEC 62056-5-3).
 #[derive(Clone, Copy, Debug, PartialEq, Eq)]
 pub enum ResultCode {
-    /// 0, success.
+    /// 0, success: the service was executed.
     Success,
     /// 1, hardware-fault. This meter never returns it.
     HardwareFault,

@@ -9,7 +9,7 @@ use cosem_axdr::Data;
 /// meter refuses all of them.
 #[derive(Clone, Copy, Debug, PartialEq, Eq)]
 pub struct AttributeSelection {
-    /// The attribute.
+    /// The attribute that the request names.
     pub attr: AttrRef,
     /// Whether the request has an access selection, which selects a part of the attribute.
     pub selected: bool,

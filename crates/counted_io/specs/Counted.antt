@@ -2,7 +2,7 @@
 use Rattle.std.specs.Prelude.{◌≡◌, ℕ, Bool, false, if◌then◌else◌}
 use Rattle.counted_io.specs.declared.counted.Counted.{Counted}
 
--- the stream itself
+-- the stream whose failures are counted
 abbrev pub stream_of : {T : Type 0} → Counted T → T
 stream_of c = c.stream
 

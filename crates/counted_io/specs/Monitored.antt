@@ -2,7 +2,7 @@
 use Rattle.std.specs.Prelude.{Bool}
 use Rattle.counted_io.specs.declared.monitored.Monitored.{Monitored}
 
--- the stream itself
+-- the stream whose failed reads are recorded
 abbrev pub stream_of : {T : Type 0} → Monitored T → T
 stream_of m = m.stream
 

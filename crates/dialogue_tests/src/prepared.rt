@@ -57,6 +57,7 @@ fn is_answered(alloc: Global, request: &str, reply: &Reply, answer: &str) -> Res
     is_so
 }
 
+// Checks the answer to each request, for its reply.
 fn check_answers(rt: &impl Abort, alloc: Global) -> Result<(), Fail> {
     for (request, reply, answer) in &ANSWERS {
         let is_so = is_answered(alloc, request, reply, answer)?;

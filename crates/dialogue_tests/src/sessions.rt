@@ -131,6 +131,7 @@ fn drive(
     settle(alloc, core, session, sent)
 }
 
+// Returns a new session with the meter's password.
 fn new_session(alloc: Global) -> Result<Session, AllocError> {
     let password = Octets::from_slice(alloc, b"12345678")?;
     let session = Session::new(alloc, &password);
@@ -138,6 +139,7 @@ fn new_session(alloc: Global) -> Result<Session, AllocError> {
     session
 }
 
+// Returns a new meter with the device name `RELAY1`.
 fn new_core(alloc: Global) -> Result<RelayCore, AllocError> {
     let device = Octets::from_slice(alloc, b"RELAY1")?;
     let core = RelayCore::new(alloc, &device);
@@ -214,6 +216,7 @@ fn add_hex(alloc: Global, bytes: &mut Octets, text: &str) -> Result<(), AllocErr
 /// Frames of a client, each with its answer.
 type Frames = &'static [(&'static str, &'static str)];
 
+// Appends the requests to the input, and their answers to the expected output.
 fn add_frames(
     alloc: Global,
     frames: Frames,
@@ -521,6 +524,7 @@ const UNANSWERED: &[(Frames, SessionEnd)] = &[
     (&[("00", "")], SessionEnd::Cut),
 ];
 
+// Returns whether the session of each row is answered and ends as expected.
 fn all_end(alloc: Global, rows: &[(Frames, SessionEnd)]) -> Result<bool, AllocError> {
     for (frames, end) in rows {
         if !are_answered(alloc, frames, *end)? {

@@ -30,6 +30,6 @@ unfoldable pub with_mode : ControlMode → Control → Control
 with_mode mode control = if is_mode_fit mode control.state
     then record { state = control.state; mode = mode } else control
 
--- the result of a write of the mode
+-- the result of a write of control_mode: success if the mode is allowed in the present state
 unfoldable pub mode_result : ControlMode → Control → ResultCode
 mode_result mode control = if is_mode_fit mode control.state then Success else TemporaryFailure

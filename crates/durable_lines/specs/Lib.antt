@@ -1,3 +1,4 @@
+-- What the contracts of lines in a file refer to, with the model of a crash.
 pub mod CrashModel
 pub mod FileState
 pub mod Holding

@@ -44,7 +44,7 @@ pub trait DurableFile: Drop {
     // Ghost predicate: the file has failed.
     ghost has_failed: { Self → Type 0 };
 
-    /// Returns all bytes.
+    /// Returns all bytes of the file.
     fn read(&mut self, alloc: Global) -> Result<Vec<u8>, FileFault>
         ensures bytes { IfOk result (λ bytes. acts_as_file → bytes.items ≡ seen self.old) }
         ensures unchanged { OnOk result (seen self.new ≡ seen self.old) }

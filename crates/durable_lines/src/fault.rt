@@ -22,7 +22,7 @@ pub enum FileFault {
 /// Why a file was not locked.
 #[derive(Clone, Copy, Debug, PartialEq, Eq, Error)]
 pub enum LockFault {
-    /// Another process, or another value of this one, has locked the file.
+    /// The file is locked by another process, or by another value of this process.
     #[error("another process has locked the file")]
     Held = 1,
     /// The file cannot be locked or synced.

@@ -40,7 +40,7 @@ impl FileState {
         }
     }
 
-    // Returns a copy.
+    // Returns a copy of the state.
     pub(crate) fn copy(&self, alloc: Global) -> Result<FileState, AllocError>
         ensures { IfOk result (λ copy. copy ≡ self.now) }
     {

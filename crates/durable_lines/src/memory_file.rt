@@ -59,7 +59,7 @@ impl MemoryFile {
         self.past.len()
     }
 
-    /// Returns the bytes.
+    /// Returns the bytes that the file has at present.
     pub fn bytes(&self) -> Result<Vec<u8>, AllocError>
         ensures { IfOk result (λ bytes. bytes.items ≡ bytes_of self.now) }
     {

@@ -41,7 +41,7 @@ impl PlaceState {
         }
     }
 
-    // Returns a copy.
+    // Returns a copy of the state.
     fn copy(&self, alloc: Global) -> Result<PlaceState, AllocError>
         ensures { IfOk result (λ copy. copy ≡ self.now) }
     {

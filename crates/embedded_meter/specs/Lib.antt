@@ -1,3 +1,4 @@
+-- What the contracts of one meter with up to eight sessions refer to.
 pub mod Calls
 pub mod Dialogues
 pub mod MeterStates

@@ -5,7 +5,7 @@ use relay_events::{Event, Reply};
 // The pending item between a session and the meter, or between a session and its client.
 #[derive(Drop)]
 pub(crate) enum Pending {
-    // Nothing.
+    // No item is pending.
     Nothing,
     // An event that the session requested and that the meter has not applied yet.
     Asked(Event),

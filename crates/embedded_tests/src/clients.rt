@@ -7,8 +7,7 @@ use std::alloc::Global;
 use std::process::Abort;
 use std::test::Fail;
 
-/// The AARQ of the management client at port 1, with the password 12345678, in its
-/// frame.
+/// The AARQ of the management client at port 1, with the password 12345678, in its frame.
 const AARQ: &str =
     "00010001000100386036A1090607608574050801018A0207808B0760857405080201AC0A80083132333435363738BE\
         10040E01000000065F1F0400001C190400";
@@ -18,7 +17,7 @@ const AARE: &str =
     "000100010001002B6129A109060760857405080101A203020100A305A103020100BE10040E0800065F1F0400001C19\
         04000007";
 
-/// The length of the answer in bytes.
+/// The length of the AARE and its frame in bytes.
 const AARE_BYTES: usize = 51;
 
 /// The SET of control_mode to 1.
@@ -36,7 +35,8 @@ const RECONNECT: &str = "000100010001000FC301C10046000060030AFF02010F00";
 /// The response to an ACTION: success.
 const ACTION_DONE: &str = "0001000100010005C701C10000";
 
-/// A frame of a client, the answer, and the meter's state after it.
+/// Frames of a client, each with its answer, and control_state, control_mode and output_state after
+/// it.
 static TALK: [(&str, &str, Standing); 5] = [
     (AARQ, AARE, (1, 0, true)),
     (SET_MODE_1, SET_DONE, (1, 1, true)),
@@ -134,7 +134,7 @@ fn is_none(alloc: Global, meter: &mut SupplyMeter, session: u8) -> bool {
         && meter.close_session(session) == Err(MeterFault::NoSession)
 }
 
-/// Opens and closes sessions.
+/// Checks that a session is opened once at a time, and that calls on any other session fail.
 fn open_and_close(rt: &impl Abort, alloc: Global, meter: &mut SupplyMeter) -> Result<(), Fail> {
     assert!(rt; is_none(alloc, meter, 7));
     meter.open_session(alloc, 7)?;

@@ -12,6 +12,7 @@ const KEPT_EVENTS: u16 = 16;
 /// supply is on.
 pub(crate) type Standing = (u8, u8, bool);
 
+// Returns control_state, control_mode and output_state of a meter.
 pub(crate) fn standing(meter: &SupplyMeter) -> Standing {
     (
         u8::from(meter.state()),

@@ -162,6 +162,7 @@ fn verdict_of(alloc: Global, bytes: &[u8], port: u16, password: &[u8]) -> Option
     verdict
 }
 
+// Returns whether the verdict on the AARQ of a row is the expected one.
 fn has_verdict(alloc: Global, row: &Judged) -> Result<bool, AllocError> {
     let (port, password, example, changes, verdict) = row;
     let bytes = changed(alloc, example, changes)?;
@@ -170,6 +171,7 @@ fn has_verdict(alloc: Global, row: &Judged) -> Result<bool, AllocError> {
     Ok(found == Some(*verdict))
 }
 
+// Checks the verdict on the AARQ of each row.
 fn check_verdicts(rt: &impl Abort, alloc: Global, rows: &[Judged]) {
     for (place, row) in rows.iter().enumerate() {
         assert!(*rt; has_verdict(alloc, row) == Ok(true), "at {place}");
@@ -468,6 +470,7 @@ static UNREADABLE_AARQS: [(&[u8], &[(usize, u8)]); 4] = [
     (&PUBLIC_AARQ, &[(1, 0x1E)]),
 ];
 
+// Returns whether a changed example is not readable as an AARQ.
 fn is_unreadable(
     alloc: Global,
     example: &[u8],
@@ -541,6 +544,7 @@ fn management_aarq(alloc: Global) -> Result<Aarq, AllocError> {
     }
 }
 
+// Returns whether an AARQ is written as these bytes.
 fn is_written_as(alloc: Global, aarq: &Aarq, bytes: &[u8]) -> Result<bool, AllocError> {
     let text = write_aarq(alloc, aarq)?;
     let is_same = text.as_slice() == bytes;
@@ -633,6 +637,7 @@ fn is_text_of(alloc: Global, aare: &Aare, bytes: &[u8]) -> Result<bool, AllocErr
     Ok(is_same)
 }
 
+// Returns whether the AARE of a row is written as its expected bytes.
 fn is_written(alloc: Global, row: &WrittenAare) -> Result<bool, AllocError> {
     let (aare, example, changes) = row;
     let bytes = changed(alloc, example, changes)?;
@@ -688,6 +693,7 @@ static READ_AARES: [ReadAare; 7] = [
     (&REORDERED_AARE, &[], Err(AcseFault::Unreadable)),
 ];
 
+// Returns whether the bytes of a row are read as expected.
 fn is_read(alloc: Global, row: &ReadAare) -> Result<bool, AllocError> {
     let (example, changes, expected) = row;
     let bytes = changed(alloc, example, changes)?;

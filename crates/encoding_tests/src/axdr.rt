@@ -86,6 +86,7 @@ fn read_from(alloc: Global, text: &[u8]) -> Result<(Data, usize), DataFault> {
     read(alloc, text)
 }
 
+// Returns the fault of reading a text as a Data.
 fn fault_of(alloc: Global, text: &[u8]) -> Option<DataFault> {
     read(alloc, text).err()
 }
@@ -130,10 +131,12 @@ fn lengths_have_their_shortest_form(rt: HostRuntime) -> Result<(), Fail> {
     Ok(())
 }
 
+// Returns whether a value fits the limits.
 fn is_fit(value: &Data) -> bool {
     fits(value)
 }
 
+// Returns the length of the text of a value, in bytes.
 fn len_of(value: &Data) -> u64 {
     text_len(value)
 }
@@ -339,6 +342,7 @@ enum Wide {
     String(usize),
 }
 
+// Returns an array of null-data or an octet-string of the given size.
 fn make_wide(alloc: Global, form: Wide) -> Result<Data, AllocError> {
     match form {
         Wide::Nulls(count) => nulls(alloc, count),

@@ -45,6 +45,7 @@ fn fates_of(number: u32) -> [ByteFate; 4] {
     ]
 }
 
+// Returns the fate of a byte in a crash: kept for 0, zeroed for 1, otherwise missing.
 fn fate_of(number: u32) -> ByteFate {
     match number {
         0 => ByteFate::Kept,

@@ -1,3 +1,4 @@
+-- What the contracts of one connection of a fleet refer to.
 pub mod Addresses
 pub mod Serving
 pub mod Steps

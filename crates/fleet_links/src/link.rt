@@ -40,8 +40,11 @@ pub enum Turn {
 /// A connection: its stream, the number of its session, and the bytes that are still to be written.
 #[derive(Drop)]
 pub struct FleetLink<S: Stream + Drop> {
+    /// The stream to the client.
     pub stream: S,
+    /// The number of the session in its meter, 0 to 7.
     pub number: u8,
+    /// The bytes that are still to be written.
     pub pending: BytesMut,
 }
 

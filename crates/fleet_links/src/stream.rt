@@ -35,7 +35,7 @@ pub trait Stream {
         requires { 0 < length buffer.now }
         ensures { ReadBy (state self.old) buffer.new result (state self.new) };
 
-    /// Writes the first of at least one byte.
+    /// Writes some of the bytes, from the first on; there must be at least one.
     fn write(&mut self, bytes: &[u8]) -> Sent
         requires { 0 < length bytes.now }
         ensures { WrittenBy (state self.old) bytes.now result (state self.new) };

@@ -47,21 +47,21 @@ impl<S: Stream + Drop> FleetClient<S> {
         }
     }
 
-    // Returns the place of its meter.
+    // Returns the place of the connection's meter.
     pub(crate) fn place(&self) -> usize
         ensures { result ≡ self.now.place }
     {
         self.place
     }
 
-    // Returns the number of its session.
+    // Returns the number of the connection's session.
     pub(crate) fn number(&self) -> u8
         ensures { result ≡ self.now.number }
     {
         self.link.number
     }
 
-    // Returns its stream, and drops the bytes that were not written.
+    // Returns the stream of the connection, and drops the bytes that were not written.
     pub(crate) fn into_stream(self) -> S
         ensures { S.state result ≡ self.stream }
     {

@@ -1,4 +1,4 @@
-//! `MeterPlace`: where a meter of a fleet is, once it is made.
+//! `MeterPlace`: the place of a meter in a fleet, empty until its first client connects.
 ghost use Rattle.std.specs.Prelude.{◌≡◌, ◌≢◌, ◌<◌, None, Some, IfOk, length};
 ghost use Rattle.fleet_meters.specs.Places.{Seats, SeatsBy, OpensFirst, Frees, TurnsAt, session_of};
 
@@ -14,7 +14,7 @@ use std::marker::Model;
 pub enum Refusal {
     /// The fleet has no meter with this number.
     NoMeter,
-    /// The meter has as many sessions as it can have.
+    /// All eight sessions of the meter are open.
     Full,
     /// Out of memory.
     Memory,
@@ -78,8 +78,8 @@ impl MeterPlace {
         MeterPlace { meter: None }
     }
 
-    // Opens the first free session of the meter, which is made if it is not there. Returns its
-    // number.
+    // Opens the first free session of the meter, which is made first if the place is empty.
+    // Returns the number of the session.
     pub(crate) fn open(&mut self, alloc: Global, terms: &MeterTerms) -> Result<u8, Refusal>
         ensures { SeatsBy terms.now self.old result self.new }
     {

@@ -14,8 +14,11 @@ use trace_player::{TraceFault, read_trace};
 /// management client, 1 to 32 bytes, and the number of events that it keeps, 1 to 1,024.
 #[derive(Drop)]
 pub struct MeterTerms {
+    /// The text of the trace that each meter continues from.
     pub trace: Octets,
+    /// The password of the management client, 1 to 32 bytes.
     pub password: Octets,
+    /// The number of events that a meter keeps, 1 to 1,024.
     pub kept_events: u16,
     ghost guarded: { IsPassword password },
     ghost keeps: { (1 ≤ kept_events) × (kept_events ≤ 1024) },

@@ -1,3 +1,4 @@
+-- What the contracts of switching campaigns refer to: jobs, conversations and reports.
 pub mod Connections
 pub mod Logs
 pub mod Wires

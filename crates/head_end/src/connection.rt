@@ -31,9 +31,10 @@ pub trait Connection: Drop {
         ensures forecast { WriteTells (forecast self.old) result (forecast self.new) }
         ensures log { WriteLogs (log self.old) bytes.now result (log self.new) };
 
-    /// Ends the connection in order, after its conversation: sends its end, and discards what still
-    /// comes until the other side's end, within the connection's limit of time. So the close is no
-    /// reset. The log has nothing of this. The default does nothing.
+    /// Ends the connection in order, after its conversation, so that it is not reset: sends the end
+    /// of its bytes, and discards the bytes that still arrive until the other side has ended too or
+    /// the connection's time limit is reached. The log does not record this. The default does
+    /// nothing.
     fn finish(&mut self)
         ensures log { log self.new ≡ log self.old }
     {}

@@ -51,7 +51,7 @@ impl Jobs {
         items
     }
 
-    /// Returns the jobs.
+    /// Returns the jobs, in the order of their list.
     pub fn as_slice(&self) -> &[Job]
         ensures jobs { result.now ≡ self.now }
         ensures within_max { length result.now ≤ 1000 }

@@ -36,7 +36,7 @@ impl Report {
         lines
     }
 
-    /// Returns the lines.
+    /// Returns the lines of the report, in the order of the jobs.
     pub fn as_slice(&self) -> &[ReportLine]
         ensures { result.now ≡ self.now }
     {

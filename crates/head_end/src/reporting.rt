@@ -31,7 +31,7 @@ pub fn add_report(report: &Report, out: &mut Octets) -> Result<(), AllocError>
     Ok(())
 }
 
-// Appends a line.
+// Appends a line of a report: the name of the job and its result.
 fn put_line(line: &ReportLine, out: &mut Octets) -> Result<(), AllocError>
     ensures { OnOk result (out.new ≡ out.old ++ line_text line.now) }
 {

@@ -14,6 +14,8 @@ pub enum Row {
 /// A line of a report: the name of a job and its result.
 #[derive(Debug, Drop)]
 pub struct ReportLine {
+    /// The name of the job.
     pub id: Octets,
+    /// The result of the job.
     pub row: Row,
 }

@@ -27,7 +27,7 @@ pub struct TcpLimits {
 #[derive(Debug, Drop)]
 pub struct TcpConnector<R> {
     rt: R,
-    /// The time limits.
+    /// The time limits of each connection.
     pub limits: TcpLimits,
 }
 

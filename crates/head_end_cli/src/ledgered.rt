@@ -25,7 +25,9 @@ use std::thread::Threads;
 // A campaign whose jobs and options are all valid, and the path of its ledger.
 #[derive(Drop)]
 pub(crate) struct LedgeredCampaign {
+    // The jobs and the options.
     pub(crate) campaign: CampaignPlan,
+    // The path of the file that holds the ledger.
     pub(crate) path: String,
 }
 

@@ -112,7 +112,7 @@ fn check(rt: &HostRuntime, is_verbose: bool) -> Result<(), Fault> {
 enum HeadEndCommand {
     // Nothing more to do; exit with this status.
     Ended(u8),
-    // Run a campaign.
+    // Run a campaign without a ledger.
     Campaign(CampaignPlan),
     // Run a campaign on its ledger.
     Ledgered(LedgeredCampaign),

@@ -17,7 +17,7 @@ impl TextFilter {
         TextFilter { words: [0; WORDS] }
     }
 
-    // Adds a text.
+    // Adds a text to the set.
     pub(crate) fn add(&mut self, text: &[u8]) {
         let hash = hash_of(text);
         self.words[word_of(hash)] |= bit_of(hash);

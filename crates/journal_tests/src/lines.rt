@@ -1,5 +1,5 @@
-//! The lines of a journal: each event that may change the meter is noted behind its lock, in the
-//! order of the calls, and is taken once.
+//! The lines of a journal: each event that may change the meter is noted while its lock is held, in
+//! the order of the calls, and is taken once.
 ghost use Rattle.std.specs.Prelude.{◌≡◌, ◌<◌, ◌≤◌, [], IfOk};
 ghost use Rattle.shared_meter.specs.Calls.{Stands};
 

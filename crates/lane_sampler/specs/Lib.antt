@@ -1,3 +1,4 @@
+-- What the contracts of blocks of samples and their masks refer to.
 pub mod Inside
 pub mod Masks
 pub mod Runs

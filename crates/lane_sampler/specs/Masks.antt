@@ -9,7 +9,7 @@ use Rattle.lane_sampler.specs.declared.lanes.Word.{Word}
 abbrev pub mask_bit : List ℕ → ℕ → ℕ
 mask_bit words i = bit_at (slice_index words (i / 64)) (i % 64)
 
--- a bit is set exactly if there is a value that passes the test
+-- bit i is 1 exactly if there is a value i and it passes the test
 pub record IsMask (test : ℕ → Bool) (values words : List ℕ) : Type 0 where
   pub bits : (i : ℕ) → i < 256 →
       mask_bit words i ≡ (if nat_lt i (length values) && test (slice_index values i) then 1 else 0)

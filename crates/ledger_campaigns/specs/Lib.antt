@@ -1,3 +1,4 @@
+-- What the contracts of switching campaigns on a ledger refer to.
 pub mod Campaigns
 pub mod Desks
 pub mod Rounds

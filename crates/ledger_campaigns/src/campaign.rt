@@ -32,12 +32,19 @@ use std::thread::Threads;
 // the round of each job, and the number of rounds.
 #[derive(Drop)]
 pub(crate) struct Course<'a, W: Watcher> {
+    // The jobs, one for each place.
     pub jobs: &'a [Job],
+    // The entries that the ledger had at the start of the run.
     pub found: &'a [LedgerEntry],
+    // The password of each job, 1 to 32 bytes.
     pub passwords: &'a [Octets],
+    // The round of each job: jobs of one address have different rounds.
     pub rounds: &'a [usize],
+    // The number of rounds.
     pub count: usize,
+    // The number of workers.
     pub workers: usize,
+    // Is called with the row of each job that has ended.
     pub watcher: &'a W,
     ghost few: { length jobs.now ≤ 1000 },
     ghost some_workers: { 0 < workers },

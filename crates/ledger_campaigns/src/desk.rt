@@ -40,7 +40,7 @@ impl<B: Book> Desk<B> {
         Desk { ledger, start }
     }
 
-    /// Returns the ledger.
+    /// Drops the desk, and returns its ledger.
     pub fn into_ledger(self) -> Ledger<B>
         ensures { result ≡ self.ledger }
     {
@@ -77,7 +77,7 @@ impl<B: Book> Desk<B> {
         }
     }
 
-    // Answers a request.
+    // Answers a request of a worker: gives a permit, or stores an outcome.
     fn answer(&mut self, request: LedgerRequest) -> LedgerAnswer<B>
         ensures start { self.new.start ≡ self.old.start }
         ensures answer { IsAnswer B.is_honest B.is_marked request result }

@@ -13,8 +13,11 @@ use turn_lock::Port;
 /// A place for a job: its attempt, its row, and a port to the shared ledger.
 #[derive(Drop)]
 pub struct LedgeredPlace<'a, C: Connector, B: Book> {
+    /// The attempt to reach the meter of the job.
     pub attempt: Attempt<'a, C>,
+    /// The result of the job; `Memory` until it has run.
     pub row: Row,
+    /// A port to the ledger that all places share.
     pub port: Port<Desk<B>>,
 }
 

@@ -27,9 +27,13 @@ use turn_lock::Port;
 /// found there, and the password, 1 to 32 bytes.
 #[derive(Clone, Copy)]
 pub struct LedgeredJob<'a> {
+    /// The job: its name, its meter and its request.
     pub job: &'a Job,
+    /// The place of the job in the list, counted from 0.
     pub place: u32,
+    /// The entry that the ledger had at the start of the run.
     pub found: LedgerEntry,
+    /// The password of the meter's management client, 1 to 32 bytes.
     pub password: &'a Octets,
 }
 

@@ -1,1 +1,2 @@
+-- What the contracts of a campaign on a ledger in a file refer to.
 pub mod Files

@@ -1,1 +1,2 @@
+-- What the contracts of a ledger in an SQLite file refer to.
 pub mod Opened

@@ -16,7 +16,7 @@ use Rattle.ledger_reports.specs.declared.state.Standing.{Standing}
 use Rattle.ledger_reports.specs.declared.state.Standing.TheVariants.{Done, Refused, Rejected}
 use Rattle.ledger_reports.specs.declared.state.Standing.TheVariants.{Unknown, NotSent}
 
--- the outcome as a word
+-- the word for the standing of a job in the column `outcome`
 abbrev pub outcome_word : Standing → List ℕ
 outcome_word Done = codes "done"
 outcome_word Refused = codes "refused"
@@ -53,7 +53,7 @@ seconds_between None ended = None
 abbrev pub seconds_taken : LedgerTimes → Option ℕ
 seconds_taken times = seconds_between times.begun times.ended
 
--- 1 January 1970
+-- the day number of 1 January 1970, from which the seconds of a ledger count
 unfoldable pub first_day_of_1970 : ℕ
 first_day_of_1970 = day_count (record { year = 1970; month = 1; day = 1 })
 

@@ -49,7 +49,7 @@ pub fn write_csv(alloc: Global, out: &mut Vec<u8>, line: &LedgerLine) -> Result<
     let begun = utc_text(alloc, line.times.begun)?;
     let ended = utc_text(alloc, line.times.ended)?;
     let seconds = number_column(alloc, seconds_taken(line.times))?;
-    // (static words can't share an array with borrowed ones)
+    // (static texts are copied, since an array of borrowed texts cannot hold them)
     let verb = Vec::from_slice(alloc, verb_word(line.job.verb))?;
     let outcome = Vec::from_slice(alloc, outcome_word(standing).as_bytes())?;
     let sent = Vec::from_slice(alloc, sent_word(standing).as_bytes())?;

@@ -1,1 +1,2 @@
+-- What the contracts of the texts about a ledger refer to.
 pub mod Status

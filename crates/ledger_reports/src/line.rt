@@ -15,7 +15,7 @@ pub struct LedgerTimes {
 /// A line of a ledger: what it knows of a job of its campaign.
 #[derive(Debug, Drop)]
 pub struct LedgerLine {
-    /// The job.
+    /// The job: its name, its meter and its request.
     pub job: Job,
     /// Whether its command may have been sent, and its outcome if one is stored.
     pub entry: LedgerEntry,

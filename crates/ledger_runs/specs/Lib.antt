@@ -1,2 +1,3 @@
+-- What the contracts of a campaign on an open ledger refer to.
 pub mod Notes
 pub mod Texts

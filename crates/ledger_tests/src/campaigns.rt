@@ -15,7 +15,7 @@ use std::thread::Threads;
 /// Four jobs; there is no meter at the address `none`.
 const ADDRESSES: &[&[u8]] = &[b"a", b"none", b"b", b"c"];
 
-/// Their passwords.
+/// The list of the jobs' passwords, each line a name and a password.
 const PASSWORDS: &[u8] = b"none 1\nb 1\na 123456789\nc 1\n";
 
 /// The command of `b` may have been sent, and `c` has refused.

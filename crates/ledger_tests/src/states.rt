@@ -36,11 +36,11 @@ const LINES: &[(&[u8], &[u8], Verb, LedgerEntry)] = &[
     (b"m6", b"h:6", Verb::Disconnect, LedgerEntry::NotSent),
 ];
 
-/// Their state.
+/// The state that `head_end status` prints for the six jobs.
 const STATE: &[u8] = b"jobs 6\ndone 1\nrefused 1\nrejected 1\nunknown 2\nnot sent 1\n\
 m4 h:4 reconnect sent, no answer\nm5 h:5 state sent, no answer\n";
 
-/// Returns the lines.
+/// Returns the lines of the ledger of the six jobs.
 fn lines(alloc: Global) -> Result<Vec<LedgerLine>, AllocError> {
     let mut lines = Vec::new(alloc);
     for (id, address, verb, entry) in LINES {

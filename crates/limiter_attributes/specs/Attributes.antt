@@ -7,12 +7,12 @@ use Rattle.cosem_names.specs.declared.objects.Which.TheVariants.{Import, Export}
 use Rattle.limiter_attributes.specs.declared.attribute.LimiterAttribute.{LimiterAttribute}
 use Rattle.limiter_attributes.specs.declared.attribute.LimiterAttribute.TheVariants.{MonitoredValue, ThresholdActive, ThresholdNormal, ThresholdEmergency, MinOverThresholdDuration, MinUnderThresholdDuration, EmergencyProfile, EmergencyProfileGroupIdList, EmergencyProfileActive, Actions}
 
--- the logical name of a limiter
+-- the logical name of the limiter of import or of export
 abbrev pub limiter_name : Which → Obis
 limiter_name Import = obis 0 0 17 0 0 255
 limiter_name Export = obis 0 1 17 0 0 255
 
--- the number of an attribute
+-- the number of an attribute in class 71
 abbrev pub number_of : LimiterAttribute → ℕ
 number_of MonitoredValue = 2
 number_of ThresholdActive = 3
@@ -25,14 +25,15 @@ number_of EmergencyProfileGroupIdList = 9
 number_of EmergencyProfileActive = 10
 number_of Actions = 11
 
--- all attributes: the number of a `LimiterAttribute` as a `u8` ensures that each is found by it
+-- all attributes after the logical name; the contract of `u8::from` states that each is found by
+-- its number
 abbrev pub attributes : List LimiterAttribute
 attributes =
     MonitoredValue ∷ ThresholdActive ∷ ThresholdNormal ∷ ThresholdEmergency
     ∷ MinOverThresholdDuration ∷ MinUnderThresholdDuration
     ∷ EmergencyProfile ∷ EmergencyProfileGroupIdList ∷ EmergencyProfileActive ∷ Actions ∷ []
 
--- the attribute of a number
+-- the attribute of class 71 with this number, if the number is from 2 to 11
 unfoldable pub attribute_numbered : ℕ → Option LimiterAttribute
 attribute_numbered number = find (λ attribute. number_of attribute == number) attributes
 

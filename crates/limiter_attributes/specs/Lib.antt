@@ -1,3 +1,4 @@
+-- What the contracts of a limiter's attributes (class 71) as Data refer to.
 pub mod Attributes
 pub mod Forms
 pub mod Law

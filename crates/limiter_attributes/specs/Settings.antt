@@ -20,8 +20,8 @@ with_setting (MinUnderThresholdDuration seconds) settings =
 with_setting (Profile profile) settings = record settings { profile = profile }
 with_setting (Actions actions) settings = record settings { actions = actions }
 
--- what an attribute sets at present: nothing for attributes that are not written, and for the group
--- ids
+-- the present value of an attribute as a setting; nothing for the attributes that clients cannot
+-- write, and for the group ids, which are not in `Setting`
 abbrev pub setting_at : LimiterAttribute → Settings → Option Setting
 setting_at attribute.MonitoredValue settings = None
 setting_at attribute.ThresholdActive settings = None

@@ -11,7 +11,7 @@ use cosem_names::UnknownNumber;
 pub enum LimiterAttribute {
     /// Attribute 2, monitored_value: which attribute of which object is monitored.
     MonitoredValue = 2,
-    /// Attribute 3, threshold_active, in watts.
+    /// Attribute 3, threshold_active, in watts: the one of the next two that is active.
     ThresholdActive = 3,
     /// Attribute 4, threshold_normal, in watts.
     ThresholdNormal = 4,
@@ -23,9 +23,10 @@ pub enum LimiterAttribute {
     MinUnderThresholdDuration = 7,
     /// Attribute 8, emergency_profile: its group id, its start and its duration in seconds.
     EmergencyProfile = 8,
-    /// Attribute 9, emergency_profile_group_id_list.
+    /// Attribute 9, emergency_profile_group_id_list: the groups whose emergency profiles apply to
+    /// the meter.
     EmergencyProfileGroupIdList = 9,
-    /// Attribute 10, emergency_profile_active: a boolean.
+    /// Attribute 10, emergency_profile_active: whether threshold_emergency is the active threshold.
     EmergencyProfileActive = 10,
     /// Attribute 11, actions: the scripts that run over and under the threshold.
     Actions = 11,

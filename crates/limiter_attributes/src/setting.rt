@@ -16,9 +16,9 @@ pub enum Setting {
     MinOverThresholdDuration(u32),
     /// `min_under_threshold_duration` (attribute 7), in seconds.
     MinUnderThresholdDuration(u32),
-    /// `emergency_profile` (attribute 8).
+    /// `emergency_profile` (attribute 8): when the emergency threshold applies.
     Profile(Profile),
-    /// `actions` (attribute 11).
+    /// `actions` (attribute 11): the scripts that run over and under the threshold.
     Actions(Actions),
 }
 

@@ -18,7 +18,7 @@ pub record State : Type 0 where
   pub over : Count
   pub under : Count
 
--- a limiter's limits
+-- the limits that judge the next sample of a limiter
 abbrev pub limits_of : State → Limits
 limits_of state = limits_at state.settings state.moment
 

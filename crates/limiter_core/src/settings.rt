@@ -10,7 +10,7 @@ use wire_bytes::Listed;
 /// The maximum number of group ids that a limiter holds.
 pub const MAX_GROUPS: usize = 32;
 
-// Samples per second.
+// The number of samples in a second.
 const SAMPLES_PER_SECOND: u64 = 10;
 
 /// `emergency_profile` (attribute 8): the group of meters that it is for, its first moment, and its
@@ -46,11 +46,12 @@ pub struct Settings {
     pub min_over_threshold_duration: u32,
     /// `min_under_threshold_duration` (attribute 7), in seconds.
     pub min_under_threshold_duration: u32,
-    /// `emergency_profile` (attribute 8).
+    /// `emergency_profile` (attribute 8): when the emergency threshold applies.
     pub profile: Profile,
-    /// `emergency_profile_group_id_list` (attribute 9).
+    /// `emergency_profile_group_id_list` (attribute 9): the groups whose emergency profiles apply
+    /// to the meter.
     pub groups: Listed<u16>,
-    /// `actions` (attribute 11).
+    /// `actions` (attribute 11): the scripts that run over and under the threshold.
     pub actions: Actions,
 }
 

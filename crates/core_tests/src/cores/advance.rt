@@ -23,6 +23,7 @@ fn moves_script_3(alloc: Global, event: &Event) -> Result<bool, AllocError> {
     Ok(moves)
 }
 
+// Returns whether the parts of a write of `scripts` are script 3 with its two steps.
 fn is_moved(alloc: Global) -> Result<bool, AllocError> {
     let event = written(alloc, SCRIPTS, MODE_0_AND_DISCONNECT)?;
     let moves = moves_script_3(alloc, &event);
@@ -30,6 +31,7 @@ fn is_moved(alloc: Global) -> Result<bool, AllocError> {
     moves
 }
 
+// Returns whether an event has no parts that are decoded before it is applied.
 fn is_plain(alloc: Global, event: &Event) -> Result<bool, AllocError> {
     let parts = RelayCore::parts(alloc, event)?;
     let plain = matches!(&parts, Parts::Plain);
@@ -50,7 +52,7 @@ fn advance_apart(core: &mut RelayCore, alloc: Global, event: &Event) -> Result<(
     Ok(())
 }
 
-/// Applies a copy of an event in this way.
+// Applies a copy of an event whose parts are decoded before, without a reply.
 fn advance(core: &mut RelayCore, alloc: Global, event: &Event) -> Result<(), AllocError> {
     let copy = event.try_copy(alloc)?;
     let taken = advance_apart(core, alloc, &copy);
@@ -58,6 +60,7 @@ fn advance(core: &mut RelayCore, alloc: Global, event: &Event) -> Result<(), All
     taken
 }
 
+// Advances the core by a write of control_mode with these bytes.
 fn advance_write(core: &mut RelayCore, alloc: Global, bytes: &[u8]) -> Result<(), AllocError> {
     let event = written(alloc, MODE, bytes)?;
     let taken = advance(core, alloc, &event);
@@ -72,6 +75,7 @@ fn advance_to_disconnected(core: &mut RelayCore, alloc: Global) -> Result<(), Al
     advance(core, alloc, &execute(1))
 }
 
+// Returns whether the switch is Disconnected in mode 1 at second 5.
 fn is_disconnected(core: &RelayCore) -> bool {
     u8::from(core.state()) == 0
         && u8::from(core.mode()) == 1
@@ -87,7 +91,7 @@ fn is_copied(core: &RelayCore, alloc: Global) -> Result<bool, AllocError> {
     Ok(same)
 }
 
-/// Returns whether a core reaches that state, and a copy of the core is in the same state.
+/// Returns whether a core is disconnected by events without replies, and so is its copy.
 pub(super) fn advances(core: &mut RelayCore, alloc: Global) -> Result<bool, AllocError> {
     advance_to_disconnected(core, alloc)?;
     Ok(is_disconnected(core) && is_copied(core, alloc)?)

@@ -32,6 +32,7 @@ fn pass(core: &mut RelayCore, alloc: Global) -> Result<(), AllocError> {
     Ok(())
 }
 
+// Returns whether a limiter has this last value and threshold, and a run of three samples over it.
 fn is_set_limiter(limiter: &LimiterOpening, value: u32, threshold: u32) -> bool {
     limiter.value == value
         && limiter.settings.threshold_normal == threshold
@@ -47,6 +48,7 @@ fn is_set_limiter(limiter: &LimiterOpening, value: u32, threshold: u32) -> bool 
             }
 }
 
+// Returns whether the saved state is that of the meter after all settings and samples.
 fn is_set(opening: &Opening) -> bool {
     opening.device.as_slice() == b"A".as_slice()
         && opening.state == ControlState::Connected
@@ -57,6 +59,7 @@ fn is_set(opening: &Opening) -> bool {
         && opening.export.settings.groups.as_slice() == [7].as_slice()
 }
 
+// Returns whether the saved state of a core is the expected one.
 fn tells(core: &RelayCore, alloc: Global) -> Result<bool, AllocError> {
     let opening = core.to_opening(alloc)?;
     let told = is_set(&opening);
@@ -81,6 +84,7 @@ fn is_opened_again(alloc: Global, opening: &Opening) -> Result<bool, AllocError>
     }
 }
 
+// Returns whether a core that is restored from the saved state has the same values.
 fn is_written_down(core: &RelayCore, alloc: Global) -> Result<bool, AllocError> {
     let opening = core.to_opening(alloc)?;
     let opened = is_opened_again(alloc, &opening);
@@ -88,6 +92,7 @@ fn is_written_down(core: &RelayCore, alloc: Global) -> Result<bool, AllocError> 
     opened
 }
 
+// Returns whether a core takes the settings, saves the expected state and is restored from it.
 pub(super) fn is_told(core: &mut RelayCore, alloc: Global) -> Result<bool, AllocError> {
     let taken = takes_all(core, alloc, SETTINGS)?;
     pass(core, alloc)?;

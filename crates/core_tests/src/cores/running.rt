@@ -14,6 +14,7 @@ fn push(events: &mut Events, event: Event) -> Result<(), AllocError> {
     }
 }
 
+// Appends the events that set mode 1, disconnect twice, reconnect, and press the button.
 fn push_in_mode_1(events: &mut Events) -> Result<(), AllocError> {
     push(events, set(MODE, Data::Enum(1)))?;
     push(events, execute(1))?;
@@ -63,6 +64,7 @@ fn runs_by_the_tables(
     }
 }
 
+// Returns whether the events of mode 1 are answered as the standard's tables say.
 pub(super) fn runs_in_mode_1(core: &mut RelayCore, alloc: Global) -> Result<bool, AllocError> {
     let events = events_in_mode_1(alloc)?;
     let by_the_tables = runs_by_the_tables(core, alloc, &events);
@@ -104,7 +106,8 @@ fn is_state_and_unknown(reply: &Reply) -> bool {
     }
 }
 
-/// Returns whether a core gives this reply to the event.
+// Returns whether a core replies to an event with the state Connected and the refusal of an unknown
+// object.
 fn replies_to(core: &mut RelayCore, alloc: Global, event: &Event) -> Result<bool, AllocError> {
     let reply = core.step(alloc, event)?;
     let so = is_state_and_unknown(&reply);
@@ -112,6 +115,7 @@ fn replies_to(core: &mut RelayCore, alloc: Global, event: &Event) -> Result<bool
     Ok(so)
 }
 
+// Returns whether a GET of a list is answered with the state and the refusal of an unknown object.
 pub(super) fn reads_a_list(core: &mut RelayCore, alloc: Global) -> Result<bool, AllocError> {
     let event = state_and_unknown(alloc)?;
     let read = replies_to(core, alloc, &event);
