@@ -3,8 +3,8 @@ use std::alloc::{AllocError, Global};
 use std::process::Abort;
 use std::test::Fail;
 use text_lines::{
-    TextLines, Words, add_hex, add_number, add_word, end_line, read_hex, read_number, split_line,
-    write_hex, write_number,
+    TextLines, Words, add_hex, add_number, add_word, end_line, read_hex, read_hex_array,
+    read_number, split_line, write_hex, write_number,
 };
 
 // Returns a copy of the bytes of a word, or `None`.
@@ -133,6 +133,26 @@ static LIMITS: [Number; 3] = [
 #[test]
 fn numbers_have_limits(rt: HostRuntime) {
     read_all(&rt, &LIMITS);
+}
+
+static NO_NAMES: [&[u8]; 7] = [
+    b"",
+    b"000060030AF",
+    b"000060030A",
+    b"000060030AFF00",
+    b"000060030aff",
+    b"00006003.AFF",
+    b" 00060030AFF",
+];
+
+// The logical name of the disconnect control (IEC 62056-6-2) is 0.0.96.3.10.255.
+#[test]
+fn hexadecimal_arrays_are_read(rt: HostRuntime) {
+    assert!(rt; read_hex_array::<6>(b"000060030AFF") == Some([0, 0, 96, 3, 10, 255]));
+    assert!(rt; read_hex_array::<2>(b"0FA0") == Some([0x0F, 0xA0]));
+    for word in &NO_NAMES {
+        assert!(rt; read_hex_array::<6>(word).is_none(), "of {word:?}");
+    }
 }
 
 #[test]

@@ -5,4 +5,5 @@ pub mod Known
 pub mod LinesLemmas
 pub mod NumbersLemmas
 pub mod PlainLemmas
+pub mod SizedLemmas
 pub mod WordsLemmas

@@ -1,5 +1,5 @@
 -- Bytes as words: two hexadecimal digits for each byte, in capitals.
-use Rattle.std.specs.Prelude.{ℕ, Bool, ◌&&◌, ◌||◌, nat_lt, if◌then◌else◌, List, length, Option, None}
+use Rattle.std.specs.Prelude.{ℕ, Bool, ◌&&◌, ◌||◌, ◌==◌, nat_lt, if◌then◌else◌, List, length, Option, None, Some}
 use Rattle.std.specs.Int.{is_in_range}
 use Rattle.std.specs.List.{list_all}
 use Rattle.std.specs.Result.{result_ok}
@@ -17,3 +17,12 @@ is_hexadecimal word = nat_lt 0 (length word) && list_all is_capital_digit word
 -- for the empty word, which no line has
 unfoldable pub bytes_of : List ℕ → Option (List ℕ)
 bytes_of word = if is_hexadecimal word then result_ok (decode_of word) else None
+
+-- bytes, if there are `n`
+abbrev pub only_sized : ℕ → Option (List ℕ) → Option (List ℕ)
+only_sized n None = None
+only_sized n (Some bytes) = if length bytes == n then Some bytes else None
+
+-- the `n` bytes that the digits of a word write; none if it writes another number of bytes, or none
+abbrev pub bytes_sized : ℕ → List ℕ → Option (List ℕ)
+bytes_sized n word = only_sized n (bytes_of word)

@@ -1,10 +1,10 @@
 //! Reads and writes bytes as pairs of hexadecimal digits in capitals.
 ghost use Rattle.std.specs.Prelude.{◌≡◌, ◌++◌, IfOk, OnOk, OnErr};
 ghost use Rattle.hex.specs.Hex.{encode_upper};
-ghost use Rattle.text_lines.specs.Hexadecimal.{bytes_of, is_capital_digit, is_hexadecimal};
+ghost use Rattle.text_lines.specs.Hexadecimal.{bytes_of, bytes_sized, is_capital_digit, is_hexadecimal};
 ghost use Rattle.std.specs.List.{list_all};
 
-use hex::FromHexError;
+use hex::{FromHex, FromHexError};
 use std::alloc::{AllocError, Global};
 use wire_bytes::Octets;
 
@@ -22,6 +22,18 @@ pub fn read_hex(alloc: Global, word: &[u8]) -> Result<Option<Octets>, AllocError
         Err(FromHexError::OutOfMemory) => Err(AllocError),
         Err(_) => Ok(None),
     }
+}
+
+/// Returns the `N` bytes that a word writes as `2 * N` hexadecimal digits in capitals, or `None`
+/// for any other word. Does not allocate.
+#[tactic(auto, unfolding(crate::specs::Hexadecimal::bytes_of))]
+pub fn read_hex_array<const N: usize>(word: &[u8]) -> Option<[u8; N]>
+    ensures { result ≡ bytes_sized N word.now }
+{
+    if !has_hexadecimal_form(word) {
+        return None;
+    }
+    <[u8; N] as FromHex>::from_hex(word).ok()
 }
 
 // Returns whether a word consists of one or more hexadecimal digits in capitals.

@@ -1,6 +1,7 @@
 pub mod CountLemmas
 pub mod EventLaws
 pub mod ItemsWritten
+pub mod NameLemmas
 pub mod NoZeros
 pub mod PartLaws
 pub mod PlainLines

@@ -35,13 +35,13 @@ fn next_level(words: &mut Words) -> Result<Level, RowFault>
 
 // Reads the words of a GET after the first: the client's port, the attribute, and whether a part of
 // it is requested.
-fn read_get(alloc: Global, words: &mut Words) -> Result<Event, RowFault>
+fn read_get(words: &mut Words) -> Result<Event, RowFault>
     ensures { Reads (λ event. event) result words.new
         (read_as (λ p. event.Get p.0 p.1.attr p.1.selected)
         ((level_part & selection_part).read words.old)) }
 {
     let level = next_level(words)?;
-    let item = next_selection(alloc, words)?;
+    let item = next_selection(words)?;
     Ok(Event::Get {
         level,
         attr: item.attr,
@@ -72,7 +72,7 @@ fn read_set(alloc: Global, words: &mut Words) -> Result<Event, RowFault>
         ((level_part & selection_part & data_part).read words.old)) }
 {
     let level = next_level(words)?;
-    let item = next_selection(alloc, words)?;
+    let item = next_selection(words)?;
     let value = parse_data(alloc, next_word(words)?)?;
     Ok(Event::Set {
         level,
@@ -99,7 +99,7 @@ fn read_execute(alloc: Global, words: &mut Words) -> Result<Event, RowFault>
         ((level_part & method_part & parameter_part).read words.old)) }
 {
     let level = next_level(words)?;
-    let method = next_method(alloc, words)?;
+    let method = next_method(words)?;
     let parameter = parse_parameter(alloc, next_word(words)?)?;
     Ok(Event::Execute {
         level,
@@ -192,7 +192,7 @@ fn read_event_after(
         (keyed_read same_word (event_forms (later_forms version)) first.now words.old) }
 {
     if first == b"get".as_slice() {
-        read_get(alloc, words)
+        read_get(words)
     } else if first == b"getlist".as_slice() {
         read_get_list(alloc, words)
     } else if first == b"set".as_slice() {

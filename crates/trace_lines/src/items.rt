@@ -14,11 +14,11 @@ use trace_words::{RowFault, next_long, next_word, parse_flag, parse_number};
 pub const MAX_ITEMS: usize = 102;
 
 // Reads an attribute: class, name, number.
-fn next_attribute(alloc: Global, words: &mut Words) -> Result<AttrRef, RowFault>
+fn next_attribute(words: &mut Words) -> Result<AttrRef, RowFault>
     ensures { Reads (λ attr. attr) result words.new (attribute_part.read words.old) }
 {
     let class = ClassId(next_long(words)?);
-    let name = next_name(alloc, words)?;
+    let name = next_name(words)?;
     let number = next_byte(words)?;
     Ok(AttrRef {
         class,
@@ -28,11 +28,11 @@ fn next_attribute(alloc: Global, words: &mut Words) -> Result<AttrRef, RowFault>
 }
 
 // Reads a method: class, name, number.
-pub(crate) fn next_method(alloc: Global, words: &mut Words) -> Result<MethodRef, RowFault>
+pub(crate) fn next_method(words: &mut Words) -> Result<MethodRef, RowFault>
     ensures { Reads (λ method. method) result words.new (method_part.read words.old) }
 {
     let class = ClassId(next_long(words)?);
-    let name = next_name(alloc, words)?;
+    let name = next_name(words)?;
     let number = next_byte(words)?;
     Ok(MethodRef {
         class,
@@ -42,13 +42,10 @@ pub(crate) fn next_method(alloc: Global, words: &mut Words) -> Result<MethodRef,
 }
 
 // Reads an attribute, and whether a part of it is requested (selective access).
-pub(crate) fn next_selection(
-    alloc: Global,
-    words: &mut Words,
-) -> Result<AttributeSelection, RowFault>
+pub(crate) fn next_selection(words: &mut Words) -> Result<AttributeSelection, RowFault>
     ensures { Reads (λ item. item) result words.new (selection_part.read words.old) }
 {
-    let attr = next_attribute(alloc, words)?;
+    let attr = next_attribute(words)?;
     let selected = parse_flag(next_word(words)?)?;
     Ok(AttributeSelection { attr, selected })
 }
@@ -77,7 +74,7 @@ fn read_selection_items(
 {
     let mut items = Vec::new(alloc);
     'items: for _ in 0..count {
-        items.push(next_selection(alloc, words)?)?;
+        items.push(next_selection(words)?)?;
     }
     Ok(items)
 }

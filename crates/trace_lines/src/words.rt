@@ -1,15 +1,12 @@
 //! Reads single words of an event's line: a client's port, a logical name, a number of one byte.
 ghost use Rattle.std.specs.Prelude.{◌≡◌};
-ghost use Rattle.wire_bytes.specs.Outcome.{Gives};
 ghost use Rattle.trace_words.specs.Reading.{number_in, next_as};
 ghost use Rattle.trace_words.specs.Rows.{Reads};
-ghost use Rattle.trace_words.specs.declared.fault.RowFault.TheVariants.{Memory};
 ghost use Rattle.trace_lines.specs.Reading.{level_in, name_in};
 
 use cosem_names::{Level, Obis};
-use std::alloc::Global;
-use text_lines::Words;
-use trace_words::{RowFault, next_word, parse_bytes, parse_number};
+use text_lines::{Words, read_hex_array};
+use trace_words::{RowFault, next_word, parse_number};
 
 // Reads the access level of a client's port: 1 for the management client, 16 for the public one.
 pub(crate) fn parse_level(word: &[u8]) -> Result<Level, RowFault>
@@ -23,17 +20,14 @@ pub(crate) fn parse_level(word: &[u8]) -> Result<Level, RowFault>
 }
 
 // Reads a logical name, six bytes in hexadecimal.
-#[tactic(auto, unfolding(crate::specs::Reading::name_in))]
-pub(crate) fn parse_name(alloc: Global, word: &[u8]) -> Result<Obis, RowFault>
-    ensures { Gives Memory (λ name. name) result (name_in word.now) }
+#[tactic(auto, using(crate::proofs::NameLemmas::name_found, crate::proofs::NameLemmas::name_missing))]
+pub(crate) fn parse_name(word: &[u8]) -> Result<Obis, RowFault>
+    ensures { result ≡ name_in word.now }
 {
-    let bytes = parse_bytes(alloc, word)?;
-    if bytes.len() != 6 {
-        return Err(RowFault::Wrong);
+    match read_hex_array(word) {
+        Some(name) => Ok(Obis(name)),
+        None => Err(RowFault::Wrong),
     }
-    let mut name = [0; 6];
-    name.copy_from_slice(bytes.as_slice());
-    Ok(Obis(name))
 }
 
 // Reads the next word as a decimal number of at most 255.
@@ -44,8 +38,8 @@ pub(crate) fn next_byte(words: &mut Words) -> Result<u8, RowFault>
 }
 
 // Reads the next word as a logical name.
-pub(crate) fn next_name(alloc: Global, words: &mut Words) -> Result<Obis, RowFault>
+pub(crate) fn next_name(words: &mut Words) -> Result<Obis, RowFault>
     ensures { Reads (λ name. name) result words.new (next_as name_in words.old) }
 {
-    parse_name(alloc, next_word(words)?)
+    parse_name(next_word(words)?)
 }
