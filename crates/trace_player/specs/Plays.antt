@@ -1,6 +1,6 @@
 -- The results of reading, running and writing a trace.
---     Gave          a trace was read and run, or this fault
---     Played        the result of playing the bytes that were read
+--     HasOutput          a trace was read and run, or this fault
+--     PlaysBytes        the result of playing the bytes that were read
 --     TakesTrace    a trace was read from a reader and run, or this fault
 --     Plays         a trace was played from a reader to a writer, or this fault
 use Rattle.std.specs.Prelude.{◌≡◌, ◌<◌, ◌≤◌, ℕ, Option, List, [], length, ⊤, Result, Ok, Err}
@@ -15,47 +15,47 @@ use Rattle.trace_player.specs.declared.output.PlayedLines.{PlayedLines}
 
 -- Whether the bytes that were read have this result: the output of the trace that they all are, or
 -- a fault. The two numbers count the failed reads before and after.
-abbrev pub Gave : List ℕ → ℕ → Result PlayedLines PlayFault → Option (List ℕ) → ℕ → Type 0
-Gave bytes failed (Ok output) left' failed' =
+abbrev pub HasOutput : List ℕ → ℕ → Result PlayedLines PlayFault → Option (List ℕ) → ℕ → Type 0
+HasOutput bytes failed (Ok output) left' failed' =
     PlaysTrace (trace_of bytes) output.lines.items output.count × IsAtEnd left'
-Gave bytes failed (Err (fault.Line number)) left' failed' =
+HasOutput bytes failed (Err (fault.Line number)) left' failed' =
     (trace_of bytes ≡ Err (trace_fault.Line number)) × IsAtEnd left'
-Gave bytes failed (Err fault.TooLong) left' failed' = max_bytes < length bytes
-Gave bytes failed (Err fault.Read) left' failed' = (length bytes ≤ max_bytes) × (failed < failed')
-Gave bytes failed (Err fault.Write) left' failed' = ⊥
-Gave bytes failed (Err fault.Memory) left' failed' = ⊤
+HasOutput bytes failed (Err fault.TooLong) left' failed' = max_bytes < length bytes
+HasOutput bytes failed (Err fault.Read) left' failed' = (length bytes ≤ max_bytes) × (failed < failed')
+HasOutput bytes failed (Err fault.Write) left' failed' = ⊥
+HasOutput bytes failed (Err fault.Memory) left' failed' = ⊤
 
 -- whether taking in a trace has this result, which is that for the bytes that were read
 pub record TakesTrace (left : Option (List ℕ)) (failed : ℕ) (result : Result PlayedLines PlayFault)
     (left' : Option (List ℕ)) (failed' : ℕ) : Type 0 where
   pub bytes : List ℕ
   pub read : Consumes left left' bytes
-  pub gave : Gave bytes failed result left' failed'
+  pub gave : HasOutput bytes failed result left' failed'
 
 module _ {R W : Type 0}
     (remaining : R → Option (List ℕ)) (read_failures : R → ℕ)
     (contents : W → Option (List ℕ)) (write_failures : W → ℕ) where
   -- whether playing the bytes that were read has this result; nothing is written but the whole
   -- output of their trace
-  abbrev pub Played : List ℕ → R → W → Result ℕ PlayFault → R → W → Type 0
-  Played bytes r w (Ok count) r' w' =
+  abbrev pub PlaysBytes : List ℕ → R → W → Result ℕ PlayFault → R → W → Type 0
+  PlaysBytes bytes r w (Ok count) r' w' =
       (trace : Trace) × (trace_of bytes ≡ Ok trace) × IsAtEnd (remaining r')
       × Appends (contents w) (contents w') (output_of_trace trace) × (count ≡ length trace.events)
-  Played bytes r w (Err (fault.Line number)) r' w' =
+  PlaysBytes bytes r w (Err (fault.Line number)) r' w' =
       (trace_of bytes ≡ Err (trace_fault.Line number)) × IsAtEnd (remaining r')
       × Appends (contents w) (contents w') []
-  Played bytes r w (Err fault.TooLong) r' w' =
+  PlaysBytes bytes r w (Err fault.TooLong) r' w' =
       (max_bytes < length bytes) × Appends (contents w) (contents w') []
-  Played bytes r w (Err fault.Read) r' w' =
+  PlaysBytes bytes r w (Err fault.Read) r' w' =
       (length bytes ≤ max_bytes) × (read_failures r < read_failures r')
       × Appends (contents w) (contents w') []
-  Played bytes r w (Err fault.Write) r' w' =
+  PlaysBytes bytes r w (Err fault.Write) r' w' =
       (trace : Trace) × (trace_of bytes ≡ Ok trace) × IsAtEnd (remaining r')
       × (write_failures w < write_failures w')
-  Played bytes r w (Err fault.Memory) r' w' = Appends (contents w) (contents w') []
+  PlaysBytes bytes r w (Err fault.Memory) r' w' = Appends (contents w) (contents w') []
 
   -- whether playing a trace has this result, which is that of playing the bytes that were read
   pub record Plays (r : R) (w : W) (result : Result ℕ PlayFault) (r' : R) (w' : W) : Type 0 where
     pub bytes : List ℕ
     pub read : Consumes (remaining r) (remaining r') bytes
-    pub did : Played bytes r w result r' w'
+    pub did : PlaysBytes bytes r w result r' w'

@@ -51,7 +51,7 @@ steps_text-push view front step =
     ∙ ap (λ (bytes : List ℕ). steps_text view front ++ bytes) (one_shown view step)
 
 -- the core applied these events, and the lines that the view shows of them were written
-pub record Viewed (view : TraceView) (old now : RelayCore) (events : List Event) (out : List ℕ)
+pub record HasShown (view : TraceView) (old now : RelayCore) (events : List Event) (out : List ℕ)
     : Type 0 where
   pub world : (w : World) → StandsFor old w → StandsFor now (world_after events w)
   pub wrote : (w : World) → StandsFor old w
@@ -59,7 +59,7 @@ pub record Viewed (view : TraceView) (old now : RelayCore) (events : List Event)
 
 -- no event was applied
 pub none_viewed : (view : TraceView) (core : RelayCore) (out : List ℕ) → out ≡ head_text view
-    → Viewed view core core [] out
+    → HasShown view core core [] out
 none_viewed view core out is = record {
   world = λ w stands. stands;
   wrote = λ w stands. is ∙ sym (append-nil (head_text view));
@@ -71,13 +71,13 @@ pub event_viewed : (view : TraceView) (old now next : RelayCore) (events : List 
     → i < length events → event ≡ get_or events i event → number ≡ i + 1
     → ((w : World) → StandsFor now w → StandsFor next (at_event event w).world)
     → ((w : World) → StandsFor now w → out' ≡ out ++ shown_text view (step_at number event w))
-    → Viewed view old now (take i events) out → Viewed view old next (take (i + 1) events) out'
+    → HasShown view old now (take i events) out → HasShown view old next (take (i + 1) events) out'
 event_viewed view old now next events i number event out out' below is numbered goes writes so_far =
     let front = take i events in
     let all : take (i + 1) events ≡ front ++ event ∷ [] =
     take_more events i event below ∙ ap (λ e. front ++ e ∷ []) (sym is) in
     let counted : length front + 1 ≡ number = omega (arith, length-take i events) in
-    subst (λ (es : List Event). Viewed view old next es out') (sym all) (record {
+    subst (λ (es : List Event). HasShown view old next es out') (sym all) (record {
       world = λ w stands. subst (λ (v : World). StandsFor next v)
           (sym (world_after-append front (event ∷ []) w))
           (goes (world_after front w) (so_far.world w stands));

@@ -1,5 +1,5 @@
 -- The results of playing the text of a trace in a view.
---     Viewed       the text of a view of the trace of a text, or why the text is none
+--     ShowsTrace       the text of a view of the trace of a text, or why the text is none
 --     ViewsFront   the text of a view of the front of a text
 --     PlaysView    a view was written to a writer, or this fault
 --     PlaysFront   the front of a text was written as a view shows it, or this fault
@@ -22,7 +22,7 @@ play_fault_of trace_fault.TooLong = fault.TooLong
 play_fault_of trace_fault.Memory = fault.Memory
 
 -- whether the text is that of a trace, and this is what the view shows of the trace
-pub record Viewed (view : TraceView) (text : List ℕ) (shown : List ℕ) : Type 0 where
+pub record ShowsTrace (view : TraceView) (text : List ℕ) (shown : List ℕ) : Type 0 where
   pub trace : Trace
   pub read : trace_of text ≡ Ok trace
   pub wrote : shown ≡ view_text view trace

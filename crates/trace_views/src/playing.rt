@@ -5,7 +5,7 @@ ghost use Rattle.wire_bytes.specs.Outcome.{Fails};
 ghost use Rattle.trace_words.specs.declared.fault.TraceFault.TheVariants as trace_fault;
 ghost use Rattle.trace_player.specs.Traces.{max_bytes, trace_of};
 ghost use Rattle.trace_views.specs.Fronts.{front_of, trace_by};
-ghost use Rattle.trace_views.specs.Plays.{PlaysFront, PlaysView, Viewed, ViewsFront, play_fault_of};
+ghost use Rattle.trace_views.specs.Plays.{PlaysFront, PlaysView, ShowsTrace, ViewsFront, play_fault_of};
 
 use crate::front::read_front;
 use crate::view::TraceView;
@@ -16,7 +16,7 @@ use trace_player::{PlayFault, TraceFault, read_trace};
 
 // Returns what a view shows of the trace of a text.
 fn view_text(alloc: Global, text: &[u8], view: &TraceView) -> Result<Vec<u8>, TraceFault>
-    ensures ok { IfOk result (λ shown. Viewed view.now text.now shown.items) }
+    ensures ok { IfOk result (λ shown. ShowsTrace view.now text.now shown.items) }
     ensures err { IfErr result (λ fault. Fails trace_fault.Memory fault (trace_of text.now)) }
     ensures too_long { IsErrOf result trace_fault.TooLong → max_bytes < length text.now }
 {
