@@ -1,7 +1,7 @@
 //! Starts the thread of a journal, and stops it.
 ghost use Rattle.std.specs.Prelude.{◌≡◌, ◌+◌, ◌≤◌, IfNone, IfSome};
 ghost use Rattle.port_threads.specs.Ports.{AreJoined, PortContinues, SplitsOff};
-ghost use Rattle.port_threads.specs.Workers.{ComesBack};
+ghost use Rattle.port_threads.specs.Workers.{ReturnsPort};
 ghost use Rattle.meter_journal.specs.Saving.{Keeps};
 
 use crate::progress::JournalProgress;
@@ -56,7 +56,7 @@ pub fn stop_journal<F: DurableFile + Send, A: FailureAction, R: Threads>(
 ) -> Option<Result<(), CallFault>>
     requires { running.promise.port.value.lock ≡ port.old.lock }
     ensures { let task = running.promise
-        in ComesBack (Keeps F.acts_as_file F.seen F.may_leave F.moment F.left_since
+        in ReturnsPort (Keeps F.acts_as_file F.seen F.may_leave F.moment F.left_since
         F.renews task.worker.value) task.port.value result port.old port.new }
 {
     progress.stop();

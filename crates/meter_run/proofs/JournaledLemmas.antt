@@ -18,7 +18,7 @@ use Rattle.meter_server.specs.JournaledSessions.{AreAnswered, AreJournaled}
 use Rattle.meter_server.specs.declared.serving_all.Served.{Served}
 use Rattle.port_threads.proofs.Going.{goes_trans, starts_trans}
 use Rattle.port_threads.specs.Ports.{SplitsOff, child}
-use Rattle.port_threads.specs.Workers.{ComesBack, Ended}
+use Rattle.port_threads.specs.Workers.{ReturnsPort, Ended}
 use Rattle.program.specs.declared.fault.Fault.{Fault}
 use Rattle.relay_core.specs.Opening.{opening_of}
 use Rattle.relay_core.specs.declared.opening.Opening.{Opening}
@@ -59,7 +59,7 @@ started_first o p own q first off =
 -- serving is as it was once a port that was split off before is joined in
 serves_joined : (did : Did) (given : Given) (served : Result Served ServeFault)
     (lent p q after : MeterPort) (end : Option (Result (Unit {0}) CallFault))
-    → ServesAll given p q served → ComesBack did lent end q after → ServesAll given p after served
+    → ServesAll given p q served → ReturnsPort did lent end q after → ServesAll given p after served
 serves_joined did given served lent p q after end s back =
     let on = back.taken.goes in
     let splits = back.taken.splits in
@@ -78,7 +78,7 @@ serves_joined did given served lent p q after end s back =
 journaled_joined : (did : Did) (IsDurable : ℕ → Type 0) (given : Given)
     (served : Result Served ServeFault) (lent p q after : MeterPort)
     (end : Option (Result (Unit {0}) CallFault))
-    → ServesAll given p q served → ComesBack did lent end q after
+    → ServesAll given p q served → ReturnsPort did lent end q after
     → AreJournaled IsDurable (p.known.splits + 3) q
     → AreJournaled IsDurable (p.known.splits + 3) after
 journaled_joined did IsDurable given served lent p q after end s back waited =
@@ -101,7 +101,7 @@ made_none did quiet lent back (Some end) worked =
 silent_first : (did : Did)
     → ((p q : MeterPort) (end : Result (Unit {0}) CallFault) → did p q end
     → Watches IsLegal p.known q.known) → (lent before after : MeterPort)
-    (end : Option (Result (Unit {0}) CallFault)) → ComesBack did lent end before after
+    (end : Option (Result (Unit {0}) CallFault)) → ReturnsPort did lent end before after
     → lent.known.number ≡ 0 ∷ [] → calls_by lent.known.number lent.known.seen ≡ []
     → AreSilent 1 after
 silent_first did quiet lent before after end back number fresh i below =

@@ -11,7 +11,7 @@ use Rattle.meter_journal.specs.Saving.{IsSavedFrom, IsStored}
 use Rattle.meter_run.specs.Runs.{Given, IsRunFrom, StartsFrom, Traces}
 use Rattle.meter_server.specs.JournaledSessions.{AreAnswered}
 use Rattle.meter_server.specs.declared.serving_all.Served.{Served}
-use Rattle.port_threads.specs.Workers.{ComesBack}
+use Rattle.port_threads.specs.Workers.{ReturnsPort}
 use Rattle.program.specs.declared.fault.Fault.{Fault}
 use Rattle.program.specs.declared.fault.Fault.TheVariants as fault
 use Rattle.relay_core.specs.declared.opening.Opening.{Opening}
@@ -50,7 +50,7 @@ pub record IsFinished (did : MeterPort → MeterPort → Result (Unit {0}) CallF
     (lent before : MeterPort) (trace : Result (List ℕ) Fault) : Type 0 where
   pub end : Option (Result (Unit {0}) CallFault)
   pub after : MeterPort
-  pub back : ComesBack did lent end before after
+  pub back : ReturnsPort did lent end before after
   pub traces : IfOk trace (Traces after.known)
 
 -- the fault of a journal by the end of its worker, or by its absence

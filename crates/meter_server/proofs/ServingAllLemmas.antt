@@ -11,7 +11,7 @@ use Rattle.turn_lock.specs.declared.call_fault.CallFault.TheVariants as call
 use Rattle.turn_lock.specs.History.{IsAmong, calls_by}
 use Rattle.turn_lock.specs.Shown.{IsSame}
 use Rattle.port_threads.specs.Ports.{PortContinues, AreJoined, SplitsOff, TakesIn, child}
-use Rattle.port_threads.specs.Workers.{Ended, ComesBack}
+use Rattle.port_threads.specs.Workers.{Ended, ReturnsPort}
 use Rattle.port_threads.proofs.Going.{goes_trans}
 use Rattle.shared_meter.specs.Handed.{MeterPort, PassesAll, own_events}
 use Rattle.shared_meter.specs.Handed.{StopsFor as WorkerStops}
@@ -65,7 +65,7 @@ their_events own back before q same taken =
 -- the worker whose port was returned did all its work, if it came to its end
 acted_own : (CanFollow : List Event → Type 0) (own before q : MeterPort)
     (end : Option (Result (Unit {0}) CallFault))
-    → ComesBack (Did CanFollow) own end before q → calls_by own.known.number own.known.seen ≡ []
+    → ReturnsPort (Did CanFollow) own end before q → calls_by own.known.number own.known.seen ≡ []
     → end ≡ Some (Ok tt) → Acted q own.known.number CanFollow
 acted_own CanFollow own before q end back fresh is =
     acted_as own back.back q CanFollow back.same back.taken.joined
@@ -190,7 +190,7 @@ first_by P served (Some (Err f)) ended memory stopped =
 -- a worker was refused a call, so the port into which its port was joined is spent
 spent_by : (CanFollow : List Event → Type 0) (own begun before q : MeterPort)
     (end : Option (Result (Unit {0}) CallFault))
-    → ComesBack (Did CanFollow) own end before q
+    → ReturnsPort (Did CanFollow) own end before q
     → PortContinues begun before → own.bound ≡ begun.bound → end ≡ Some (Err call.Exhausted)
     → IsSpent q
 spent_by CanFollow own begun before q end back goes bound is =
@@ -204,7 +204,7 @@ spent_by CanFollow own begun before q end back goes bound is =
 -- why a worker stopped is why the server stops
 stops_by : (CanFollow : List Event → Type 0) (own begun before q : MeterPort)
     (end : Option (Result (Unit {0}) CallFault)) (F : Type 0)
-    → ComesBack (Did CanFollow) own end before q
+    → ReturnsPort (Did CanFollow) own end before q
     → PortContinues begun before → own.bound ≡ begun.bound
     → (f : CallFault) → end ≡ Some (Err f) → StopsFor (IsSpent q) F (fault_of f)
 stops_by CanFollow own begun before q end F back goes bound call.Memory is = tt

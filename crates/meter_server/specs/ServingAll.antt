@@ -11,7 +11,7 @@ use Rattle.meter_server.specs.declared.serving_all.Served.{Served}
 use Rattle.shared_meter.specs.Handed.{MeterPort}
 use Rattle.relay_events.specs.declared.event.Event.{Event}
 use Rattle.relay_events.specs.declared.reply.Reply.{Reply}
-use Rattle.port_threads.specs.Workers.{ComesBack}
+use Rattle.port_threads.specs.Workers.{ReturnsPort}
 use Rattle.turn_lock.specs.declared.call_fault.CallFault.{CallFault}
 use Rattle.turn_lock.specs.declared.turned.Entry.{Entry}
 use Rattle.turn_lock.specs.History.{IsAmong, calls_by}
@@ -73,7 +73,7 @@ pub record EndsWith (did : MeterPort → MeterPort → Result (Unit {0}) CallFau
     → Type 0) (lent : MeterPort) (served result : Result Served ServeFault)
     (before after : MeterPort) : Type 0 where
   pub end : Option (Result (Unit {0}) CallFault)
-  pub back : ComesBack did lent end before after
+  pub back : ReturnsPort did lent end before after
   pub first : result ≡ first_of served (worker_fault end)
 
 -- whether `Ended` holds if no worker stopped before its source's end, so that there is no fault, or

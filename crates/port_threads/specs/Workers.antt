@@ -13,7 +13,7 @@ Ended did p q (Some end) = did p q end
 
 -- whether the port that was lent to a worker was returned, and joined into the port whose states
 -- are `before` and `after`
-pub record ComesBack {E R O : Type 0} (did : ShownPort E R O → ShownPort E R O
+pub record ReturnsPort {E R O : Type 0} (did : ShownPort E R O → ShownPort E R O
     → Result (Unit {0}) CallFault
     → Type 0) (lent : ShownPort E R O) (end : Option (Result (Unit {0}) CallFault))
     (before after : ShownPort E R O) : Type 0 where

@@ -2,7 +2,7 @@
 ghost use Rattle.std.specs.Prelude.{◌≡◌, ◌+◌, ◌≤◌, IfOk, IfErr, IfSome, IfNone};
 ghost use Rattle.turn_lock.specs.Shown.{IsSame};
 ghost use Rattle.port_threads.specs.Ports.{PortContinues, AreJoined, SplitsOff};
-ghost use Rattle.port_threads.specs.Workers.{Ended, ComesBack};
+ghost use Rattle.port_threads.specs.Workers.{Ended, ReturnsPort};
 
 use std::alloc::Global;
 use std::snapshot::Snapshot;
@@ -142,7 +142,7 @@ pub fn join_worker<T: Turned, K: Worker<Port<T>>, R: Threads>(
     requires lock { running.promise.port.value.lock ≡ port.old.lock }
     requires hands_back { (w : _) (p : _) (q : _) (end : _) → K.did w p q end → IsSame p q }
     ensures { let task = running.promise
-        in ComesBack (K.did task.worker.value) task.port.value result port.old port.new }
+        in ReturnsPort (K.did task.worker.value) task.port.value result port.old port.new }
 {
     let (own, end) = running.join(rt);
     port.join(own);
