@@ -1,6 +1,6 @@
 //! What no contract states: with enough memory there is a result.
 ghost use Rattle.std.specs.Prelude.{◌≡◌, [], Some};
-ghost use Rattle.server_io.specs.Ends.{EndsSo};
+ghost use Rattle.server_io.specs.Ends.{ConsoleEnds};
 ghost use Rattle.relay_core.specs.Opening.{IsFitOpening};
 
 use counted_io::Monitored;
@@ -139,7 +139,7 @@ fn handed<R: Wait + Eprint + Copy>(
     buffer: LineBuffer,
     sink: &mut Listing<R>,
 ) -> ConsoleEnd
-    ensures { EndsSo text.now sink.old.events.items result (Some sink.new.events.items) }
+    ensures { ConsoleEnds text.now sink.old.events.items result (Some sink.new.events.items) }
 {
     let mut input = text;
     let errors = sink.rt;

@@ -1,8 +1,8 @@
 -- Events that are passed on line by line.
 use Rattle.std.proofs.Common.{◌≡◌, ℕ, ◌+◌, true, List, [], ◌∷◌, ◌++◌, Option, Some, refl, sym, ap, subst, ◌∙◌, arith, inl, inr, append_assoc, append-nil}
 use Rattle.relay_events.specs.declared.event.Event.{Event}
-use Rattle.server_io.specs.Console.{Brings, IsOwnLine}
-use Rattle.server_io.specs.Ends.{Brought, TakesFrom, HandsOn, Hands, Ends, has_failed, lost_lines}
+use Rattle.server_io.specs.Console.{LineEvent, IsOwnLine}
+use Rattle.server_io.specs.Ends.{LineEvents, TakesFrom, HandsOn, HandsAll, Ends, has_failed, lost_lines}
 use Rattle.server_io.specs.Lines.{lines_in, TakesLine, SkipsLine}
 use Rattle.server_io.specs.Queues.{Gains}
 use Rattle.server_io.specs.declared.running.ConsoleEnd.{ConsoleEnd}
@@ -10,7 +10,7 @@ use Rattle.server_io.proofs.Shorts.{first_read, first_skipped}
 
 -- the event of a line was taken
 pub one_taken : (line : List ℕ) (event : Event) (listed taken : Option (List Event))
-    → Brings line event → Gains listed event taken → TakesFrom line 0 listed taken
+    → LineEvent line event → Gains listed event taken → TakesFrom line 0 listed taken
 one_taken line event listed taken brings gains before e = (
   event ∷ [],
   inl (event, [], brings, refl, (refl, refl)),
@@ -19,7 +19,7 @@ one_taken line event listed taken brings gains before e = (
 
 -- a line without an event leaves the sink unchanged
 pub none_taken : (line : List ℕ) (taken : Option (List Event))
-    → ((event : Event) → ¬ (Brings line event)) → TakesFrom line 0 taken taken
+    → ((event : Event) → ¬ (LineEvent line event)) → TakesFrom line 0 taken taken
 none_taken line taken none before e = (
   [],
   inr (inl (none, (refl, refl))),
@@ -70,12 +70,12 @@ line_skipped input left before taken s e = record {
 }
 
 -- the events of lines followed by those of others
-brought_append : (xs ys : List (List ℕ)) (es fs : List Event) (m n : ℕ) → Brought xs es m
-    → Brought ys fs n → Brought (xs ++ ys) (es ++ fs) (m + n)
+brought_append : (xs ys : List (List ℕ)) (es fs : List Event) (m n : ℕ) → LineEvents xs es m
+    → LineEvents ys fs n → LineEvents (xs ++ ys) (es ++ fs) (m + n)
 brought_append [] ys es fs m n (none, zero) later =
     let all : n ≡ m + n = omega arith in
-    subst (λ (l : List Event). Brought ys (l ++ fs) (m + n)) (sym none)
-    (subst (Brought ys fs) all later)
+    subst (λ (l : List Event). LineEvents ys (l ++ fs) (m + n)) (sym none)
+    (subst (LineEvents ys fs) all later)
 brought_append (line ∷ lines) ys es fs m n (inl (event, rest, brings, e, more)) later =
     inl (
       event,
@@ -91,7 +91,7 @@ brought_append (line ∷ lines) ys es fs m n (inr (inr (others, own, e, more))) 
 
 -- nothing was read
 pub hands_none : (known : Option (List ℕ)) (listed : Option (List Event))
-    → Hands known listed 0 known listed
+    → HandsAll known listed 0 known listed
 hands_none known listed input before e f = record {
   read = [];
   rest = input;
@@ -105,8 +105,8 @@ hands_none known listed input before e f = record {
 -- some lines followed by others
 pub hands_on : {known left left' : Option (List ℕ)} {listed taken taken' : Option
     (List Event)} {m n k : ℕ}
-    → Hands known listed m left taken → Hands left taken n left' taken' → m + n ≡ k
-    → Hands known listed k left' taken'
+    → HandsAll known listed m left taken → HandsAll left taken n left' taken' → m + n ≡ k
+    → HandsAll known listed k left' taken'
 hands_on {left' = left'} {taken' = taken'} {m = m} {n = n} a b sum input before e f =
     let h = a input before e f in
     let i = b h.rest (before ++ h.events) h.left_is h.taken_is in
@@ -117,7 +117,7 @@ hands_on {left' = left'} {taken' = taken'} {m = m} {n = n} a b sum input before 
       left_is = i.left_is;
       lines = h.lines ∙ ap (λ (l : List (List ℕ)). h.read ++ l) i.lines
           ∙ sym (append_assoc h.read i.read (lines_in i.rest));
-      brought = subst (Brought (h.read ++ i.read) (h.events ++ i.events)) sum
+      brought = subst (LineEvents (h.read ++ i.read) (h.events ++ i.events)) sum
           (brought_append h.read i.read h.events i.events m n h.brought i.brought);
       taken_is = i.taken_is ∙ ap Some (append_assoc before h.events i.events);
     }
@@ -125,7 +125,7 @@ hands_on {left' = left'} {taken' = taken'} {m = m} {n = n} a b sum input before 
 -- the console ended because there was no further line
 pub ends_all : {known left : Option (List ℕ)} {listed taken taken' : Option (List Event)} {lost : ℕ}
     (end : ConsoleEnd)
-    → Hands known listed lost left taken → ((bytes : List ℕ) → left ≡ Some bytes → lines_in bytes
+    → HandsAll known listed lost left taken → ((bytes : List ℕ) → left ≡ Some bytes → lines_in bytes
     ≡ []) → taken' ≡ taken → lost_lines end ≡ lost
     → Ends known listed end taken'
 ends_all end h none same lost_is input before e f =
@@ -136,14 +136,14 @@ ends_all end h none same lost_is input before e f =
       events = i.events;
       lines = i.lines;
       all = λ _. none i.rest i.left_is;
-      brought = subst (Brought i.read i.events) (sym lost_is) i.brought;
+      brought = subst (LineEvents i.read i.events) (sym lost_is) i.brought;
       taken_is = same ∙ i.taken_is;
     }
 
 -- the console ended at a failed read
 pub ends_some : {known left : Option (List ℕ)} {listed taken taken' : Option (List Event)}
     {lost : ℕ} (end : ConsoleEnd)
-    → Hands known listed lost left taken → taken' ≡ taken → lost_lines end ≡ lost → has_failed end
+    → HandsAll known listed lost left taken → taken' ≡ taken → lost_lines end ≡ lost → has_failed end
     ≡ true
     → Ends known listed end taken'
 ends_some end h same lost_is failed input before e f =
@@ -154,6 +154,6 @@ ends_some end h same lost_is failed input before e f =
       events = i.events;
       lines = i.lines;
       all = λ not. absurd (cc (failed, not));
-      brought = subst (Brought i.read i.events) (sym lost_is) i.brought;
+      brought = subst (LineEvents i.read i.events) (sym lost_is) i.brought;
       taken_is = same ∙ i.taken_is;
     }

@@ -1,7 +1,7 @@
 -- The event of a line of the console.
 --     IsOwnWord     the first word of an event of the meter itself
 --     IsOwnLine     a line that begins with one
---     Brings        the event of a line
+--     LineEvent        the event of a line
 use Rattle.std.specs.Prelude.{◌≡◌, ◌⊎◌, ℕ, codes, List, ◌∷◌, Ok}
 use Rattle.relay_events.specs.declared.event.Event.{Event}
 use Rattle.trace_lines.specs.Events.{event_of}
@@ -23,6 +23,6 @@ pub record IsOwnLine (line : List ℕ) : Type 0 where
 
 -- whether a line has this event: it is one of the meter itself, and the line is the one that a
 -- trace of version 2 has for it
-pub record Brings (line : List ℕ) (event : Event) : Type 0 where
+pub record LineEvent (line : List ℕ) (event : Event) : Type 0 where
   pub own : IsOwnLine line
   pub written : event_of Two (words_of line) ≡ Ok event

@@ -1,7 +1,7 @@
 //! The event of a line of the console.
 ghost use Rattle.std.specs.Prelude.{◌≡◌, ◌↔◌, IfOk, IfSome, IfNone, OnErr, IsTrue};
 ghost use Rattle.relay_events.specs.declared.event.Event.{Event};
-ghost use Rattle.server_io.specs.Console.{IsOwnWord, IsOwnLine, Brings};
+ghost use Rattle.server_io.specs.Console.{IsOwnWord, IsOwnLine, LineEvent};
 
 use relay_events::Event;
 use std::alloc::{AllocError, Global};
@@ -33,9 +33,9 @@ pub(crate) fn is_own_line(line: &[u8]) -> bool
 /// pairs or a moment, written as in a trace of version 2. Any other line has no event; if it does
 /// not begin as one of these, nothing is allocated. Errors: out of memory.
 pub fn console_event(alloc: Global, line: &[u8]) -> Result<Option<Event>, AllocError>
-    ensures event { IfOk result (λ brought. IfSome brought (λ event. Brings line.now event)) }
+    ensures event { IfOk result (λ brought. IfSome brought (λ event. LineEvent line.now event)) }
     ensures none { IfOk result
-        (λ brought. IfNone brought ((event : Event) → ¬ (Brings line.now event))) }
+        (λ brought. IfNone brought ((event : Event) → ¬ (LineEvent line.now event))) }
     ensures err { OnErr result (IsOwnLine line.now) }
 {
     if !is_own_line(line) {

@@ -1,6 +1,6 @@
 //! The run of the console: from the lines of an input to the events that a sink takes.
 ghost use Rattle.std.specs.Prelude.{◌≡◌, ◌≤◌, ℕ, List, [], Some, OnOk, OnErr, vec_capacity};
-ghost use Rattle.server_io.specs.Ends.{Ends, Hands, TakesFrom, has_failed, lost_lines};
+ghost use Rattle.server_io.specs.Ends.{Ends, HandsAll, TakesFrom, has_failed, lost_lines};
 ghost use Rattle.server_io.specs.Lines.{lines_in};
 ghost use Rattle.server_io.specs.declared.skipped.SkipReason.{SkipReason};
 
@@ -90,13 +90,13 @@ fn pass_line<B: BufRead, S: EventSink>(
     requires room { 8192 ≤ vec_capacity line.old }
     ensures room { 8192 ≤ vec_capacity line.new }
     ensures passed { result ≡ LineResult.Passed
-        → Hands (B.remaining input.old) (S.taken sink.old) 0 (B.remaining input.new)
+        → HandsAll (B.remaining input.old) (S.taken sink.old) 0 (B.remaining input.new)
         (S.taken sink.new) }
     ensures skipped { (reason : SkipReason) → result ≡ LineResult.Skipped reason
-        → Hands (B.remaining input.old) (S.taken sink.old) 0 (B.remaining input.new)
+        → HandsAll (B.remaining input.old) (S.taken sink.old) 0 (B.remaining input.new)
         (S.taken sink.new) }
     ensures lost { result ≡ LineResult.Lost
-        → Hands (B.remaining input.old) (S.taken sink.old) 1 (B.remaining input.new)
+        → HandsAll (B.remaining input.old) (S.taken sink.old) 1 (B.remaining input.new)
         (S.taken sink.new) }
     ensures end { result ≡ LineResult.End → (bytes : List ℕ) → B.remaining input.old ≡ Some bytes
         → lines_in bytes ≡ [] }
