@@ -19,7 +19,7 @@ use Rattle.turn_lock.specs.declared.board.Slot.{Slot}
 use Rattle.turn_lock.specs.History.{StartsWith, calls_by}
 use Rattle.turn_lock.specs.Rule.{max_turns, LastCall, first_view, full_slot, IsOwn, Moment, HoldsTurn, HoldsSlot, HasMet, IsHome, FitsStage, IsPort, Fits, Facts, IsLockState}
 use Rattle.turn_lock.specs.Calls.{Watches}
-use Rattle.turn_lock.specs.Seats.{Carried, new_entries, with_stage, spent_view, parent_view, child_view, note_view, view_with_served, view_after_turn, view_with, joined_with, seat_with, seat_state}
+use Rattle.turn_lock.specs.Seats.{CarriedSlots, new_entries, with_stage, spent_view, parent_view, child_view, note_view, view_with_served, view_after_turn, view_with, joined_with, seat_with, seat_state}
 use Rattle.turn_lock.specs.Plays.{play, Settles, Draws, SeesServing, MovesTo, Looks, AddsCall, Ends, KnowsBoth, Merges, TakesValue, TakesTurn, Reaches, Closes}
 use Rattle.turn_lock.proofs.Lists.{starts_refl, starts_more, starts_length, calls_by-own, calls_by-other, calls_none, has_front, has_front-append, future-not-self, future_sooner, front_is_future, future-not-front, apart-not-front, among-append}
 
@@ -274,7 +274,7 @@ module _ {T E R O : Type 0} (origin : T → O) (stands : T → List (Entry E R) 
   M = Me Sl V
 
   -- a port that has seen the longest history has only watched
-  moves_to : (m : Mo) (i : ℕ) (me : M) (stage : Stage E R O) (cs : Carried T E R) → Fit m i me.0
+  moves_to : (m : Mo) (i : ℕ) (me : M) (stage : Stage E R O) (cs : CarriedSlots T E R) → Fit m i me.0
       → me.0.is_port ≡ true → legal m.start m.history
       → MovesTo legal stage (seat_state me) (seat_with (informed_view m me.0 stage) cs)
   moves_to m i me stage cs f port lawful = record {

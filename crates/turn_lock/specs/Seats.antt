@@ -22,11 +22,11 @@ abbrev pub empty_slot : {T E R : Type 0} → Slot T E R
 empty_slot = record { value = None; last = None }
 
 -- the slots that a seat carries, each with its index
-abbrev pub Carried : Type 0 → Type 0 → Type 0 → Type 0
-Carried T E R = List (ℕ × Slot T E R)
+abbrev pub CarriedSlots : Type 0 → Type 0 → Type 0 → Type 0
+CarriedSlots T E R = List (ℕ × Slot T E R)
 
 -- the call that the slot taken last records
-abbrev pub last_call : {T E R : Type 0} → Carried T E R → LastCall E R
+abbrev pub last_call : {T E R : Type 0} → CarriedSlots T E R → LastCall E R
 last_call [] = None
 last_call ((index, slot) ∷ rest) = slot.last
 
@@ -96,11 +96,11 @@ module _ {E R O : Type 0} where
 -- A seat: its view, and the slots that it carries.
 pub record SeatState (T E R O : Type 0) : Type 0 where
   pub view : View E R O
-  pub carried : Carried T E R
+  pub carried : CarriedSlots T E R
 
 module _ {T E R O : Type 0} where
   -- the seat with this view and these slots
-  abbrev pub seat_with : View E R O → Carried T E R → SeatState T E R O
+  abbrev pub seat_with : View E R O → CarriedSlots T E R → SeatState T E R O
   seat_with view carried = record { view = view; carried = carried }
 
   -- the seat from the table's form, which is a pair
@@ -120,7 +120,7 @@ module _ {T E R O : Type 0} where
   known_of seat = (view_of seat).known
 
   -- the slots that a seat carries
-  abbrev pub carried_of : Seat (Slot T E R) (View E R O) → Carried T E R
+  abbrev pub carried_of : Seat (Slot T E R) (View E R O) → CarriedSlots T E R
   carried_of seat = (state_of seat).carried
 
   -- the seat with its stage replaced
@@ -129,7 +129,7 @@ module _ {T E R O : Type 0} where
 
   -- whether the seat is a port's, is at this stage and carries these slots
   pub record IsReady (seat : Seat (Slot T E R) (View E R O)) (stage : Stage E R O)
-      (carried : Carried T E R) : Type 0 where
+      (carried : CarriedSlots T E R) : Type 0 where
     pub port : (view_of seat).is_port ≡ true
     pub stage_is : (view_of seat).stage ≡ stage
     pub carried_is : carried_of seat ≡ carried
