@@ -13,7 +13,7 @@ use Rattle.fleet_meters.specs.Fleets.{FleetState, AdmitsBy}
 use Rattle.fleet_meters.specs.declared.place.Refusal.{Refusal}
 use Rattle.fleet_runs.specs.Calls.{FleetCall, Calls}
 use Rattle.fleet_runs.proofs.Steps.{calls_on}
-use Rattle.meter_fleet.specs.Networks.{NetworkEvent, accepted, rejected, nobody, Tells}
+use Rattle.meter_fleet.specs.Networks.{NetworkEvent, accepted, rejected, no_client, Tells}
 use Rattle.meter_fleet.specs.Rounds.{Arrival, client, gone, arrival_event, arrival_calls}
 use Rattle.meter_fleet.specs.Rounds.{AcceptsClients, AcceptsOne, AdmitsAt, max_accepted, frame_bytes}
 
@@ -110,7 +110,7 @@ pub met_last : (log log' log'' : Option (List NetworkEvent)) (f f' f'' : FleetSt
     → AcceptsClients true log f false log'' f''
 met_last log log' log'' f f' f'' count met last = record {
   arrivals = met.arrivals;
-  told = tells_on log log' log'' (map arrival_event met.arrivals) (nobody ∷ []) met.told last.0;
+  told = tells_on log log' log'' (map arrival_event met.arrivals) (no_client ∷ []) met.told last.0;
   met = λ e. absurd (false≢true e);
   calls = subst (λ (x : FleetState).
       Calls frame_bytes f (flat_map arrival_calls met.arrivals) x) (sym last.1) met.calls;

@@ -5,9 +5,9 @@ use Rattle.std.specs.List.{flat_map}
 use Rattle.fleet_meters.specs.Fleets.{FleetState, IsNewFleet}
 use Rattle.fleet_meters.specs.declared.terms.MeterTerms.{MeterTerms}
 use Rattle.fleet_runs.proofs.Steps.{calls_on}
-use Rattle.meter_fleet.specs.Networks.{NetworkEvent, woke, Tells}
+use Rattle.meter_fleet.specs.Networks.{NetworkEvent, polled, Tells}
 use Rattle.meter_fleet.specs.Rounds.{service_calls, arrival_calls, client_events, AcceptsClients}
-use Rattle.meter_fleet.specs.Rounds.{ServesKeys, ServesAll, Round, LoopState, may_wait, Works}
+use Rattle.meter_fleet.specs.Rounds.{ServesKeys, ServesAll, Round, LoopState, may_wait, DoesWork}
 use Rattle.meter_fleet.specs.Rounds.{DoesRound, FailsBy, RoundBy, DoesRounds, ServesUntil, ServesBy}
 use Rattle.meter_fleet.specs.Rounds.{start_of, frame_bytes}
 use Rattle.meter_fleet.specs.declared.serving.FleetFault.{FleetFault}
@@ -18,10 +18,10 @@ use Rattle.meter_fleet.proofs.Meeting.{tells_on}
 
 works : (old : LoopState) (keys : List ℕ) (has_clients has_more : Bool) (left done again : List ℕ)
     (log log' : Option (List NetworkEvent)) (f f' : FleetState)
-    → Tells old.log (woke (may_wait old) keys has_clients ∷ []) log
+    → Tells old.log (polled (may_wait old) keys has_clients ∷ []) log
     → (meets : AcceptsClients (old.has_clients || has_clients) log old.fleet has_more log' f)
     → done ++ left ≡ old.ready ++ keys → (serves : ServesKeys f done again f')
-    → Works old (record {
+    → DoesWork old (record {
       keys = keys;
       has_clients = has_clients;
       arrivals = meets.arrivals;
@@ -30,7 +30,7 @@ works : (old : LoopState) (keys : List ℕ) (has_clients has_more : Bool) (left 
     }) left log' f'
 works old keys has_clients has_more left done again log log' f f' tells meets split serves =
     record {
-      told = tells_on old.log log log' (woke (may_wait old) keys has_clients ∷ [])
+      told = tells_on old.log log log' (polled (may_wait old) keys has_clients ∷ [])
           (client_events (old.has_clients || has_clients) meets.arrivals has_more) tells meets.told;
       met = meets.met;
       served = ap (λ (ks : List ℕ). ks ++ left) serves.keys_are ∙ split;
@@ -40,7 +40,7 @@ works old keys has_clients has_more left done again log log' f f' tells meets sp
 
 round_by : (old new : LoopState) (keys all : List ℕ) (has_clients : Bool)
     (log : Option (List NetworkEvent)) (f : FleetState) (result : Result Unit FleetFault)
-    → Tells old.log (woke (may_wait old) keys has_clients ∷ []) log
+    → Tells old.log (polled (may_wait old) keys has_clients ∷ []) log
     → AcceptsClients (old.has_clients || has_clients) log old.fleet new.has_clients new.log f
     → all ≡ old.ready ++ keys → ServesAll f all result new.ready new.fleet
     → RoundBy old result new
@@ -78,7 +78,7 @@ pub round_next : (log log' log'' : Option (List NetworkEvent)) (f f' f'' : Fleet
     (ready ready' again keys : List ℕ) (waits had has has_more had' : Bool)
     (result : Result Unit FleetFault)
     → waits ≡ may_wait (record { log = log; fleet = f; ready = ready; has_clients = had })
-    → Tells log (woke waits keys has ∷ []) log'
+    → Tells log (polled waits keys has ∷ []) log'
     → AcceptsClients (had || has) log' f has_more log'' f' → had' ≡ has_more
     → ready' ≡ ready ++ keys → ServesAll f' ready' result again f''
     → RoundBy (record { log = log; fleet = f; ready = ready; has_clients = had }) result
@@ -87,7 +87,7 @@ round_next log log' log'' f f' f'' ready ready' again keys waits had has has_mor
     tells meets same grown serves =
     round_by (record { log = log; fleet = f; ready = ready; has_clients = had })
     (record { log = log''; fleet = f''; ready = again; has_clients = had' }) keys ready' has log'
-    f' result (subst (λ (w : Bool). Tells log (woke w keys has ∷ []) log') is tells)
+    f' result (subst (λ (w : Bool). Tells log (polled w keys has ∷ []) log') is tells)
     (subst (λ (m : Bool). AcceptsClients (had || has) log' f m log'' f') (sym same) meets) grown
     serves
 

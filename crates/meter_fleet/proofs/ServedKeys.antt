@@ -16,7 +16,7 @@ use Rattle.fleet_meters.specs.Fleets.{FleetState, Runs, Releases}
 use Rattle.fleet_runs.specs.Calls.{FleetCall, RunsAt, Calls}
 use Rattle.fleet_runs.proofs.Steps.{calls_on}
 use Rattle.meter_fleet.specs.Rounds.{Service, absent, idle, busy, over, service_key, service_calls}
-use Rattle.meter_fleet.specs.Rounds.{key_again, ServesKeys, StopsAfter, ServesOn, frame_bytes}
+use Rattle.meter_fleet.specs.Rounds.{key_again, ServesKeys, StopsAfter, ServesMore, frame_bytes}
 use Rattle.meter_fleet.specs.declared.serving.FleetFault.{FleetFault}
 use Rattle.meter_fleet.specs.declared.serving.FleetFault.TheVariants.{Network, Memory}
 
@@ -78,13 +78,13 @@ serves_over state room old between new key end (Some stream) same runs releases 
 
 -- the result of a turn
 pub serves_absent_on : (old new : FleetState) (key : ℕ) (next : List ℕ)
-    → (get old.clients key ≡ None) × (new ≡ old) → ServesOn old (key ∷ []) next (Ok tt) next new
+    → (get old.clients key ≡ None) × (new ≡ old) → ServesMore old (key ∷ []) next (Ok tt) next new
 serves_absent_on old new key next by =
     ([], serves_absent old new key by, sym (append-nil next))
 
 pub serves_idle_on : (room : ℕ) (old new : FleetState) (key : ℕ) (next : List ℕ) (turn : Turn)
     → turn ≡ Waits → room ≡ frame_bytes → Runs room old key turn new
-    → ServesOn old (key ∷ []) next (Ok tt) next new
+    → ServesMore old (key ∷ []) next (Ok tt) next new
 serves_idle_on room old new key next turn is same runs = (
   [],
   serves_idle room old new key same (subst (λ (t : Turn). Runs room old key t new) is runs),
@@ -93,7 +93,7 @@ serves_idle_on room old new key next turn is same runs = (
 
 pub serves_busy_on : (room : ℕ) (old new : FleetState) (key : ℕ) (next next' : List ℕ)
     (turn : Turn) → turn ≡ Again → room ≡ frame_bytes → Runs room old key turn new
-    → next' ≡ next ++ key ∷ [] → ServesOn old (key ∷ []) next (Ok tt) next' new
+    → next' ≡ next ++ key ∷ [] → ServesMore old (key ∷ []) next (Ok tt) next' new
 serves_busy_on room old new key next next' turn is same runs grown = (
   key ∷ [],
   serves_busy room old new key same (subst (λ (t : Turn). Runs room old key t new) is runs),
@@ -105,7 +105,7 @@ pub serves_over_on : {S : Type 0} (state : S → StreamState) (room : ℕ)
     (stream : Option S) → turn ≡ Over end → room ≡ frame_bytes → Runs room old key turn between
     → IfSome stream (λ s. Releases between key (state s) new)
     → IfNone stream ((get between.clients key ≡ None) × (new ≡ between))
-    → ServesOn old (key ∷ []) next (Ok tt) next new
+    → ServesMore old (key ∷ []) next (Ok tt) next new
 serves_over_on state room old between new key next end turn stream is same runs releases none = (
   [],
   serves_over state room old between new key end stream same
@@ -148,8 +148,8 @@ serves_more a b c keys keys' again again' first then_ = record {
 
 -- some connections, followed by another
 pub serves_on : (a b c : FleetState) (keys next next' next'' : List ℕ) (key : ℕ)
-    → ServesOn a keys next (Ok tt) next' b → ServesOn b (key ∷ []) next' (Ok tt) next'' c
-    → ServesOn a (keys ++ key ∷ []) next (Ok tt) next'' c
+    → ServesMore a keys next (Ok tt) next' b → ServesMore b (key ∷ []) next' (Ok tt) next'' c
+    → ServesMore a (keys ++ key ∷ []) next (Ok tt) next'' c
 serves_on a b c keys next next' next'' key first then_ = (
   first.0 ++ then_.0,
   serves_more a b c keys (key ∷ []) first.0 then_.0 first.1 then_.1,
@@ -159,9 +159,9 @@ serves_on a b c keys next next' next'' key first then_ = (
 
 -- memory ran out at the last of some connections
 pub stops_on : (a b c : FleetState) (keys all rest next next' next'' : List ℕ) (key : ℕ)
-    (fault : FleetFault) → ServesOn a keys next (Ok tt) next' b
-    → ServesOn b (key ∷ []) next' (Err fault) next'' c → (keys ++ key ∷ []) ++ rest ≡ all
-    → ServesOn a all next (Err fault) next'' c
+    (fault : FleetFault) → ServesMore a keys next (Ok tt) next' b
+    → ServesMore b (key ∷ []) next' (Err fault) next'' c → (keys ++ key ∷ []) ++ rest ≡ all
+    → ServesMore a all next (Err fault) next'' c
 stops_on a b c keys all rest next next' next'' key Network first then_ split = absurd then_
 stops_on a b c keys all rest next next' next'' key Memory first then_ split = record {
   done = keys ++ then_.done;
@@ -177,19 +177,19 @@ stops_on a b c keys all rest next next' next'' key Memory first then_ split = re
 -- the first keys of a list, and the next one
 pub serves_next : (a b c : FleetState) (keys next next' next'' : List ℕ) (i key d : ℕ)
     → i < length keys → key ≡ slice_index_or keys i d
-    → ServesOn a (take i keys) next (Ok tt) next' b
-    → ServesOn b (key ∷ []) next' (Ok tt) next'' c
-    → ServesOn a (take (i + 1) keys) next (Ok tt) next'' c
+    → ServesMore a (take i keys) next (Ok tt) next' b
+    → ServesMore b (key ∷ []) next' (Ok tt) next'' c
+    → ServesMore a (take (i + 1) keys) next (Ok tt) next'' c
 serves_next a b c keys next next' next'' i key d within is first then_ =
-    subst (λ (ks : List ℕ). ServesOn a ks next (Ok tt) next'' c)
+    subst (λ (ks : List ℕ). ServesMore a ks next (Ok tt) next'' c)
     (ap (λ (k : ℕ). take i keys ++ k ∷ []) is ∙ sym (take_more keys i d within))
     (serves_on a b c (take i keys) next next' next'' key first then_)
 
 pub stops_next : (a b c : FleetState) (keys next next' next'' : List ℕ) (i key d : ℕ)
     (fault : FleetFault) → i < length keys → key ≡ slice_index_or keys i d
-    → ServesOn a (take i keys) next (Ok tt) next' b
-    → ServesOn b (key ∷ []) next' (Err fault) next'' c
-    → ServesOn a keys next (Err fault) next'' c
+    → ServesMore a (take i keys) next (Ok tt) next' b
+    → ServesMore b (key ∷ []) next' (Err fault) next'' c
+    → ServesMore a keys next (Err fault) next'' c
 stops_next a b c keys next next' next'' i key d fault within is first then_ =
     stops_on a b c (take i keys) keys (drop (i + 1) keys) next next' next'' key fault first then_
     (ap (λ (k : ℕ). (take i keys ++ k ∷ []) ++ drop (i + 1) keys) is

@@ -1,7 +1,7 @@
 -- What a network reports.
 --     NetworkEvent     a report
 --     Tells            a network reported these events
---     WaitsBy          it was waited for
+--     PollsTo          it was waited for
 --     AcceptsBy        it was asked for a client
 use Rattle.std.specs.Prelude.{◌≡◌, ◌++◌, ℕ, Bool, List, [], ◌∷◌, Option, Some, None, Result, Ok}
 use Rattle.std.specs.Prelude.{Err, ⊤}
@@ -9,16 +9,16 @@ use Rattle.fleet_links.specs.Streams.{StreamState}
 use Rattle.meter_fleet.specs.declared.network.NextClient.{NextClient}
 use Rattle.meter_fleet.specs.declared.network.NextClient.TheVariants as next
 
--- A report of a network. `woke`: a call returned that might wait or not, with the keys of the
+-- A report of a network. `polled`: a call returned that might wait or not, with the keys of the
 -- connections that are ready, and whether clients may be waiting; `failed`: such a call failed;
 -- `accepted`: a client, with the key of its connection, the address that it named, and its stream;
--- `rejected`: a client was closed at once; `nobody`: no client was waiting.
+-- `rejected`: a client was closed at once; `no_client`: no client was waiting.
 pub data NetworkEvent : Type 0 where
-  woke : Bool → List ℕ → Bool → NetworkEvent
+  polled : Bool → List ℕ → Bool → NetworkEvent
   failed : Bool → NetworkEvent
   accepted : ℕ → List ℕ → StreamState → NetworkEvent
   rejected : NetworkEvent
-  nobody : NetworkEvent
+  no_client : NetworkEvent
 
 -- whether the network reported exactly these events, in order; nothing is claimed of a network that
 -- keeps no log of its reports
@@ -30,18 +30,18 @@ Tells (Some log) events (Some log') = log' ≡ log ++ events
 
 -- Whether the network was polled, blocking only if `may_wait` holds. On success it appended the
 -- keys of the ready connections to `ready`, and returned whether clients may be waiting.
-abbrev pub WaitsBy : {E : Type 0} → Option (List NetworkEvent) → Bool → List ℕ → Result Bool E
+abbrev pub PollsTo : {E : Type 0} → Option (List NetworkEvent) → Bool → List ℕ → Result Bool E
     → List ℕ → Option (List NetworkEvent) → Type 0
-WaitsBy old may_wait ready (Ok has_clients) ready' new = (keys : List ℕ) × (ready' ≡ ready ++ keys)
-    × Tells old (woke may_wait keys has_clients ∷ []) new
-WaitsBy old may_wait ready (Err fault) ready' new = Tells old (failed may_wait ∷ []) new
+PollsTo old may_wait ready (Ok has_clients) ready' new = (keys : List ℕ) × (ready' ≡ ready ++ keys)
+    × Tells old (polled may_wait keys has_clients ∷ []) new
+PollsTo old may_wait ready (Err fault) ready' new = Tells old (failed may_wait ∷ []) new
 
 module _ {S : Type 0} (state : S → StreamState) where
   -- the report of a client whose connection is to have this key
   abbrev pub event_of : ℕ → NextClient S → NetworkEvent
   event_of key (next.Client stream address) = accepted key address (state stream)
   event_of key next.Closed = rejected
-  event_of key next.None = nobody
+  event_of key next.None = no_client
 
   -- whether the network was asked for a client, and reported what it returned
   abbrev pub AcceptsBy : Option (List NetworkEvent) → ℕ → NextClient S

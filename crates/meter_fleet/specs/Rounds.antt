@@ -17,7 +17,7 @@ use Rattle.fleet_meters.specs.Fleets.{FleetState, IsNewFleet}
 use Rattle.fleet_meters.specs.declared.place.Refusal.{Refusal}
 use Rattle.fleet_meters.specs.declared.terms.MeterTerms.{MeterTerms}
 use Rattle.fleet_runs.specs.Calls.{FleetCall, admitted, ran, closed, missed, Calls}
-use Rattle.meter_fleet.specs.Networks.{NetworkEvent, woke, failed, accepted, rejected, nobody}
+use Rattle.meter_fleet.specs.Networks.{NetworkEvent, polled, failed, accepted, rejected, no_client}
 use Rattle.meter_fleet.specs.Networks.{Tells}
 use Rattle.meter_fleet.specs.declared.serving.FleetFault.{FleetFault}
 use Rattle.meter_fleet.specs.declared.serving.FleetFault.TheVariants.{Network, Memory}
@@ -59,7 +59,7 @@ arrival_calls gone = []
 -- the reports of the clients that were accepted, until none was waiting or the maximum was reached
 abbrev pub arrival_events : List Arrival → Bool → List NetworkEvent
 arrival_events arrivals has_more =
-    map arrival_event arrivals ++ (if has_more then [] else nobody ∷ [])
+    map arrival_event arrivals ++ (if has_more then [] else no_client ∷ [])
 
 -- the reports of clients, if some may be waiting
 abbrev pub client_events : Bool → List Arrival → Bool → List NetworkEvent
@@ -68,16 +68,16 @@ client_events false arrivals has_more = []
 
 -- whether clients were accepted only if some may be waiting, and more may be waiting only after the
 -- maximum
-abbrev pub AreMet : Bool → List Arrival → Bool → Type 0
-AreMet true arrivals has_more = has_more ≡ true → length arrivals ≡ max_accepted
-AreMet false arrivals has_more = (arrivals ≡ []) × (has_more ≡ false)
+abbrev pub AreAccepted : Bool → List Arrival → Bool → Type 0
+AreAccepted true arrivals has_more = has_more ≡ true → length arrivals ≡ max_accepted
+AreAccepted false arrivals has_more = (arrivals ≡ []) × (has_more ≡ false)
 
 -- whether the clients that were waiting were accepted, up to the maximum
 pub record AcceptsClients (is_due : Bool) (log : Option (List NetworkEvent)) (old : FleetState)
     (has_more : Bool) (log' : Option (List NetworkEvent)) (new : FleetState) : Type 0 where
   pub arrivals : List Arrival
   pub told : Tells log (client_events is_due arrivals has_more) log'
-  pub met : AreMet is_due arrivals has_more
+  pub met : AreAccepted is_due arrivals has_more
   pub calls : Calls frame_bytes old (flat_map arrival_calls arrivals) new
 
 -- whether the network was asked for one client: if there was one, the fleet admitted or refused it;
@@ -86,7 +86,7 @@ abbrev pub AcceptsOne : Option (List NetworkEvent) → FleetState → Bool → O
     → FleetState → Type 0
 AcceptsOne log old true log' new = (arrival : Arrival) × Tells log (arrival_event arrival ∷ []) log'
     × Calls frame_bytes old (arrival_calls arrival) new
-AcceptsOne log old false log' new = Tells log (nobody ∷ []) log' × (new ≡ old)
+AcceptsOne log old false log' new = Tells log (no_client ∷ []) log' × (new ≡ old)
 
 -- Whether a client asked for the meter with this number. The meter admits it under this key or
 -- refuses it; without a number there is no call.
@@ -151,11 +151,11 @@ ServesAll old keys (Err Memory) again new = StopsAfter old keys new
 
 -- whether the connections with these keys were served in order, and the keys of those that may
 -- continue at once were appended to `next`; or memory ran out after the first of them
-abbrev pub ServesOn : FleetState → List ℕ → List ℕ → Result Unit FleetFault → List ℕ → FleetState
+abbrev pub ServesMore : FleetState → List ℕ → List ℕ → Result Unit FleetFault → List ℕ → FleetState
     → Type 0
-ServesOn old keys next (Ok done) next' new = (again : List ℕ) × ServesKeys old keys again new
+ServesMore old keys next (Ok done) next' new = (again : List ℕ) × ServesKeys old keys again new
     × (next' ≡ next ++ again)
-ServesOn old keys next (Err fault) next' new = ServesAll old keys (Err fault) next' new
+ServesMore old keys next (Err fault) next' new = ServesAll old keys (Err fault) next' new
 
 -- ---- rounds
 
@@ -184,11 +184,11 @@ may_wait s = (length s.ready == 0) && not s.has_clients
 -- Whether this work of a round was done, up to the connections that are left. Clients are accepted
 -- if some may be waiting, and then the connections that could continue and those that were reported
 -- ready are served, in order. No other calls change the fleet.
-pub record Works (old : LoopState) (round : Round) (left : List ℕ)
+pub record DoesWork (old : LoopState) (round : Round) (left : List ℕ)
     (log : Option (List NetworkEvent)) (fleet : FleetState) : Type 0 where
-  pub told : Tells old.log (woke (may_wait old) round.keys round.has_clients
+  pub told : Tells old.log (polled (may_wait old) round.keys round.has_clients
       ∷ client_events (old.has_clients || round.has_clients) round.arrivals round.has_more) log
-  pub met : AreMet (old.has_clients || round.has_clients) round.arrivals round.has_more
+  pub met : AreAccepted (old.has_clients || round.has_clients) round.arrivals round.has_more
   pub served : map service_key round.services ++ left ≡ old.ready ++ round.keys
   pub calls : Calls frame_bytes old.fleet
       (flat_map arrival_calls round.arrivals ++ flat_map service_calls round.services)
@@ -196,7 +196,7 @@ pub record Works (old : LoopState) (round : Round) (left : List ℕ)
 
 -- whether a whole round of the loop was done
 pub record DoesRound (old : LoopState) (round : Round) (new : LoopState) : Type 0 where
-  pub works : Works old round [] new.log new.fleet
+  pub works : DoesWork old round [] new.log new.fleet
   pub goes_on : flat_map key_again round.services ≡ new.ready
   pub has_more : round.has_more ≡ new.has_clients
 
@@ -206,7 +206,7 @@ abbrev pub FailsBy : LoopState → FleetFault → Option (List NetworkEvent) →
 FailsBy old Network log fleet = Tells old.log (failed (may_wait old) ∷ []) log
     × (fleet ≡ old.fleet)
 FailsBy old Memory log fleet = ((log ≡ old.log) × (fleet ≡ old.fleet))
-    ⊎ ((round : Round) × (left : List ℕ) × Works old round left log fleet)
+    ⊎ ((round : Round) × (left : List ℕ) × DoesWork old round left log fleet)
 
 -- whether one round of the loop has this result: a whole round was done, or it failed
 abbrev pub RoundBy : LoopState → Result Unit FleetFault → LoopState → Type 0

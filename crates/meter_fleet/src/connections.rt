@@ -1,6 +1,6 @@
 //! Serving the connections that are ready.
 ghost use Rattle.std.specs.Prelude.{◌≡◌, ◌∷◌, [], ◌<◌, length};
-ghost use Rattle.meter_fleet.specs.Rounds.{ServesOn, frame_bytes};
+ghost use Rattle.meter_fleet.specs.Rounds.{ServesMore, frame_bytes};
 
 use crate::serving::FleetFault;
 use fleet_links::{Stream, Turn};
@@ -19,7 +19,7 @@ pub(crate) fn serve_ready<S: Stream + Drop>(
 ) -> Result<(), FleetFault>
     requires has_room { 0 < length input.now }
     requires room { length frame.now ≡ frame_bytes }
-    ensures { ServesOn fleet.old ready.now next.old.items result next.new.items fleet.new }
+    ensures { ServesMore fleet.old ready.now next.old.items result next.new.items fleet.new }
 {
     'keys: for key in ready {
         match serve_key(alloc, fleet, *key, next, input, frame) {
@@ -42,7 +42,7 @@ fn serve_key<S: Stream + Drop>(
 ) -> Result<(), FleetFault>
     requires has_room { 0 < length input.now }
     requires room { length frame.now ≡ frame_bytes }
-    ensures { ServesOn fleet.old (key ∷ []) next.old.items result next.new.items fleet.new }
+    ensures { ServesMore fleet.old (key ∷ []) next.old.items result next.new.items fleet.new }
 {
     match fleet.turn(alloc, key, input, frame) {
         Some(Turn::Again) => match next.push(key) {

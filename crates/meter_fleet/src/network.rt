@@ -1,6 +1,6 @@
 //! `Network`: where clients come from, and which connections are ready.
 ghost use Rattle.std.specs.Prelude.{List, Option};
-ghost use Rattle.meter_fleet.specs.Networks.{NetworkEvent, WaitsBy, AcceptsBy};
+ghost use Rattle.meter_fleet.specs.Networks.{NetworkEvent, PollsTo, AcceptsBy};
 
 use fleet_links::Stream;
 use thiserror::Error;
@@ -34,7 +34,7 @@ pub trait Network {
     /// false. Appends the keys of connections that are ready, and returns whether clients may be
     /// waiting.
     fn wait(&mut self, may_wait: bool, ready: &mut Vec<usize>) -> Result<bool, NetworkFault>
-        ensures { WaitsBy (log self.old) may_wait ready.old.items result ready.new.items
+        ensures { PollsTo (log self.old) may_wait ready.old.items result ready.new.items
             (log self.new) };
 
     /// Accepts a connection, whose events are then reported under this key.
