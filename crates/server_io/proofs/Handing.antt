@@ -143,7 +143,8 @@ ends_all end h none same lost_is input before e f =
 -- the console ended at a failed read
 pub ends_some : {known left : Option (List ℕ)} {listed taken taken' : Option (List Event)}
     {lost : ℕ} (end : ConsoleEnd)
-    → HandsAll known listed lost left taken → taken' ≡ taken → lost_lines end ≡ lost → has_failed end
+    → HandsAll known listed lost left taken → taken' ≡ taken → lost_lines end ≡ lost
+    → has_failed end
     ≡ true
     → Ends known listed end taken'
 ends_some end h same lost_is failed input before e f =

@@ -38,7 +38,8 @@ pub record HandsOn (input : List ℕ) (before : List Event) (lost : ℕ) (left :
   pub taken_is : taken ≡ Some (before ++ events)
 
 -- whether `HandsOn` holds, if the bytes of the reader are known and the sink lists its events
-abbrev pub HandsAll : Option (List ℕ) → Option (List Event) → ℕ → Option (List ℕ) → Option (List Event)
+abbrev pub HandsAll : Option (List ℕ) → Option (List Event) → ℕ → Option (List ℕ)
+    → Option (List Event)
     → Type 0
 HandsAll known listed lost left taken = (input : List ℕ) (before : List Event) → known ≡ Some input
     → listed ≡ Some before → HandsOn input before lost left taken

@@ -21,7 +21,8 @@ HasOutput bytes failed (Ok output) left' failed' =
 HasOutput bytes failed (Err (fault.Line number)) left' failed' =
     (trace_of bytes ≡ Err (trace_fault.Line number)) × IsAtEnd left'
 HasOutput bytes failed (Err fault.TooLong) left' failed' = max_bytes < length bytes
-HasOutput bytes failed (Err fault.Read) left' failed' = (length bytes ≤ max_bytes) × (failed < failed')
+HasOutput bytes failed (Err fault.Read) left' failed' = (length bytes ≤ max_bytes)
+    × (failed < failed')
 HasOutput bytes failed (Err fault.Write) left' failed' = ⊥
 HasOutput bytes failed (Err fault.Memory) left' failed' = ⊤
 

@@ -274,7 +274,8 @@ module _ {T E R O : Type 0} (origin : T → O) (stands : T → List (Entry E R) 
   M = Me Sl V
 
   -- a port that has seen the longest history has only watched
-  moves_to : (m : Mo) (i : ℕ) (me : M) (stage : Stage E R O) (cs : CarriedSlots T E R) → Fit m i me.0
+  moves_to : (m : Mo) (i : ℕ) (me : M) (stage : Stage E R O) (cs : CarriedSlots T E R)
+      → Fit m i me.0
       → me.0.is_port ≡ true → legal m.start m.history
       → MovesTo legal stage (seat_state me) (seat_with (informed_view m me.0 stage) cs)
   moves_to m i me stage cs f port lawful = record {
