@@ -35,6 +35,8 @@ PHRASES, COUNTS = TOP / "tests" / "prose_phrases.txt", TOP / "tests" / "prose_co
 COLUMNS = 100
 SHOWN = 5
 STRICT = {"constant", "own", "whether"}
+# Definitions of specs/ that are types of values, so no predicates.
+VALUE_TYPES = {"CarriedSlots", "LastCall", "Parts"}
 RATTLE = (".rt", ".bench")
 COMMENTS = {".rt": "//", ".bench": "//", ".rs": "//", ".antt": "--", ".py": "#", ".sh": "#", "": "#"}
 PARTICIPLES = ("[a-z]+ed|told|shown|begun|sent|taken|drawn|drew|seen|saw|kept|held|made|given|met|found"
@@ -203,7 +205,9 @@ def own_lines(path, lines):
 def whether_lines(path, lines):
     """The predicates with a comment that does not say whether something holds."""
     for number, name, typed, comment in definitions_in(path, lines):
-        if PREDICATE.search(typed) and comment and not comment.lower().startswith("whether"):
+        if name in VALUE_TYPES or not PREDICATE.search(typed):
+            continue
+        if comment and not comment.lower().startswith("whether"):
             yield number, f"predicate `{name}`, begin its comment with `whether`"
 
 
