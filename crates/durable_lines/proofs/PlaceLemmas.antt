@@ -1,8 +1,8 @@
 -- What a crash leaves under a name in memory after an append, a cut and a sync.
 use Rattle.std.proofs.Common.{inl, inr, ℕ, List, [], None, sym, append-nil}
-use Rattle.durable_lines.specs.CrashModel.{Follows, Narrows, Only, TornAppend, TornCut}
+use Rattle.durable_lines.specs.CrashModel.{Follows, Narrows, HasOneOutcome, TornAppend, TornCut}
 use Rattle.durable_lines.specs.FileState.{seen_of, synced_with, after_append, after_cut}
-use Rattle.durable_lines.specs.MemoryPlace.{MayHave}
+use Rattle.durable_lines.specs.MemoryPlace.{MayBeLeft}
 use Rattle.durable_lines.specs.declared.memory_place.PlaceState.{PlaceState}
 use Rattle.durable_lines.proofs.StateLemmas.{append_follows, cut_follows, only_synced}
 use Rattle.durable_lines.proofs.StateLemmas.{sync_narrows, uncut}
@@ -18,26 +18,26 @@ pub same_cuts : (len : ℕ) (may_leave : List ℕ → Type 0)
 same_cuts len may_leave c left = (c, left, uncut len c)
 
 pub append_follows_in : (bytes : List ℕ) (s : PlaceState)
-    → Follows (TornAppend bytes) (MayHave s)
-    (MayHave (record { current = after_append bytes s.current; previous = s.previous }))
+    → Follows (TornAppend bytes) (MayBeLeft s)
+    (MayBeLeft (record { current = after_append bytes s.current; previous = s.previous }))
 append_follows_in bytes s c (inl left) =
     let from = append_follows bytes s.current c left in (from.0, inl from.1, from.2)
 append_follows_in bytes s c (inr was) = (c, inr was, ([], tt, sym (append-nil c)))
 
 pub cut_follows_in : (len : ℕ) (s : PlaceState)
-    → Follows (TornCut len) (MayHave s)
-    (MayHave (record { current = after_cut len s.current; previous = s.previous }))
+    → Follows (TornCut len) (MayBeLeft s)
+    (MayBeLeft (record { current = after_cut len s.current; previous = s.previous }))
 cut_follows_in len s c (inl left) =
     let from = cut_follows len s.current c left in (from.0, inl from.1, from.2)
 cut_follows_in len s c (inr was) = (c, inr was, uncut len c)
 
 pub sync_narrows_in : (s : PlaceState)
-    → Narrows (MayHave s)
-    (MayHave (record { current = synced_with (seen_of s.current); previous = None }))
+    → Narrows (MayBeLeft s)
+    (MayBeLeft (record { current = synced_with (seen_of s.current); previous = None }))
 sync_narrows_in s c (inl left) = inl (sync_narrows s.current c left)
 sync_narrows_in s c (inr none) = absurd none
 
 pub only_synced_in : (bytes : List ℕ)
-    → Only bytes (MayHave (record { current = synced_with bytes; previous = None }))
+    → HasOneOutcome bytes (MayBeLeft (record { current = synced_with bytes; previous = None }))
 only_synced_in bytes c (inl left) = only_synced bytes c left
 only_synced_in bytes c (inr none) = absurd none

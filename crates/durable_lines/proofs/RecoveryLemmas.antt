@@ -1,6 +1,6 @@
 -- What a crash during a recovery leaves: the file is synced, read, cut after its lines and synced.
 use Rattle.std.proofs.Common.{◌≡◌, ◌⊎◌, inl, inr, ℕ, List, length, take, sym, ◌∙◌, ap, subst}
-use Rattle.durable_lines.specs.CrashModel.{Elapses, Follows, LeavesOnly, Narrows, Only, TornCut}
+use Rattle.durable_lines.specs.CrashModel.{Elapses, Follows, LeavesOnly, Narrows, HasOneOutcome, TornCut}
 use Rattle.durable_lines.specs.Lines.{lines_in, text_of, IsText}
 use Rattle.durable_lines.proofs.LineLemmas.{lines_in-same, take-text}
 use Rattle.durable_lines.proofs.Moments.{begin, then_call}
@@ -47,7 +47,8 @@ module _ {F : Type 0} (seen : F → List ℕ) (may_leave : F → List ℕ → Ty
 
   -- a crash after the cut leaves the same lines
   pub cut_lines : (len : ℕ) (read cut : F) → len ≡ length (text_of (lines_in (seen old)))
-      → Only (seen old) (may_leave read) → Follows (TornCut len) (may_leave read) (may_leave cut)
+      → HasOneOutcome (seen old) (may_leave read)
+      → Follows (TornCut len) (may_leave read) (may_leave cut)
       → (c : List ℕ) → may_leave cut c → lines_in c ≡ lines_in (seen old)
   cut_lines len read cut is only cuts c now =
       let from = cuts c now in

@@ -6,7 +6,7 @@ use Rattle.std.proofs.lemmas.Bool.{cases_Bool, cases_lt, leb-true, leb-false}
 use Rattle.std.proofs.lemmas.List.{append-nil, take_all, take-take, take-append-le, length-take}
 use Rattle.std.proofs.Math.Seq.{take-append-add}
 use Rattle.std.specs.Prelude.{nat_le}
-use Rattle.durable_lines.specs.CrashModel.{Follows, IsTorn, Narrows, Only, TornAppend, TornCut}
+use Rattle.durable_lines.specs.CrashModel.{Follows, IsTorn, Narrows, HasOneOutcome, TornAppend, TornCut}
 use Rattle.durable_lines.specs.FileState.{State, seen_of, synced_with, after_append, after_cut}
 use Rattle.durable_lines.specs.FileState.{torn_text, IsLeft}
 use Rattle.durable_lines.specs.declared.byte_fate.ByteFate.{ByteFate}
@@ -151,7 +151,7 @@ pub seen_left : (s : State) → IsLeft s (seen_of s)
 seen_left s = inr (s.added, torn_same s.added, refl)
 
 -- after a sync a crash leaves the bytes
-pub only_synced : (bytes : List ℕ) → Only bytes (IsLeft (synced_with bytes))
+pub only_synced : (bytes : List ℕ) → HasOneOutcome bytes (IsLeft (synced_with bytes))
 only_synced bytes c (inl cut) = cut.2 ∙ take_all cut.0 bytes (omega (arith, cut.1))
 only_synced bytes c (inr torn) =
     torn.2 ∙ ap (λ bs. take (length bytes) bytes ++ bs) (no_torn torn.0 torn.1)

@@ -20,7 +20,7 @@
 --     TornCut         a file, and what a crash leaves of it after a cut
 --     Follows         each new outcome is an old outcome after a step
 --     Narrows         each new outcome is an old one
---     Only            the one possible outcome
+--     HasOneOutcome     the one possible outcome
 --     Elapses         the outcomes since each earlier moment, from before a call to after it
 --     LeavesOnly      a fact of each outcome since a moment
 use Rattle.std.specs.Prelude.{◌≡◌, ◌⊎◌, ◌≤◌, ℕ, List, [], ◌∷◌, ◌++◌, take, ⊤}
@@ -51,8 +51,8 @@ abbrev pub Narrows : (List ℕ → Type 0) → (List ℕ → Type 0) → Type 0
 Narrows old new = (c : List ℕ) → new c → old c
 
 -- whether a crash leaves these bytes and no others
-abbrev pub Only : List ℕ → (List ℕ → Type 0) → Type 0
-Only bytes outcomes = (c : List ℕ) → outcomes c → c ≡ bytes
+abbrev pub HasOneOutcome : List ℕ → (List ℕ → Type 0) → Type 0
+HasOneOutcome bytes outcomes = (c : List ℕ) → outcomes c → c ≡ bytes
 
 -- A call takes the file from one moment to another. What a crash since an earlier moment may have
 -- left is what it may have left before the call, or what it may leave now.

@@ -9,7 +9,7 @@ use Rattle.std.specs.Prelude.{◌≡◌, ◌≤◌, ◌==◌, ℕ, List, [], ◌
 use Rattle.std.specs.Prelude.{if◌then◌else◌}
 unfoldable pub use Rattle.text_lines.specs.Lines.{text_of}
 pub use Rattle.text_lines.specs.Lines.{IsPlain}
-use Rattle.durable_lines.specs.CrashModel.{Only}
+use Rattle.durable_lines.specs.CrashModel.{HasOneOutcome}
 
 -- the whole lines of bytes that follow the beginning of a line, up to the first byte 0
 abbrev pub lines_after : List ℕ → List ℕ → List (List ℕ)
@@ -35,5 +35,5 @@ IsBetween old added lines = (k : ℕ) × (k ≤ length added) × (lines ≡ old 
 pub record IsSettled {F : Type 0} (seen : F → List ℕ) (may_leave : F → List ℕ → Type 0)
     (stored : List ℕ → Type 0) (file : F) : Type 0 where
   pub text : IsText (seen file)
-  pub durable : Only (seen file) (may_leave file)
+  pub durable : HasOneOutcome (seen file) (may_leave file)
   pub kept : stored (seen file)

@@ -1,5 +1,5 @@
 -- The view that contracts have of a place in memory.
---     MayHave         what a crash may leave under the name
+--     MayBeLeft       what a crash may leave under the name
 --     file_after      the file that has the name after a crash
 --     name_of         the state of the file that has the name now
 --     moment_of       the number of changes and syncs so far
@@ -14,8 +14,8 @@ use Rattle.durable_lines.specs.declared.memory_place.PlaceState.{PlaceState}
 
 -- whether a crash may leave these bytes under the name: those of the file that has it now, or of
 -- the one before if the rename is not on the disk
-abbrev pub MayHave : PlaceState → List ℕ → Type 0
-MayHave s c = IsLeft s.current c ⊎ IsSomeAnd s.previous (λ file. IsLeft file c)
+abbrev pub MayBeLeft : PlaceState → List ℕ → Type 0
+MayBeLeft s c = IsLeft s.current c ⊎ IsSomeAnd s.previous (λ file. IsLeft file c)
 
 -- the file that has the name after a crash: the one that had it, if there is one and the rename is
 -- not on the disk
@@ -36,4 +36,4 @@ states_of p = p.past.items ++ p.state ∷ []
 
 -- whether a crash since a moment may have left these bytes under the name
 abbrev pub LeftSince : MemoryPlace → ℕ → List ℕ → Type 0
-LeftSince p t c = LeftIn MayHave p.past.items p.state t c
+LeftSince p t c = LeftIn MayBeLeft p.past.items p.state t c

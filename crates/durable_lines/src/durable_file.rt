@@ -1,7 +1,7 @@
 //! `DurableFile`: a file that is appended to, cut and synced, with what a crash may leave of it.
 ghost use Rattle.std.specs.Prelude.{◌≡◌, ◌≤◌, ◌↔◌, ◌++◌, List, ℕ, length, take, IfOk, OnOk, OnErr};
 ghost use Rattle.std.specs.Prelude.{IsErrOf};
-ghost use Rattle.durable_lines.specs.CrashModel.{Elapses, Follows, LeavesOnly, Narrows, Only};
+ghost use Rattle.durable_lines.specs.CrashModel.{Elapses, Follows, LeavesOnly, Narrows, HasOneOutcome};
 ghost use Rattle.durable_lines.specs.CrashModel.{TornAppend, TornCut};
 ghost use Rattle.durable_lines.specs.Holding.{IsSameOrRenewed};
 ghost use Rattle.durable_lines.specs.Lines.{IsSettled};
@@ -77,7 +77,7 @@ pub trait DurableFile: Drop {
     /// Waits until the bytes are on the disk: after `Ok`, a crash leaves them and nothing else.
     fn sync(&mut self) -> Result<(), FileFault>
         ensures unchanged { OnOk result (seen self.new ≡ seen self.old) }
-        ensures durable { OnOk result (Only (seen self.old) (may_leave self.new)) }
+        ensures durable { OnOk result (HasOneOutcome (seen self.old) (may_leave self.new)) }
         ensures stored { OnOk result (acts_as_file → stored (seen self.old)) }
         ensures crash { Narrows (may_leave self.old) (may_leave self.new) }
         ensures time { Elapses (moment self.old) (moment self.new) (left_since self.old)

@@ -5,7 +5,7 @@ ghost use Rattle.std.proofs.Common.{inl};
 ghost use Rattle.durable_lines.specs.FileState.{after_append, after_cut, text_left_by, seen_of};
 ghost use Rattle.durable_lines.specs.FileState.{synced_with, IsLeft};
 ghost use Rattle.durable_lines.specs.MemoryPlace.{file_after, moment_of, name_of, states_of};
-ghost use Rattle.durable_lines.specs.MemoryPlace.{LeftSince, MayHave};
+ghost use Rattle.durable_lines.specs.MemoryPlace.{LeftSince, MayBeLeft};
 ghost use Rattle.durable_lines.specs.Moments.{only_present};
 
 use crate::byte_fate::ByteFate;
@@ -85,7 +85,7 @@ impl PlaceState {
     // Returns the file that has the name after a crash.
     fn file(&self, is_renamed: bool) -> &FileState
         ensures file { result.now ≡ file_after is_renamed self.now }
-        ensures possible { (c : List ℕ) → IsLeft result.now c → MayHave self.now c }
+        ensures possible { (c : List ℕ) → IsLeft result.now c → MayBeLeft self.now c }
     {
         match &self.previous {
             Some(file) if !is_renamed => file,
@@ -147,7 +147,7 @@ impl MemoryPlace {
         ensures bytes { IfOk result (λ left. IsSomeAnd (slice_get (states_of self.now) moment)
             (λ s. left.items ≡ text_left_by fates.now (file_after is_renamed s))) }
         ensures possible { IfOk result (λ left.
-            IsSomeAnd (slice_get (states_of self.now) moment) (λ s. MayHave s left.items)) }
+            IsSomeAnd (slice_get (states_of self.now) moment) (λ s. MayBeLeft s left.items)) }
     {
         self.state_at(moment)
             .file(is_renamed)
@@ -188,7 +188,7 @@ impl DurableFile for MemoryPlace {
 
     ghost seen = { λ p. seen_of (name_of p) };
 
-    ghost may_leave = { λ p c. MayHave p.state c };
+    ghost may_leave = { λ p c. MayBeLeft p.state c };
 
     ghost moment = { moment_of };
 
@@ -200,7 +200,7 @@ impl DurableFile for MemoryPlace {
 
     ghost counts_now = { λ p t c le now. inl now };
 
-    ghost only_now = { λ p c left. only_present MayHave p.past.items p.state c left };
+    ghost only_now = { λ p c left. only_present MayBeLeft p.past.items p.state c left };
 
     fn read(&mut self, alloc: Global) -> Result<Vec<u8>, FileFault> {
         Ok(self.state.current.bytes(alloc)?)

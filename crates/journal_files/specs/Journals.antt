@@ -4,7 +4,7 @@
 --     Continues      a recorder that continues where a journal's lines end
 --     changing       the events that have a line
 use Rattle.std.specs.Prelude.{◌≡◌, ℕ, not, List, filter, Ok}
-use Rattle.durable_lines.specs.CrashModel.{Only}
+use Rattle.durable_lines.specs.CrashModel.{HasOneOutcome}
 use Rattle.relay_core.specs.Stands.{StandsFor}
 use Rattle.relay_events.specs.Kinds.{is_read}
 use Rattle.relay_events.specs.declared.event.Event.{Event}
@@ -24,7 +24,7 @@ pub record IsJournalOf (recorder : Recording) (text : List ℕ) : Type 0 where
 pub record IsBegun (recorder : Recording) (seen : List ℕ) (may_leave : List ℕ → Type 0) : Type 0
   where
     pub journal : IsJournalOf recorder seen
-    pub durable : Only seen may_leave
+    pub durable : HasOneOutcome seen may_leave
 
 -- The recorder continues where the run of a text ends: its core stands for the meter at the end of
 -- that run, and whatever comes next it answers as the meter that wrote the text.

@@ -1,7 +1,7 @@
 //! Renews a journal: replaces its file by one that begins later and has its last events.
 ghost use Rattle.std.specs.Prelude.{◌≡◌, ◌⊎◌, ℕ, List, Ok, IfOk, IsTrue, OnOk};
 ghost use Rattle.std.specs.List.{All};
-ghost use Rattle.durable_lines.specs.CrashModel.{Elapses, LeavesOnly, Narrows, Only};
+ghost use Rattle.durable_lines.specs.CrashModel.{Elapses, LeavesOnly, Narrows, HasOneOutcome};
 ghost use Rattle.durable_lines.specs.Holding.{IsSameOrRenewed};
 ghost use Rattle.durable_lines.specs.Lines.{IsSettled, IsText};
 ghost use Rattle.journal_files.specs.Renewals.{IsLaterTrace, IsRenewalOf, IsRenewedAs};
@@ -201,7 +201,7 @@ pub fn renew_journal<P: Place>(alloc: Global, place: &mut P, depth: usize) -> Re
     ensures renewed { OnOk result (P.acts_as_file
         → IsRenewalOf depth (P.seen place.old) (P.seen place.new)) }
     ensures durable { OnOk result (P.acts_as_file
-        → Only (P.seen place.new) (P.may_leave place.new)) }
+        → HasOneOutcome (P.seen place.new) (P.may_leave place.new)) }
     ensures settled { OnOk result (P.acts_as_file
         → IsSettled P.seen P.may_leave P.stored place.new) }
     // A crash at any moment of the call leaves what could be left before, or the new journal.

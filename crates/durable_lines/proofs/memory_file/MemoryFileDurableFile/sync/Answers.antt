@@ -1,5 +1,5 @@
 use Rattle.std.proofs.Common.{sym, ◌∙◌, ap, subst}
-use Rattle.durable_lines.specs.CrashModel.{Narrows, Only}
+use Rattle.durable_lines.specs.CrashModel.{Narrows, HasOneOutcome}
 use Rattle.durable_lines.specs.FileState.{seen_of, synced_with, IsLeft}
 use Rattle.durable_lines.proofs.StateLemmas.{only_synced, sync_narrows}
 use Rattle.durable_lines.proofs.PastLemmas.{elapses_to}
@@ -8,7 +8,7 @@ use Rattle.durable_lines.proofs.memory_file.MemoryFileDurableFile.sync.Goals as 
 pub returns-clause-durable : goal.returns-clause-durable
 returns-clause-durable c =
     let s = c.args.self.now.state in
-    subst (λ next. Only (seen_of s) (IsLeft next))
+    subst (λ next. HasOneOutcome (seen_of s) (IsLeft next))
     (sym (c.in_ok-replace.ensures.state ∙ c.synced_with-next.ensures
     ∙ ap synced_with c.in_ok-bytes.ensures)) (only_synced (seen_of s))
 

@@ -1,16 +1,16 @@
 use Rattle.std.proofs.Common.{sym, ◌∙◌, subst}
 use Rattle.durable_lines.specs.CrashModel.{Follows, TornAppend}
-use Rattle.durable_lines.specs.MemoryPlace.{MayHave}
+use Rattle.durable_lines.specs.MemoryPlace.{MayBeLeft}
 use Rattle.durable_lines.proofs.PastLemmas.{elapses_to}
 use Rattle.durable_lines.proofs.PlaceLemmas.{append_follows_in}
 use Rattle.durable_lines.proofs.memory_place.MemoryPlaceDurableFile.append.Goals as goal
 
 pub returns-clause-crash : goal.returns-clause-crash
 returns-clause-crash c = subst
-    (λ s. Follows (TornAppend c.args.bytes.now) (MayHave c.args.self.now.state) (MayHave s))
+    (λ s. Follows (TornAppend c.args.bytes.now) (MayBeLeft c.args.self.now.state) (MayBeLeft s))
     (sym (c.in_ok-change.ensures.state ∙ c.in_ok-next.ensures))
     (append_follows_in c.args.bytes.now c.args.self.now.state)
 
 pub returns-clause-time : goal.returns-clause-time
-returns-clause-time c = elapses_to MayHave c.args.self.now.past.items c.change.new.past.items
+returns-clause-time c = elapses_to MayBeLeft c.args.self.now.past.items c.change.new.past.items
     c.args.self.now.state c.change.new.state c.in_ok-change.ensures.past

@@ -1,7 +1,7 @@
 use Rattle.std.proofs.Common.{◌≡◌, None, sym, ◌∙◌, ap, subst}
-use Rattle.durable_lines.specs.CrashModel.{Narrows, Only}
+use Rattle.durable_lines.specs.CrashModel.{Narrows, HasOneOutcome}
 use Rattle.durable_lines.specs.FileState.{State, seen_of, synced_with}
-use Rattle.durable_lines.specs.MemoryPlace.{MayHave}
+use Rattle.durable_lines.specs.MemoryPlace.{MayBeLeft}
 use Rattle.durable_lines.specs.declared.memory_place.PlaceState.{PlaceState}
 use Rattle.durable_lines.proofs.PastLemmas.{elapses_to}
 use Rattle.durable_lines.proofs.PlaceLemmas.{only_synced_in, sync_narrows_in}
@@ -13,7 +13,7 @@ synced file = record { current = file; previous = None }
 pub returns-clause-durable : goal.returns-clause-durable
 returns-clause-durable c =
     let bytes = seen_of c.args.self.now.state.current in
-    subst (λ next. Only bytes (MayHave next))
+    subst (λ next. HasOneOutcome bytes (MayBeLeft next))
     (sym (c.in_ok-change.ensures.state ∙ ap synced (c.synced_with.ensures
     ∙ ap synced_with c.in_ok-bytes.ensures)))
     (only_synced_in bytes)
@@ -21,11 +21,11 @@ returns-clause-durable c =
 pub returns-clause-crash : goal.returns-clause-crash
 returns-clause-crash c =
     let s = c.args.self.now.state in
-    subst (λ next. Narrows (MayHave s) (MayHave next))
+    subst (λ next. Narrows (MayBeLeft s) (MayBeLeft next))
     (sym (c.in_ok-change.ensures.state ∙ ap synced (c.synced_with.ensures
     ∙ ap synced_with c.in_ok-bytes.ensures)))
     (sync_narrows_in s)
 
 pub returns-clause-time : goal.returns-clause-time
-returns-clause-time c = elapses_to MayHave c.args.self.now.past.items c.change.new.past.items
+returns-clause-time c = elapses_to MayBeLeft c.args.self.now.past.items c.change.new.past.items
     c.args.self.now.state c.change.new.state c.in_ok-change.ensures.past
