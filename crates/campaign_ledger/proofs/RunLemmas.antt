@@ -3,7 +3,7 @@ use Rattle.std.proofs.Common.{◌≡◌, ◌⊎◌, ℕ, List, [], ◌∷◌, �
 use Rattle.campaign_ledger.specs.declared.entry.LedgerEntry.{LedgerEntry}
 use Rattle.campaign_ledger.specs.declared.entry.LedgerEntry.TheVariants.{NotSent, MaybeSent, Came}
 use Rattle.campaign_ledger.specs.Entries.{HasGone}
-use Rattle.campaign_ledger.specs.Runs.{Run, IsSafeRun, IsIn, AreApart, Follow, all_sent}
+use Rattle.campaign_ledger.specs.Runs.{Run, IsSafeRun, IsIn, AreApart, AreConsecutiveRuns, all_sent}
 
 -- a place of two lists is in one of them
 pub in_either : (place : ℕ) (xs ys : List ℕ) → IsIn place (xs ++ ys)
@@ -50,7 +50,7 @@ down_after run earlier safe found place is = of_one (in_either place run.sent ea
     of_one (inr before) = safe.keeps_marks place (found place before)
 
 -- the last of the runs left all places marked whose commands were sent by any of them
-all_down : (run : Run) (runs : List Run) → Follow (run ∷ runs) → (place : ℕ)
+all_down : (run : Run) (runs : List Run) → AreConsecutiveRuns (run ∷ runs) → (place : ℕ)
     → IsIn place (all_sent (run ∷ runs)) → HasGone (run.left place)
 all_down run [] safe = down_after run [] safe (λ place none. absurd none)
 all_down run (before ∷ runs) (safe, found, earlier) =
@@ -59,7 +59,7 @@ all_down run (before ∷ runs) (safe, found, earlier) =
     (all_down before runs earlier place sent))
 
 -- over runs that follow one another no command is sent twice
-pub all_apart : (runs : List Run) → Follow runs → AreApart (all_sent runs)
+pub all_apart : (runs : List Run) → AreConsecutiveRuns runs → AreApart (all_sent runs)
 all_apart [] follow = tt
 all_apart (run ∷ []) safe = apart_both run.sent [] safe.apart tt (λ place here there. there)
 all_apart (run ∷ (before ∷ runs)) (safe, found, earlier) =

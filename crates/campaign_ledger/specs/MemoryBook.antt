@@ -1,6 +1,6 @@
 -- The view that contracts have of a book in memory.
 --     MemoryState       its entries, the number of calls before one fails, and whether one failed
---     Leaves            what a crash leaves: the present entries
+--     LeavesEntries     what a crash leaves: the present entries
 --     left_marked       a crash leaves marked what is marked
 use Rattle.std.specs.Prelude.{◌≡◌, ℕ, Bool, List}
 use Rattle.campaign_ledger.specs.declared.entry.LedgerEntry.{LedgerEntry}
@@ -13,8 +13,8 @@ pub record MemoryState : Type 0 where
   pub has_failed : Bool
 
 -- whether a crash leaves the present entries, each at its place
-abbrev pub Leaves : List LedgerEntry → (ℕ → LedgerEntry) → Type 0
-Leaves entries left = (place : ℕ) → left place ≡ entry_at entries place
+abbrev pub LeavesEntries : List LedgerEntry → (ℕ → LedgerEntry) → Type 0
+LeavesEntries entries left = (place : ℕ) → left place ≡ entry_at entries place
 
 -- whether the place is marked, or has an outcome
 abbrev pub IsMarked : List LedgerEntry → ℕ → Type 0
@@ -22,5 +22,5 @@ IsMarked entries place = HasGone (entry_at entries place)
 
 -- a crash leaves marked what is marked
 pub left_marked : (entries : List LedgerEntry) (place : ℕ) (left : ℕ → LedgerEntry)
-    → IsMarked entries place → Leaves entries left → HasGone (left place)
+    → IsMarked entries place → LeavesEntries entries left → HasGone (left place)
 left_marked entries place left marked leaves = rw (leaves place) marked

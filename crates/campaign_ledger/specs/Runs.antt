@@ -2,7 +2,7 @@
 --     Run               the entries that a run found, the places whose commands it sent, and the
 --                       entries that its end left
 --     IsSafeRun         it sent commands of places that had none, each once, and left them marked
---     Follow            a list of runs, the last one first, each of which found what the one before
+--     AreConsecutiveRuns     a list of runs, the last one first, each of which found what the one before
 --                       left
 --     all_sent          the places of all commands that the runs sent
 use Rattle.std.specs.Prelude.{◌≡◌, ◌⊎◌, ℕ, List, [], ◌∷◌, ◌++◌, ⊤}
@@ -36,11 +36,11 @@ pub record IsSafeRun (run : Run) : Type 0 where
   pub keeps_marks : (place : ℕ) → HasGone (run.found place) → HasGone (run.left place)
 
 -- whether each run is safe and found what the one before it left; the last run is first in the list
-abbrev pub Follow : List Run → Type 0
-Follow [] = ⊤
-Follow (run ∷ []) = IsSafeRun run
-Follow (run ∷ (before ∷ runs)) = IsSafeRun run × (run.found ≡ before.left)
-    × Follow (before ∷ runs)
+abbrev pub AreConsecutiveRuns : List Run → Type 0
+AreConsecutiveRuns [] = ⊤
+AreConsecutiveRuns (run ∷ []) = IsSafeRun run
+AreConsecutiveRuns (run ∷ (before ∷ runs)) = IsSafeRun run × (run.found ≡ before.left)
+    × AreConsecutiveRuns (before ∷ runs)
 
 -- the places of all commands that the runs sent
 abbrev pub all_sent : List Run → List ℕ

@@ -2,7 +2,7 @@
 //! it known to the prover.
 ghost use Rattle.std.specs.Prelude.{ℕ, List, ◌++◌};
 ghost use Rattle.campaign_ledger.specs.Grants.{LedgerState, Grants, MakesSafeRuns};
-ghost use Rattle.campaign_ledger.specs.Runs.{Run, IsIn, AreApart, Follow, all_sent};
+ghost use Rattle.campaign_ledger.specs.Runs.{Run, IsIn, AreApart, AreConsecutiveRuns, all_sent};
 
 use crate::book::Book;
 
@@ -10,7 +10,7 @@ use crate::book::Book;
 /// the command of each place is sent at most once.
 #[tactic(auto, using(crate::proofs::RunLemmas::all_apart))]
 pub fn each_command_goes_out_at_most_once()
-    ensures { (runs : List Run) → Follow runs → AreApart (all_sent runs) }
+    ensures { (runs : List Run) → AreConsecutiveRuns runs → AreApart (all_sent runs) }
 {}
 
 /// Proves that the permits given in two successive spans of calls are those of the whole, and that

@@ -1,6 +1,6 @@
 //! `MemoryBook`: a book in memory, for tests.
 ghost use Rattle.std.specs.Prelude.{◌≡◌, ◌-◌, ◌^◌, ⊤, false};
-ghost use Rattle.campaign_ledger.specs.MemoryBook.{Leaves, IsMarked, left_marked};
+ghost use Rattle.campaign_ledger.specs.MemoryBook.{LeavesEntries, IsMarked, left_marked};
 
 use crate::book::Book;
 use crate::entry::LedgerEntry;
@@ -80,7 +80,7 @@ impl MemoryBook {
 impl Book for MemoryBook {
     ghost is_honest = { λ _. ⊤ };
 
-    ghost may_leave = { λ book left. Leaves book.entries left };
+    ghost may_leave = { λ book left. LeavesEntries book.entries left };
 
     ghost is_marked = { λ book place. IsMarked book.entries place };
 
