@@ -9,7 +9,7 @@ use Rattle.session_core.specs.Remaining.{load_of}
 use Rattle.session_core.specs.declared.session.Session.{Session}
 use Rattle.embedded_meter.specs.Dialogues.{Dialogue, asks_ahead, sends_ahead}
 use Rattle.embedded_meter.specs.Progress.{Advances}
-use Rattle.embedded_meter.specs.Working.{SameAhead, IsDue, weight}
+use Rattle.embedded_meter.specs.Working.{SameAhead, HasFrameDue, weight}
 use Rattle.embedded_meter.specs.declared.pending.Pending.{Pending}
 use Rattle.embedded_meter.specs.declared.pending.Pending.TheVariants.{Asked, Answered, Due}
 
@@ -105,7 +105,7 @@ applied old s u u' event reply r r' is asked answered continues capacity =
 
 -- a frame is pending
 pub due_by : (old : Dialogue) (s : Session) (u : Pending) (frame : List ℕ)
-    → record { session = s; pending = u } ≡ old → u ≡ Due frame → IsDue old
+    → record { session = s; pending = u } ≡ old → u ≡ Due frame → HasFrameDue old
 due_by old s u frame is due = record {
   frame = frame;
   is = ap (λ (d : Dialogue). d.pending)

@@ -3,7 +3,7 @@ use Rattle.std.proofs.Common.{[], Option, Some, None, Result, Ok, Err, IsErrAnd}
 use Rattle.relay_recorder.specs.Recording.{Recording}
 use Rattle.embedded_meter.specs.Dialogues.{Dialogue}
 use Rattle.embedded_meter.specs.Progress.{Advances}
-use Rattle.embedded_meter.specs.Working.{AsksBy, WorksBy, RestsBy}
+use Rattle.embedded_meter.specs.Working.{AsksBy, WorksBy, SettlesBy}
 use Rattle.embedded_meter.specs.declared.connection.NextNeed.{NextNeed}
 use Rattle.embedded_meter.proofs.Advancing.{advances_same}
 
@@ -22,6 +22,6 @@ module _ {E : Type 0} where
   works_short old new r r' (Err error) P is far = far
 
   pub rests_short : (old new : Dialogue) (r r' : Recording) (result : Result NextNeed E) (P : E
-      → Type 0) → IsErrAnd result P → Advances old r [] new r' → RestsBy old r result new r'
+      → Type 0) → IsErrAnd result P → Advances old r [] new r' → SettlesBy old r result new r'
   rests_short old new r r' (Ok _) P is far = absurd is
   rests_short old new r r' (Err error) P is far = far

@@ -1,8 +1,8 @@
 -- The steps of `next`.
 --     SameAhead                      what the session will still do is unchanged
---     IsAsked, IsAnswered, IsDue     an event, a reply or a frame is pending
+--     IsAsked, IsAnswered, HasFrameDue     an event, a reply or a frame is pending
 --     weight                         the amount of work that is left
---     Leaves                         the state in which no step is left
+--     HasNoStepLeft                  the state in which no step is left
 use Rattle.std.specs.Prelude.{◌≡◌, ◌+◌, ◌<◌, ◌++◌, ℕ, Bool, true, false, List, [], length, drop, Option, Some, None, Result, Ok, Err}
 use Rattle.relay_events.specs.declared.event.Event.{Event}
 use Rattle.relay_events.specs.declared.reply.Reply.{Reply}
@@ -35,7 +35,7 @@ pub record IsAnswered (d : Dialogue) : Type 0 where
   pub is : d.pending ≡ Answered reply
 
 -- a frame is pending
-pub record IsDue (d : Dialogue) : Type 0 where
+pub record HasFrameDue (d : Dialogue) : Type 0 where
   pub frame : List ℕ
   pub is : d.pending ≡ Due frame
 
@@ -51,21 +51,21 @@ abbrev pub weight : Dialogue → ℕ
 weight d = load_of d.session + load_of d.session + steps_in d.pending
 
 -- whether no step is left: a frame is pending, the session waits, or it is over
-abbrev pub Leaves : NextNeed → Dialogue → Type 0
-Leaves rest.Due d = IsDue d
-Leaves rest.Wait d = IsIdle d
-Leaves (rest.End end) d = IsOver end d
+abbrev pub HasNoStepLeft : NextNeed → Dialogue → Type 0
+HasNoStepLeft rest.Due d = HasFrameDue d
+HasNoStepLeft rest.Wait d = IsIdle d
+HasNoStepLeft (rest.End end) d = IsOver end d
 
 -- whether the session was asked for its next event, frame or end, and returned this
 abbrev pub AsksBy : {E : Type 0} → Dialogue → Result (Option NextNeed) E → Dialogue → Type 0
 AsksBy old (Ok None) new = SameAhead old new × (weight new < weight old)
-AsksBy old (Ok (Some rest)) new = SameAhead old new × Leaves rest new
+AsksBy old (Ok (Some rest)) new = SameAhead old new × HasNoStepLeft rest new
 AsksBy old (Err error) new = SameAhead old new
 
 -- whether a short request was served up to its frame, for `true`, or there is none
 abbrev pub ServesBy : {E : Type 0} → Dialogue → Recording → Result Bool E → Dialogue → Recording
     → Type 0
-ServesBy old r (Ok true) new r' = Advances old r [] new r' × IsDue new
+ServesBy old r (Ok true) new r' = Advances old r [] new r' × HasFrameDue new
 ServesBy old r (Ok false) new r' = (new ≡ old) × (r' ≡ r)
 ServesBy old r (Err error) new r' = Advances old r [] new r'
 
@@ -84,14 +84,15 @@ AnswersBy old (Err error) new = new ≡ old
 abbrev pub WorksBy : {E : Type 0} → Dialogue → Recording → Result (Option NextNeed) E → Dialogue
     → Recording → Type 0
 WorksBy old r (Ok None) new r' = Advances old r [] new r' × (weight new < weight old)
-WorksBy old r (Ok (Some rest)) new r' = Advances old r [] new r' × Leaves rest new
+WorksBy old r (Ok (Some rest)) new r' = Advances old r [] new r' × HasNoStepLeft rest new
 WorksBy old r (Err error) new r' = Advances old r [] new r'
 
 -- whether steps were done until none was left, or memory ran out
-abbrev pub RestsBy : {E : Type 0} → Dialogue → Recording → Result NextNeed E → Dialogue → Recording
+abbrev pub SettlesBy : {E : Type 0} → Dialogue → Recording → Result NextNeed E → Dialogue
+    → Recording
     → Type 0
-RestsBy old r (Ok rest) new r' = Advances old r [] new r' × Leaves rest new
-RestsBy old r (Err error) new r' = Advances old r [] new r'
+SettlesBy old r (Ok rest) new r' = Advances old r [] new r' × HasNoStepLeft rest new
+SettlesBy old r (Err error) new r' = Advances old r [] new r'
 
 -- the pending frame was copied to the buffer, and is not pending any more
 pub record TakesFrame (old : Dialogue) (buffer : List ℕ) (count : ℕ) (new : Dialogue)

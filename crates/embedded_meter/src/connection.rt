@@ -54,7 +54,7 @@ impl Model for ClientSession {
 
 impl ClientSession {
     ghost use Rattle.embedded_meter.specs.Progress.{Owes, Feeds, Finishes, GivesNextBy};
-    ghost use Rattle.embedded_meter.specs.Working.{AsksBy, ServesBy, WorksBy, RestsBy, AppliesBy, AnswersBy, IsAsked, IsAnswered, IsDue, GivesDue};
+    ghost use Rattle.embedded_meter.specs.Working.{AsksBy, ServesBy, WorksBy, SettlesBy, AppliesBy, AnswersBy, IsAsked, IsAnswered, HasFrameDue, GivesDue};
 
     // Returns a new session that has received no byte. `password`, 1 to 32 bytes, is that of the
     // management client.
@@ -104,7 +104,7 @@ impl ClientSession {
 
     // Applies the requests of the session to the meter, up to the next frame.
     fn settle(&mut self, alloc: Global, recorder: &mut Recorder) -> Result<NextNeed, AllocError>
-        ensures { RestsBy self.old recorder.old result self.new recorder.new }
+        ensures { SettlesBy self.old recorder.old result self.new recorder.new }
     {
         'work: loop {
             if let Some(rest) = self.work(alloc, recorder)? {
@@ -224,7 +224,7 @@ impl ClientSession {
     // Copies the pending frame to the buffer, and returns its length. If the buffer is too short,
     // the frame stays pending, and the result is the length that it needs.
     fn give(&mut self, buffer: &mut [u8]) -> Given
-        requires { IsDue self.now }
+        requires { HasFrameDue self.now }
         ensures { GivesDue self.old buffer.old result self.new buffer.new }
     {
         let Pending::Due(frame) = &self.pending else {

@@ -1,5 +1,5 @@
 -- The rounds of a campaign on a ledger: the jobs of one address run one after the other.
---     IsDue             the job of a place has this round
+--     HasRound          the job of a place has this round
 --     AreUnusedWhenDue  the attempts of the jobs of a round are unused
 --     IsPlaceRound      the effect of a round on a place
 --     IsPlaceRunUpTo    the state of a place after some rounds
@@ -12,13 +12,13 @@ use Rattle.head_end.specs.Connections.{Forecast}
 use Rattle.ledger_campaigns.specs.Campaigns.{IsPlaceRun}
 
 -- whether the job of a place has this round
-abbrev pub IsDue : List ℕ → ℕ → ℕ → Type 0
-IsDue rounds round place = slice_index_or rounds place 0 ≡ round
+abbrev pub HasRound : List ℕ → ℕ → ℕ → Type 0
+HasRound rounds round place = slice_index_or rounds place 0 ≡ round
 
 -- whether the attempts of the jobs of a round are unused
 abbrev pub AreUnusedWhenDue : {X : Type 0} → List ℕ → ℕ → (X → State) → List X → Type 0
 AreUnusedWhenDue {X} rounds round stage_of places = (place : ℕ) (x : X) → place < length places
-    → IsDue rounds round place → stage_of (slice_index_or places place x) ≡ unused
+    → HasRound rounds round place → stage_of (slice_index_or places place x) ≡ unused
 
 module _ {X : Type 0} (tells_of : X → List ℕ → Option Forecast) (permits_of : X → List ℕ)
     (row_of : X → Row) (stage_of : X → State) where
@@ -26,9 +26,9 @@ module _ {X : Type 0} (tells_of : X → List ℕ → Option Forecast) (permits_o
   pub record IsPlaceRound (jobs : List Job) (found : List LedgerEntry)
       (passwords : List (List ℕ)) (rounds : List ℕ) (round place : ℕ) (old new : X)
       : Type 0 where
-    pub ran : IsDue rounds round place → IsPlaceRun jobs found passwords place (tells_of old)
+    pub ran : HasRound rounds round place → IsPlaceRun jobs found passwords place (tells_of old)
         (permits_of new) (row_of new) (stage_of new)
-    pub others : ¬ (IsDue rounds round place) → new ≡ old
+    pub others : ¬ (HasRound rounds round place) → new ≡ old
 
   -- the job of a place is run, if its round is before this one; else the place is unchanged
   pub record IsPlaceRunUpTo (jobs : List Job) (found : List LedgerEntry)

@@ -15,7 +15,7 @@ ghost use Rattle.head_end.specs.Connections.{Forecast};
 ghost use Rattle.head_end.specs.Rounds.{AreRounds};
 ghost use Rattle.ledger_campaigns.specs.Campaigns.{IsPlaceRun, AreLinesFor, AreSwitched, AreUses};
 ghost use Rattle.ledger_campaigns.specs.Desks.{permits_given};
-ghost use Rattle.ledger_campaigns.specs.Rounds.{AreUnusedWhenDue, IsDue, IsPlaceRound};
+ghost use Rattle.ledger_campaigns.specs.Rounds.{AreUnusedWhenDue, HasRound, IsPlaceRound};
 
 use crate::place::LedgeredPlace;
 use crate::running::{LedgeredJob, run_ledgered_job};
@@ -99,7 +99,7 @@ impl<'a, W: Watcher> Course<'a, W> {
             self.workers,
             &|i, place|
                 requires { (i < length course.now.jobs.now)
-                    × (IsDue course.now.rounds.now round i → place.now.attempt.stage ≡ unused) }
+                    × (HasRound course.now.rounds.now round i → place.now.attempt.stage ≡ unused) }
                 ensures { IsPlaceRound (λ place. C.tells place.attempt.source.value)
                     (λ place. permits_given place.port.known.seen)
                     (λ place. place.row) (λ place. place.attempt.stage)
@@ -123,7 +123,7 @@ impl<'a, W: Watcher> Course<'a, W> {
         place: &mut LedgeredPlace<C, B>,
     )
         requires place { i < length self.now.jobs.now }
-        requires unused { IsDue self.now.rounds.now round i
+        requires unused { HasRound self.now.rounds.now round i
             → place.old.attempt.stage ≡ unused }
         ensures run { IsPlaceRound (λ place. C.tells place.attempt.source.value)
             (λ place. permits_given place.port.known.seen)
