@@ -14,7 +14,8 @@ use crate::place::Place;
 /// After an error the name has the old file or the new one, and nothing more may be appended.
 pub fn replace<P: Place>(place: &mut P, bytes: &[u8]) -> Result<(), FileFault>
     ensures bytes { OnOk result (P.acts_as_file → P.seen place.new ≡ bytes.now) }
-    ensures replaced { OnOk result (P.acts_as_file → HasOneOutcome bytes.now (P.may_leave place.new)) }
+    ensures replaced { OnOk result (P.acts_as_file
+        → HasOneOutcome bytes.now (P.may_leave place.new)) }
     ensures settled { OnOk result (P.acts_as_file → IsText bytes.now
         → IsSettled P.seen P.may_leave P.stored place.new) }
     // A crash at any moment of the call leaves what could be left before, or the new bytes.
