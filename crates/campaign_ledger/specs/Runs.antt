@@ -1,10 +1,9 @@
 -- The runs of a campaign on one ledger, each of which may end in a crash.
---     Run               the entries that a run found, the places whose commands it sent, and the
---                       entries that its end left
---     IsSafeRun         it sent commands of places that had none, each once, and left them marked
---     AreConsecutiveRuns     a list of runs, the last one first, each of which found what the one before
---                       left
---     all_sent          the places of all commands that the runs sent
+--     Run                    the entries that a run found, the places whose commands it sent, and the
+--                            entries that its end left
+--     IsSafeRun              it sent commands of places that had none, each once, and left them marked
+--     AreConsecutiveRuns     runs, the last one first, each of which found what the one before left
+--     all_sent               the places of all commands that the runs sent
 use Rattle.std.specs.Prelude.{◌≡◌, ◌⊎◌, ℕ, List, [], ◌∷◌, ◌++◌, ⊤}
 use Rattle.campaign_ledger.specs.declared.entry.LedgerEntry.{LedgerEntry}
 use Rattle.campaign_ledger.specs.declared.entry.LedgerEntry.TheVariants.{NotSent}
