@@ -1,7 +1,7 @@
 -- The runs of a campaign on one ledger, each of which may end in a crash.
---     Run                    the entries that a run found, the places whose commands it sent, and the
---                            entries that its end left
---     IsSafeRun              it sent commands of places that had none, each once, and left them marked
+--     Run                    what a run found, the places whose commands it sent, and what its end
+--                            left
+--     IsSafeRun              the commands sent are of places that had none, each once, and marked
 --     AreConsecutiveRuns     runs, the last one first, each of which found what the one before left
 --     all_sent               the places of all commands that the runs sent
 use Rattle.std.specs.Prelude.{◌≡◌, ◌⊎◌, ℕ, List, [], ◌∷◌, ◌++◌, ⊤}
