@@ -1,3 +1,4 @@
+-- What the contracts of a meter that serves clients in parallel refer to: ports and sessions.
 pub mod Journaled
 pub mod JournaledSessions
 pub mod Ports

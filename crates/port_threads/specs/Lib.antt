@@ -1,3 +1,4 @@
+-- What the contracts of threads that each have a port of one lock refer to.
 pub mod Listening
 pub mod Ports
 pub mod Sessions

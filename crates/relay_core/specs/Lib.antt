@@ -1,3 +1,4 @@
+-- What the contracts of the meter's core refer to: the model of a meter, and each event's effect.
 pub mod Access
 pub mod Acting
 pub mod Agreeing

@@ -1,3 +1,4 @@
+-- What the contracts of the script table (class 9) refer to.
 pub mod Addresses
 pub mod Forms
 pub mod Law

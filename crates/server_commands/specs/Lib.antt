@@ -1,3 +1,4 @@
+-- What the contracts of the commands of `meter_server` refer to: options, inputs and outputs.
 pub mod Apdu
 pub mod Asking
 pub mod Faults

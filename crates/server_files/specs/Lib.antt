@@ -1,2 +1,3 @@
+-- What the contracts of the journal and the relay file of `meter_server serve` refer to.
 pub mod Faults
 pub mod Outputs

@@ -1,3 +1,4 @@
+-- What the contracts of the console and the sockets of `meter_server serve` refer to.
 pub mod Clients
 pub mod Console
 pub mod Ends

@@ -1,3 +1,4 @@
+-- What the contracts of one client's session refer to: its requests, its answers and its end.
 pub mod Standard
 pub mod Association
 pub mod Calls

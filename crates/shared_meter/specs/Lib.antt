@@ -1,3 +1,4 @@
+-- What the contracts of a meter that threads share refer to: its calls, and its event sources.
 pub mod Blocks
 pub mod Calls
 pub mod Handed

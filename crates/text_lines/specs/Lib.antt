@@ -1,3 +1,4 @@
+-- What the contracts of a text's lines and words refer to, with decimals and hexadecimal.
 pub mod Hexadecimal
 pub mod Lines
 pub mod Numbers

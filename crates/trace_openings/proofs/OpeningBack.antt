@@ -1,5 +1,5 @@
 -- The lines that an opening is read from are the lines that are written for it, except for the
--- Datas in them.
+-- values of type Data in them.
 use Rattle.std.proofs.Common.{◌≡◌, ℕ, ◌+◌, List, [], ◌∷◌, ◌++◌, Ok, refl, sym, ap, subst, ◌∙◌, codes}
 use Rattle.hex.specs.Hex.{encode_upper}
 use Rattle.wire_bytes.proofs.OutcomeLemmas.{ok_is, bind_ok}
@@ -144,7 +144,8 @@ rest_rows o forms =
     ∷ entries_row 2 o.schedules.third forms.third
     ∷ entries_row 3 o.schedules.fourth forms.fourth ∷ []
 
--- an opening that was read from the lines after that of the mode, and the Datas in these lines
+-- an opening that was read from the lines after that of the mode, and the values of type
+-- Data in these lines
 record RestRead (device : List ℕ) (state : ControlState) (mode : ControlMode) (o : Opening)
     (place behind : Place) : Type 0 where
   pub device_is : device ≡ o.device
@@ -217,7 +218,7 @@ rest_back device state mode place o behind e =
 abbrev rows_behind : Opening → Forms → List Row
 rows_behind o forms = switch_rows o.device o.state o.mode ++ rest_rows o forms
 
--- an opening that was read, and the Datas in its lines
+-- an opening that was read, and the values of type Data in its lines
 record OpeningRead (o : Opening) (place behind : Place) : Type 0 where
   pub forms : Forms
   pub say : AreFormsOf o forms
@@ -306,7 +307,7 @@ opening_lines place o behind e =
     let read = all_back place o behind e in
     (read.2.number, read.2.unended)
 
--- with the Datas that are written, the lines are those that are written
+-- with the values of type Data that are written, the lines are those that are written
 pub written_rows : (o : Opening) → rows_with o (written_forms o) ≡ opening_rows o
 unfolding opening_rows rows_with
 written_rows o = refl

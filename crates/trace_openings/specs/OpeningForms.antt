@@ -1,11 +1,11 @@
--- The Datas in the lines of an opening. A script table, and the entries of a schedule, are written
--- in one form and read in others that mean the same: a start, a time or a date may have its own tag
--- instead of an octet-string's, and the parameter of a method may be null-data or any integer
--- instead of the integer 0.
---     Forms             the Datas in the lines of an opening
---     written_forms     the Datas that are written
---     AreFormsOf        Datas that are read as the opening's table and entries
---     rows_with         the lines that are written, but with these Datas
+-- The values of type Data in the lines of an opening. A script table, and the entries of a
+-- schedule, are written in one form and read in others that mean the same: a start, a time or a
+-- date may have its own tag instead of an octet-string's, and the parameter of a method may be
+-- null-data or any integer instead of the integer 0.
+--     Forms             the values of type Data in the lines of an opening
+--     written_forms     the values that are written
+--     AreFormsOf        values that are read as the opening's table and entries
+--     rows_with         the lines that are written, but with these values of type Data
 use Rattle.std.specs.Prelude.{◌≡◌, ℕ, codes, decimal, List, [], ◌∷◌, ◌++◌, take, Ok}
 use Rattle.action_schedule.specs.Kinds.{number_of}
 use Rattle.action_schedule.specs.Reading.{entries_of}
@@ -27,7 +27,7 @@ pub record Forms : Type 0 where
   pub third : Data
   pub fourth : Data
 
--- the Datas that are written for an opening
+-- the values of type Data that are written for an opening
 abbrev pub written_forms : Opening → Forms
 written_forms opening = record {
   table = data_of opening.scripts;
@@ -37,7 +37,7 @@ written_forms opening = record {
   fourth = entries_data opening.schedules.fourth.entries;
 }
 
--- whether these Datas are read as the script table and the entries of the opening's schedules
+-- whether these values are read as the script table and the entries of the opening's schedules
 pub record AreFormsOf (opening : Opening) (forms : Forms) : Type 0 where
   pub table : table_of forms.table ≡ Ok opening.scripts
   pub first : entries_of forms.first ≡ Ok opening.schedules.first.entries
@@ -52,7 +52,7 @@ entries_row number schedule entries =
     ∷ decimal (number_of schedule.kind) ∷ data_word entries ∷ []
 
 -- the 25 lines before that of the script table as they are written, followed by the last five with
--- these Datas
+-- these values of type Data
 unfoldable pub rows_with : Opening → Forms → List Row
 rows_with opening forms =
     take 25 (opening_rows opening)

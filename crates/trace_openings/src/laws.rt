@@ -35,8 +35,9 @@ pub fn written_opening_is_read()
 
 /// Proves that the lines of version 2 that an opening is read from are the 30 lines that
 /// [`write_opening`](crate::write_opening) appends for it, except that the script table and the
-/// entries of a schedule may be other Datas that are read as the same table or entries. With the
-/// Datas of [`write_opening`](crate::write_opening) all 30 lines are equal.
+/// entries of a schedule may be other values of type Data that are read as the same table or
+/// entries. With the values that [`write_opening`](crate::write_opening) writes, all 30
+/// lines are equal.
 #[tactic(auto, using(crate::proofs::OpeningBack::opening_back, crate::proofs::OpeningBack::opening_lines, crate::proofs::OpeningBack::written_rows))]
 pub fn read_opening_is_written()
     ensures lines { (place later : Place) (opening : Opening)

@@ -1,5 +1,5 @@
 -- The text of version 2 that a trace is read from is the text that is written for it, except for
--- the Datas in the lines of its opening.
+-- the values of type Data in the lines of its opening.
 use Rattle.std.proofs.Common.{◌≡◌, ℕ, zero, suc, nat_lt, List, [], ◌∷◌, ◌++◌, length, map, Ok, refl, sym, ap, ap₂, subst, ◌∙◌, arith, append-nil, codes}
 use Rattle.wire_bytes.proofs.OutcomeLemmas.{ok_is, bind_ok, refused_ok}
 use Rattle.relay_events.specs.declared.event.Event.{Event}
@@ -145,7 +145,7 @@ trace_back text trace two closed e =
           ∷ map event_row events.0.0)) (sym them.0) whole,
     )
 
--- with the Datas that are written, it is the text that is written
+-- with the values of type Data that are written, it is the text that is written
 pub written_text : (trace : Trace) → text_with trace (written_forms trace.opening)
     ≡ trace_text trace
 written_text trace = ap (λ (rows : List Row). rows_text (rows

@@ -1,3 +1,4 @@
+-- What the contracts of whole traces refer to: their texts, and what they print when played.
 pub mod Exported
 pub mod Faults
 pub mod Journals

@@ -1,7 +1,8 @@
--- The texts of version 2, and what they contain apart from the Datas in the lines of their opening.
+-- The texts of version 2, and what they contain apart from the values of type Data in the lines of
+-- their opening.
 --     IsOfVersionTwo    a text of version 2
 --     IsCounted         a text that states the number of its events
---     text_with         the text of a trace with other Datas
+--     text_with         the text of a trace with other values of type Data
 use Rattle.std.specs.Prelude.{◌≡◌, ℕ, codes, List, ◌∷◌, ◌++◌, length, map}
 use Rattle.relay_recorder.specs.declared.trace.Trace.{Trace}
 use Rattle.trace_openings.specs.OpeningForms.{Forms, rows_with}
@@ -19,7 +20,8 @@ IsOfVersionTwo text = (rows : List Row) × (rows_of text ≡ number_row (codes "
 abbrev pub IsCounted : List ℕ → Type 0
 IsCounted text = (before after : List Row) → rows_of text ≡ before ++ open_row ∷ after → ⊥
 
--- the text that is written for a trace, but with these Datas in the lines of its opening
+-- the text that is written for a trace, but with these values of type Data in the lines of its
+-- opening
 abbrev pub text_with : Trace → Forms → List ℕ
 text_with trace forms =
     rows_text (rows_with trace.opening forms ++ number_row (codes "events") (length trace.events)

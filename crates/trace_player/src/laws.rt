@@ -78,8 +78,8 @@ pub fn torn_tails_have_no_line()
 
 /// Proves that the text of version 2 that a trace is read from is the text that is written for it
 /// if it states the number of events, except that the script table and the entries of the schedules
-/// may be other Datas that are read as the same table or entries. With the Datas that the writer
-/// uses for them, both texts are equal.
+/// may be other values of type Data that are read as the same table or entries. With the values
+/// that the writer uses for them, both texts are equal.
 #[tactic(auto, using(crate::proofs::TraceBack::trace_back, crate::proofs::TraceBack::written_text))]
 pub fn read_trace_is_written()
     ensures text { (text : List ℕ) (trace : Trace) → IsOfVersionTwo text → IsCounted text

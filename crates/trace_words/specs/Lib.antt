@@ -1,3 +1,4 @@
+-- What the contracts of the lines of a trace refer to: words, labels, line numbers and faults.
 pub mod Labels
 pub mod Numbers
 pub mod Parts

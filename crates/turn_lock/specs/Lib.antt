@@ -1,3 +1,4 @@
+-- What the contracts of a value behind a lock refer to: the history of its calls, and its ports.
 pub mod Calls
 pub mod History
 pub mod Numbers

@@ -1,3 +1,4 @@
+-- What the contracts of readers of bytes refer to: formats, and the result of reading one.
 pub mod ByteFormats
 pub mod Choice
 pub mod Format

@@ -1,3 +1,4 @@
+-- What the contracts of block transfer (IEC 62056-5-3) refer to.
 pub mod Limits
 pub mod Transfer
 pub mod Sending
