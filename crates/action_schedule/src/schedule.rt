@@ -12,7 +12,7 @@ use crate::attribute::ScheduleAttribute;
 use crate::fitting::{fits_type, has_match, window_start};
 use crate::kind::ScheduleType;
 use crate::reading::{judge_entries, read_entries, read_kind, read_selector};
-use crate::writing::{write_entries, script_to_data};
+use crate::writing::{script_to_data, write_entries};
 use cosem_axdr::Data;
 use cosem_datetime::EntryPattern;
 use cosem_names::WriteFault;

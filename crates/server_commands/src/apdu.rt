@@ -3,8 +3,8 @@ ghost use Rattle.server_commands.specs.Apdu.{AnswersText};
 
 use crate::answers::answers;
 use crate::input::read_all;
-use crate::requests::read_requests;
 use crate::messages::CommandFault;
+use crate::requests::read_requests;
 use counted_io::{Reader, Writer};
 use std::alloc::Global;
 
