@@ -18,8 +18,8 @@ use Rattle.cosem_axdr.specs.declared.value.Data.TheVariants.{Enum}
 use Rattle.cosem_names.specs.declared.result_code.ResultCode.TheVariants.{Success}
 use Rattle.cosem_names.specs.declared.service.GetResult.TheVariants as result
 use Rattle.xdlms_apdu.specs.Responses.{response_format}
-use Rattle.xdlms_apdu.specs.declared.invoke_id.InvokeId.{InvokeId}
 use Rattle.xdlms_apdu.specs.declared.response.Response.TheVariants as response
+use Rattle.client_core.specs.Texts.{request_id}
 
 -- ---- the response to the AARQ (IEC 62056-5-3, AARE)
 
@@ -64,10 +64,6 @@ progress_after_aare verb payload = progress_by_aare verb (aare_of payload)
 -- ---- the response to the request (IEC 62056-5-3, ACTION and GET; IEC 62056-6-2, class 70,
 -- control_state)
 
--- the invoke-id-and-priority of the request, C1 hex, which its response repeats
-abbrev pub request_id : InvokeId
-request_id = record { 0 = 0xC1 }
-
 -- the first three bytes of an Action-Response-Normal to the request, up to its result
 abbrev pub action_front : List ℕ
 action_front = take 3 (response_format.text (response.Action request_id Success))
@@ -80,30 +76,43 @@ refused_front = take 4 (response_format.text (response.Get request_id (result.Co
 abbrev pub state_front : List ℕ
 state_front = take 5 (response_format.text (response.Get request_id (result.Value (Enum 0))))
 
+-- the bytes of `action_front`, as numbers (proofs/Fronts.antt)
+abbrev pub action_bytes : List ℕ
+action_bytes = 0xC7 ∷ 0x01 ∷ 0xC1 ∷ []
+
+-- the bytes of `refused_front`, as numbers
+abbrev pub refused_bytes : List ℕ
+refused_bytes = 0xC4 ∷ 0x01 ∷ 0xC1 ∷ 0x01 ∷ []
+
+-- the bytes of `state_front`, as numbers
+abbrev pub state_bytes : List ℕ
+state_bytes = 0xC4 ∷ 0x01 ∷ 0xC1 ∷ 0x00 ∷ 0x16 ∷ []
+
 -- whether two texts are the same
 abbrev pub is_text : List ℕ → List ℕ → Bool
 is_text [] [] = true
 is_text (a ∷ one) (b ∷ other) = a == b && is_text one other
 is_text _ _ = false
 
--- Action-Response-Normal: a result, and any further bytes
-abbrev pub action_reply : List ℕ → Outcome
-action_reply (tag ∷ form ∷ id ∷ code ∷ tail) = if is_text (tag ∷ form ∷ id ∷ []) action_front
+-- Action-Response-Normal, by its first bytes: a result, and any further bytes
+abbrev pub action_reply : List ℕ → List ℕ → Outcome
+action_reply front (tag ∷ form ∷ id ∷ code ∷ tail) = if is_text (tag ∷ form ∷ id ∷ []) front
     then (if code == 0 then Done 0 else Refused code) else Unknown
-action_reply _ = Unknown
+action_reply front _ = Unknown
 
--- Get-Response-Normal with no further bytes: a result other than 0, or the control state
-abbrev pub state_reply : List ℕ → Outcome
-state_reply (tag ∷ form ∷ id ∷ choice ∷ code ∷ []) =
-    if is_text (tag ∷ form ∷ id ∷ choice ∷ []) refused_front && not (code == 0)
+-- Get-Response-Normal with no further bytes, by its first bytes: a result other than 0, or the
+-- control state
+abbrev pub state_reply : List ℕ → List ℕ → List ℕ → Outcome
+state_reply refused front (tag ∷ form ∷ id ∷ choice ∷ code ∷ []) =
+    if is_text (tag ∷ form ∷ id ∷ choice ∷ []) refused && not (code == 0)
     then Refused code else Unknown
-state_reply (tag ∷ form ∷ id ∷ choice ∷ kind ∷ state ∷ []) =
-    if is_text (tag ∷ form ∷ id ∷ choice ∷ kind ∷ []) state_front && nat_le state 2
+state_reply refused front (tag ∷ form ∷ id ∷ choice ∷ kind ∷ state ∷ []) =
+    if is_text (tag ∷ form ∷ id ∷ choice ∷ kind ∷ []) front && nat_le state 2
     then Done state else Unknown
-state_reply _ = Unknown
+state_reply refused front _ = Unknown
 
 -- the outcome of a job by the second payload, which should be the response to its request
 unfoldable pub outcome_of_response : Verb → List ℕ → Outcome
-outcome_of_response Disconnect payload = action_reply payload
-outcome_of_response Reconnect payload = action_reply payload
-outcome_of_response ReadState payload = state_reply payload
+outcome_of_response Disconnect payload = action_reply action_front payload
+outcome_of_response Reconnect payload = action_reply action_front payload
+outcome_of_response ReadState payload = state_reply refused_front state_front payload

@@ -2,10 +2,17 @@
 --     aarq_payload        the association request (IEC 62056-5-3, AARQ, low-level security)
 --     request_payload     the one request of a job (IEC 62056-5-3, ACTION and GET; IEC 62056-6-2,
 --                         class 70)
+--     request_of          the same request, as xdlms_apdu has it
 --     release_payload     the release of the association (IEC 62056-5-3, RLRQ)
 --     text_at             the message at an index of a list
-use Rattle.std.specs.Prelude.{ℕ, zero, suc, ◌+◌, Option, Some, None, List, [], ◌∷◌, ◌++◌, length}
+use Rattle.std.specs.Prelude.{ℕ, zero, suc, ◌+◌, pos, false, Option, Some, None, List, [], ◌∷◌, ◌++◌, length}
 use Rattle.wrapper_frame.specs.Text.{frame_text}
+use Rattle.cosem_axdr.specs.declared.value.Data.TheVariants.{Integer}
+use Rattle.cosem_names.specs.declared.name.Obis.{Obis}
+use Rattle.cosem_names.specs.declared.name.MethodRef.{MethodRef}
+use Rattle.xdlms_apdu.specs.declared.invoke_id.InvokeId.{InvokeId}
+use Rattle.xdlms_apdu.specs.declared.request.Request.{Request}
+use Rattle.xdlms_apdu.specs.declared.request.Request.TheVariants as request
 use Rattle.client_core.specs.declared.job.Verb.{Verb}
 use Rattle.client_core.specs.declared.job.Verb.TheVariants.{Disconnect, Reconnect, ReadState}
 
@@ -49,6 +56,31 @@ request_payload ReadState =
 -- the RLRQ, with reason normal
 abbrev pub release_payload : List ℕ
 release_payload = 0x62 ∷ 0x03 ∷ 0x80 ∷ 0x01 ∷ 0x00 ∷ []
+
+-- the invoke-id-and-priority of the request: invoke-id 1, confirmed, high priority
+abbrev pub request_id : InvokeId
+request_id = record { 0 = 0xC1 }
+
+-- the logical name of the disconnect control, 0.0.96.3.10.255
+abbrev pub supply_name : Obis
+supply_name = record { 0 = 0 ∷ 0 ∷ 96 ∷ 3 ∷ 10 ∷ 255 ∷ [] }
+
+-- a method of the disconnect control
+abbrev pub supply_method : ℕ → MethodRef
+supply_method number = record { class = record { 0 = 70 }; name = supply_name; number = number }
+
+-- the invocation of a method of the disconnect control, as xdlms_apdu has it
+abbrev pub action_of : ℕ → Request
+action_of method = request.Action request_id (supply_method method) (Some (Integer (pos 0)))
+
+-- the request of a job, as xdlms_apdu has it
+abbrev pub request_of : Verb → Request
+request_of Disconnect = action_of 1
+request_of Reconnect = action_of 2
+request_of ReadState = request.Get request_id (record {
+  attr = record { class = record { 0 = 70 }; name = supply_name; number = 3 };
+  selected = false;
+})
 
 -- a payload in a frame from port 1 to port 1 (IEC 62056-4-7)
 abbrev pub frame_around : List ℕ → List ℕ

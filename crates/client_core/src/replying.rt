@@ -1,6 +1,6 @@
 //! The interpretation of the meter's responses.
 ghost use Rattle.std.specs.Prelude.{◌≡◌};
-ghost use Rattle.client_core.specs.Replies.{new_progress, with_outcome, is_granted, progress_after_aare, action_reply, state_reply, outcome_of_response};
+ghost use Rattle.client_core.specs.Replies.{new_progress, with_outcome, is_granted, progress_after_aare, action_bytes, refused_bytes, state_bytes, action_reply, state_reply, outcome_of_response};
 ghost use Rattle.client_core.specs.Outcomes.{or_unknown};
 ghost use Rattle.client_core.specs.Steps.{progress_after};
 
@@ -105,7 +105,7 @@ fn is_granted(verb: Verb, info: Info) -> bool
 }
 
 // Returns the outcome according to the response to the request.
-#[tactic(auto, unfolding(crate::specs::Replies::outcome_of_response))]
+#[tactic(auto, using(crate::proofs::Fronts::outcome_disconnected, crate::proofs::Fronts::outcome_reconnected, crate::proofs::Fronts::outcome_state_read))]
 fn outcome_of_response(verb: Verb, payload: &[u8]) -> Outcome
     ensures { result ≡ outcome_of_response verb payload.now }
 {
@@ -118,7 +118,7 @@ fn outcome_of_response(verb: Verb, payload: &[u8]) -> Outcome
 // Returns the outcome of an Action-Response-Normal with invoke-id C1: its result. Further bytes
 // are ignored.
 fn action_reply(payload: &[u8]) -> Outcome
-    ensures { result ≡ action_reply payload.now }
+    ensures { result ≡ action_reply action_bytes payload.now }
 {
     match payload {
         [ACTION_RESPONSE, NORMAL, REQUEST_ID, SUCCESS, ..] => Outcome::Done(SUCCESS),
@@ -130,7 +130,7 @@ fn action_reply(payload: &[u8]) -> Outcome
 // Returns the outcome of a Get-Response-Normal with invoke-id C1 and no further bytes: a result
 // other than 0, or a control state from 0 to 2 as an enum.
 fn state_reply(payload: &[u8]) -> Outcome
-    ensures { result ≡ state_reply payload.now }
+    ensures { result ≡ state_reply refused_bytes state_bytes payload.now }
 {
     match payload {
         [GET_RESPONSE, NORMAL, REQUEST_ID, RESULT, code] if *code != SUCCESS => Outcome::Refused(

@@ -2,16 +2,17 @@
 ghost use Rattle.std.specs.Prelude.{◌≡◌, ◌≤◌, length, IfOk};
 ghost use Rattle.acse_ber.specs.Password.{IsPassword};
 ghost use Rattle.xdlms_apdu.specs.Requests.{request_text};
-ghost use Rattle.client_core.specs.Texts.{frame_around, aarq_payload, action_payload, request_payload, aarq_frame, request_frame, release_frame};
+ghost use Rattle.client_core.specs.Texts.{frame_around, aarq_payload, action_payload, request_of, aarq_frame, request_frame, release_frame};
 
 use crate::job::Verb;
 use acse_ber::{Conformance, RELEASE_REQUEST, low_level_aarq, write_aarq};
 use bitflags::Flags;
-use cosem_axdr::{Data, Octets};
-use cosem_names::{AttrRef, AttributeSelection, ClassId, MethodRef, Obis};
+use cosem_axdr::Octets;
 use std::alloc::{AllocError, Global};
 use wrapper_frame::{WrapperFault, frame};
-use xdlms_apdu::{InvokeId, Request, write_request};
+use xdlms_apdu::InvokeId;
+use xdlms_apdu::form::NORMAL;
+use xdlms_apdu::tag::{ACTION_REQUEST, GET_REQUEST};
 
 // The port of the management client and of the meter's management logical device.
 const PORT: u16 = 1;
@@ -29,10 +30,31 @@ const SERVICES: Conformance = Conformance(
 const MAX_RECEIVE_PDU_SIZE: u16 = 1024;
 // The invoke-id-and-priority of the request: invoke-id 1, confirmed, high priority.
 pub(crate) const INVOKE_ID: InvokeId = InvokeId(0xC1);
-// The class of the disconnect control (IEC 62056-6-2, class 70).
-const DISCONNECT_CONTROL: ClassId = ClassId(70);
-// The logical name of the meter's disconnect control.
-const SUPPLY: Obis = Obis([0, 0, 96, 3, 10, 255]);
+// The low byte of the class of the disconnect control (IEC 62056-6-2, class 70).
+const DISCONNECT_CONTROL: u8 = 70;
+// The byte that says that an ACTION has a parameter.
+const PRESENT: u8 = 1;
+// The tag of an integer (IEC 62056-5-3, Data, `integer [15]`).
+const INTEGER: u8 = 0x0F;
+// The value of the parameter of both methods.
+const PARAMETER: u8 = 0;
+// The GET of control_state, attribute 3 of the disconnect control 0.0.96.3.10.255, without
+// selective access.
+const STATE_REQUEST: [u8; 13] = [
+    GET_REQUEST,
+    NORMAL,
+    INVOKE_ID.0,
+    0,
+    DISCONNECT_CONTROL,
+    0,
+    0,
+    96,
+    3,
+    10,
+    255,
+    3,
+    0,
+];
 
 /// Returns the frame of the AARQ, with a password of 1 to 32 bytes.
 #[tactic(auto, using(crate::proofs::Passwords::aarq_short), unfolding(crate::specs::Texts::aarq_frame))]
@@ -59,16 +81,17 @@ fn aarq_payload(alloc: Global, password: &Octets) -> Result<Octets, AllocError>
     write_aarq(alloc, &aarq)
 }
 
-/// Returns the frame of a verb's request.
-#[tactic(auto, unfolding(crate::specs::Texts::request_frame))]
+/// Returns the frame of a verb's request, whose bytes xdlms_apdu writes for that request too.
+#[tactic(auto, unfolding(crate::specs::Texts::request_frame), using(crate::proofs::Requests::request_written))]
 pub fn request_frame(alloc: Global, verb: Verb) -> Result<Octets, AllocError>
-    ensures { IfOk result (λ text. text ≡ request_frame verb) }
+    ensures text { IfOk result (λ text. text ≡ request_frame verb) }
+    ensures request { IfOk result (λ text. text ≡ frame_around (request_text (request_of verb))) }
 {
-    let request = request(verb);
-    let written = write_request(alloc, &request);
-    drop(request);
-    let payload = written?;
-    frame_around(alloc, payload.as_slice())
+    match verb {
+        Verb::Disconnect => frame_around(alloc, &action_payload(1)),
+        Verb::Reconnect => frame_around(alloc, &action_payload(2)),
+        Verb::ReadState => frame_around(alloc, &STATE_REQUEST),
+    }
 }
 
 /// Returns the frame that releases the association.
@@ -92,40 +115,25 @@ fn frame_around(alloc: Global, payload: &[u8]) -> Result<Octets, AllocError>
     }
 }
 
-// Returns the request of a verb.
-#[tactic(auto, unfolding(xdlms_apdu::specs::Requests::request_text))]
-fn request(verb: Verb) -> Request
-    ensures { request_text result ≡ request_payload verb }
-{
-    match verb {
-        Verb::Disconnect => action(1),
-        Verb::Reconnect => action(2),
-        Verb::ReadState => Request::Get {
-            id: INVOKE_ID,
-            target: AttributeSelection {
-                attr: AttrRef {
-                    class: DISCONNECT_CONTROL,
-                    name: SUPPLY,
-                    number: 3,
-                },
-                selected: false,
-            },
-        },
-    }
-}
-
 // Returns the invocation of a method of the disconnect control, with the parameter integer 0.
-#[tactic(auto, unfolding(xdlms_apdu::specs::Requests::request_text))]
-fn action(number: u8) -> Request
-    ensures { request_text result ≡ action_payload number }
+fn action_payload(method: u8) -> [u8; 15]
+    ensures { result ≡ action_payload method }
 {
-    Request::Action {
-        id: INVOKE_ID,
-        method: MethodRef {
-            class: DISCONNECT_CONTROL,
-            name: SUPPLY,
-            number,
-        },
-        parameter: Some(Data::Integer(0)),
-    }
+    [
+        ACTION_REQUEST,
+        NORMAL,
+        INVOKE_ID.0,
+        0,
+        DISCONNECT_CONTROL,
+        0,
+        0,
+        96,
+        3,
+        10,
+        255,
+        method,
+        PRESENT,
+        INTEGER,
+        PARAMETER,
+    ]
 }

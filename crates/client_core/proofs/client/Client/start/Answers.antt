@@ -7,6 +7,6 @@ returns c =
     starts c.args.job.now.verb c.args.password.now _ refl c.new_progress.ensures c.new.ensures
     refl (
       ap Some c.in_ok-aarq.ensures,
-      ap Some c.in_ok-request.ensures,
+      ap Some c.in_ok-request.ensures.text,
       ap Some c.in_ok-release.ensures,
     )
