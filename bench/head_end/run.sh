@@ -28,7 +28,10 @@ meter = subprocess.Popen([peer], stdin=subprocess.PIPE, stdout=subprocess.PIPE)
 port = int(meter.stdout.readline())
 # names of 32 bytes, so that the report does not fit a small pipe
 names = [f"meter{number:027d}" for number in range(JOBS)]
-jobs = "".join(f"{name} 127.0.0.1:{port} {'reconnect' if place % 2 else 'disconnect'}\n" for place, name in enumerate(names)).encode()
+# an address for each job: jobs of one address run one after the other
+addresses = [f"127.0.{place // 250}.{place % 250 + 1}:{port}" for place in range(JOBS)]
+jobs = "".join(f"{name} {address} {'reconnect' if place % 2 else 'disconnect'}\n"
+               for place, (name, address) in enumerate(zip(names, addresses))).encode()
 wanted = "".join(f"{name} done 0\n" for name in names).encode()
 
 def processor_seconds():
@@ -38,7 +41,8 @@ def processor_seconds():
 def seconds(words):
     """The time of a campaign, and its processor time."""
     start, worked = time.perf_counter(), processor_seconds()
-    made = subprocess.run(words, input=jobs, stdout=subprocess.PIPE, check=True, env=environment)
+    made = subprocess.run(words, input=jobs, stdout=subprocess.PIPE, stderr=subprocess.DEVNULL,
+                          check=True, env=environment)
     taken, worked = time.perf_counter() - start, processor_seconds() - worked
     if made.stdout != wanted:
         sys.exit(f"{words[0]}: expected `NAME done 0` for each job, found another report")
