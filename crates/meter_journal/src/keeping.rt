@@ -50,7 +50,7 @@ pub(crate) fn keep_lines<F: DurableFile, W: Wait>(
         } = saved;
         saved = save(rt, alloc, port, file, before, room)?;
         if saved.count != before {
-            progress.announce(saved.count);
+            progress.announce(rt, saved.count);
         } else if is_last {
             return Ok(());
         } else {

@@ -20,6 +20,10 @@ const PERIOD: u64 = 50;
 // when the number changes.
 const PATIENCE: u64 = 1_000;
 
+/// The time for which the worker waits for the next request of the sessions that it woke, in
+/// microseconds.
+const GATHERING: u64 = 200;
+
 // The rule of the number of lines on the disk: a sync of a file of this type returned while the
 // file had as many lines of a history. No value of it is made.
 struct StoredLines<F>(PhantomData<F>);
@@ -109,13 +113,36 @@ impl<F: DurableFile> JournalProgress<F> {
         self.state.lines.load(Ordering::SeqCst)
     }
 
-    // Records that this number of lines is on the disk, and wakes the sessions that wait. Only the
-    // worker calls it.
-    pub(crate) fn announce(&self, lines: u64)
+    // Records that this number of lines is on the disk, and wakes the sessions that wait. If there
+    // was more than one further line, then waits a moment for as many requests: otherwise the
+    // session that is first to return would have a sync for itself, and the others the next one.
+    // Only the worker calls it.
+    pub(crate) fn announce<W: Wait>(&self, rt: &W, lines: u64)
         requires { F.acts_as_file → IsStored F.renews F.stored lines }
     {
+        let woken = lines.saturating_sub(self.lines());
+        let seen = self.requests();
         self.state.lines.store(lines, Ordering::SeqCst);
         self.state.saved.notify_all();
+        if woken > 1 {
+            self.gather(rt, seen, woken);
+        }
+    }
+
+    // Waits until there were this number of requests after the first `seen`, as long as each comes
+    // soon after the one before.
+    fn gather<W: Wait>(&self, rt: &W, seen: u64, count: u64) {
+        for _ in 0..count {
+            let now = self.requests();
+            if now.wrapping_sub(seen) >= count {
+                return;
+            }
+            let patience = Duration::from_micros(GATHERING);
+            self.state.wanted.sleep(rt, now, patience);
+            if self.requests() == now {
+                return;
+            }
+        }
     }
 
     // Records that no further lines will be on the disk: from now on every wait for more lines
