@@ -14,6 +14,7 @@ ghost use Rattle.meter_journal.specs.declared.saving.Saved.{Saved};
 ghost use Rattle.meter_run.specs.Journaled.{IsJournaledRun};
 ghost use Rattle.meter_run.specs.Runs.{Given};
 ghost use Rattle.meter_server.specs.declared.serving_all.Served.{Served};
+ghost use Rattle.program.specs.declared.fault.Fault.{Fault};
 ghost use Rattle.relay_recorder.specs.Recording.{Recording};
 ghost use Rattle.relay_recorder.specs.declared.trace.Trace.{Trace};
 ghost use Rattle.session_io.specs.declared.fault.ServeFault.{ServeFault};
@@ -58,9 +59,10 @@ pub fn crashed_run_is_resumed()
 /// when the answer was written, and the crash model that a crash leaves what was synced.
 pub fn answered_calls_are_resumed<F: DurableFile>()
     ensures { (file : F) (recorder : Recording) (given : Given)
-        (served : Result Served ServeFault) (text : List ℕ)
-        → (run : IsJournaledRun F.acts_as_file F.seen F.moment F.left_since F.stored IsRenewedAs
-        file recorder given served text) → (acts : F.acts_as_file) → (left : List ℕ)
+        (served : Result Served ServeFault) (journal : Result (Unit {0}) Fault) (text : List ℕ)
+        → (run : IsJournaledRun F.acts_as_file F.seen F.may_leave F.moment F.left_since F.stored
+        IsRenewedAs file recorder given served journal text)
+        → (acts : F.acts_as_file) → (left : List ℕ)
         → (crash : F.left_since (run.kept acts).0 (F.moment file) left)
         → HasAnsweredLines run.journaled ((run.kept acts).1.each left crash).0
         → (device : List ℕ) (trace : Trace) (after : Recording)

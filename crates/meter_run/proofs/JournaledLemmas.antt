@@ -1,14 +1,15 @@
 -- What serving did, the journal's worker and the meter in the lock are a run with a journal.
 use Rattle.std.proofs.Common.{◌≡◌, ℕ, ◌+◌, List, [], ◌∷◌}
 use Rattle.std.proofs.Common.{Option, Some, None}
-use Rattle.std.proofs.Common.{Result, Ok, Err, IfOk, refl, sym, ap, subst, ◌∙◌, arith, inl, inr}
+use Rattle.std.proofs.Common.{length, Result, Ok, Err, IfOk, OnOk, refl, sym, ap, subst, ◌∙◌, arith, inl, inr}
 use Rattle.durable_lines.specs.CrashModel.{LeavesOnly}
 use Rattle.durable_lines.proofs.Moments.{begin}
 use Rattle.durable_lines.specs.Lines.{lines_in, IsSettled}
 use Rattle.meter_journal.specs.Saving.{IsSaved, IsSavedFrom, IsStored, Keeps}
 use Rattle.meter_journal.proofs.KeepingLemmas.{saved_none}
 use Rattle.meter_journal.proofs.SavingLemmas.{saved_later}
-use Rattle.meter_run.specs.Journaled.{IsJournaledRun, IsStarted, IsFinished}
+use Rattle.meter_run.specs.Journaled.{IsJournaledRun, IsStarted, IsFinished, LeavesFront}
+use Rattle.meter_run.specs.Journaled.{fault_of_journal}
 use Rattle.meter_run.specs.Runs.{Given, ServesAll}
 use Rattle.meter_run.proofs.RunLemmas.{AreSilent, run_of, run_seen, run_sessions}
 use Rattle.meter_server.proofs.JournalLemmas.{answered_later}
@@ -28,6 +29,7 @@ use Rattle.relay_recorder.specs.Recording.{Recording}
 use Rattle.session_io.specs.declared.fault.ServeFault.{ServeFault}
 use Rattle.shared_meter.specs.Calls.{Calls, IsLegal}
 use Rattle.shared_meter.specs.Handed.{MeterPort}
+use Rattle.shared_meter.specs.Pending.{lines_of_calls}
 use Rattle.turn_lock.specs.Calls.{Watches}
 use Rattle.turn_lock.specs.History.{StartsWith, IsAmong, calls_by}
 use Rattle.turn_lock.specs.Rule.{first_known}
@@ -134,6 +136,17 @@ leaves_later moment left_since Renews began ended first before after longer leav
       ];
     }
 
+-- lines that every crash leaves are also those of a longer history
+front_later : (may_leave : List ℕ → Type 0) (Renews : List ℕ → List ℕ → Type 0)
+    (first : List (List ℕ)) (before after : Calls) (journal : Result (Unit {0}) Fault)
+    → StartsWith after before → OnOk journal (LeavesFront may_leave Renews first before)
+    → OnOk journal (LeavesFront may_leave Renews first after)
+front_later may_leave Renews first before after (Err fault) longer leaves = tt
+front_later may_leave Renews first before after (Ok done) longer leaves = (
+  leaves.0,
+  λ c left. saved_later Renews first leaves.0 before after c longer (leaves.1 c left),
+)
+
 -- what the worker of a journal did: it made no call, and its file has a front of the lines
 module _ {F : Type 0} (acts : Type 0) (seen : F → List ℕ) (may_leave : F → List ℕ → Type 0)
     (moment : F → ℕ) (left_since : F → ℕ → List ℕ → Type 0) (stored : List ℕ → Type 0)
@@ -149,27 +162,37 @@ module _ {F : Type 0} (acts : Type 0) (seen : F → List ℕ) (may_leave : F →
       → Watches IsLegal p.known q.known
   quiet p q end worked = worked.watches
 
+  -- what the file has of the lines of a history, once its worker has ended
+  abbrev KeptBy : Calls → Result (Unit {0}) Fault → Type 0
+  KeptBy calls journal = (ended : F)
+      × LeavesOnly moment left_since file ended (IsSavedFrom Renews 0 (lines_in (seen file)) calls)
+      × OnOk journal (LeavesFront (may_leave ended) Renews (lines_in (seen file)) calls)
+
   -- the file of a worker that was not started has the lines that it had
   kept_by : (lent back : MeterPort) (end : Option (Result (Unit {0}) CallFault))
       → (acts → (calls : Calls)
       → LeavesOnly moment left_since file file (IsSavedFrom Renews 0 (lines_in (seen file)) calls))
-      → Ended JournalDid lent back end → acts
-      → (ended : F) × LeavesOnly moment left_since file ended
-      (IsSavedFrom Renews 0 (lines_in (seen file)) back.known.seen)
-  kept_by lent back None idle same a = (file, idle a back.known.seen)
-  kept_by lent back (Some end) idle worked a =
-      let kept = worked.leaves a in (kept.0, kept.1.any_moment)
+      → Ended JournalDid lent back end → acts → KeptBy back.known.seen (fault_of_journal end)
+  kept_by lent back None idle same a = (file, idle a back.known.seen, tt)
+  kept_by lent back (Some (Err fault)) idle worked a =
+      let kept = worked.leaves a in (kept.0, kept.1.any_moment, tt)
+  kept_by lent back (Some (Ok done)) idle worked a =
+      let kept = worked.leaves a in
+      (kept.0, kept.1.any_moment, (length (lines_of_calls back.known.seen), kept.1.all))
 
   journaled_run : (recorder : Recording) (given : Given) (served : Result Served ServeFault)
-      (trace : Result (List ℕ) Fault) (lent p q : MeterPort)
+      (trace : Result (List ℕ) Fault) (journal : Result (Unit {0}) Fault) (lent p q : MeterPort)
       → (acts → (calls : Calls)
       → LeavesOnly moment left_since file file (IsSavedFrom Renews 0 (lines_in (seen file)) calls))
       → IsStarted (opening_of recorder.core) lent p → ServesAll given p q served
-      → AreJournaled OnDisk (p.known.splits + 3) q → IsFinished JournalDid lent q trace
+      → AreJournaled OnDisk (p.known.splits + 3) q → IsFinished JournalDid lent q trace journal
       → IfOk trace
-      (IsJournaledRun acts seen moment left_since stored Renews file recorder given served)
-  journaled_run recorder given served (Err fault) lent p q idle started serves waited finished = tt
-  journaled_run recorder given served (Ok text) lent p q idle started serves waited finished =
+      (IsJournaledRun acts seen may_leave moment left_since stored Renews file recorder given served
+      journal)
+  journaled_run recorder given served (Err fault) journal lent p q idle started serves waited
+      finished = tt
+  journaled_run recorder given served (Ok text) journal lent p q idle started serves waited
+      finished =
       let after = finished.after in
       let back = finished.back in
       let silent : AreSilent 1 after = silent_first JournalDid quiet lent q after finished.end back
@@ -189,10 +212,13 @@ module _ {F : Type 0} (acts : Type 0) (seen : F → List ℕ) (may_leave : F →
             (journaled_joined JournalDid OnDisk given served lent p q after finished.end serves
             back waited);
         kept = λ a.
-            let kept = kept_by lent back.back finished.end idle back.ended a in (
+            let kept = subst (KeptBy back.back.known.seen) (sym finished.fault)
+            (kept_by lent back.back finished.end idle back.ended a) in (
               kept.0,
               leaves_later moment left_since Renews file kept.0 (lines_in (seen file))
                   back.back.known.seen run.calls longer kept.1,
+              front_later (may_leave kept.0) Renews (lines_in (seen file)) back.back.known.seen
+                  run.calls journal longer kept.2,
             );
       }
 
@@ -211,16 +237,19 @@ module _ {F : Type 0} (acts : Type 0) (seen : F → List ℕ) (may_leave : F →
 
   -- a run is journaled also by an equal file, that of the worker
   pub journaled_by : (recorder : Recording) (given : Given) (served : Result Served ServeFault)
-      (trace : Result (List ℕ) Fault) (lent p q : MeterPort) (its : F) → its ≡ file
+      (trace : Result (List ℕ) Fault) (journal : Result (Unit {0}) Fault) (lent p q : MeterPort)
+      (its : F) → its ≡ file
       → (acts → (calls : Calls)
       → LeavesOnly moment left_since file file (IsSavedFrom Renews 0 (lines_in (seen file)) calls))
       → IsStarted (opening_of recorder.core) lent p → ServesAll given p q served
       → AreJournaled OnDisk (p.known.splits + 3) q
-      → IsFinished (Keeps acts seen may_leave moment left_since Renews its) lent q trace
+      → IsFinished (Keeps acts seen may_leave moment left_since Renews its) lent q trace journal
       → IfOk trace
-      (IsJournaledRun acts seen moment left_since stored Renews file recorder given served)
-  journaled_by recorder given served trace lent p q its is idle started serves waited finished =
-      journaled_run recorder given served trace lent p q idle started serves waited
+      (IsJournaledRun acts seen may_leave moment left_since stored Renews file recorder given served
+      journal)
+  journaled_by recorder given served trace journal lent p q its is idle started serves waited
+      finished =
+      journaled_run recorder given served trace journal lent p q idle started serves waited
       (subst
-      (λ (f : F). IsFinished (Keeps acts seen may_leave moment left_since Renews f) lent q trace) is
-      finished)
+      (λ (f : F). IsFinished (Keeps acts seen may_leave moment left_since Renews f) lent q trace
+      journal) is finished)

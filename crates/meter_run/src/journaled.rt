@@ -8,7 +8,7 @@ ghost use Rattle.meter_run.specs.Journaled.{IsFinished, IsJournaledRun, IsStarte
 ghost use Rattle.meter_run.specs.Journaled.{fault_of_journal};
 ghost use Rattle.meter_server.specs.ServingAll.{IsLimit, StopsFor};
 ghost use Rattle.port_threads.specs.Listening.{IsCounted};
-ghost use Rattle.program.specs.declared.fault.Fault.TheVariants.{Memory, Turns};
+ghost use Rattle.program.specs.declared.fault.Fault.TheVariants.{Memory, Turns, Write};
 ghost use Rattle.relay_core.specs.Opening.{opening_of};
 ghost use Rattle.shared_meter.specs.Calls.{Calls};
 ghost use Rattle.turn_lock.specs.Rule.{first_known};
@@ -137,7 +137,8 @@ where
 
 // Returns the fault of a journal by the end of its worker.
 fn journal_fault(end: Option<Result<(), CallFault>>) -> Result<(), Fault>
-    ensures { result ≡ fault_of_journal end }
+    ensures fault { result ≡ fault_of_journal end }
+    ensures err { IfErr result (λ fault. (fault ≡ Write) ⊎ (fault ≡ Memory)) }
 {
     match end {
         Some(Ok(())) => Ok(()),
@@ -170,8 +171,9 @@ fn finish<F: DurableFile + Send, A: FailureAction, R: Threads>(
     requires lent { running.promise.port.value.lock ≡ port.lock }
     ensures finished { let task = running.promise
         in IsFinished (Keeps F.acts_as_file F.seen F.may_leave F.moment F.left_since
-        F.renews task.worker.value) task.port.value port result.0 }
+        F.renews task.worker.value) task.port.value port result.0 result.1 }
     ensures err { IfErr result.0 (λ fault. (fault ≡ Turns) ⊎ (fault ≡ Memory)) }
+    ensures journal { IfErr result.1 (λ fault. (fault ≡ Write) ⊎ (fault ≡ Memory)) }
 {
     let end = stop_journal(rt, running, &progress, &mut port);
     drop(progress);
@@ -188,9 +190,9 @@ fn finish<F: DurableFile + Send, A: FailureAction, R: Threads>(
 /// whose line is not on the disk.
 ///
 /// The three results are independent: the trace is written whatever ended the serving and the
-/// journal. If no memory, port or thread is available for the lock and the journal, all are
-/// `Memory`, and no connection was accepted. Otherwise they are as [`run_meter`](crate::run_meter)
-/// says.
+/// journal. If the result of the journal is `Ok`, every crash after the run leaves the same lines.
+/// If no memory, port or thread is available for the lock and the journal, all are `Memory`, and no
+/// connection was accepted. Otherwise they are as [`run_meter`](crate::run_meter) says.
 pub fn run_journaled_meter<
     L: Listener,
     B: BlockSource + Send + 'static,
@@ -211,20 +213,21 @@ pub fn run_journaled_meter<
     requires unused { recorder.events ≡ [] }
     requires settled { F.acts_as_file → IsSettled F.seen F.may_leave F.stored journal.file }
     requires password { IsPassword terms.now.password.now }
-    ensures run { IfOk result.trace (IsJournaledRun F.acts_as_file F.seen F.moment F.left_since
-        F.stored F.renews journal.file recorder
+    ensures run { IfOk result.trace (IsJournaledRun F.acts_as_file F.seen F.may_leave F.moment
+        F.left_since F.stored F.renews journal.file recorder
         (record {
           blocks = B.forecast sources.blocks;
           moments = M.forecast sources.moments;
           presses = U.forecast sources.buttons;
           password = terms.now.password.now;
         })
-        result.served) }
+        result.served result.journal) }
     ensures limit { IfOk result.served (IsLimit terms.now.limit) }
     ensures counted { IfOk result.served (λ served. IsCounted (L.accepted listener.old)
         (served.served + served.turned_away) (L.accepted listener.new)) }
     ensures fault { IfErr result.served (StopsFor ⊤ (L.has_failed listener.new)) }
     ensures err { IfErr result.trace (λ fault. (fault ≡ Turns) ⊎ (fault ≡ Memory)) }
+    ensures journal { IfErr result.journal (λ fault. (fault ≡ Write) ⊎ (fault ≡ Memory)) }
 {
     // (no effect: the contract needs this law)
     file_is_idle(&journal.file);

@@ -94,10 +94,10 @@ pub(crate) fn run_journaled<
     requires settled { F.acts_as_file
         → IsSettled F.seen F.may_leave F.stored parts.journal.file }
     ensures { OnOk result.2
-        (PrintsText (IsJournaledRun F.acts_as_file F.seen F.moment F.left_since F.stored F.renews
-        parts.journal.file recorder
+        (PrintsText (IsJournaledRun F.acts_as_file F.seen F.may_leave F.moment F.left_since
+        F.stored F.renews parts.journal.file recorder
         (record { blocks = None; moments = None; presses = None; password = meter.now.password })
-        result.0)
+        result.0 result.1)
         (W.contents output.old) (W.contents output.new)) }
 {
     let JournaledParts {

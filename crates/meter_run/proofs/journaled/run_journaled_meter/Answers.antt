@@ -18,7 +18,8 @@ returns-clause-run g c =
       moments = g.M.MomentSource.forecast c.args.sources.moments;
       presses = g.U.ButtonSource.forecast c.args.sources.buttons;
       password = c.args.terms.now.password.now;
-    }) c.serve-port.result.1 c.finish-trace.result.0 started.running.promise.port.value
+    }) c.serve-port.result.1 c.finish-trace.result.0 c.finish-trace.result.1
+    started.running.promise.port.value
     started.port c.serve-port.result.0 started.running.promise.worker.value c.in-Some.ensures.file
     c.file_is_idle.ensures c.in-Some.ensures.starts c.serve-port.ensures.serves
     c.serve-port.ensures.journaled c.finish-trace.ensures.finished
