@@ -1,5 +1,5 @@
-//! The commands of the program `head_end`: its command line; `check`, with the warnings and findings
-//! about a list of jobs; and the plan of `run`: its options, its jobs and their passwords.
+//! The commands of the program `head_end`: its command line; `check`, with the warnings and
+//! findings about a list of jobs; and the plan of `run`: its options, its jobs and their passwords.
 #![tactic(auto)]
 
 mod arguments;
