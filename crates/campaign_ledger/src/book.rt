@@ -1,5 +1,5 @@
 //! `Book`: the storage of a ledger, with what a crash may leave of it.
-ghost use Rattle.std.specs.Prelude.{ℕ, IfOk, IsTrue};
+ghost use Rattle.std.specs.Prelude.{ℕ, IfOk, IsFalse, IsTrue};
 ghost use Rattle.campaign_ledger.specs.declared.entry.LedgerEntry.{LedgerEntry};
 ghost use Rattle.campaign_ledger.specs.Entries.{HasGone};
 
@@ -24,13 +24,15 @@ pub trait Book: Drop {
     ghost is_marked: { Self → ℕ → Type 0 };
 
     /// Marks a place: its command may be sent from now on. Returns false if the place was marked
-    /// before, or cannot be marked.
+    /// before, and only then. A place that cannot be marked counts as marked.
     fn mark(&mut self, place: u32) -> Result<bool, LedgerFault>
         ensures honest { is_honest self.new → is_honest self.old }
         ensures fresh { is_honest self.new
             → IfOk result (λ is_new. IsTrue is_new → ¬ is_marked self.old place) }
         ensures durable { is_honest self.new
             → IfOk result (λ is_new. IsTrue is_new → is_marked self.new place) }
+        ensures taken { is_honest self.new
+            → IfOk result (λ is_new. IsFalse is_new → is_marked self.old place) }
         ensures remains_marked { is_honest self.new → (other : ℕ) → is_marked self.old other
             → is_marked self.new other };
 

@@ -93,13 +93,16 @@ impl<B: Book> Ledger<B> {
     /// Asks for the permit to send the command of a place.
     ///
     /// The book has marked the place before the permit is returned. Returns `None` if the command
-    /// may have been sent before, or the campaign has no such place. After an error no entry is
-    /// changed, but the place may be marked in the book.
+    /// may have been sent before, or the campaign has no such place. Of a place whose entry says
+    /// `NotSent` that means that the book had its mark. After an error no entry is changed, but the
+    /// place may be marked in the book.
     pub fn begin(&mut self, place: u32) -> Result<Option<Permit>, LedgerFault>
         ensures grants { Grants B.is_honest B.is_marked self.old self.new (permits_in result) }
         ensures permit { IfOk result (λ given. IfSome given (λ permit. permit ≡ place)) }
         ensures refused { IfOk result (λ given. IfNone given
             (HasGone (entry_at self.new.entries place))) }
+        ensures taken { B.is_honest self.new.book → IfOk result (λ given. IfNone given
+            (entry_at self.old.entries place ≡ NotSent → B.is_marked self.old.book place)) }
         ensures others { (other : ℕ) → other ≢ place
             → entry_at self.new.entries other ≡ entry_at self.old.entries other }
         ensures len { length self.new.entries ≡ length self.old.entries }

@@ -4,13 +4,13 @@ ghost use Rattle.std.specs.Io.KnownBytes.{Appends};
 ghost use Rattle.sqlite.specs.WalFiles.{image_at};
 ghost use Rattle.clap.specs.Matches.{found_of};
 ghost use Rattle.head_end_cli.specs.Ledgered.{PrintsRun, PrintsTexts};
-ghost use Rattle.head_end_cli.specs.Options.{AreLimits, AreWorkers};
-ghost use Rattle.head_end_cli.specs.Passwords.{HasPasswords};
+ghost use Rattle.head_end_commands.specs.Options.{AreLimits, AreWorkers};
+ghost use Rattle.head_end_commands.specs.Passwords.{HasPasswords};
 
-use crate::campaign::{CampaignPlan, plan_campaign};
 use crate::progress::{CampaignProgress, ProgressWatch};
 use clap::ArgMatches;
 use head_end::Connector;
+use head_end_commands::{CampaignPlan, plan_campaign};
 use ledger_campaigns::LedgeredPlan;
 use ledger_file_runs::{LedgerReport, run_with_ledger};
 use ledger_runs::LedgerTexts;

@@ -1,6 +1,7 @@
 -- What an INSERT of one row does to a connection that is outside a transaction, and to what a crash
 -- leaves.
-use Rattle.std.proofs.Common.{◌≡◌, inl, inr, ℕ, List, append-nil, true, false, None, Ok, Err}
+use Rattle.std.proofs.Common.{◌≡◌, inl, inr, ℕ, List, append-nil, true, false, None, Some, Ok}
+use Rattle.std.proofs.Common.{Err, refl}
 use Rattle.std.proofs.Common.{Result, OnOk, IfErr, IsTrue, sym, ap, subst, ◌∙◌, arith, true≢false}
 use Rattle.std.proofs.lemmas.Bool.{cases_Bool}
 use Rattle.sqlite_trees.specs.declared.error.StoreError.{StoreError}
@@ -9,6 +10,7 @@ use Rattle.sqlite_trees.specs.declared.error.StoreError.TheVariants.{Broken, Uns
 use Rattle.sqlite.specs.Order.{Row}
 use Rattle.sqlite.specs.Tree.{Trees}
 use Rattle.sqlite.specs.Source.{Source}
+use Rattle.sqlite.specs.Command.{Command}
 use Rattle.sqlite.specs.Command.TheVariants.{Insert}
 use Rattle.sqlite.specs.Does.{Tally, Does}
 use Rattle.sqlite.specs.declared.error.Error.{Error}
@@ -16,11 +18,15 @@ use Rattle.sqlite.specs.Effect.{Database}
 use Rattle.sqlite.specs.Listing.{understood}
 use Rattle.sqlite.specs.State.{State, HasCleanDisk, IsUnchanged, Survives, Executes, CommitsBy}
 use Rattle.sqlite.specs.State.{Writes, IsNotRun, ExecutesIn, shows_rows, store_error, text_of}
-use Rattle.sqlite.specs.State.{mode_of}
+use Rattle.sqlite.specs.State.{mode_of, IsNoStatement, IsMisplaced}
 use Rattle.sqlite.proofs.Callers.{IsPlain, command_of, statement_of, runs_as}
 use Rattle.sqlite_ledger.specs.Schema.{ledger_schema}
 use Rattle.sqlite_ledger.specs.Taken.{is_taken}
 use Rattle.sqlite_ledger.proofs.InsertLemmas.{AddsRow}
+use Rattle.sqlite_ledger.proofs.TakenLemmas.{other_error}
+
+same_error : {B E : Type 0} {a b : E} → ◌≡◌ {A = Result B E} (Err a) (Err b) → a ≡ b
+same_error e = cc
 
 -- No failure of the store is the error of a taken key.
 never_taken : (cause : StoreError) → ¬ (is_taken (store_error cause) ≡ true)
@@ -33,6 +39,31 @@ never_taken Unstorable h = true≢false (sym h)
 
 failure_is_no_key : (e : Error) (cause : StoreError) → e ≡ store_error cause → ¬ (is_taken e ≡ true)
 failure_is_no_key e cause is taken = never_taken cause (subst (λ x. is_taken x ≡ true) is taken)
+
+-- A text that is no statement has another error.
+no_statement_no_key : (s : State) (text : List ℕ) (params : Row) (e : Error) → IsNoStatement s text
+    params e → is_taken e ≡ true → ⊥
+no_statement_no_key s text params e (inl fault) taken = other_error e _ fault.2 refl taken
+no_statement_no_key s text params e (inr (c, is, inl more)) taken =
+    other_error e _ more.1 refl taken
+no_statement_no_key s text params e (inr (c, is, inr (inl count))) taken =
+    other_error e _ count.1 refl taken
+no_statement_no_key s text params e (inr (c, is, inr (inr clock))) taken =
+    other_error e _ clock.1 refl taken
+
+-- The error of a text that is not run is not that of a taken key.
+pub not_run_no_key : (text : List ℕ) (params : Row) (old new : State) (e : Error) → IsNotRun old new
+    text params e → is_taken e ≡ true → ⊥
+unfolding IsNotRun
+not_run_no_key text params old new e h taken = elim h [
+  | inl not_run ↦ no_statement_no_key old text params e not_run.0 taken
+  | inr failed ↦ failure_is_no_key e failed.0 failed.1 taken
+]
+
+misplaced_no_key : (s : State) (command : Command) (e : Error) → IsMisplaced s command e
+    → is_taken e ≡ true → ⊥
+misplaced_no_key s command e (inl transaction) taken = other_error e _ transaction.0 refl taken
+misplaced_no_key s command e (inr savepoint) taken = other_error e _ savepoint.0 refl taken
 
 -- A text that is not run leaves the database as it was, or its error is not that of a taken key.
 pub not_run_keeps : (text : List ℕ) (params : Row) (old new : State) (e : Error) → IsNotRun old new
@@ -101,6 +132,31 @@ module _ (text : List ℕ) (params : Row) (at : ℕ) (source : Source) (tree : �
         committed = rw auto at w.shown.committed_is;
       }
 
+  -- An INSERT whose key is taken was refused by the database.
+  pub taken_does : (mid new : State) (e : Error) → mid.now.schema ≡ ledger_schema
+      → Executes text params mid new (Err e) → is_taken e ≡ true
+      → (part : List ℕ) × Does mid.step_limit (mode_of mid) params mid.now part None
+      (Insert at source) (Err (Some e))
+  unfolding ExecutesIn
+  taken_does mid new e has h taken = elim h [
+    | inl not_run ↦ absurd (not_run_no_key text params mid new e not_run taken)
+    | inr ran ↦ elim (cases_Bool (shows_rows false ran.0)) [
+      | inl shows ↦ absurd (other_error e _ (same_error (rw shows at ran.2).0) refl taken)
+      | inr runs ↦ elim (rw runs at ran.2) [
+        | inl refused ↦ elim refused.0 [
+          | inl misplaced ↦ absurd (misplaced_no_key mid _ e misplaced taken)
+          | inr change ↦
+              let c = ran.0 in
+              let known = sym ran.1.is ∙ ap (λ sc. understood sc text) has in
+              let bare = subst IsPlain (sym known) insert.plain in
+              let is : c.command ≡ Insert at source = ap command_of known ∙ insert.is in
+              (text_of text c, rw (bare.0, bare.1, append-nil params, is) at change.1)
+        ]
+        | inr failed ↦ absurd (failure_is_no_key e failed.0 failed.1 taken)
+      ]
+    ]
+  ]
+
   -- What an INSERT commits is what it adds to.
   commits_add : (s : State) (db : Trees) → s.now.schema ≡ ledger_schema → CommitsBy text params s db
       → (after : Database) × AddsRow tree s.now after row × (db ≡ after.trees)
@@ -123,7 +179,7 @@ module _ (text : List ℕ) (params : Row) (at : ℕ) (source : Source) (tree : �
 
   module _ (old mid new : State) (has : old.now.schema ≡ ledger_schema) (rest : IsAtRest old) (same
       : IsUnchanged old mid) where
-    mid_has : mid.now.schema ≡ ledger_schema
+    pub mid_has : mid.now.schema ≡ ledger_schema
     mid_has = ap (λ (d : Database). d.schema) same.0.now_is ∙ has
 
     mid_auto : mid.in_transaction ≡ false

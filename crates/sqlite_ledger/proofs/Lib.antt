@@ -5,3 +5,4 @@ pub mod MarkStates
 pub mod OutcomeLemmas
 pub mod OutcomeStates
 pub mod ReadLemmas
+pub mod TakenLemmas

@@ -50,8 +50,8 @@ begun_plain = (refl, refl)
 abbrev pub mark_row : ℤ → Value → Row
 mark_row place at = Int place ∷ Null ∷ cast Integer at ∷ []
 
-cast_mark : (place : ℤ) (at : Value) → cast_row begun_table (Int place ∷ Null ∷ at ∷ []) ≡ mark_row
-    place at
+pub cast_mark : (place : ℤ) (at : Value) → cast_row begun_table (Int place ∷ Null ∷ at ∷ [])
+    ≡ mark_row place at
 cast_mark place at = rw (cast_int place, cast_null)
 
 pub begun_does : (place : ℤ) (at : Value) (s : State) (text : List ℕ) (after : Database) (tally :

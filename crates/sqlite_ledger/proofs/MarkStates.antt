@@ -1,5 +1,5 @@
 -- What an INSERT of a mark does to the marks that a crash leaves.
-use Rattle.std.proofs.Common.{◌≡◌, ℕ, ℤ, [], ◌∷◌, Ok, Err, Result, OnOk, IfErr, IsTrue, sym, subst}
+use Rattle.std.proofs.Common.{◌≡◌, ℕ, ℤ, [], ◌∷◌, Ok, Err, Result, OnOk, IfErr, IsTrue, sym, subst, ◌∙◌}
 use Rattle.sqlite.specs.declared.types.Value.{Value}
 use Rattle.sqlite.specs.declared.types.Value.TheVariants.{Int}
 use Rattle.sqlite.specs.Order.{Row}
@@ -12,6 +12,7 @@ use Rattle.sqlite_ledger.specs.Marks.{IsBegun, IsMarked}
 use Rattle.sqlite_ledger.proofs.MarkLemmas.{begun_text, begun_source, begun_is, begun_plain}
 use Rattle.sqlite_ledger.proofs.MarkLemmas.{begun_does, mark_row, begun_after, begun_kept}
 use Rattle.sqlite_ledger.proofs.MarkLemmas.{not_before}
+use Rattle.sqlite_ledger.proofs.TakenLemmas.{begun_taken}
 use Rattle.sqlite_ledger.proofs.InsertStates.{IsSettled, IsAtRest, IsInsert}
 use Rattle.sqlite_ledger.proofs.InsertStates as insert
 
@@ -49,6 +50,18 @@ module _ (old mid new : State) (place : ℤ) (at : Value) (has : old.now.schema 
   pub taken : (r : Result ℕ Error) → Executes begun_text (mark_params place at) mid new r → IfErr r
       (λ e. IsTrue (is_taken e) → new.now.schema ≡ ledger_schema)
   taken = insert.taken _ _ _ _ _ _ (mark place at) old mid new has rest same
+
+  -- the mark was there, if its key was taken
+  pub was_marked : (r : Result ℕ Error) → Executes begun_text (mark_params place at) mid new r →
+      IsSettled old → IfErr r (λ e. IsTrue (is_taken e) → IsMarked old.may_leave place)
+  was_marked (Ok count) h settled = tt
+  was_marked (Err e) h settled = λ taken db left.
+      let mid_has = insert.mid_has _ _ _ _ _ _ (mark place at) old mid new has rest same in
+      let it = insert.taken_does _ _ _ _ _ _ (mark place at) mid new e mid_has h taken in
+      subst (λ (d : Trees). IsBegun d place)
+      (insert.start_is _ _ _ _ _ _ (mark place at) old mid new has rest same
+      ∙ sym (settled.settled same.0.was_open db left))
+      (begun_taken place at mid it.0 e mid_has taken it.1)
 
   pub kept : IsSettled old → HasCleanDisk new → Survives old mid (λ _. ⊥) → Survives mid new
       (CommitsBy begun_text (mark_params place at) mid) → (other : ℤ) → IsMarked old.may_leave other

@@ -30,6 +30,9 @@ pub(crate) fn insert_begun<S: Alter>(
         → OnOk result (conn.new.schema ≡ ledger_schema) }
     ensures taken { HasCleanDisk (state S.Store conn.new) → conn.old.schema ≡ ledger_schema
         → IfErr result (λ e. IsTrue (is_taken e) → conn.new.schema ≡ ledger_schema) }
+    ensures was_marked { HasCleanDisk (state S.Store conn.new) → conn.old.schema ≡ ledger_schema
+        → IfErr result (λ e. IsTrue (is_taken e)
+        → IsMarked (state S.Store conn.old).may_leave (pos place)) }
 {
     // (an open transaction would hold back what is written)
     if !conn.is_autocommit() {

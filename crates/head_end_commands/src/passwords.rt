@@ -4,7 +4,7 @@ ghost use Rattle.std.specs.List.{All};
 ghost use Rattle.std.specs.Option.{option_copied};
 ghost use Rattle.acse_ber.specs.Password.{IsPassword};
 ghost use Rattle.clap.specs.Matches.{first_value, found_of};
-ghost use Rattle.head_end_cli.specs.Passwords.{ArePasswords};
+ghost use Rattle.head_end_commands.specs.Passwords.{ArePasswords};
 
 use crate::messages::{LineFault, why_no_password};
 use crate::text_filter::TextFilter;

@@ -1,6 +1,6 @@
 //! The messages that `--verbose` writes if standard input is not a list of jobs.
 ghost use Rattle.std.specs.Prelude.{◌≡◌};
-ghost use Rattle.head_end_cli.specs.Faults.{input_fault, jobs_fault};
+ghost use Rattle.head_end_commands.specs.Faults.{input_fault, jobs_fault};
 
 use acse_ber::MAX_PASSWORD;
 use counted_io::InputFault;

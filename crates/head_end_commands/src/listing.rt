@@ -1,0 +1,91 @@
+//! `check`, and the list of jobs on standard input.
+ghost use Rattle.std.specs.Prelude.{OnOk};
+ghost use Rattle.head_end_commands.specs.Counted.{PrintsCount};
+
+use crate::findings::report_findings;
+use crate::messages::{ListFault, input_fault, jobs_fault};
+use crate::warnings::warn;
+use counted_io::{Counted, read_to_end_within};
+use head_end::{Jobs, JobsFault, count_jobs, read_jobs};
+use program::{Fault, print_text};
+use std::io::{Read, Write};
+
+// The maximum number of bytes of a list of jobs.
+const MAX_INPUT: usize = 1_048_576;
+
+// Reads the text on standard input. On an error, if `is_verbose`, writes a line on standard error
+// that says where and why.
+fn text_of<I: Read + Drop>(rt: &HostRuntime, input: I, is_verbose: bool) -> Result<Vec<u8>, Fault> {
+    let mut reader = Counted::new(input);
+    match read_to_end_within(rt.alloc(), &mut reader, MAX_INPUT) {
+        Ok(text) => Ok(text),
+        Err(fault) => {
+            if is_verbose {
+                let _ = eprintln!(rt; "{}", ListFault::from_input(fault));
+            }
+            Err(input_fault(fault))
+        }
+    }
+}
+
+// Returns the fault of a text that is not a list of jobs. If `is_verbose`, writes a line on
+// standard error that says where and why.
+fn report_list_fault(rt: &HostRuntime, text: &[u8], fault: JobsFault, is_verbose: bool) -> Fault {
+    if is_verbose {
+        let _ = eprintln!(rt; "{}", ListFault::from_jobs(text, fault));
+    }
+    jobs_fault(fault)
+}
+
+// Reads the jobs on standard input, and writes the warnings about them.
+pub(crate) fn load_jobs<I: Read + Drop>(
+    rt: &HostRuntime,
+    input: I,
+    is_verbose: bool,
+) -> Result<Jobs, Fault> {
+    let text = text_of(rt, input, is_verbose)?;
+    match read_jobs(rt.alloc(), text.as_slice()) {
+        Ok(jobs) => {
+            warn(rt, text.as_slice(), &jobs);
+            Ok(jobs)
+        }
+        Err(fault) => Err(report_list_fault(rt, text.as_slice(), fault, is_verbose)),
+    }
+}
+
+// Writes the warnings about the jobs of a text, if it is a list of jobs.
+fn warn_of_text(rt: &HostRuntime, text: &[u8]) {
+    if let Ok(jobs) = read_jobs(rt.alloc(), text) {
+        warn(rt, text, &jobs);
+        drop(jobs);
+    }
+}
+
+// Returns the fault of a text that `check` read and that is not a list of jobs. If `is_verbose`,
+// writes all findings in its lines on standard error.
+fn report_check_fault(rt: &HostRuntime, text: &[u8], fault: JobsFault, is_verbose: bool) -> Fault {
+    if is_verbose && matches!(fault, JobsFault::Line(_)) {
+        report_findings(rt, text);
+        return jobs_fault(fault);
+    }
+    report_list_fault(rt, text, fault, is_verbose)
+}
+
+/// Runs `check`: prints the number of jobs of a list, and writes the warnings about them on
+/// standard error. If `is_verbose`, a list that is wrong has all its findings reported there.
+/// Errors: `Input` if it is no list of jobs, `Read`, `Write`, `Memory`.
+pub fn check<I: Read + Drop, W: Write>(
+    rt: &HostRuntime,
+    input: I,
+    is_verbose: bool,
+    output: &mut W,
+) -> Result<(), Fault>
+    ensures { OnOk result (PrintsCount (W.contents output.old) (W.contents output.new)) }
+{
+    let text = text_of(rt, input, is_verbose)?;
+    warn_of_text(rt, text.as_slice());
+    match count_jobs(rt.alloc(), text.as_slice()) {
+        Ok(line) => print_text(output, line.as_slice()),
+        Err(fault) => Err(report_check_fault(rt, text.as_slice(), fault, is_verbose)),
+    }
+}

@@ -1,0 +1,208 @@
+//! `plan_campaign`: what a campaign starts with: its options, and its jobs from standard input.
+ghost use Rattle.std.specs.Prelude.{◌≡◌, ◌≤◌, ℕ, List, Some, codes, length, string_bytes};
+ghost use Rattle.std.specs.Prelude.{IfOk, IfSome};
+ghost use Rattle.std.specs.List.{All};
+ghost use Rattle.acse_ber.specs.Password.{IsPassword};
+ghost use Rattle.clap.specs.Matches.{first_value, found_of};
+ghost use Rattle.program.specs.Passwords.{HasNoLineEnd};
+ghost use Rattle.head_end_commands.specs.Options.{AreLimits, AreWorkers, IsLimit, IsNumber};
+ghost use Rattle.head_end_commands.specs.Passwords.{ArePasswords, HasPasswords, IsCommonPassword};
+
+use crate::listing::load_jobs;
+use crate::passwords::passwords;
+use acse_ber::MAX_PASSWORD;
+use clap::ArgMatches;
+use cosem_axdr::Octets;
+use head_end::{Jobs, TcpLimits};
+use program::{Fault, read_password_file};
+use std::alloc::Global;
+use std::env;
+use std::env::VarError;
+use std::io::IsTerminal;
+use std::time::Duration;
+use wire_bytes::Listed;
+
+/// The environment variable that can hold the password.
+pub const PASSWORD_VARIABLE: &str = "METER_PASSWORD";
+
+/// The jobs and options of a campaign, all valid: the jobs, the password of each, the number of
+/// workers, the time limits, and whether the progress is shown.
+#[derive(Drop)]
+pub struct CampaignPlan {
+    pub jobs: Jobs,
+    pub passwords: Listed<Octets>,
+    pub workers: u8,
+    pub limits: TcpLimits,
+    pub is_shown: bool,
+    ghost sized: { All IsPassword passwords },
+    ghost paired: { length passwords ≡ length jobs },
+    ghost some: { 1 ≤ workers },
+    ghost within_max: { workers ≤ 16 },
+}
+
+// Returns the seconds of an option, or 0 if it has no value.
+fn seconds_of(matches: &ArgMatches<'_>, name: &str) -> u32
+    ensures { IsNumber 32 (found_of matches.now) name.now result }
+{
+    matches.get_one::<u32>(name).unwrap_or(0)
+}
+
+// Returns the time limit of an option. 0 seconds mean no limit, which is the greatest time:
+// 4,294,967,295 s.
+fn limit(matches: &ArgMatches<'_>, name: &str) -> Duration
+    ensures { IsLimit (found_of matches.now) name.now result }
+{
+    let seconds = seconds_of(matches, name);
+    Duration::from_secs(u64::from(if seconds == 0 { u32::MAX } else { seconds }))
+}
+
+// Returns the time limits of a connect and of a whole connection.
+fn limits_of(matches: &ArgMatches<'_>) -> TcpLimits
+    ensures { AreLimits (found_of matches.now) result }
+{
+    TcpLimits {
+        connect: limit(matches, "connect-timeout"),
+        answer: limit(matches, "timeout"),
+    }
+}
+
+// Returns the number of the option `--workers`, or 4 if it has no value.
+fn number_of_workers(matches: &ArgMatches<'_>) -> u8
+    ensures { IsNumber 8 (found_of matches.now) (codes "workers") result }
+{
+    matches.get_one::<u8>("workers").unwrap_or(4)
+}
+
+// Returns the number of workers, 1 to 16.
+fn workers(matches: &ArgMatches<'_>) -> u8
+    ensures { AreWorkers (found_of matches.now) result }
+{
+    number_of_workers(matches).clamp(1, 16)
+}
+
+// Returns the bytes of a password. Errors: `Input` if they are not 1 to 32, `Memory`.
+fn parse_password(alloc: Global, text: &str) -> Result<Octets, Fault>
+    ensures sized { IfOk result IsPassword }
+    ensures bytes { IfOk result (λ password. password ≡ text.now) }
+{
+    let bytes = text.as_bytes();
+    if bytes.is_empty() || bytes.len() > MAX_PASSWORD {
+        return Err(Fault::Input);
+    }
+    match Octets::from_slice(alloc, bytes) {
+        Ok(password) => Ok(password),
+        Err(_) => Err(Fault::Memory),
+    }
+}
+
+// Returns the bytes of a password. If they are not 1 to 32 and `is_verbose`, writes a line on
+// standard error that reports it.
+fn check_password(rt: &HostRuntime, text: &str, is_verbose: bool) -> Result<Octets, Fault>
+    ensures sized { IfOk result IsPassword }
+    ensures bytes { IfOk result (λ password. password ≡ text.now) }
+{
+    let password = parse_password(rt.alloc(), text);
+    if is_verbose && matches!(password, Err(Fault::Input)) {
+        let _ = eprintln!(rt; "password: must be 1 to 32 bytes");
+    }
+    password
+}
+
+// Returns the password of the environment, if it has one. Errors: `Input` if it is not UTF-8, with
+// a line on standard error if `is_verbose`; `Memory`.
+fn read_environment_password(rt: &HostRuntime, is_verbose: bool) -> Result<Option<String>, Fault> {
+    match env::var(rt, PASSWORD_VARIABLE) {
+        Ok(text) => Ok(Some(text)),
+        Err(VarError::NotPresent) => Ok(None),
+        Err(VarError::OutOfMemory) => Err(Fault::Memory),
+        Err(_) => {
+            if is_verbose {
+                let _ = eprintln!(rt; "METER_PASSWORD: expected UTF-8 text");
+            }
+            Err(Fault::Input)
+        }
+    }
+}
+
+// Returns the password of the file of `--password-file`, else that of the environment.
+fn stored_password(
+    rt: &HostRuntime,
+    matches: &ArgMatches<'_>,
+    is_verbose: bool,
+) -> Result<Option<String>, Fault>
+    ensures { IfOk result (λ password. (path : List ℕ)
+        → first_value (found_of matches.now) (codes "password-file") ≡ Some path
+        → IfSome password (λ text. HasNoLineEnd (string_bytes text))) }
+{
+    match matches.get_str("password-file") {
+        Some(path) => Ok(Some(read_password_file(rt, path)?)),
+        None => read_environment_password(rt, is_verbose),
+    }
+}
+
+// Returns the common password: that of the command line, else that of the file that it names, else
+// that of the environment, or `None` without one. Errors: those of a file without a password, with
+// a line on standard error; `Input` if the password does not have 1 to 32 bytes, with a line if
+// `is_verbose`; `Memory`.
+fn common_password(
+    rt: &HostRuntime,
+    matches: &ArgMatches<'_>,
+    is_verbose: bool,
+) -> Result<Option<Octets>, Fault>
+    ensures { IfOk result (IsCommonPassword (found_of matches.now)) }
+{
+    if let Some(text) = matches.get_str("password") {
+        return Ok(Some(check_password(rt, text, is_verbose)?));
+    }
+    match stored_password(rt, matches, is_verbose)? {
+        Some(text) => Ok(Some(check_password(rt, text.as_str(), is_verbose)?)),
+        None => Ok(None),
+    }
+}
+
+// Returns the password of each job.
+fn job_passwords(
+    rt: &HostRuntime,
+    matches: &ArgMatches<'_>,
+    jobs: &Jobs,
+    common: &Option<Octets>,
+) -> Result<Listed<Octets>, Fault>
+    requires { IfSome common.now IsPassword }
+    ensures passwords { IfOk result (ArePasswords (found_of matches.now) common.now jobs.now) }
+    ensures sized { IfOk result (λ passwords. All IsPassword passwords) }
+    ensures paired { IfOk result (λ passwords. length passwords ≡ length jobs.now) }
+{
+    match common {
+        Some(password) => passwords(rt, matches, jobs, Some(password.as_slice())),
+        None => passwords(rt, matches, jobs, None),
+    }
+}
+
+/// Validates the options and reads the jobs on standard input, and then the passwords of the jobs.
+/// Writes the warnings about the jobs on standard error. If `--verbose` is given, a line there
+/// describes the fault.
+pub fn plan_campaign(rt: &HostRuntime, matches: &ArgMatches<'_>) -> Result<CampaignPlan, Fault>
+    ensures limits { IfOk result (λ plan. AreLimits (found_of matches.now) plan.limits) }
+    ensures workers { IfOk result (λ plan. AreWorkers (found_of matches.now) plan.workers) }
+    ensures passwords { IfOk result (λ plan. HasPasswords (found_of matches.now) plan.jobs
+        plan.passwords) }
+{
+    let is_verbose = matches.get_flag("verbose");
+    let common = common_password(rt, matches, is_verbose)?;
+    let jobs = load_jobs(rt, rt.stdin(), is_verbose)?;
+    let passwords = job_passwords(rt, matches, &jobs, &common);
+    drop(common);
+    match passwords {
+        Ok(passwords) => Ok(CampaignPlan {
+            jobs,
+            passwords,
+            workers: workers(matches),
+            limits: limits_of(matches),
+            is_shown: matches.get_flag("progress") || rt.stderr().is_terminal(),
+        }),
+        Err(fault) => {
+            drop(jobs);
+            Err(fault)
+        }
+    }
+}
