@@ -5,7 +5,7 @@ use Rattle.std.proofs.Common.{append-nil, slice_index_or, get_or}
 use Rattle.std.specs.Prelude.{map, if◌then◌else◌}
 use Rattle.std.proofs.lemmas.List.{take_more, take-append-drop, length-take}
 use Rattle.std.proofs.lemmas.List.{ext_get_or, get_or-map, length-map}
-use Rattle.fleet_timers.specs.Activity.{TakesFirst, is_idle, idle_at, idle_from, idle_keys, renewed}
+use Rattle.fleet_timers.specs.Activity.{TakesFirst, is_idle, idle_at, idle_from, idle_keys, moment_after_search}
 
 idle_append : (limit now key : ℕ) (xs ys : List ℕ) → idle_from limit now key (xs ++ ys)
     ≡ idle_from limit now key xs ++ idle_from limit now (key + length xs) ys
@@ -68,11 +68,12 @@ takes_first limit now moments old idle idle' i so_far same = record {
   grown = same ∙ so_far;
 }
 
--- each moment was renewed
+-- each moment is that after the search
 pub all_renewed : (limit now : ℕ) (old new : List ℕ) → length new ≡ length old
-    → ((k : ℕ) → k < length old → get_or new k 0 ≡ renewed limit now (get_or old k 0))
-    → new ≡ map (renewed limit now) old
+    → ((k : ℕ) → k < length old → get_or new k 0 ≡ moment_after_search limit now (get_or old k 0))
+    → new ≡ map (moment_after_search limit now) old
 all_renewed limit now old new count each =
-    ext_get_or 0 new (map (renewed limit now) old) (count ∙ sym (length-map old (renewed limit now)))
+    ext_get_or 0 new (map (moment_after_search limit now) old)
+    (count ∙ sym (length-map old (moment_after_search limit now)))
     (λ k lt. each k (omega (arith, count, lt))
-    ∙ sym (get_or-map (renewed limit now) old k 0 0 (omega (arith, count, lt))))
+    ∙ sym (get_or-map (moment_after_search limit now) old k 0 0 (omega (arith, count, lt))))

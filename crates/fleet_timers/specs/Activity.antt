@@ -1,15 +1,15 @@
 -- When connections were last active: a list of moments, in the order of the keys.
---     touched        a connection is active
---     is_idle        whether a connection was not active for the limit
---     idle_keys      the connections that are idle
---     renewed        a connection that is idle counts as active
---     TakesFirst     some of the connections that are idle
+--     times_after_touch      a connection is active
+--     is_idle                whether a connection was not active for the limit
+--     idle_keys              the connections that are idle
+--     moment_after_search    a connection that is idle counts as active
+--     TakesFirst             some of the connections that are idle
 use Rattle.std.specs.Prelude.{◌≡◌, ℕ, ◌+◌, ◌-◌, ◌++◌, Bool, List, [], ◌∷◌, length, replicate, slice_set}
 use Rattle.std.specs.Prelude.{if◌then◌else◌, nat_le, nat_lt}
 
 -- The connection with this key is active now. Keys that were not used before count as active, too.
-abbrev pub touched : ℕ → ℕ → List ℕ → List ℕ
-touched key now moments =
+abbrev pub times_after_touch : ℕ → ℕ → List ℕ → List ℕ
+times_after_touch key now moments =
     if nat_lt key (length moments)
     then slice_set moments key now
     else moments ++ replicate (key + 1 - length moments) now
@@ -33,8 +33,8 @@ abbrev pub idle_keys : ℕ → ℕ → List ℕ → List ℕ
 idle_keys limit now moments = idle_from limit now 0 moments
 
 -- a connection that is idle counts as active now
-abbrev pub renewed : ℕ → ℕ → ℕ → ℕ
-renewed limit now moment = if is_idle limit now moment then now else moment
+abbrev pub moment_after_search : ℕ → ℕ → ℕ → ℕ
+moment_after_search limit now moment = if is_idle limit now moment then now else moment
 
 -- only the first of the connections that are idle were appended
 pub record TakesFirst (limit now : ℕ) (moments idle idle' : List ℕ) : Type 0 where

@@ -1,6 +1,6 @@
 //! `ActivityTimes`: when each connection was last active.
 ghost use Rattle.std.specs.Prelude.{◌≡◌, ◌++◌, [], OnOk, OnErr, length, map};
-ghost use Rattle.fleet_timers.specs.Activity.{TakesFirst, is_idle, idle_keys, renewed, touched};
+ghost use Rattle.fleet_timers.specs.Activity.{TakesFirst, is_idle, idle_keys, moment_after_search, times_after_touch};
 
 use std::alloc::{AllocError, Global};
 use std::marker::Model;
@@ -56,7 +56,7 @@ fn append_idle(
 // Counts the connections that are idle as active now.
 #[tactic(auto, using(crate::proofs::Idle::all_renewed))]
 fn renew_idle(moments: &mut [u64], limit: u64, now: u64)
-    ensures { moments.new ≡ map (renewed limit now) moments.old }
+    ensures { moments.new ≡ map (moment_after_search limit now) moments.old }
 {
     'moments: for moment in moments.iter_mut() {
         if is_idle(limit, now, *moment) {
@@ -77,7 +77,7 @@ impl ActivityTimes {
 
     /// Notes that the connection with this key is active now. If out of memory, nothing changes.
     pub fn touch(&mut self, key: usize, now: u64) -> Result<(), AllocError>
-        ensures ok { OnOk result (self.new ≡ touched key now self.old) }
+        ensures ok { OnOk result (self.new ≡ times_after_touch key now self.old) }
         ensures err { OnErr result (self.new ≡ self.old) }
     {
         if let Some(last) = self.moments.get_mut(key) {
@@ -101,7 +101,7 @@ impl ActivityTimes {
     ) -> Result<(), AllocError>
         ensures keys { OnOk result (idle.new.items
             ≡ idle.old.items ++ idle_keys limit now self.old) }
-        ensures renewed { OnOk result (self.new ≡ map (renewed limit now) self.old) }
+        ensures times { OnOk result (self.new ≡ map (moment_after_search limit now) self.old) }
         ensures err { OnErr result (self.new ≡ self.old) }
         ensures first { OnErr result (TakesFirst limit now self.old idle.old.items idle.new.items) }
     {
