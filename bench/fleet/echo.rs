@@ -1,7 +1,7 @@
 //! A bare server with one event loop over epoll, which only does the socket work of a fleet: it
 //! reads frames by their headers, and answers each AARQ with the meter's AARE and any other frame
-//! with the meter's response to a GET of the control state. Like the fleet it is told of each
-//! change once, and reads until a read blocks. It prints its port, and runs until it is killed.
+//! with the meter's response to a GET of the control state. Like the fleet, it uses edge-triggered
+//! events and reads until a read blocks. It prints its port, and runs until it is killed.
 use std::collections::HashMap;
 use std::io::{self, ErrorKind, Read, Write};
 use std::net::{TcpListener, TcpStream};
