@@ -372,6 +372,31 @@ def passwords_are_found():
                   (ran.returncode, ran.stderr) == (2, line + "fault: input\n"))
 
 
+def idle_connections_are_closed():
+    """A client that sends nothing for the limit is closed, and one that sends in time is not."""
+    limit = 2
+    with Fleet("--mode", "1", "--inactivity", str(limit)) as fleet:
+        with fleet.connect(2) as idle, fleet.connect(2) as active:
+            begun = time.monotonic()
+            check("two clients associate", ask(idle, AARQ, AARE) and ask(active, AARQ, AARE))
+            are_right = True
+            while time.monotonic() < begun + 2.5 * limit:
+                are_right &= ask(active, STATE, CONNECTED)
+                time.sleep(limit / 4)
+            check("a client that sends in time is answered", are_right)
+            check("an idle client is closed", is_closed(idle))
+        begun = time.monotonic()
+        with fleet.connect(3) as client:
+            closed = is_closed(client)
+            check("a client that sends nothing is closed", closed)
+            passed_time = time.monotonic() - begun
+            check(f"it is closed in time: {passed_time:.1f} s", limit <= passed_time < limit + 10)
+        clients = [fleet.connect(2) for _ in range(8)]
+        check("the sessions are free", all(ask(it, AARQ, AARE) for it in clients))
+        for client in clients:
+            client.close()
+
+
 def result_of_resuming(path):
     """The status and standard error of a fleet that is refused the trace in a file."""
     words = ["serve", "--meters", "3", "--password", PASSWORD, "--port", "0", "--resume", str(path)]
@@ -410,6 +435,7 @@ def main():
     wrong_words_are_refused()
     reasons_are_reported()
     passwords_are_found()
+    idle_connections_are_closed()
     meters_resume()
     with Fleet() as fleet:
         meters_are_apart(fleet)

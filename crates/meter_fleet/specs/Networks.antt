@@ -10,11 +10,12 @@ use Rattle.meter_fleet.specs.declared.network.NextClient.{NextClient}
 use Rattle.meter_fleet.specs.declared.network.NextClient.TheVariants as next
 
 -- A report of a network. `woke`: a call returned that might wait or not, with the keys of the
--- connections that are ready, and whether clients may be waiting; `failed`: such a call failed;
+-- connections that are ready, the keys of those that were idle for too long, and whether clients
+-- may be waiting; `failed`: such a call failed;
 -- `accepted`: a client, with the key of its connection, the address that it named, and its stream;
 -- `rejected`: a client was closed at once; `nobody`: no client was waiting.
 pub data NetworkEvent : Type 0 where
-  woke : Bool → List ℕ → Bool → NetworkEvent
+  woke : Bool → List ℕ → List ℕ → Bool → NetworkEvent
   failed : Bool → NetworkEvent
   accepted : ℕ → List ℕ → StreamState → NetworkEvent
   rejected : NetworkEvent
@@ -28,11 +29,12 @@ Tells (Some log) events None = ⊥
 Tells (Some log) events (Some log') = log' ≡ log ++ events
 
 -- the network was waited for, and appended the keys that it reported
-abbrev pub WaitsBy : {E : Type 0} → Option (List NetworkEvent) → Bool → List ℕ → Result Bool E
-    → List ℕ → Option (List NetworkEvent) → Type 0
-WaitsBy old may_wait ready (Ok has_clients) ready' new = (keys : List ℕ) × (ready' ≡ ready ++ keys)
-    × Tells old (woke may_wait keys has_clients ∷ []) new
-WaitsBy old may_wait ready (Err fault) ready' new = Tells old (failed may_wait ∷ []) new
+abbrev pub WaitsBy : {E : Type 0} → Option (List NetworkEvent) → Bool → List ℕ → List ℕ
+    → Result Bool E → List ℕ → List ℕ → Option (List NetworkEvent) → Type 0
+WaitsBy old may_wait ready idle (Ok has_clients) ready' idle' new =
+    (keys : List ℕ) × (lapsed : List ℕ) × (ready' ≡ ready ++ keys) × (idle' ≡ idle ++ lapsed)
+    × Tells old (woke may_wait keys lapsed has_clients ∷ []) new
+WaitsBy old may_wait ready idle (Err fault) ready' idle' new = Tells old (failed may_wait ∷ []) new
 
 module _ {S : Type 0} (state : S → StreamState) where
   -- the report of a client whose connection is to have this key

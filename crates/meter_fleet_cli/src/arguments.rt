@@ -112,6 +112,18 @@ fn resume<'a>(alloc: Global) -> Arg<'a> {
     .action(ArgAction::Set)
 }
 
+// Returns the option `--inactivity`.
+fn inactivity<'a>(alloc: Global) -> Arg<'a> {
+    option(
+        alloc,
+        "inactivity",
+        "SECONDS",
+        "Close a connection that is idle for this time, 0 to 4294967295; 0: never",
+    )
+    .value_parser(value_parser!(u32))
+    .default_value("180")
+}
+
 // Returns the option `--verbose`.
 fn verbose<'a>(alloc: Global) -> Arg<'a> {
     Arg::new(alloc, "verbose")
@@ -135,6 +147,7 @@ fn serve_command<'a>(alloc: Global) -> Result<Command<'a>, AllocError> {
     let made = with_argument(made, mode(alloc));
     let made = with_argument(made, depth(alloc));
     let made = with_argument(made, resume(alloc));
+    let made = with_argument(made, inactivity(alloc));
     with_argument(made, verbose(alloc))
 }
 

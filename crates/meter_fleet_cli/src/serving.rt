@@ -29,11 +29,11 @@ fn why_not_listening(kind: ErrorKind) -> &'static str {
 
 // Listens on the address of the command line. If `--verbose` is given, reports on standard error
 // the address, or why the fleet cannot listen on it.
-fn listen<N: Net>(
-    rt: &HostRuntime,
+fn listen<'a, N: Net>(
+    rt: &'a HostRuntime,
     net: &N,
     matches: &ArgMatches<'_>,
-) -> Result<FleetSockets, Fault> {
+) -> Result<FleetSockets<&'a HostRuntime>, Fault> {
     let is_verbose = matches.get_flag("verbose");
     let Some(address) = address_of(matches) else {
         if is_verbose {
@@ -41,7 +41,8 @@ fn listen<N: Net>(
         }
         return Err(Fault::Input);
     };
-    match FleetSockets::bind(net, rt.alloc(), address) {
+    let inactivity = matches.get_one::<u32>("inactivity").unwrap_or(0);
+    match FleetSockets::bind(rt, net, rt.alloc(), address, inactivity) {
         Ok(sockets) => {
             if is_verbose {
                 report_address(rt, &sockets);
@@ -59,7 +60,7 @@ fn listen<N: Net>(
 }
 
 // Reports on standard error the address that the fleet listens on.
-fn report_address(rt: &HostRuntime, sockets: &FleetSockets) {
+fn report_address(rt: &HostRuntime, sockets: &FleetSockets<&HostRuntime>) {
     if let Ok(address) = sockets.local_addr() {
         let _ = eprintln!(rt; "listening on {address}");
     }

@@ -10,4 +10,5 @@ complete -c meter_fleet -f -n '__fish_seen_subcommand_from serve' -l port -r -d 
 complete -c meter_fleet -f -n '__fish_seen_subcommand_from serve' -l mode -r -d 'Control mode of a new meter, 0 to 6 (class 70, attribute 4)'
 complete -c meter_fleet -f -n '__fish_seen_subcommand_from serve' -l depth -r -d 'Number of events that each meter keeps, the latest ones, 1 to 1024'
 complete -c meter_fleet -f -n '__fish_seen_subcommand_from serve' -l resume -r -d 'Each meter resumes from the trace in FILE; --mode is not used'
+complete -c meter_fleet -f -n '__fish_seen_subcommand_from serve' -l inactivity -r -d 'Close a connection that is idle for this time, 0 to 4294967295; 0: never'
 complete -c meter_fleet -f -n '__fish_seen_subcommand_from serve' -l verbose -d 'Report the address, and faults in full, on standard error'
