@@ -77,6 +77,12 @@ def check(name, holds):
         print(f"FAILED {name}", flush=True)
 
 
+def environment(password):
+    """The environment of a fleet, with this password or without one."""
+    rest = {name: value for name, value in os.environ.items() if name != "METER_PASSWORD"}
+    return rest if password is None else rest | {"METER_PASSWORD": password}
+
+
 def address_of(meter):
     """The address of a meter: the three bytes of its number."""
     return "127." + ".".join(str(byte) for byte in meter.to_bytes(3, "big"))
@@ -84,15 +90,17 @@ def address_of(meter):
 
 class Fleet:
     """A running `meter_fleet serve` of METERS meters, on a free port: in mode 1, or with other
-    options."""
+    options. `variable` is the password of the environment."""
 
-    def __init__(self, *options):
-        self.options = options or ("--mode", "1")
+    def __init__(self, *options, password=("--password", PASSWORD), variable=None):
+        self.options = (*password, *(options or ("--mode", "1")))
+        self.environment = environment(variable)
 
     def __enter__(self):
-        words = ["serve", "--meters", str(METERS), "--password", PASSWORD, *self.options,
+        words = ["serve", "--meters", str(METERS), *self.options,
                  "--listen", "0.0.0.0", "--port", "0", "--verbose"]
-        self.process = subprocess.Popen([str(FLEET), *words], stderr=subprocess.PIPE, text=True)
+        self.process = subprocess.Popen([str(FLEET), *words], stderr=subprocess.PIPE, text=True,
+                                        env=self.environment)
         guard = threading.Timer(PATIENCE, self.process.kill)
         guard.start()
         line = self.process.stderr.readline()
@@ -319,6 +327,7 @@ def campaigns_agree(fleet):
 
 def wrong_words_are_refused():
     for words in (["--meters", "0"], ["--meters", "16777216"], ["--meters", "3", "--mode", "7"],
+                  ["--meters", "3", "--depth", "0"], ["--meters", "3", "--depth", "1025"],
                   ["--meters", "3", "--listen", "nowhere"]):
         ran = subprocess.run([str(FLEET), "serve", "--password", PASSWORD, *words], capture_output=True,
                              timeout=PATIENCE, check=False)
@@ -342,6 +351,57 @@ def reasons_are_reported():
             ran = subprocess.run([str(FLEET), "serve", "--meters", "3", "--verbose", *words],
                                  capture_output=True, text=True, timeout=PATIENCE, check=False)
             check(f"{words[-1]!r}: why", (ran.returncode, ran.stderr) == (status, lines))
+
+
+def passwords_are_found():
+    """The password is that of the command line, else that of its file, else that of the
+    environment."""
+    with tempfile.TemporaryDirectory() as folder:
+        path = pathlib.Path(folder, "password")
+        path.write_text(PASSWORD + "\n")
+        path.chmod(0o600)
+        for name, words, variable in (
+                ("the environment", (), PASSWORD),
+                ("a file", ("--password-file", str(path)), "of the environment"),
+                ("the command line", ("--password", PASSWORD, "--password-file", str(path) + "x"),
+                 "of the environment")):
+            with Fleet("--mode", "1", "--depth", "16", password=words, variable=variable) as fleet:
+                check(f"the password of {name}", talk(fleet, 3, (DISCONNECT, DONE)))
+        path.chmod(0o644)
+        missing = "password: expected --password, --password-file or the variable METER_PASSWORD\n"
+        exposed = f"{path}: expected a file that only its owner may read, as chmod 600 makes it\n"
+        for words, variable, line in (((), None, missing), ((), "", ""), ((), "x" * 33, ""),
+                                      (("--password-file", str(path)), None, exposed)):
+            ran = subprocess.run([str(FLEET), "serve", "--meters", "3", "--port", "0", *words],
+                                 capture_output=True, text=True, timeout=PATIENCE, check=False,
+                                 env=environment(variable))
+            check(f"no password: {words} {variable}",
+                  (ran.returncode, ran.stderr) == (2, line + "fault: input\n"))
+
+
+def idle_connections_are_closed():
+    """A client that sends nothing for the limit is closed, and one that sends in time is not."""
+    limit = 2
+    with Fleet("--mode", "1", "--inactivity", str(limit)) as fleet:
+        with fleet.connect(2) as idle, fleet.connect(2) as active:
+            begun = time.monotonic()
+            check("two clients associate", ask(idle, AARQ, AARE) and ask(active, AARQ, AARE))
+            are_right = True
+            while time.monotonic() < begun + 2.5 * limit:
+                are_right &= ask(active, STATE, CONNECTED)
+                time.sleep(limit / 4)
+            check("a client that sends in time is answered", are_right)
+            check("an idle client is closed", is_closed(idle))
+        begun = time.monotonic()
+        with fleet.connect(3) as client:
+            closed = is_closed(client)
+            check("a client that sends nothing is closed", closed)
+            passed_time = time.monotonic() - begun
+            check(f"it is closed in time: {passed_time:.1f} s", limit <= passed_time < limit + 10)
+        clients = [fleet.connect(2) for _ in range(8)]
+        check("the sessions are free", all(ask(it, AARQ, AARE) for it in clients))
+        for client in clients:
+            client.close()
 
 
 def result_of_resuming(path):
@@ -381,6 +441,8 @@ def main():
         sys.exit(f"{FLEET} is not built")
     wrong_words_are_refused()
     reasons_are_reported()
+    passwords_are_found()
+    idle_connections_are_closed()
     meters_resume()
     with Fleet() as fleet:
         meters_are_apart(fleet)

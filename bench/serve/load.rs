@@ -1,9 +1,10 @@
-//! Clients of a meter on this machine: `load PORT CLIENTS REQUESTS [set]`. Each client is a thread
+//! Clients of meters on this machine: `load PORT CLIENTS REQUESTS [set]`. Each client is a thread
 //! with its own connection, which associates once and then sends REQUESTS GETs of the control
-//! state, each after the response to the last one; with `set` SETs of the control mode. Prints the
+//! state, each after the response to the last one; with `set` SETs of the control mode. The first
+//! eight clients connect to 127.0.0.1, the next eight to 127.0.0.2, and so on. Prints the
 //! nanoseconds from the first request to the last response of all clients.
 use std::io::{Read, Write};
-use std::net::TcpStream;
+use std::net::{Ipv4Addr, TcpStream};
 use std::sync::Barrier;
 use std::thread;
 use std::time::Instant;
@@ -27,9 +28,13 @@ fn ask(meter: &mut TcpStream, request: &[u8], answer: &[u8]) {
     assert!(came[..answer.len()] == *answer, "another answer: {:02X?}", &came[..answer.len()]);
 }
 
+// The number of clients of one address.
+const EACH: u32 = 8;
+
 // Sends the requests of one client; returns when it began and when it ended.
-fn client(port: u16, (request, answer): Exchange, requests: u32, begin: &Barrier) -> (Instant, Instant) {
-    let mut meter = TcpStream::connect(("127.0.0.1", port)).expect("a connection");
+fn client(place: u32, port: u16, (request, answer): Exchange, requests: u32, begin: &Barrier) -> (Instant, Instant) {
+    let address = Ipv4Addr::from(0x7F00_0001 + place / EACH);
+    let mut meter = TcpStream::connect((address, port)).expect("a connection");
     meter.set_nodelay(true).expect("no delay");
     ask(&mut meter, AARQ, AARE);
     begin.wait();
@@ -49,7 +54,10 @@ fn main() {
     let exchange = if is_set { (SET, SUCCESS) } else { (GET, STATE) };
     let begin = Barrier::new(clients as usize);
     let times: Vec<(Instant, Instant)> = thread::scope(|scope| {
-        let all: Vec<_> = (0..clients).map(|_| scope.spawn(|| client(port as u16, exchange, requests, &begin))).collect();
+        let all: Vec<_> = (0..clients).map(|place| {
+            let begin = &begin;
+            scope.spawn(move || client(place, port as u16, exchange, requests, begin))
+        }).collect();
         all.into_iter().map(|one| one.join().expect("a client")).collect()
     });
     let first = times.iter().map(|one| one.0).min().expect("a client");

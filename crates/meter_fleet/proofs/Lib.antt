@@ -1,3 +1,4 @@
 pub mod ServedKeys
+pub mod Closing
 pub mod Meeting
 pub mod Rounding

@@ -7,6 +7,7 @@ use Rattle.fleet_meters.specs.declared.terms.MeterTerms.{MeterTerms}
 use Rattle.fleet_runs.proofs.Steps.{calls_on}
 use Rattle.meter_fleet.specs.Networks.{NetworkEvent, polled, Tells}
 use Rattle.meter_fleet.specs.Rounds.{service_calls, arrival_calls, client_events, AcceptsClients}
+use Rattle.meter_fleet.specs.Rounds.{departure_calls, ClosesKeys}
 use Rattle.meter_fleet.specs.Rounds.{ServesKeys, ServesAll, Round, LoopState, may_wait, DoesWork}
 use Rattle.meter_fleet.specs.Rounds.{DoesRound, FailsBy, RoundBy, DoesRounds, ServesUntil, ServesBy}
 use Rattle.meter_fleet.specs.Rounds.{start_of, frame_bytes}
@@ -16,80 +17,97 @@ use Rattle.meter_fleet.proofs.Meeting.{tells_on}
 
 -- ---- one round
 
-works : (old : LoopState) (keys : List ℕ) (has_clients has_more : Bool) (left done again : List ℕ)
-    (log log' : Option (List NetworkEvent)) (f f' : FleetState)
-    → Tells old.log (polled (may_wait old) keys has_clients ∷ []) log
-    → (meets : AcceptsClients (old.has_clients || has_clients) log old.fleet has_more log' f)
-    → done ++ left ≡ old.ready ++ keys → (serves : ServesKeys f done again f')
+works : (old : LoopState) (keys idle : List ℕ) (has_clients has_more : Bool)
+    (left done again : List ℕ) (log log' : Option (List NetworkEvent)) (f g h : FleetState)
+    → Tells old.log (polled (may_wait old) keys idle has_clients ∷ []) log
+    → (closes : ClosesKeys old.fleet idle f)
+    → (meets : AcceptsClients (old.has_clients || has_clients) log f has_more log' g)
+    → done ++ left ≡ old.ready ++ keys → (serves : ServesKeys g done again h)
     → DoesWork old (record {
       keys = keys;
+      idle = idle;
       has_clients = has_clients;
+      departures = closes.departures;
       arrivals = meets.arrivals;
       has_more = has_more;
       services = serves.services;
-    }) left log' f'
-works old keys has_clients has_more left done again log log' f f' tells meets split serves =
-    record {
-      told = tells_on old.log log log' (polled (may_wait old) keys has_clients ∷ [])
+    }) left log' h
+works old keys idle has_clients has_more left done again log log' f g h tells closes meets split
+    serves = record {
+      told = tells_on old.log log log' (polled (may_wait old) keys idle has_clients ∷ [])
           (client_events (old.has_clients || has_clients) meets.arrivals has_more) tells meets.told;
+      lapsed = closes.keys_are;
       met = meets.met;
       served = ap (λ (ks : List ℕ). ks ++ left) serves.keys_are ∙ split;
-      calls = calls_on frame_bytes (flat_map arrival_calls meets.arrivals)
-          (flat_map service_calls serves.services) old.fleet f f' meets.calls serves.calls;
+      calls = calls_on frame_bytes
+          (flat_map departure_calls closes.departures ++ flat_map arrival_calls meets.arrivals)
+          (flat_map service_calls serves.services) old.fleet g h
+          (calls_on frame_bytes (flat_map departure_calls closes.departures)
+          (flat_map arrival_calls meets.arrivals) old.fleet f g closes.calls meets.calls)
+          serves.calls;
     }
 
-round_by : (old new : LoopState) (keys all : List ℕ) (has_clients : Bool)
-    (log : Option (List NetworkEvent)) (f : FleetState) (result : Result Unit FleetFault)
-    → Tells old.log (polled (may_wait old) keys has_clients ∷ []) log
-    → AcceptsClients (old.has_clients || has_clients) log old.fleet new.has_clients new.log f
-    → all ≡ old.ready ++ keys → ServesAll f all result new.ready new.fleet
+round_by : (old new : LoopState) (keys idle all : List ℕ) (has_clients : Bool)
+    (log : Option (List NetworkEvent)) (f g : FleetState) (result : Result Unit FleetFault)
+    → Tells old.log (polled (may_wait old) keys idle has_clients ∷ []) log
+    → ClosesKeys old.fleet idle f
+    → AcceptsClients (old.has_clients || has_clients) log f new.has_clients new.log g
+    → all ≡ old.ready ++ keys → ServesAll g all result new.ready new.fleet
     → RoundBy old result new
-round_by old new keys all has_clients log f (Ok done) tells meets is serves = (
+round_by old new keys idle all has_clients log f g (Ok done) tells closes meets is serves = (
   record {
     keys = keys;
+    idle = idle;
     has_clients = has_clients;
+    departures = closes.departures;
     arrivals = meets.arrivals;
     has_more = new.has_clients;
     services = serves.services;
   },
   record {
-    works = works old keys has_clients new.has_clients [] all new.ready log new.log f new.fleet
-        tells meets (append-nil all ∙ is) serves;
+    works = works old keys idle has_clients new.has_clients [] all new.ready log new.log f g
+        new.fleet tells closes meets (append-nil all ∙ is) serves;
     goes_on = serves.again_are;
     has_more = refl;
   },
 )
-round_by old new keys all has_clients log f (Err Network) tells meets is serves = absurd serves
-round_by old new keys all has_clients log f (Err Memory) tells meets is serves = inr (
+round_by old new keys idle all has_clients log f g (Err Network) tells closes meets is serves =
+    absurd serves
+round_by old new keys idle all has_clients log f g (Err Memory) tells closes meets is serves = inr (
   record {
     keys = keys;
+    idle = idle;
     has_clients = has_clients;
+    departures = closes.departures;
     arrivals = meets.arrivals;
     has_more = new.has_clients;
     services = serves.serves.services;
   },
   serves.left,
-  works old keys has_clients new.has_clients serves.left serves.done serves.again log new.log f
-      new.fleet tells meets (serves.split ∙ is) serves.serves,
+  works old keys idle has_clients new.has_clients serves.left serves.done serves.again log new.log f
+      g new.fleet tells closes meets (serves.split ∙ is) serves.serves,
 )
 
 -- the parts of a round
-pub round_next : (log log' log'' : Option (List NetworkEvent)) (f f' f'' : FleetState)
-    (ready ready' again keys : List ℕ) (waits had has has_more had' : Bool)
+pub round_next : (log log' log'' : Option (List NetworkEvent)) (f g h j : FleetState)
+    (ready ready' again keys none idle idle' : List ℕ) (waits had has has_more had' : Bool)
     (result : Result Unit FleetFault)
     → waits ≡ may_wait (record { log = log; fleet = f; ready = ready; has_clients = had })
-    → Tells log (polled waits keys has ∷ []) log'
-    → AcceptsClients (had || has) log' f has_more log'' f' → had' ≡ has_more
-    → ready' ≡ ready ++ keys → ServesAll f' ready' result again f''
+    → Tells log (polled waits keys idle has ∷ []) log' → none ≡ [] → idle' ≡ none ++ idle
+    → ClosesKeys f idle' g
+    → AcceptsClients (had || has) log' g has_more log'' h → had' ≡ has_more
+    → ready' ≡ ready ++ keys → ServesAll h ready' result again j
     → RoundBy (record { log = log; fleet = f; ready = ready; has_clients = had }) result
-    (record { log = log''; fleet = f''; ready = again; has_clients = had' })
-round_next log log' log'' f f' f'' ready ready' again keys waits had has has_more had' result is
-    tells meets same grown serves =
+    (record { log = log''; fleet = j; ready = again; has_clients = had' })
+round_next log log' log'' f g h j ready ready' again keys none idle idle' waits had has has_more
+    had' result is tells empty lapsed closes meets same grown serves =
     round_by (record { log = log; fleet = f; ready = ready; has_clients = had })
-    (record { log = log''; fleet = f''; ready = again; has_clients = had' }) keys ready' has log'
-    f' result (subst (λ (w : Bool). Tells log (polled w keys has ∷ []) log') is tells)
-    (subst (λ (m : Bool). AcceptsClients (had || has) log' f m log'' f') (sym same) meets) grown
-    serves
+    (record { log = log''; fleet = j; ready = again; has_clients = had' }) keys idle ready' has log'
+    g h result
+    (subst (λ (w : Bool). Tells log (polled w keys idle has ∷ []) log') is tells)
+    (subst (λ (ks : List ℕ). ClosesKeys f ks g)
+    (lapsed ∙ ap (λ (ks : List ℕ). ks ++ idle) empty) closes)
+    (subst (λ (m : Bool). AcceptsClients (had || has) log' g m log'' h) (sym same) meets) grown serves
 
 -- ---- several rounds
 

@@ -10,11 +10,12 @@ use Rattle.meter_fleet.specs.declared.network.NextClient.{NextClient}
 use Rattle.meter_fleet.specs.declared.network.NextClient.TheVariants as next
 
 -- A report of a network. `polled`: a call returned that might wait or not, with the keys of the
--- connections that are ready, and whether clients may be waiting; `failed`: such a call failed;
+-- connections that are ready, the keys of those that were idle for too long, and whether clients
+-- may be waiting; `failed`: such a call failed;
 -- `accepted`: a client, with the key of its connection, the address that it named, and its stream;
 -- `rejected`: a client was closed at once; `no_client`: no client was waiting.
 pub data NetworkEvent : Type 0 where
-  polled : Bool → List ℕ → Bool → NetworkEvent
+  polled : Bool → List ℕ → List ℕ → Bool → NetworkEvent
   failed : Bool → NetworkEvent
   accepted : ℕ → List ℕ → StreamState → NetworkEvent
   rejected : NetworkEvent
@@ -29,12 +30,14 @@ Tells (Some log) events None = ⊥
 Tells (Some log) events (Some log') = log' ≡ log ++ events
 
 -- Whether the network was polled, blocking only if `may_wait` holds. On success it appended the
--- keys of the ready connections to `ready`, and returned whether clients may be waiting.
-abbrev pub PollsTo : {E : Type 0} → Option (List NetworkEvent) → Bool → List ℕ → Result Bool E
-    → List ℕ → Option (List NetworkEvent) → Type 0
-PollsTo old may_wait ready (Ok has_clients) ready' new = (keys : List ℕ) × (ready' ≡ ready ++ keys)
-    × Tells old (polled may_wait keys has_clients ∷ []) new
-PollsTo old may_wait ready (Err fault) ready' new = Tells old (failed may_wait ∷ []) new
+-- keys of the ready connections to `ready` and those of the idle ones to `idle`, and returned
+-- whether clients may be waiting.
+abbrev pub PollsTo : {E : Type 0} → Option (List NetworkEvent) → Bool → List ℕ → List ℕ
+    → Result Bool E → List ℕ → List ℕ → Option (List NetworkEvent) → Type 0
+PollsTo old may_wait ready idle (Ok has_clients) ready' idle' new =
+    (keys : List ℕ) × (lapsed : List ℕ) × (ready' ≡ ready ++ keys) × (idle' ≡ idle ++ lapsed)
+    × Tells old (polled may_wait keys lapsed has_clients ∷ []) new
+PollsTo old may_wait ready idle (Err fault) ready' idle' new = Tells old (failed may_wait ∷ []) new
 
 module _ {S : Type 0} (state : S → StreamState) where
   -- the report of a client whose connection is to have this key

@@ -1,4 +1,5 @@
 -- The rounds of a fleet's loop.
+--     Departure       what became of a connection that was idle for too long
 --     Arrival         what became of a client
 --     Service         what became of a connection that was ready
 --     ServesAll       connections were served
@@ -29,6 +30,29 @@ frame_bytes = 65543
 -- the maximum number of clients that are accepted in a round
 abbrev pub max_accepted : ℕ
 max_accepted = 4096
+
+-- ---- idle connections
+
+-- A connection that was idle for too long, by its key: it was closed, or there is none.
+pub data Departure : Type 0 where
+  left : ℕ → Departure
+  vacant : ℕ → Departure
+
+-- its key
+abbrev pub departure_key : Departure → ℕ
+departure_key (left key) = key
+departure_key (vacant key) = key
+
+-- the call for it
+abbrev pub departure_calls : Departure → List FleetCall
+departure_calls (left key) = closed key ∷ []
+departure_calls (vacant key) = missed key ∷ []
+
+-- the connections with these keys were closed, in order
+pub record ClosesKeys (old : FleetState) (keys : List ℕ) (new : FleetState) : Type 0 where
+  pub departures : List Departure
+  pub keys_are : map departure_key departures ≡ keys
+  pub calls : Calls frame_bytes old (flat_map departure_calls departures) new
 
 -- ---- clients
 
@@ -159,12 +183,15 @@ ServesMore old keys next (Err fault) next' new = ServesAll old keys (Err fault) 
 
 -- ---- rounds
 
--- A round: the connections that were reported ready, and whether clients were reported; what became
--- of each client that was accepted, and whether more may be waiting; and what became of each
--- connection that was ready.
+-- A round: the connections that were reported ready, those that were reported idle for too long,
+-- and whether clients were reported; what became of each idle connection; what became of each
+-- client that was accepted, and whether more may be waiting; and what became of each connection
+-- that was ready.
 pub record Round : Type 0 where
   pub keys : List ℕ
+  pub idle : List ℕ
   pub has_clients : Bool
+  pub departures : List Departure
   pub arrivals : List Arrival
   pub has_more : Bool
   pub services : List Service
@@ -181,18 +208,20 @@ pub record LoopState : Type 0 where
 abbrev pub may_wait : LoopState → Bool
 may_wait s = (length s.ready == 0) && not s.has_clients
 
--- Whether this work of a round was done, up to the connections that are left. Clients are accepted
--- if some may be waiting, and then the connections that could continue and those that were reported
--- ready are served, in order. No other calls change the fleet.
+-- Whether this work of a round was done, up to the connections that are left. Those that were
+-- reported idle for too long are closed, and no others; clients are accepted if some may be
+-- waiting; and then the connections that could continue and those that were reported ready are
+-- served, in order. No other calls change the fleet.
 pub record DoesWork (old : LoopState) (round : Round) (left : List ℕ)
     (log : Option (List NetworkEvent)) (fleet : FleetState) : Type 0 where
-  pub told : Tells old.log (polled (may_wait old) round.keys round.has_clients
+  pub told : Tells old.log (polled (may_wait old) round.keys round.idle round.has_clients
       ∷ client_events (old.has_clients || round.has_clients) round.arrivals round.has_more) log
+  pub lapsed : map departure_key round.departures ≡ round.idle
   pub met : AreAccepted (old.has_clients || round.has_clients) round.arrivals round.has_more
   pub served : map service_key round.services ++ left ≡ old.ready ++ round.keys
   pub calls : Calls frame_bytes old.fleet
-      (flat_map arrival_calls round.arrivals ++ flat_map service_calls round.services)
-      fleet
+      (flat_map departure_calls round.departures ++ flat_map arrival_calls round.arrivals
+      ++ flat_map service_calls round.services) fleet
 
 -- whether a whole round of the loop was done
 pub record DoesRound (old : LoopState) (round : Round) (new : LoopState) : Type 0 where

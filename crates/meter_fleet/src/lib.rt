@@ -1,11 +1,12 @@
-//! The loop of a fleet of meters: waits for the network, admits clients, and runs the connections
-//! that are ready.
+//! The loop of a fleet of meters: waits for the network, closes the connections that were idle for
+//! too long, admits clients, and runs the connections that are ready.
 //!
 //! It owns the fleet, and reaches the network through the trait [`Network`].
 #![tactic(auto)]
 
 mod clients;
 mod connections;
+mod idle;
 mod network;
 mod rounds;
 mod serving;

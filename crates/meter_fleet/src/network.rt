@@ -30,12 +30,18 @@ pub trait Network {
     // Ghost value: what the network has reported so far, if that is known.
     ghost log: { Self → Option (List NetworkEvent) };
 
-    /// Waits until a connection is ready or clients are waiting; returns at once if `may_wait` is
-    /// false. Appends the keys of connections that are ready, and returns whether clients may be
-    /// waiting.
-    fn wait(&mut self, may_wait: bool, ready: &mut Vec<usize>) -> Result<bool, NetworkFault>
-        ensures { PollsTo (log self.old) may_wait ready.old.items result ready.new.items
-            (log self.new) };
+    /// Waits until a connection is ready, clients are waiting or a connection was idle for too
+    /// long; returns at once if `may_wait` is false, and may return without a reason. Appends the
+    /// keys of connections that are ready to `ready` and those of connections that were idle for
+    /// too long to `idle`, and returns whether clients may be waiting.
+    fn wait(
+        &mut self,
+        may_wait: bool,
+        ready: &mut Vec<usize>,
+        idle: &mut Vec<usize>,
+    ) -> Result<bool, NetworkFault>
+        ensures { PollsTo (log self.old) may_wait ready.old.items idle.old.items result
+            ready.new.items idle.new.items (log self.new) };
 
     /// Accepts a connection, whose events are then reported under this key.
     fn accept(&mut self, key: usize) -> NextClient<Self::Stream>

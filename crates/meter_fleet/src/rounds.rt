@@ -1,9 +1,11 @@
-//! `Rounds`: one round after the other: accepts clients and serves connections.
+//! `Rounds`: one round after the other: closes idle connections, accepts clients and serves
+//! connections.
 ghost use Rattle.std.specs.Prelude.{◌≡◌, ◌==◌, ◌&&◌, [], false, not, IfOk, length};
 ghost use Rattle.meter_fleet.specs.Rounds.{frame_bytes};
 
 use crate::clients::accept_clients;
 use crate::connections::serve_ready;
+use crate::idle::close_idle;
 use crate::network::Network;
 use crate::serving::FleetFault;
 use fleet_links::Stream;
@@ -24,6 +26,8 @@ pub(crate) struct Rounds {
     ready: Vec<usize>,
     // An empty list.
     next: Vec<usize>,
+    // The keys of the connections that were idle for too long in the last round.
+    idle: Vec<usize>,
     // Whether clients may be waiting.
     has_clients: bool,
     input: [u8; INPUT_BYTES],
@@ -42,6 +46,7 @@ impl Rounds {
         Ok(Rounds {
             ready: Vec::new(alloc),
             next: Vec::new(alloc),
+            idle: Vec::new(alloc),
             has_clients: false,
             input: [0; INPUT_BYTES],
             frame: vec![in alloc; 0; FRAME_BYTES]?,
@@ -73,8 +78,10 @@ impl Rounds {
               has_clients = self.new.has_clients;
             }) }
     {
-        match network.wait(self.may_wait(), &mut self.ready) {
+        self.idle.clear();
+        match network.wait(self.may_wait(), &mut self.ready, &mut self.idle) {
             Ok(has_clients) => {
+                close_idle(fleet, self.idle.as_slice());
                 let is_due = self.has_clients | has_clients;
                 self.has_clients = accept_clients(alloc, network, fleet, is_due);
                 self.serve(alloc, fleet)

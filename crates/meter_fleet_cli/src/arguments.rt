@@ -43,9 +43,19 @@ fn password<'a>(alloc: Global) -> Arg<'a> {
         alloc,
         "password",
         "TEXT",
-        "Password of the management client, 1 to 32 bytes",
+        "Password of the management client, 1 to 32 bytes; default: METER_PASSWORD",
     )
-    .required(true)
+    .action(ArgAction::Set)
+}
+
+// Returns the option `--password-file`.
+fn password_file<'a>(alloc: Global) -> Arg<'a> {
+    option(
+        alloc,
+        "password-file",
+        "FILE",
+        "File whose one line is the password; only its owner may have access to it",
+    )
     .action(ArgAction::Set)
 }
 
@@ -79,6 +89,18 @@ fn mode<'a>(alloc: Global) -> Arg<'a> {
     .default_value("0")
 }
 
+// Returns the option `--depth`.
+fn depth<'a>(alloc: Global) -> Arg<'a> {
+    option(
+        alloc,
+        "depth",
+        "N",
+        "Number of events that each meter keeps, the latest ones, 1 to 1024",
+    )
+    .value_parser(value_parser!(u16).range(1..=1024))
+    .default_value("1")
+}
+
 // Returns the option `--resume`.
 fn resume<'a>(alloc: Global) -> Arg<'a> {
     option(
@@ -88,6 +110,18 @@ fn resume<'a>(alloc: Global) -> Arg<'a> {
         "Each meter resumes from the trace in FILE; --mode is not used",
     )
     .action(ArgAction::Set)
+}
+
+// Returns the option `--inactivity`.
+fn inactivity<'a>(alloc: Global) -> Arg<'a> {
+    option(
+        alloc,
+        "inactivity",
+        "SECONDS",
+        "Close a connection that is idle for this time, 0 to 4294967295; 0: never",
+    )
+    .value_parser(value_parser!(u32))
+    .default_value("180")
 }
 
 // Returns the option `--verbose`.
@@ -107,10 +141,13 @@ fn serve_command<'a>(alloc: Global) -> Result<Command<'a>, AllocError> {
     );
     let made = with_argument(made, meters(alloc));
     let made = with_argument(made, password(alloc));
+    let made = with_argument(made, password_file(alloc));
     let made = with_argument(made, listen(alloc));
     let made = with_argument(made, port(alloc));
     let made = with_argument(made, mode(alloc));
+    let made = with_argument(made, depth(alloc));
     let made = with_argument(made, resume(alloc));
+    let made = with_argument(made, inactivity(alloc));
     with_argument(made, verbose(alloc))
 }
 

@@ -7,6 +7,7 @@
 mod arguments;
 mod serving;
 mod sockets;
+mod terms;
 mod traces;
 
 use crate::arguments::command_line;

@@ -1,54 +1,12 @@
 //! The command `serve`: meters that clients reach over TCP.
 use crate::sockets::FleetSockets;
-use crate::traces::{read_trace_file, report_wrong_trace, trace_in_mode};
-use acse_ber::MAX_PASSWORD;
+use crate::terms::meter_terms;
 use clap::ArgMatches;
-use cosem_axdr::Octets;
-use fleet_meters::MeterTerms;
 use meter_fleet::{FleetFault, serve_fleet};
 use program::Fault;
 use std::io::ErrorKind;
 use std::net::{IpAddr, Net, SocketAddr};
 use std::sync::Wait;
-
-// The number of events that a meter keeps.
-const KEPT_EVENTS: u16 = 1;
-
-// Returns the trace that all meters continue from: that of the file of `--resume`, or that of a new
-// meter.
-fn first_trace(rt: &HostRuntime, matches: &ArgMatches<'_>) -> Result<Octets, Fault> {
-    match matches.get_str("resume") {
-        Some(path) => read_trace_file(rt, path),
-        None => {
-            let mode = matches.get_one::<u8>("mode").unwrap_or(0);
-            trace_in_mode(rt.alloc(), mode).map_err(|_| Fault::Memory)
-        }
-    }
-}
-
-// Returns what all meters have in common. Errors: `Input` if the password is not 1 to 32 bytes,
-// with a line on standard error if `--verbose` is given; those of the file of `--resume`, with a
-// line on standard error; `Memory`.
-fn meter_terms(rt: &HostRuntime, matches: &ArgMatches<'_>) -> Result<MeterTerms, Fault> {
-    let password = matches.get_str("password").unwrap_or("");
-    if password.is_empty() || password.len() > MAX_PASSWORD {
-        if matches.get_flag("verbose") {
-            let _ = eprintln!(rt; "password: must be 1 to 32 bytes");
-        }
-        return Err(Fault::Input);
-    }
-    let trace = first_trace(rt, matches)?;
-    let Ok(password) = Octets::from_slice(rt.alloc(), password.as_bytes()) else {
-        return Err(Fault::Memory);
-    };
-    match MeterTerms::from_trace(rt.alloc(), trace, password, KEPT_EVENTS) {
-        Ok(terms) => Ok(terms),
-        Err(fault) => {
-            let path = matches.get_str("resume").unwrap_or("");
-            Err(report_wrong_trace(rt, path, fault))
-        }
-    }
-}
 
 // Returns the address of the command line, or `None` if its host is not an IP address.
 fn address_of(matches: &ArgMatches<'_>) -> Option<SocketAddr> {
@@ -71,11 +29,11 @@ fn why_not_listening(kind: ErrorKind) -> &'static str {
 
 // Listens on the address of the command line. If `--verbose` is given, reports on standard error
 // the address, or why the fleet cannot listen on it.
-fn listen<N: Net>(
-    rt: &HostRuntime,
+fn listen<'a, N: Net>(
+    rt: &'a HostRuntime,
     net: &N,
     matches: &ArgMatches<'_>,
-) -> Result<FleetSockets, Fault> {
+) -> Result<FleetSockets<&'a HostRuntime>, Fault> {
     let is_verbose = matches.get_flag("verbose");
     let Some(address) = address_of(matches) else {
         if is_verbose {
@@ -83,7 +41,8 @@ fn listen<N: Net>(
         }
         return Err(Fault::Input);
     };
-    match FleetSockets::bind(net, rt.alloc(), address) {
+    let inactivity = matches.get_one::<u32>("inactivity").unwrap_or(0);
+    match FleetSockets::bind(rt, net, rt.alloc(), address, inactivity) {
         Ok(sockets) => {
             if is_verbose {
                 report_address(rt, &sockets);
@@ -101,7 +60,7 @@ fn listen<N: Net>(
 }
 
 // Reports on standard error the address that the fleet listens on.
-fn report_address(rt: &HostRuntime, sockets: &FleetSockets) {
+fn report_address(rt: &HostRuntime, sockets: &FleetSockets<&HostRuntime>) {
     if let Ok(address) = sockets.local_addr() {
         let _ = eprintln!(rt; "listening on {address}");
     }

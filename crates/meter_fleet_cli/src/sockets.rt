@@ -1,7 +1,8 @@
-//! `FleetSockets`: the TCP connections of a fleet, over epoll.
-ghost use Rattle.std.specs.Prelude.{None, if◌then◌else◌};
+//! `FleetSockets`: the TCP connections of a fleet, over epoll, and when they were last active.
+ghost use Rattle.std.specs.Prelude.{◌≡◌, ◌++◌, ℕ, List, None, IfOk, if◌then◌else◌};
 
 use fleet_links::{Received, Sent, Stream};
+use fleet_timers::ActivityTimes;
 use meter_fleet::{Network, NetworkFault, NextClient};
 use mio::net::{TcpListener, TcpStream};
 use mio::{Events, Interest, Poll, Token};
@@ -9,7 +10,7 @@ use std::alloc::Global;
 use std::io;
 use std::io::{ErrorKind, Read, Write};
 use std::net::{Net, SocketAddr};
-use std::time::Duration;
+use std::time::{Clock, Duration, Instant};
 
 // The name of the listener in its events. No connection has this key.
 const LISTENER: Token = Token(usize::MAX);
@@ -64,30 +65,48 @@ impl Stream for Socket {
     }
 }
 
+// The time between two searches for idle connections, in milliseconds.
+const SEARCH_INTERVAL: u64 = 1_000;
+
 // The listening socket and the connections of a fleet.
 #[derive(Drop)]
-pub(crate) struct FleetSockets {
+pub(crate) struct FleetSockets<R: Clock + Copy> {
+    rt: R,
     poll: Poll,
     events: Events,
     listener: TcpListener,
+    began: Instant,
+    // When the connections were last active, in milliseconds since the start.
+    times: ActivityTimes,
+    // The time after which a connection is idle, in milliseconds; 0 means never.
+    limit: u64,
+    next_search: u64,
 }
 
-impl FleetSockets {
-    // Listens on an address.
+impl<R: Clock + Copy> FleetSockets<R> {
+    // Listens on an address. A connection is idle for too long that was not ready for this number
+    // of seconds; 0 means never.
     pub(crate) fn bind(
+        rt: R,
         net: &impl Net,
         alloc: Global,
         address: SocketAddr,
-    ) -> io::Result<FleetSockets> {
+        inactivity: u32,
+    ) -> io::Result<FleetSockets<R>> {
         let poll = Poll::new(net)?;
         let events = Events::with_capacity(alloc, MAX_EVENTS)?;
         let mut listener = TcpListener::bind(net, address)?;
         poll.registry()
             .register(&mut listener, LISTENER, Interest::READABLE)?;
         Ok(FleetSockets {
+            rt,
             poll,
             events,
             listener,
+            began: Instant::now(&rt)?,
+            times: ActivityTimes::new(alloc),
+            limit: u64::from(inactivity) * 1_000,
+            next_search: 0,
         })
     }
 
@@ -96,8 +115,80 @@ impl FleetSockets {
         self.listener.local_addr()
     }
 
+    // Returns the number of milliseconds since the start; 0 without a limit.
+    fn now(&self) -> Result<u64, NetworkFault> {
+        if self.limit == 0 {
+            return Ok(0);
+        }
+        match self.began.elapsed(&self.rt) {
+            Ok(time) => Ok(u64::try_from(time.as_millis()).unwrap_or(u64::MAX)),
+            Err(_) => Err(NetworkFault),
+        }
+    }
+
+    // Notes that a connection is active now.
+    fn touch(&mut self, key: usize) -> Result<(), NetworkFault> {
+        let now = self.now()?;
+        if self.limit == 0 {
+            return Ok(());
+        }
+        match self.times.touch(key, now) {
+            Ok(()) => Ok(()),
+            Err(_) => Err(NetworkFault),
+        }
+    }
+
+    // Returns how long to wait for an event.
+    fn timeout(&self, may_wait: bool) -> Option<Duration> {
+        if !may_wait {
+            Some(Duration::ZERO)
+        } else if self.limit == 0 {
+            None
+        } else {
+            Some(Duration::from_millis(SEARCH_INTERVAL))
+        }
+    }
+
+    // Takes the keys of the events. Returns whether clients are waiting.
+    fn take_events(&mut self, now: u64, ready: &mut Vec<usize>) -> Result<bool, NetworkFault>
+        ensures { IfOk result (λ _. (keys : List ℕ) × (ready.new.items ≡ ready.old.items ++ keys)) }
+    {
+        let mut has_clients = false;
+        'events: for event in self.events.iter() {
+            if event.token() == LISTENER {
+                has_clients = true;
+            } else {
+                let key = event.token().0;
+                if ready.push(key).is_err() {
+                    return Err(NetworkFault);
+                }
+                if self.limit > 0 && self.times.touch(key, now).is_err() {
+                    return Err(NetworkFault);
+                }
+            }
+        }
+        Ok(has_clients)
+    }
+
+    // Appends the keys of the connections that are idle, if a search is due.
+    fn find_idle(&mut self, now: u64, idle: &mut Vec<usize>) -> Result<(), NetworkFault>
+        ensures { IfOk result (λ _. (keys : List ℕ) × (idle.new.items ≡ idle.old.items ++ keys)) }
+    {
+        if self.limit == 0 || now < self.next_search {
+            return Ok(());
+        }
+        self.next_search = now.saturating_add(SEARCH_INTERVAL);
+        match self.times.take_idle(self.limit, now, idle) {
+            Ok(()) => Ok(()),
+            Err(_) => Err(NetworkFault),
+        }
+    }
+
     // Registers a connection under a key, and returns it with the address that the client named.
-    fn register(&self, mut stream: TcpStream, key: usize) -> io::Result<(Socket, u32)> {
+    fn register(&mut self, mut stream: TcpStream, key: usize) -> io::Result<(Socket, u32)> {
+        if self.touch(key).is_err() {
+            return Err(ErrorKind::OutOfMemory.into());
+        }
         stream.set_nodelay(true)?;
         let address = match stream.local_addr()? {
             SocketAddr::V4(address) => address.ip().to_bits(),
@@ -116,24 +207,24 @@ impl FleetSockets {
     }
 }
 
-impl Network for FleetSockets {
+impl<R: Clock + Copy> Network for FleetSockets<R> {
     type Stream = Socket;
 
     ghost log = { λ _. None };
 
-    fn wait(&mut self, may_wait: bool, ready: &mut Vec<usize>) -> Result<bool, NetworkFault> {
-        let timeout = if may_wait { None } else { Some(Duration::ZERO) };
+    fn wait(
+        &mut self,
+        may_wait: bool,
+        ready: &mut Vec<usize>,
+        idle: &mut Vec<usize>,
+    ) -> Result<bool, NetworkFault> {
+        let timeout = self.timeout(may_wait);
         if self.poll.poll(&mut self.events, timeout).is_err() {
             return Err(NetworkFault);
         }
-        let mut has_clients = false;
-        'events: for event in self.events.iter() {
-            if event.token() == LISTENER {
-                has_clients = true;
-            } else if ready.push(event.token().0).is_err() {
-                return Err(NetworkFault);
-            }
-        }
+        let now = self.now()?;
+        let has_clients = self.take_events(now, ready)?;
+        self.find_idle(now, idle)?;
         Ok(has_clients)
     }
 

@@ -1,0 +1,44 @@
+-- When connections were last active: a list of moments, in the order of the keys.
+--     times_after_touch      a connection is active
+--     is_idle                whether a connection was not active for the limit
+--     idle_keys              the connections that are idle
+--     moment_after_search    a connection that is idle counts as active
+--     TakesFirst             some of the connections that are idle
+use Rattle.std.specs.Prelude.{◌≡◌, ℕ, ◌+◌, ◌-◌, ◌++◌, Bool, List, [], ◌∷◌, length, replicate, slice_set}
+use Rattle.std.specs.Prelude.{if◌then◌else◌, nat_le, nat_lt}
+
+-- The connection with this key is active now. Keys that were not used before count as active, too.
+abbrev pub times_after_touch : ℕ → ℕ → List ℕ → List ℕ
+times_after_touch key now moments =
+    if nat_lt key (length moments)
+    then slice_set moments key now
+    else moments ++ replicate (key + 1 - length moments) now
+
+-- whether a connection that was last active at this moment is idle now
+abbrev pub is_idle : ℕ → ℕ → ℕ → Bool
+is_idle limit now moment = nat_le limit (now - moment)
+
+-- the key of a connection, if it is idle
+abbrev pub idle_at : ℕ → ℕ → ℕ → ℕ → List ℕ
+idle_at limit now key moment = if is_idle limit now moment then key ∷ [] else []
+
+-- the keys of the connections that are idle, where the first moment is that of this key
+abbrev pub idle_from : ℕ → ℕ → ℕ → List ℕ → List ℕ
+idle_from limit now key [] = []
+idle_from limit now key (moment ∷ moments) =
+    idle_at limit now key moment ++ idle_from limit now (key + 1) moments
+
+-- the keys of the connections that are idle, in ascending order
+abbrev pub idle_keys : ℕ → ℕ → List ℕ → List ℕ
+idle_keys limit now moments = idle_from limit now 0 moments
+
+-- a connection that is idle counts as active now
+abbrev pub moment_after_search : ℕ → ℕ → ℕ → ℕ
+moment_after_search limit now moment = if is_idle limit now moment then now else moment
+
+-- only the first of the connections that are idle were appended
+pub record TakesFirst (limit now : ℕ) (moments idle idle' : List ℕ) : Type 0 where
+  pub taken : List ℕ
+  pub left : List ℕ
+  pub split : taken ++ left ≡ idle_keys limit now moments
+  pub grown : idle' ≡ idle ++ taken

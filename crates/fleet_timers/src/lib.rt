@@ -1,0 +1,8 @@
+//! When each connection of a fleet was last active, and which connections are idle.
+#![tactic(auto)]
+
+mod activity;
+#[cfg(test)]
+mod tests;
+
+pub use activity::ActivityTimes;

@@ -1,0 +1,116 @@
+//! What all meters of a fleet have in common: the trace that they continue from, the password and
+//! the number of events that a meter keeps.
+ghost use Rattle.std.specs.Prelude.{◌≤◌, IfOk};
+ghost use Rattle.acse_ber.specs.Password.{IsPassword};
+
+use crate::traces::{read_trace_file, report_wrong_trace, trace_in_mode};
+use acse_ber::MAX_PASSWORD;
+use clap::ArgMatches;
+use clap::error::ErrorKind;
+use cosem_axdr::Octets;
+use fleet_meters::MeterTerms;
+use program::{Fault, password_line, read_password_file};
+use std::env;
+use std::env::VarError;
+
+// The environment variable that can hold the password.
+const PASSWORD_VARIABLE: &str = "METER_PASSWORD";
+
+// The maximum number of events that a meter keeps.
+const MAX_DEPTH: u16 = 1_024;
+
+// Returns the password of the environment. Errors: `Input` if there is none, with a line on
+// standard error, or if it is not UTF-8, with a line if `is_verbose`; `Memory`.
+fn environment_password(rt: &HostRuntime, is_verbose: bool) -> Result<String, Fault> {
+    match env::var(rt, PASSWORD_VARIABLE) {
+        Ok(text) => Ok(text),
+        Err(VarError::OutOfMemory) => Err(Fault::Memory),
+        Err(VarError::NotPresent) => {
+            if let Some(line) = password_line(ErrorKind::MissingRequiredArgument) {
+                let _ = eprintln!(rt; "{line}");
+            }
+            Err(Fault::Input)
+        }
+        Err(_) => {
+            if is_verbose {
+                let _ = eprintln!(rt; "METER_PASSWORD: expected UTF-8 text");
+            }
+            Err(Fault::Input)
+        }
+    }
+}
+
+// Returns the bytes of a password. Errors: `Input` if they are not 1 to 32, with a line on standard
+// error if `is_verbose`; `Memory`.
+fn check_password(rt: &HostRuntime, text: &str, is_verbose: bool) -> Result<Octets, Fault>
+    ensures { IfOk result IsPassword }
+{
+    let bytes = text.as_bytes();
+    if bytes.is_empty() || bytes.len() > MAX_PASSWORD {
+        if is_verbose {
+            let _ = eprintln!(rt; "password: must be 1 to 32 bytes");
+        }
+        return Err(Fault::Input);
+    }
+    match Octets::from_slice(rt.alloc(), bytes) {
+        Ok(password) => Ok(password),
+        Err(_) => Err(Fault::Memory),
+    }
+}
+
+// Returns the password of the command line, else that of the file that it names, else that of the
+// environment.
+fn find_password(rt: &HostRuntime, matches: &ArgMatches<'_>) -> Result<Octets, Fault>
+    ensures { IfOk result IsPassword }
+{
+    let is_verbose = matches.get_flag("verbose");
+    if let Some(text) = matches.get_str("password") {
+        return check_password(rt, text, is_verbose);
+    }
+    let text = match matches.get_str("password-file") {
+        Some(path) => read_password_file(rt, path)?,
+        None => environment_password(rt, is_verbose)?,
+    };
+    check_password(rt, text.as_str(), is_verbose)
+}
+
+// Returns the trace that all meters continue from: that of the file of `--resume`, or that of a new
+// meter.
+fn first_trace(rt: &HostRuntime, matches: &ArgMatches<'_>) -> Result<Octets, Fault> {
+    match matches.get_str("resume") {
+        Some(path) => read_trace_file(rt, path),
+        None => {
+            let mode = matches.get_one::<u8>("mode").unwrap_or(0);
+            trace_in_mode(rt.alloc(), mode).map_err(|_| Fault::Memory)
+        }
+    }
+}
+
+// Returns the number of events that a meter keeps.
+fn depth(matches: &ArgMatches<'_>) -> u16
+    ensures { (1 ≤ result) × (result ≤ 1024) }
+{
+    let depth = matches.get_one::<u16>("depth").unwrap_or(1);
+    depth.clamp(1, MAX_DEPTH)
+}
+
+/// Returns what all meters have in common. Errors: `Input` if the password is missing, is not UTF-8
+/// or is not 1 to 32 bytes; those of its file and of the file of `--resume`, with a line on
+/// standard error; `Memory`.
+pub(crate) fn meter_terms(rt: &HostRuntime, matches: &ArgMatches<'_>) -> Result<MeterTerms, Fault> {
+    let password = find_password(rt, matches)?;
+    let trace = match first_trace(rt, matches) {
+        Ok(trace) => trace,
+        Err(fault) => {
+            drop(password);
+            return Err(fault);
+        }
+    };
+    match MeterTerms::from_trace(rt.alloc(), trace, password, depth(matches)) {
+        Ok(terms) => Ok(terms),
+        Err(fault) => {
+            let path = matches.get_str("resume").unwrap_or("");
+            Err(report_wrong_trace(rt, path, fault))
+        }
+    }
+}
