@@ -107,7 +107,8 @@ round_next log log' log'' f g h j ready ready' again keys none idle idle' waits 
     (subst (λ (w : Bool). Tells log (polled w keys idle has ∷ []) log') is tells)
     (subst (λ (ks : List ℕ). ClosesKeys f ks g)
     (lapsed ∙ ap (λ (ks : List ℕ). ks ++ idle) empty) closes)
-    (subst (λ (m : Bool). AcceptsClients (had || has) log' g m log'' h) (sym same) meets) grown serves
+    (subst (λ (m : Bool). AcceptsClients (had || has) log' g m log'' h) (sym same) meets) grown
+    serves
 
 -- ---- several rounds
 
