@@ -9,8 +9,8 @@ use relay_core::{Event, Reply};
 use relay_recorder::{Recorder, Trace};
 use server_commands::{PlanFault, read_head};
 use server_io::{
-    Console, ConsoleEnd, ConsoleSources, Ended, EventSink, LineBuffer, Reading, console_event,
-    run_console, start,
+    Console, ConsoleEnd, ConsoleObserver, ConsoleSources, EventSink, LineBuffer, Reading,
+    console_event, run_console, start,
 };
 use std::alloc::{AllocError, Global};
 use std::io;
@@ -230,7 +230,7 @@ fn a_failed_read_ends_the_console(rt: HostRuntime) -> Result<(), Fail> {
 #[derive(Drop)]
 struct Silent;
 
-impl Ended for Silent {
+impl ConsoleObserver for Silent {
     fn on_console_end(&self, _end: ConsoleEnd) {}
 }
 

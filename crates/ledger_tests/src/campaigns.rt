@@ -34,7 +34,7 @@ const NO_REPORT: &[u8] = b"a unknown\nnone unknown\nb unknown\nc refused 2\n";
 
 /// The report of a run, and the entries that it left.
 #[derive(Drop)]
-struct Ended {
+struct RunEnd {
     text: Octets,
     entries: Vec<LedgerEntry>,
 }
@@ -55,7 +55,7 @@ fn ledger_of(
 fn end_of(
     alloc: Global,
     run: LedgeredRun<'_, Meters<'_>, MemoryBook>,
-) -> Result<Ended, AllocError> {
+) -> Result<RunEnd, AllocError> {
     let LedgeredRun {
         report: lines,
         places,
@@ -68,7 +68,7 @@ fn end_of(
         Some(ledger) => ledger.into_book().into_entries(),
         None => Vec::new(alloc),
     };
-    Ok(Ended {
+    Ok(RunEnd {
         text: text?,
         entries,
     })
@@ -81,7 +81,7 @@ fn run_on<R: Threads + Wait + Sync>(
     jobs: &Jobs,
     ledger: Ledger<MemoryBook>,
     received: &AtomicU64,
-) -> Result<Ended, AllocError> {
+) -> Result<RunEnd, AllocError> {
     if ledger.len() != jobs.len() {
         drop(ledger);
         return Err(AllocError);
@@ -112,7 +112,7 @@ fn run_from<R: Threads + Wait + Sync>(
     entries: &[LedgerEntry],
     calls: u64,
     received: &AtomicU64,
-) -> Result<Ended, AllocError> {
+) -> Result<RunEnd, AllocError> {
     let jobs = jobs_at(alloc, ADDRESSES)?;
     let ledger = ledger_of(alloc, entries, calls)?;
     let ended = run_on(rt, alloc, &jobs, ledger, received);

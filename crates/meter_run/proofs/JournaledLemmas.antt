@@ -19,7 +19,7 @@ use Rattle.meter_server.specs.JournaledSessions.{AreAnswered, AreJournaled}
 use Rattle.meter_server.specs.declared.serving_all.Served.{Served}
 use Rattle.port_threads.proofs.Going.{goes_trans, starts_trans}
 use Rattle.port_threads.specs.Ports.{SplitsOff, child}
-use Rattle.port_threads.specs.Workers.{ReturnsPort, Ended}
+use Rattle.port_threads.specs.Workers.{ReturnsPort, EndsWork}
 use Rattle.program.specs.declared.fault.Fault.{Fault}
 use Rattle.relay_core.specs.Opening.{opening_of}
 use Rattle.relay_core.specs.declared.opening.Opening.{Opening}
@@ -92,7 +92,7 @@ journaled_joined did IsDurable given served lent p q after end s back waited =
 made_none : (did : Did)
     → ((p q : MeterPort) (end : Result (Unit {0}) CallFault) → did p q end
     → Watches IsLegal p.known q.known) → (lent back : MeterPort)
-    (end : Option (Result (Unit {0}) CallFault)) → Ended did lent back end
+    (end : Option (Result (Unit {0}) CallFault)) → EndsWork did lent back end
     → calls_by lent.known.number back.known.seen ≡ calls_by lent.known.number lent.known.seen
 made_none did quiet lent back None same = ap
     (λ (p : MeterPort). calls_by lent.known.number p.known.seen) same
@@ -172,7 +172,7 @@ module _ {F : Type 0} (acts : Type 0) (seen : F → List ℕ) (may_leave : F →
   kept_by : (lent back : MeterPort) (end : Option (Result (Unit {0}) CallFault))
       → (acts → (calls : Calls)
       → LeavesOnly moment left_since file file (IsSavedFrom Renews 0 (lines_in (seen file)) calls))
-      → Ended JournalDid lent back end → acts → KeptBy back.known.seen (fault_of_journal end)
+      → EndsWork JournalDid lent back end → acts → KeptBy back.known.seen (fault_of_journal end)
   kept_by lent back None idle same a = (file, idle a back.known.seen, tt)
   kept_by lent back (Some (Err fault)) idle worked a =
       let kept = worked.leaves a in (kept.0, kept.1.any_moment, tt)

@@ -11,7 +11,7 @@ use Rattle.turn_lock.specs.declared.call_fault.CallFault.TheVariants as call
 use Rattle.turn_lock.specs.History.{IsAmong, calls_by}
 use Rattle.turn_lock.specs.Shown.{IsSame}
 use Rattle.port_threads.specs.Ports.{PortContinues, AreJoined, SplitsOff, TakesIn, child}
-use Rattle.port_threads.specs.Workers.{Ended, ReturnsPort}
+use Rattle.port_threads.specs.Workers.{EndsWork, ReturnsPort}
 use Rattle.port_threads.proofs.Going.{goes_trans}
 use Rattle.shared_meter.specs.Handed.{MeterPort, PassesAll, own_events}
 use Rattle.shared_meter.specs.Handed.{StopsFor as WorkerStops}
@@ -42,10 +42,10 @@ Did CanFollow p q end = IsSame p q × OnOk end (PassesAll CanFollow p q) × IfEr
 -- the work of the worker whose port was returned
 did_all : (CanFollow : List Event → Type 0) (own back : MeterPort)
     (end : Option (Result (Unit {0}) CallFault))
-    → Ended (Did CanFollow) own back end → end ≡ Some (Ok tt) → PassesAll CanFollow own back
+    → EndsWork (Did CanFollow) own back end → end ≡ Some (Ok tt) → PassesAll CanFollow own back
 did_all CanFollow own back end ended is =
     let E : Option (Result (Unit {0}) CallFault) → Type 0 =
-    λ e. Ended (Did CanFollow) own back e in
+    λ e. EndsWork (Did CanFollow) own back e in
     (subst E is ended).1
 
 acted_as : (own back q : MeterPort) (Whole : List Event → Type 0) → IsSame own back
@@ -195,7 +195,7 @@ spent_by : (CanFollow : List Event → Type 0) (own begun before q : MeterPort)
     → IsSpent q
 spent_by CanFollow own begun before q end back goes bound is =
     let E : Option (Result (Unit {0}) CallFault) → Type 0 =
-    λ e. Ended (Did CanFollow) own back.back e in
+    λ e. EndsWork (Did CanFollow) own back.back e in
     let spent : back.back.bound ≤ back.back.known.drawn = (subst E is back.ended).2 in
     let same : q.bound ≡ back.back.bound = back.taken.goes.bound ∙ goes.bound ∙ sym bound
     ∙ sym back.same.bound in
@@ -212,7 +212,7 @@ stops_by CanFollow own begun before q end F back goes bound call.Exhausted is =
     spent_by CanFollow own begun before q end back goes bound is
 stops_by CanFollow own begun before q end F back goes bound call.Journal is =
     let E : Option (Result (Unit {0}) CallFault) → Type 0 =
-    λ e. Ended (Did CanFollow) own back.back e in
+    λ e. EndsWork (Did CanFollow) own back.back e in
     absurd (subst E is back.ended).2
 
 -- a spent port remains spent

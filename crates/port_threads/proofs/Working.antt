@@ -6,14 +6,14 @@ use Rattle.turn_lock.specs.declared.call_fault.CallFault.{CallFault}
 use Rattle.turn_lock.specs.Calls.{Joins, parent_after_split, child_after_split}
 use Rattle.turn_lock.specs.Shown.{ShownPort, IsSame}
 use Rattle.port_threads.specs.Ports.{PortContinues, AreJoined, TakesIn, child}
-use Rattle.port_threads.specs.Workers.{Ended}
+use Rattle.port_threads.specs.Workers.{EndsWork}
 use Rattle.port_threads.proofs.Going.{among_at, goes_trans, goes_split, goes_joins}
 
 module _ {E R O : Type 0} where
   pub ended_same : (did : ShownPort E R O → ShownPort E R O → Result (Unit {0}) CallFault → Type 0)
       (p q : ShownPort E R O) (end : Option (Result (Unit {0}) CallFault))
       → ((r s : ShownPort E R O) (e : Result (Unit {0}) CallFault) → did r s e → IsSame r s)
-      → Ended did p q end → IsSame p q
+      → EndsWork did p q end → IsSame p q
   ended_same did p q None same e =
       record {
         lock = ap (λ r. r.lock) e;

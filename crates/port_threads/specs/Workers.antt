@@ -5,11 +5,11 @@ use Rattle.turn_lock.specs.Shown.{ShownPort, IsSame}
 use Rattle.port_threads.specs.Ports.{TakesIn}
 
 -- whether the port p was returned as q, and the work was not started or had this result
-abbrev pub Ended : {E R O : Type 0}
+abbrev pub EndsWork : {E R O : Type 0}
     → (ShownPort E R O → ShownPort E R O → Result (Unit {0}) CallFault → Type 0) → ShownPort E R O
     → ShownPort E R O → Option (Result (Unit {0}) CallFault) → Type 0
-Ended did p q None = q ≡ p
-Ended did p q (Some end) = did p q end
+EndsWork did p q None = q ≡ p
+EndsWork did p q (Some end) = did p q end
 
 -- whether the port that was lent to a worker was returned, and joined into the port whose states
 -- are `before` and `after`
@@ -18,6 +18,6 @@ pub record ReturnsPort {E R O : Type 0} (did : ShownPort E R O → ShownPort E R
     → Type 0) (lent : ShownPort E R O) (end : Option (Result (Unit {0}) CallFault))
     (before after : ShownPort E R O) : Type 0 where
   pub back : ShownPort E R O
-  pub ended : Ended did lent back end
+  pub ended : EndsWork did lent back end
   pub same : IsSame lent back
   pub taken : TakesIn before back after

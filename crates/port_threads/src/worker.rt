@@ -2,7 +2,7 @@
 ghost use Rattle.std.specs.Prelude.{◌≡◌, ◌+◌, ◌≤◌, IfOk, IfErr, IfSome, IfNone};
 ghost use Rattle.turn_lock.specs.Shown.{IsSame};
 ghost use Rattle.port_threads.specs.Ports.{PortContinues, AreJoined, SplitsOff};
-ghost use Rattle.port_threads.specs.Workers.{Ended, ReturnsPort};
+ghost use Rattle.port_threads.specs.Workers.{EndsWork, ReturnsPort};
 
 use std::alloc::Global;
 use std::snapshot::Snapshot;
@@ -43,7 +43,7 @@ pub struct WorkerPromise<T: Turned, K> {
 
 impl<T: Turned, K: Worker<Port<T>>> Promise<Handed<T>> for WorkerPromise<T, K> {
     ghost kept_by = { λ task handed.
-        Ended (K.did task.worker.value) task.port.value handed.0 handed.1 };
+        EndsWork (K.did task.worker.value) task.port.value handed.0 handed.1 };
 }
 
 /// The handle of a running worker's thread.
@@ -57,7 +57,7 @@ pub(crate) fn do_work<T: Turned, K: Worker<Port<T>>, W: Wait + Copy>(
     worker: K,
     port: Port<T>,
 ) -> Handed<T>
-    ensures { Ended (K.did worker) port result.0 result.1 }
+    ensures { EndsWork (K.did worker) port result.0 result.1 }
 {
     if refused.load(Ordering::SeqCst) {
         return (port, None);

@@ -22,7 +22,7 @@ const ASKED: &str =
 /// frame with 12 more.
 const ANSWERED: usize = 727;
 
-type Ended = Result<SessionEnd, ServeFault>;
+type SessionResult = Result<SessionEnd, ServeFault>;
 
 /// Serves a session with a meter, and writes to a page.
 fn serve(
@@ -31,7 +31,7 @@ fn serve(
     input: &[u8],
     page: &mut Page,
     password: &Octets,
-) -> Ended
+) -> SessionResult
     requires { IsPassword password.now }
 {
     let mut reader = Counted::new(input);
@@ -41,7 +41,7 @@ fn serve(
 
 /// Returns whether one session ran out of memory, and the other wrote all responses, which begin
 /// with those of the first session.
-fn is_refused(ended: Ended, page: &Page, other_ended: Ended, other: &Page) -> bool {
+fn is_refused(ended: SessionResult, page: &Page, other_ended: SessionResult, other: &Page) -> bool {
     ended == Err(ServeFault::Memory)
         && other_ended == Ok(SessionEnd::Closed)
         && other.text().len() == ANSWERED

@@ -73,9 +73,10 @@ pub(crate) fn new_recorder(rt: &impl Abort, alloc: Global) -> Result<Recorder, A
 }
 
 /// How a run ended, and whether its trace has the lines of these lists.
-type Ended = (Result<Served, ServeFault>, bool);
+type RunResult = (Result<Served, ServeFault>, bool);
 
-fn ended(run: MeterRun, expected: &[Lines; 6]) -> Ended {
+// Returns how a run ended, and whether its trace has the lines of these lists.
+fn result_of(run: MeterRun, expected: &[Lines; 6]) -> RunResult {
     let MeterRun { served, trace } = run;
     match trace {
         Ok(text) => {
@@ -95,7 +96,7 @@ fn run<R: Threads + Wait + Abort + Copy + Send + 'static>(
     lists: Lists,
     limit: u32,
     expected: &[Lines; 6],
-) -> Result<Ended, AllocError>
+) -> Result<RunResult, AllocError>
     requires { 0 < limit }
 {
     match (
@@ -106,7 +107,7 @@ fn run<R: Threads + Wait + Abort + Copy + Send + 'static>(
             assert!(*rt; password.len() == 8);
             let run = run_lists(rt, alloc, recorder, listener, lists, &password, limit);
             drop(password);
-            Ok(ended(run, expected))
+            Ok(result_of(run, expected))
         }
         (recorder, password) => {
             drop(recorder);
@@ -236,7 +237,7 @@ fn run_two<R: Threads + Wait + Abort + Copy + Send + 'static>(
     alloc: Global,
     listener: &mut ClientListener,
     limit: u32,
-) -> Result<Ended, Fail>
+) -> Result<RunResult, Fail>
     requires { 0 < limit }
 {
     let mut lists = no_lists(alloc);

@@ -1,6 +1,6 @@
 //! The end of a server: it stops accepting connections.
 use crate::listening::Stopped;
-use crate::reading::Ended;
+use crate::reading::ConsoleObserver;
 use crate::running::ConsoleEnd;
 use std::net::{Net, SocketAddr, TcpStream};
 use std::sync::atomic::Ordering;
@@ -41,7 +41,7 @@ impl<R: Net + Clock> Closing<R> {
     }
 }
 
-impl<R: Net + Clock> Ended for Closing<R> {
+impl<R: Net + Clock> ConsoleObserver for Closing<R> {
     fn on_console_end(&self, _end: ConsoleEnd) {
         self.close();
     }

@@ -31,7 +31,7 @@ pub use limits::StreamLimits;
 pub use line_event::console_event;
 pub use lines::LineBuffer;
 pub use listening::{Sockets, Stopped};
-pub use reading::{Ended, Reading, start};
+pub use reading::{ConsoleObserver, Reading, start};
 pub use relay_log::{RelayLog, open_relay};
 pub use running::{ConsoleEnd, run_console};
 pub use sink::EventSink;

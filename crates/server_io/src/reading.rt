@@ -8,7 +8,7 @@ use std::thread;
 use std::thread::{JoinHandle, Threads};
 
 /// An observer that is called once the console has ended.
-pub trait Ended {
+pub trait ConsoleObserver {
     /// Is called when the console has ended: no further line is read.
     fn on_console_end(&self, end: ConsoleEnd);
 }
@@ -30,7 +30,7 @@ pub struct Reading<R, B, E, N> {
 }
 
 // Passes on the events of the input's lines, and then calls `ended`.
-fn read<R: Wait + Copy + Drop, B: BufRead + Drop, E: Eprint + Drop, N: Ended + Drop>(
+fn read<R: Wait + Copy + Drop, B: BufRead + Drop, E: Eprint + Drop, N: ConsoleObserver + Drop>(
     alloc: Global,
     reading: Reading<R, B, E, N>,
 ) -> ConsoleEnd {
@@ -52,7 +52,7 @@ pub fn start<
     R: Threads + Wait + Copy + Drop + Send + 'static,
     B: BufRead + Drop + Send + 'static,
     E: Eprint + Drop + Send + 'static,
-    N: Ended + Drop + Send + 'static,
+    N: ConsoleObserver + Drop + Send + 'static,
 >(rt: &R, alloc: Global, reading: Reading<R, B, E, N>) -> Option<JoinHandle<ConsoleEnd>> {
     match thread::spawn(rt, move || read(alloc, reading)) {
         Ok(thread) => Some(thread),
