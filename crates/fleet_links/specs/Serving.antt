@@ -9,9 +9,10 @@ use Rattle.relay_recorder.specs.Recording.{Recording}
 use Rattle.embedded_meter.specs.Dialogues.{Dialogue, asks_ahead, sends_ahead, ends_ahead}
 use Rattle.embedded_meter.specs.MeterStates.{MeterState, OthersStay, dialogue_at}
 
--- This input arrived, the meter applied the first of the events that remain for it, in order, each
--- once and with the reply that its history determines, and these frames were taken: the first of
--- those that remain for the input and these replies. Everything else still remains to be done.
+-- Whether a session progressed with this input. The meter applied the first of the events that
+-- remain for it, in order, each once and with the reply that its history determines. The frames
+-- taken are the first of those that remain for the input and these replies. Everything else still
+-- remains to be done.
 pub record Progresses (old : Dialogue) (r : Recording) (input : List ℕ) (given : List (List ℕ))
     (new : Dialogue) (r' : Recording) : Type 0 where
   pub told : List Exchange
@@ -25,7 +26,7 @@ pub record Progresses (old : Dialogue) (r : Recording) (input : List ℕ) (given
       ≡ given ++ sends_ahead new more later
   pub ends : (more : List ℕ) → ends_ahead old (input ++ more) ≡ ends_ahead new more
 
--- the session with this number progressed, and the others are unchanged
+-- whether the session with this number progressed, and the others are unchanged
 pub record Serves (number : ℕ) (old : MeterState) (input : List ℕ) (given : List (List ℕ))
     (new : MeterState) : Type 0 where
   pub before : Dialogue

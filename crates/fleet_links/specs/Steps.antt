@@ -10,7 +10,7 @@ use Rattle.fleet_links.specs.declared.link.LinkEnd.TheVariants.{Closed, Ended, T
 use Rattle.fleet_links.specs.declared.link.Turn.{Turn}
 use Rattle.fleet_links.specs.declared.link.Turn.TheVariants.{Waits, Again, Over}
 
--- the first of the pending bytes were written
+-- whether the first of the pending bytes, at least one, were written, and the others remain pending
 pub record Writes (old : StreamState) (pending : List ℕ) (new : StreamState) (pending' : List ℕ)
     : Type 0 where
   pub out : List ℕ
@@ -37,7 +37,7 @@ QueuesBy pending frame (Over (Ended end)) pending' = ⊥
 QueuesBy pending frame (Over TooLong) pending' = ⊥
 QueuesBy pending frame (Over Memory) pending' = pending' ≡ pending
 
--- bytes were read, and fed to the session
+-- whether at least one byte was read, and the bytes read were fed to the session with this number
 pub record FeedsBytes (number : ℕ) (m : MeterState) (old : StreamState) (m' : MeterState)
     (new : StreamState) : Type 0 where
   pub bytes : List ℕ
@@ -45,7 +45,7 @@ pub record FeedsBytes (number : ℕ) (m : MeterState) (old : StreamState) (m' : 
   pub moves : Moves old bytes [] new
   pub feeds : FeedsAt m number bytes m'
 
--- bytes were read, and lost
+-- whether bytes were read, and lost
 pub record LosesBytes (old new : StreamState) : Type 0 where
   pub bytes : List ℕ
   pub moves : Moves old bytes [] new

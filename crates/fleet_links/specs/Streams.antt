@@ -17,20 +17,20 @@ pub record StreamState : Type 0 where
   pub blocks : ℕ
   pub ends : ℕ
 
--- these bytes were read, and these written; the stream neither blocked nor ended
+-- whether these bytes were read and these written, and the stream neither blocked nor ended
 pub record Moves (old : StreamState) (came went : List ℕ) (new : StreamState) : Type 0 where
   pub read : Appends old.arrived new.arrived came
   pub wrote : Appends old.written new.written went
   pub blocks : new.blocks ≡ old.blocks
   pub ends : new.ends ≡ old.ends
 
--- no byte was read or written, and the stream blocked
+-- whether the stream blocked, and no byte was read or written
 pub record Blocks (old new : StreamState) : Type 0 where
   pub read : Appends old.arrived new.arrived []
   pub wrote : Appends old.written new.written []
   pub blocks : new.blocks ≢ old.blocks
 
--- no byte was read or written, and the stream ended
+-- whether the stream ended, and no byte was read or written
 pub record Stops (old new : StreamState) : Type 0 where
   pub read : Appends old.arrived new.arrived []
   pub wrote : Appends old.written new.written []

@@ -24,7 +24,7 @@ pub record LinkState : Type 0 where
 abbrev pub max_steps : ℕ
 max_steps = 1024
 
--- a frame must be sent that is longer than the buffer for it
+-- whether the session must send a frame that is longer than the buffer for it
 pub record NeedsRoom (room : ℕ) (d : Dialogue) : Type 0 where
   pub frame : List ℕ
   pub due : d.pending ≡ Due frame
@@ -58,9 +58,9 @@ StopsBy number least room old moved (Over TooLong) new =
     IfSome (dialogue_at new.meter number) (NeedsRoom room)
 StopsBy number least room old moved (Over Memory) new = ⊤
 
--- A turn of the session with this number: the session was fed the bytes that were read, in order;
--- the bytes that were written are the pending ones followed by the frames that the session gave, in
--- order, and the rest is pending.
+-- Whether a turn of the session with this number had this result. The session was fed the bytes
+-- that were read, in order; the bytes that were written are the pending ones followed by the frames
+-- that the session gave, in order, and the rest is pending.
 pub record Turns (number least room : ℕ) (old : LinkState) (turn : Turn) (new : LinkState)
     : Type 0 where
   pub input : List ℕ

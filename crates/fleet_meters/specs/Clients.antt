@@ -19,7 +19,8 @@ pub record ClientState : Type 0 where
 abbrev pub link_of : MeterState → ClientState → LinkState
 link_of m c = record { meter = m; stream = c.stream; pending = c.pending }
 
--- a turn of a connection with its meter
+-- whether a turn of a connection with its meter had this result, and the place of the meter and the
+-- number of the session are unchanged
 pub record ClientTurns (room : ℕ) (m : MeterState) (old : ClientState) (turn : Turn)
     (m' : MeterState) (new : ClientState) : Type 0 where
   pub place : new.place ≡ old.place

@@ -20,34 +20,36 @@ pub record FleetState : Type 0 where
   pub places : List (Option MeterState)
   pub clients : Slab ClientState
 
--- The invariant of every fleet: the session of each connection is open, and no other connection has
--- it. A meter has eight sessions, so at most eight connections.
+-- Whether the session of each connection is open, and no other connection has it: the invariant of
+-- every fleet. A meter has eight sessions, so at most eight connections.
 pub record IsFleet (f : FleetState) : Type 0 where
   pub is_open : (key : ℕ) (c : ClientState) → get f.clients key ≡ Some c
       → session_in f.places c.place c.number ≢ None
   pub apart : (key other : ℕ) (c d : ClientState) → get f.clients key ≡ Some c
       → get f.clients other ≡ Some d → c.place ≡ d.place → c.number ≡ d.number → key ≡ other
 
--- a new fleet: no meter is made, and there are no connections
+-- whether a fleet with these terms and this number of places is new: no meter is made, and there
+-- are no connections
 pub record IsNewFleet (terms : MeterTerms) (count : ℕ) (f : FleetState) : Type 0 where
   pub terms_are : f.terms ≡ terms
   pub counted : length f.places ≡ count
   pub unmade : (place : ℕ) → meter_in f.places place ≡ None
   pub unused : (key : ℕ) → get f.clients key ≡ None
 
--- the other connections, and their sessions, are unchanged
+-- whether the other connections, and their sessions, are unchanged
 pub record Isolated (old : FleetState) (key : ℕ) (new : FleetState) : Type 0 where
   pub clients : (other : ℕ) → other ≢ key → get new.clients other ≡ get old.clients other
   pub sessions : (other : ℕ) (c : ClientState) → other ≢ key → get old.clients other ≡ Some c
       → session_in new.places c.place c.number ≡ session_in old.places c.place c.number
 
--- the meters at the other places are unchanged, and so is what the meters have in common
+-- whether the meters at the other places, the number of places and what the meters have in common
+-- are unchanged
 pub record MetersStay (old : FleetState) (place : ℕ) (new : FleetState) : Type 0 where
   pub places : (other : ℕ) → other ≢ place → meter_in new.places other ≡ meter_in old.places other
   pub count : length new.places ≡ length old.places
   pub terms : new.terms ≡ old.terms
 
--- a connection to the meter at a place was admitted under this key
+-- whether a connection to the meter at a place was admitted under this key
 pub record Admits (old : FleetState) (place : ℕ) (stream : StreamState) (key : ℕ)
     (new : FleetState) : Type 0 where
   pub number : ℕ
@@ -58,7 +60,7 @@ pub record Admits (old : FleetState) (place : ℕ) (stream : StreamState) (key :
   pub isolated : Isolated old key new
   pub stay : MetersStay old place new
 
--- the meters and the connections are unchanged
+-- whether the meters and the connections are unchanged
 pub record Unchanged (old new : FleetState) : Type 0 where
   pub terms : new.terms ≡ old.terms
   pub places : new.places ≡ old.places
@@ -81,7 +83,8 @@ AdmitsBy old number stream (Err Full) new = ((place : ℕ) → number ≡ place 
     → IsFull (meter_in old.places place)) × Unchanged old new
 AdmitsBy old number stream (Err Memory) new = Unchanged old new
 
--- the connection with this key ran
+-- whether the connection with this key ran a turn with this result, and the other connections and
+-- meters are unchanged
 pub record Runs (room : ℕ) (old : FleetState) (key : ℕ) (turn : Turn) (new : FleetState) : Type 0
   where
     pub before : ClientState
@@ -99,7 +102,7 @@ abbrev pub RunsBy : ℕ → FleetState → ℕ → Option Turn → FleetState �
 RunsBy room old key (Some turn) new = Runs room old key turn new
 RunsBy room old key None new = (get old.clients key ≡ None) × (new ≡ old)
 
--- the connection with this key was closed, and its session with it
+-- whether the connection with this key, which had this stream, was closed, and its session with it
 pub record Releases (old : FleetState) (key : ℕ) (stream : StreamState) (new : FleetState)
     : Type 0 where
   pub client : ClientState

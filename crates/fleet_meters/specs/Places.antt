@@ -33,7 +33,8 @@ abbrev pub Makes : MeterTerms → Option MeterState → MeterState → Type 0
 Makes terms None m = Resumes terms.trace terms.password terms.kept_events m
 Makes terms (Some old) m = m ≡ old
 
--- the meter of a place opened a session
+-- whether the meter of a place opened the session with this number; the meter is made if the place
+-- has none
 pub record Seats (terms : MeterTerms) (old : Option MeterState) (number : ℕ)
     (new : Option MeterState) : Type 0 where
   pub before : MeterState
@@ -60,7 +61,7 @@ SeatsBy terms old (Err NoMeter) new = ⊥
 SeatsBy terms old (Err Full) new = IsFull old × (new ≡ old)
 SeatsBy terms old (Err Memory) new = new ≡ old
 
--- the meter of a place closed a session
+-- whether the meter of a place closed the session with this number
 pub record Frees (old : Option MeterState) (number : ℕ) (new : Option MeterState) : Type 0 where
   pub before : MeterState
   pub after : MeterState
@@ -68,7 +69,7 @@ pub record Frees (old : Option MeterState) (number : ℕ) (new : Option MeterSta
   pub is : new ≡ Some after
   pub closes : Closes before number after
 
--- the meter of a place ran a connection
+-- whether the meter of a place ran a turn of this connection with this result
 pub record TurnsAt (room : ℕ) (old : Option MeterState) (c : ClientState) (turn : Turn)
     (new : Option MeterState) (c' : ClientState) : Type 0 where
   pub before : MeterState
@@ -77,7 +78,7 @@ pub record TurnsAt (room : ℕ) (old : Option MeterState) (c : ClientState) (tur
   pub is : new ≡ Some after
   pub turns : ClientTurns room before c turn after c'
 
--- only the meter at this place changed
+-- whether the meters at the other places, and the number of places, are unchanged
 pub record PlacesStay (old : List (Option MeterState)) (place : ℕ) (new : List (Option MeterState))
     : Type 0 where
   pub places : (other : ℕ) → other ≢ place → meter_in new other ≡ meter_in old other

@@ -4,7 +4,7 @@ use Rattle.std.specs.Prelude.{◌≡◌, ℕ, List, Ok}
 use Rattle.relay_recorder.specs.declared.trace.Trace.{Trace}
 use Rattle.trace_player.specs.Traces.{trace_of}
 
--- a text that is a trace
+-- whether a text can be read as a trace
 pub record IsTrace (text : List ℕ) : Type 0 where
   pub trace : Trace
   pub reads : trace_of text ≡ Ok trace

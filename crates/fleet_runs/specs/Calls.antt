@@ -24,7 +24,7 @@ pub data FleetCall : Type 0 where
   closed : ℕ → FleetCall
   missed : ℕ → FleetCall
 
--- the connection with a key ran at a place, and its meter applied these events
+-- whether the connection with this key ran at this place, and its meter applied these events
 pub record RunsAt (room : ℕ) (old : FleetState) (key place : ℕ) (turn : Turn)
     (told : List Exchange) (new : FleetState) : Type 0 where
   pub runs : Runs room old key turn new

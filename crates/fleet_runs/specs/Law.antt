@@ -17,8 +17,9 @@ use Rattle.fleet_runs.specs.Calls.{FleetCall, admitted, ran, CallsBy, Calls, Sta
 use Rattle.fleet_runs.specs.Calls.{told_at}
 use Rattle.fleet_runs.specs.Lives.{IsServed, HasAnswered, ExtendsHistory}
 
--- A fleet of meters with these terms was new. After some calls it admitted a connection with this
--- stream under a key, and after further calls, which did not end the connection, it is `now`.
+-- Whether the connection with this key was admitted, and has not ended since. A fleet of meters
+-- with these terms was new. After some calls it admitted a connection with this stream, and after
+-- further calls, which did not end the connection, it is `now`.
 pub record Admitted (terms : MeterTerms) (room key : ℕ) (origin : StreamState)
     (calls : List FleetCall) (now : FleetState) : Type 0 where
   pub count : ℕ

@@ -1,7 +1,7 @@
 -- A connection since it was admitted.
 --     Remains         what its session has done, and what it has still to do
 --     Lives           the bytes that it read and wrote are those of its session
---     IsServed        the connection with a key is open, and lives
+--     IsServed        the connection with a key is open, and Lives holds for it
 --     HasAnswered     all bytes that were read have been answered
 --     ExtendsHistory  the history of a meter was extended
 use Rattle.std.specs.Prelude.{◌≡◌, ◌++◌, ℕ, List, Some}
@@ -19,9 +19,9 @@ use Rattle.fleet_meters.specs.Clients.{ClientState}
 use Rattle.fleet_meters.specs.Fleets.{FleetState}
 use Rattle.fleet_meters.specs.Places.{session_in}
 
--- For every input that begins with these bytes, a session with this password asks these events
--- first, and if they have these replies, it sends these frames first. Everything else is still
--- ahead of the session.
+-- Whether a session has asked these events and sent these frames, and the rest is still ahead of
+-- it. For every input that begins with these bytes, a session with this password asks these events
+-- first, and if they have these replies, it sends these frames first.
 pub record Remains (password input : List ℕ) (told : List Exchange) (given : List (List ℕ))
     (d : Dialogue) : Type 0 where
   pub asks : (more : List ℕ)
@@ -31,9 +31,10 @@ pub record Remains (password input : List ℕ) (told : List Exchange) (given : L
       ≡ given ++ sends_ahead d more later
   pub ends : (more : List ℕ) → end_of (input ++ more) ≡ ends_ahead d more
 
--- A connection that was admitted with the stream `origin`, and whose meter has applied these events
--- for it: the bytes that were read since then are the input of its session, and the bytes that were
--- written, followed by the pending ones, are the frames of its session, in order.
+-- Whether a connection has read the input of its session and written its frames. It was admitted
+-- with the stream `origin`, and its meter has applied these events for it. The bytes that were read
+-- since then are the input; the bytes that were written, followed by the pending ones, are the
+-- frames, in order.
 pub record Lives (password : List ℕ) (origin : StreamState) (told : List Exchange)
     (c : ClientState) (d : Dialogue) : Type 0 where
   pub input : List ℕ
@@ -44,7 +45,7 @@ pub record Lives (password : List ℕ) (origin : StreamState) (told : List Excha
   pub wrote : Appends origin.written c.stream.written out
   pub queue : concat given ≡ out ++ c.pending
 
--- the connection with a key is open, and lives
+-- whether the connection with this key is open, and `Lives` holds for it
 pub record IsServed (password : List ℕ) (origin : StreamState) (told : List Exchange)
     (f : FleetState) (key : ℕ) : Type 0 where
   pub client : ClientState
@@ -53,8 +54,8 @@ pub record IsServed (password : List ℕ) (origin : StreamState) (told : List Ex
   pub session : session_in f.places client.place client.number ≡ Some dialogue
   pub lives : Lives password origin told client dialogue
 
--- The bytes that were written are the answers of a session to the bytes that were read, all of
--- them, and the events are those that it asks for.
+-- whether all bytes that were read have been answered: the bytes that were written are the answers
+-- of a session to them, and the events are those that it asks for
 pub record HasAnswered (password : List ℕ) (origin : StreamState) (told : List Exchange)
     (stream : StreamState) : Type 0 where
   pub input : List ℕ
@@ -63,7 +64,7 @@ pub record HasAnswered (password : List ℕ) (origin : StreamState) (told : List
   pub wrote : Appends origin.written stream.written
       (concat (Answers password input (replies_of told)))
 
--- each history of the meter is extended by these events and replies
+-- whether each history of the meter is extended by these events and replies
 pub record ExtendsHistory (told : List Exchange) (old new : MeterState) : Type 0 where
   pub histories : (history : List Exchange) (origin : World)
       → StandsForHistory old.recorder history origin

@@ -36,7 +36,7 @@ idle_keys limit now moments = idle_from limit now 0 moments
 abbrev pub moment_after_search : ℕ → ℕ → ℕ → ℕ
 moment_after_search limit now moment = if is_idle limit now moment then now else moment
 
--- only the first of the connections that are idle were appended
+-- whether the keys appended to `idle` are the first of those of the idle connections
 pub record TakesFirst (limit now : ℕ) (moments idle idle' : List ℕ) : Type 0 where
   pub taken : List ℕ
   pub left : List ℕ

@@ -30,8 +30,8 @@ turns_for jobs workers = jobs / workers + 1
 abbrev pub slots_for : (jobs workers : ℕ) → ℕ
 slots_for jobs workers = turns_for jobs workers * workers
 
--- the result of a slot: the row of its job, and the use of its attempt. Without a job the attempt
--- is unused
+-- Whether the row and the attempt of a slot are those of its job. The attempt of a slot without a
+-- job is unused.
 pub record IsRun (turns workers : ℕ) (jobs : List Job) (passwords : List (List ℕ)) (slot : ℕ)
     (tells : List ℕ → Option Forecast) (stage : State) (row : Row) : Type 0 where
   pub row_is : (job : Job) → place_at turns workers slot < length jobs
@@ -46,8 +46,8 @@ abbrev pub EachChange : {X : Type 0} → (ℕ → X → X → Type 0) → List X
 EachChange {X} R old new = (i : ℕ) (x : X) → i < length old
     → R i (slice_index_or old i x) (slice_index_or new i x)
 
--- the use of the attempt of its slot by each job, according to its line; the attempts of slots
--- without a job are unused
+-- whether each job used the attempt of its slot as its line says, all with one password; the
+-- attempts of slots without a job are unused
 pub record AreTried (turns workers : ℕ) (jobs : List Job) (password : List ℕ)
     (lines : List ReportLine)
     (stages : List State) : Type 0 where
@@ -57,7 +57,8 @@ pub record AreTried (turns workers : ℕ) (jobs : List Job) (password : List ℕ
   pub others : (slot : ℕ) (stage : State) → slot < length stages
       → length jobs ≤ place_at turns workers slot → slice_index_or stages slot stage ≡ unused
 
--- the same for jobs that have a password each
+-- whether each job used the attempt of its slot as its line says, each with its own password; the
+-- attempts of slots without a job are unused
 pub record AreTriedWith (turns workers : ℕ) (jobs : List Job) (passwords : List (List ℕ))
     (lines : List ReportLine)
     (stages : List State) : Type 0 where

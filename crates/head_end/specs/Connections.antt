@@ -18,8 +18,8 @@ pub record Forecast : Type 0 where
   pub bytes : List ℕ
   pub stop : Stop
 
--- a read removes bytes from the front of those predicted; the last of the reads removes all that
--- are left
+-- whether a read removed this piece from the front of the predicted bytes; the last of the reads
+-- removes all that are left
 pub record GivesPiece (told : Forecast) (left : ℕ) (piece : List ℕ) (new : Option Forecast)
     : Type 0 where
   pub rest : List ℕ

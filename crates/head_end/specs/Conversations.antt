@@ -13,7 +13,7 @@ use Rattle.head_end.specs.Connections.{Forecast}
 use Rattle.head_end.specs.Logs.{Happening, bytes_received, bytes_sent, reads_made}
 use Rattle.head_end.specs.Wires.{due_text, given_text, Listens, Permits, Conversation, HasConversed}
 
--- of the initially predicted bytes these were read, and this number of reads is left
+-- whether these are the bytes read of those initially predicted, and this number of reads is left
 pub record Follows (start : Forecast) (now : Option Forecast) (seen : List ℕ)
     (left : ℕ) : Type 0 where
   pub rest : List ℕ
@@ -21,7 +21,7 @@ pub record Follows (start : Forecast) (now : Option Forecast) (seen : List ℕ)
   pub bytes_are : start.bytes ≡ seen ++ rest
   pub last : left ≡ 0 → rest ≡ []
 
--- a client that was fed the bytes read so far
+-- whether the client was fed the bytes read so far, and this number of reads is left
 pub record At (start : Forecast) (verb : Verb) (password : List ℕ) (left : ℕ) (client : Client)
     (now : Option Forecast) : Type 0 where
   pub fed : List ℕ
@@ -29,13 +29,13 @@ pub record At (start : Forecast) (verb : Verb) (password : List ℕ) (left : ℕ
   pub stands : Stands verb password fed given false client
   pub follows : Follows start now fed left
 
--- a client that was fed all predicted bytes
+-- whether the client was fed all predicted bytes
 pub record AtEnd (start : Forecast) (verb : Verb) (password : List ℕ)
     (client : Client) : Type 0 where
   pub given : ℕ
   pub stands : Stands verb password start.bytes given false client
 
--- the outcome of a client that was fed all predicted bytes
+-- whether the outcome is that of the predicted bytes, if the client was fed all of them
 pub record GivesUp (old : Client) (outcome : Outcome) : Type 0 where
   pub outcome_is : (start : Forecast) (verb : Verb) (password : List ℕ)
       → AtEnd start verb password old
@@ -47,8 +47,8 @@ abbrev pub AtAfter : Bool → Forecast → Verb → List ℕ → ℕ → Client 
 AtAfter true start verb password left client now = At start verb password left client now
 AtAfter false start verb password left client now = AtEnd start verb password client
 
--- the effect of sending all messages that may be sent, on a client that was fed the bytes read so
--- far
+-- whether sending all messages that may be sent had this result, if the client was fed the bytes
+-- read so far
 pub record SendsAll (old : Client) (before : Option Forecast) (result : Bool) (new : Client)
     (after : Option Forecast) : Type 0 where
   pub on : (start : Forecast) (verb : Verb) (password : List ℕ) (left : ℕ)
@@ -61,22 +61,23 @@ abbrev pub AtTurn : Option Outcome → Forecast → Verb → List ℕ → ℕ �
 AtTurn None start verb password left client now = At start verb password left client now
 AtTurn (Some outcome) start verb password left client now = outcome ≡ outcome_of verb start.bytes
 
--- the effect of one turn, with one read, on a client that was fed the bytes read so far
+-- whether one turn, with one read, had this result, if the client was fed the bytes read so far
 pub record Turns (old : Client) (before : Option Forecast) (result : Option Outcome) (new : Client)
     (after : Option Forecast) : Type 0 where
   pub on : (start : Forecast) (verb : Verb) (password : List ℕ) (left : ℕ)
       → At start verb password (suc left) old before
       → AtTurn result start verb password left new after
 
--- a conversation from its start, on a connection with 65,536 predicted reads
+-- whether a conversation on a connection with 65,536 predicted reads has the outcome of the
+-- predicted bytes
 pub record Converses (old : Client) (before : Option Forecast) (outcome : Outcome) : Type 0 where
   pub outcome_is : (start : Forecast) (verb : Verb) (password : List ℕ)
       → At start verb password 65536 old before → outcome ≡ outcome_of verb start.bytes
 
 -- ---- the bytes read and written on a connection
 
--- a client that was fed the bytes received and returned the messages sent. If the conversation
--- continues correctly from here, the whole is a conversation
+-- Whether, by the log, the client was fed the bytes received and returned the messages sent. If the
+-- conversation continues correctly from here, the whole is a conversation.
 pub record Talks (verb : Verb) (password : List ℕ) (reads : ℕ) (client : Client) (now : Option
     (List Happening)) : Type 0 where
   pub log : List Happening
@@ -89,19 +90,21 @@ pub record Talks (verb : Verb) (password : List ℕ) (reads : ℕ) (client : Cli
   pub more : (whole : Bool) (next : List Happening) → Permits whole verb password log next
       → Permits whole verb password [] (log ++ next)
 
--- all messages that may be sent were sent
+-- whether `Talks` holds, and all messages that may be sent were sent
 pub record HasSent (verb : Verb) (password : List ℕ) (reads : ℕ) (client : Client) (now : Option
     (List Happening)) : Type 0 where
   pub talks : Talks verb password reads client now
   pub all_is : bytes_sent talks.log ≡ due_text verb password (bytes_received talks.log)
 
--- the outcome is not settled either, so a read follows
+-- whether `Talks` holds, and a read follows: all messages that may be sent were sent, and the
+-- outcome is not settled
 pub record Waits (verb : Verb) (password : List ℕ) (reads : ℕ) (client : Client) (now : Option
     (List Happening)) : Type 0 where
   pub talks : Talks verb password reads client now
   pub listens : Listens verb password talks.log
 
--- a conversation that ended at a failed write
+-- whether the log is a conversation that ended at a failed write, and the client was fed the bytes
+-- received
 pub record IsCut (verb : Verb) (password : List ℕ) (client : Client) (now : Option
     (List Happening)) : Type 0 where
   pub log : List Happening
@@ -116,8 +119,8 @@ abbrev pub SentAfter : Bool → Verb → List ℕ → ℕ → Client → Option 
 SentAfter true verb password reads client now = HasSent verb password reads client now
 SentAfter false verb password reads client now = IsCut verb password client now
 
--- the effect of sending all messages that may be sent, on the log of the connection; an unknown log
--- remains unknown
+-- whether sending all messages that may be sent had this result, by the log of the connection; an
+-- unknown log remains unknown
 pub record Sends (old : Client) (before : Option (List Happening)) (result : Bool) (new : Client)
     (after : Option (List Happening)) : Type 0 where
   pub on : (verb : Verb) (password : List ℕ) (reads : ℕ) → Talks verb password reads old before
@@ -133,8 +136,8 @@ TurnAfter (Ok (Some outcome)) verb password reads client now = HasConversed verb
     (Some outcome) now
 TurnAfter (Err error) verb password reads client now = HasConversed verb password None now
 
--- the effect of one turn, with one read, on the log of the connection; an unknown log remains
--- unknown
+-- whether one turn, with one read, had this result, by the log of the connection; an unknown log
+-- remains unknown
 pub record TakesTurn {E : Type 0} (old : Client) (before : Option (List Happening))
     (result : Result (Option Outcome) E) (new : Client) (after : Option
     (List Happening)) : Type 0 where
@@ -147,7 +150,8 @@ abbrev pub outcome_in : {E : Type 0} → Result Outcome E → Option Outcome
 outcome_in (Ok outcome) = Some outcome
 outcome_in (Err error) = None
 
--- the log of a new client on a new connection is a conversation
+-- whether the log of a new client on a new connection is a conversation with this result; an
+-- unknown log remains unknown
 pub record Speaks {E : Type 0} (old : Client) (before : Option (List Happening))
     (result : Result Outcome E) (after : Option (List Happening)) : Type 0 where
   pub on : (verb : Verb) (password : List ℕ) → Stands verb password [] 0 false old

@@ -57,7 +57,7 @@ abbrev pub HavePasswords : List (List ℕ) → Option (List ℕ) → List Job �
 HavePasswords lines common jobs passwords =
     map (λ password. Some password) passwords ≡ map (λ job. password_for lines common job) jobs
 
--- the job at this place is the first without a password
+-- whether the job at this place is the first without a password
 pub record LacksPassword (lines : List (List ℕ)) (common : Option (List ℕ)) (jobs : List Job)
     (place : ℕ) : Type 0 where
   pub passwords : List (List ℕ)

@@ -69,8 +69,8 @@ JobsJoin = (text rest : List ℕ) (jobs others : List Job) → unended_of text �
     → jobs_in 1 (job_lines text) ≡ Ok jobs → jobs_in 1 (job_lines rest) ≡ Ok others
     → jobs_in 1 (job_lines (text ++ rest)) ≡ Ok (jobs ++ others)
 
--- the text is the report of lines that are those of the jobs, each of which used its attempt
--- correctly
+-- whether the text is the report of the lines of the jobs, and each job used its attempt as its
+-- line says
 pub record Reports {X : Type 0} (tells_of : X → List ℕ
     → Option Forecast) (workers : ℕ) (jobs : List Job) (passwords : List (List ℕ)) (old : List X)
     (stages : List State) (text : List ℕ) : Type 0 where

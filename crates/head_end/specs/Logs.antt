@@ -49,12 +49,12 @@ ReadLogs (Some log) (Ok (suc count)) buffer new = new ≡ Some (log ++ heard (ta
     (suc count) buffer) ∷ [])
 ReadLogs (Some log) (Err fault) buffer new = new ≡ Some (log ++ heard_nothing ∷ [])
 
--- a prefix of a text
+-- whether `front` is a prefix of `text`
 pub record IsFront (front text : List ℕ) : Type 0 where
   pub rest : List ℕ
   pub parts : text ≡ front ++ rest
 
--- a write failed after a prefix of its text
+-- whether a write that failed after a prefix of its text was added to the log
 pub record IsCutOff (text : List ℕ) (log : List Happening) (new : Option
     (List Happening)) : Type 0 where
   pub front : List ℕ

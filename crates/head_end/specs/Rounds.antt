@@ -25,7 +25,7 @@ count_at address jobs = sum_by (one_at address) jobs
 abbrev pub round_of : List Job → ℕ → List ℕ → ℕ
 round_of jobs place address = count_at address (take place jobs)
 
--- the rounds of all jobs, which are fewer than this number
+-- whether these are the rounds of all jobs, each less than `count`
 pub record AreRounds (jobs : List Job) (rounds : List ℕ) (count : ℕ) : Type 0 where
   pub len : length rounds ≡ length jobs
   pub each : (i : ℕ) (job : Job) → i < length jobs
@@ -51,7 +51,8 @@ AreWaiting {X} turns workers rounds round stage_of slots = (slot : ℕ) (x : X)
     → slot < length slots → IsTurn turns workers rounds round slot
     → stage_of (slice_index_or slots slot x) ≡ unused
 
--- a round runs the job of a slot, or leaves the slot unchanged
+-- whether a round ran the job of a slot if the job has this round, and left the slot unchanged
+-- otherwise
 pub record IsRoundRun (turns workers : ℕ) (jobs : List Job) (passwords : List (List ℕ))
     (rounds : List ℕ) (round slot : ℕ) (tells tells' : List ℕ → Option Forecast)
     (stage stage' : State) (row row' : Row) : Type 0 where
@@ -60,7 +61,8 @@ pub record IsRoundRun (turns workers : ℕ) (jobs : List Job) (passwords : List 
   pub others : ¬ (IsTurn turns workers rounds round slot) → (stage' ≡ stage) × (row' ≡ row)
   pub tells_is : tells' ≡ tells
 
--- the jobs of the rounds before this one are run, and the attempts of all other slots are unused
+-- whether the job of a slot was run if its round is before this one, and the attempt is unused
+-- otherwise
 pub record IsRunUpTo (turns workers : ℕ) (jobs : List Job) (passwords : List (List ℕ))
     (rounds : List ℕ) (round slot : ℕ) (tells tells' : List ℕ → Option Forecast) (stage : State)
     (row : Row) : Type 0 where

@@ -21,7 +21,7 @@ abbrev pub IsRow : (List ℕ → Option Forecast) → Job → Row → Type 0
 IsRow tells job (Came outcome) = IsOutcome (tells job.address) job.verb outcome
 IsRow tells job Memory = ⊤
 
--- the line of a job
+-- whether a line has the id and the row of the job
 pub record IsLine (tells : List ℕ → Option Forecast) (job : Job) (line : ReportLine) : Type 0 where
   pub id_is : line.id ≡ job.id
   pub row_is : IsRow tells job line.row

@@ -18,7 +18,7 @@ use Rattle.head_end.specs.Logs.{Happening, heard, heard_nothing, sent, cut_off, 
 unfoldable pub due_text : Verb → List ℕ → List ℕ → List ℕ
 due_text verb password bytes = concat (due_frames verb password (progress_of verb bytes))
 
--- exactly the messages that may be sent were sent, and the outcome is not settled
+-- whether exactly the messages that may be sent were sent, and the outcome is not settled
 pub record Listens (verb : Verb) (password : List ℕ) (log : List Happening) : Type 0 where
   pub sent_is : bytes_sent log ≡ due_text verb password (bytes_received log)
   pub unsettled : outcome_after verb (bytes_received log) ≡ None
@@ -55,8 +55,8 @@ Permits whole verb password log (cut_off bytes ∷ later) = IsDueNext verb passw
 abbrev pub Conversation : Bool → Verb → List ℕ → List Happening → Type 0
 Conversation whole verb password log = Permits whole verb password [] log
 
--- this log is a conversation: a whole one, with the outcome of the bytes received; or one without
--- an outcome, cut short out of memory
+-- whether this log is a conversation: a whole one, with the outcome of the bytes received; or one
+-- without an outcome, cut short out of memory
 pub record HasConversed (verb : Verb) (password : List ℕ) (outcome : Option Outcome)
     (now : Option (List Happening)) : Type 0 where
   pub log : List Happening

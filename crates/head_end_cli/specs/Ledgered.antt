@@ -24,8 +24,8 @@ abbrev pub PrintsTexts : {F : Type 0} → Result LedgerTexts F → Option (List 
 PrintsTexts (Ok texts) written written' = Appends written written' texts.text
 PrintsTexts (Err fault) written written' = ⊥
 
--- The jobs were run with permits of the ledger in the file, and the report of all of them was
--- printed.
+-- whether the jobs were run with permits of the ledger in the file, and the report of all of them
+-- was printed
 pub record PrintsRun {D : Type 0} (g : Ghosts D) (held : Image)
     (tells : List ℕ → Option Forecast) (jobs : List Job) (passwords : List (List ℕ))
     (written written' : Option (List ℕ)) : Type 0 where
@@ -33,7 +33,8 @@ pub record PrintsRun {D : Type 0} (g : Ghosts D) (held : Image)
   pub ran : IsRunOnFile g held tells jobs passwords texts
   pub printed : PrintsTexts texts written written'
 
--- the lines that were read of a ledger were printed, in the format that the option `--format` names
+-- whether the lines that were read of a ledger were printed, in the format that the option
+-- `--format` names
 pub record PrintsStatus (found : Found) (written written' : Option (List ℕ)) : Type 0 where
   pub lines : List LedgerLine
   pub format : LedgerFormat

@@ -9,7 +9,7 @@ use Rattle.head_end.specs.Reports.{report_text}
 use Rattle.head_end.specs.Rows.{AreLines}
 use Rattle.head_end.specs.declared.row.ReportLine.{ReportLine}
 
--- the jobs were run, and the lines of all of them were printed
+-- whether the jobs were run, and the lines of all of them were printed
 pub record PrintsReport (tells : List ℕ
     → Option Forecast) (workers : ℕ) (jobs : List Job)
     (passwords : List (List ℕ))

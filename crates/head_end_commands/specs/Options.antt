@@ -23,18 +23,19 @@ IsNumber bits found name number = (text : List ℕ) → one_text found name ≡ 
 abbrev pub limit_seconds : ℕ → ℕ
 limit_seconds number = if number == 0 then 4_294_967_295 else number
 
--- the time limit of the option of this name, in seconds
+-- whether this is the time limit of the option of this name, which is in seconds
 pub record IsLimit (found : Found) (name : List ℕ) (limit : Duration) : Type 0 where
   pub number : ℕ
   pub number_is : IsNumber 32 found name number
   pub limit_is : as_nanos limit ≡ limit_seconds number * 1_000_000_000
 
--- the time limits of a connect and of a whole connection
+-- whether these are the time limits that the options set for a connect and for a whole connection
 pub record AreLimits (found : Found) (limits : TcpLimits) : Type 0 where
   pub connect : IsLimit found (codes "connect-timeout") limits.connect
   pub answer : IsLimit found (codes "timeout") limits.answer
 
--- the number of workers, 1 to 16
+-- whether this is a number of workers from 1 to 16, the one of the option `--workers` if that is in
+-- range
 pub record AreWorkers (found : Found) (workers : ℕ) : Type 0 where
   pub number : ℕ
   pub number_is : IsNumber 8 found (codes "workers") number

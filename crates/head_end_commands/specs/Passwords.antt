@@ -11,8 +11,8 @@ use Rattle.head_end.specs.Jobs.{job_lines}
 use Rattle.head_end.specs.JobPasswords.{HavePasswords}
 use Rattle.program.specs.Passwords.{HasNoLineEnd}
 
--- the password of the command line; else that of the file that it names, which is one line; else
--- that of the environment, if it has one
+-- whether this is the common password: that of the command line; else that of the file that it
+-- names, which is one line; else that of the environment, if it has one
 pub record IsCommonPassword (found : Found) (common : Option (List ℕ)) : Type 0 where
   pub sized : IfSome common IsPassword
   pub given : (text : List ℕ) → first_value found (codes "password") ≡ Some text
@@ -20,15 +20,15 @@ pub record IsCommonPassword (found : Found) (common : Option (List ℕ)) : Type 
   pub of_file : (path : List ℕ) → first_value found (codes "password") ≡ None
       → first_value found (codes "password-file") ≡ Some path → IfSome common HasNoLineEnd
 
--- each job has the password of its name in this text, which is empty without the option
--- `--passwords`, else the common one
+-- Whether each job has the password of its name in some text, else the common one. Without the
+-- option `--passwords` the text is empty.
 pub record ArePasswords (found : Found) (common : Option (List ℕ)) (jobs : List Job)
     (passwords : List (List ℕ)) : Type 0 where
   pub text : List ℕ
   pub no_file : first_value found (codes "passwords") ≡ None → text ≡ []
   pub are : HavePasswords (job_lines text) common jobs passwords
 
--- each job has the password that the options give it: that of its name, else the common one
+-- whether each job has the password that the options give it: that of its name, else the common one
 pub record HasPasswords (found : Found) (jobs : List Job) (passwords : List (List ℕ))
     : Type 0 where
   pub common : Option (List ℕ)

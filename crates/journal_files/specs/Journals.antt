@@ -14,20 +14,20 @@ use Rattle.trace_player.specs.Resuming.{ContinuesRun, IsTraceOf, world_of}
 use Rattle.trace_player.specs.Traces.{trace_of}
 use Rattle.trace_player.specs.Journals.{IsJournal, journal_text}
 
--- the text has the recorder's opening and its events
+-- whether the text is the recorder's journal: it has the recorder's opening and its events
 pub record IsJournalOf (recorder : Recording) (text : List ℕ) : Type 0 where
   pub trace : Trace
   pub traced : IsTraceOf recorder trace
   pub written : text ≡ journal_text trace
 
--- the file has the text of the recorder's journal, and every crash leaves it
+-- whether the file has the text of the recorder's journal, and every crash leaves it
 pub record IsBegun (recorder : Recording) (seen : List ℕ) (may_leave : List ℕ → Type 0) : Type 0
   where
     pub journal : IsJournalOf recorder seen
     pub durable : HasOneOutcome seen may_leave
 
--- The recorder continues where the run of a text ends: its core stands for the meter at the end of
--- that run, and whatever comes next it answers as the meter that wrote the text.
+-- Whether the recorder continues where the run of a text ends. Its core stands for the meter at the
+-- end of that run, and whatever comes next it answers as the meter that wrote the text.
 pub record Continues (device text : List ℕ) (recorder : Recording) : Type 0 where
   pub trace : Trace
   pub journal : IsJournal text

@@ -30,9 +30,9 @@ before_last n items = take (length items - n) items
 abbrev pub AnswerAlike : World → World → Type 0
 AnswerAlike v w = (further : List Event) → replies_from v further ≡ replies_from w further
 
--- The later trace has the last events of the earlier one, at most `depth`, and the state of the
--- meter before them. After both traces the meter is the same, except for the samples that its
--- limiters have counted, which no reply shows.
+-- Whether the later trace begins later in the run of the earlier one. It has the last events of the
+-- earlier one, at most `depth`, and the state of the meter before them. After both traces the meter
+-- is the same, except for the samples that its limiters have counted, which no reply shows.
 pub record IsLaterTrace (depth : ℕ) (earlier later : Trace) : Type 0 where
   pub fit : IsFitOpening later.opening
   pub kept : later.events ≡ last_of depth earlier.events
@@ -41,8 +41,8 @@ pub record IsLaterTrace (depth : ℕ) (earlier later : Trace) : Type 0 where
   pub meter : Agree (world_of later) (world_of earlier)
   pub answers : AnswerAlike (world_of later) (world_of earlier)
 
--- The new text is that of a journal of the same meter, and is read as a trace that begins later
--- than the one of the old text.
+-- whether the new text is that of a journal of the same meter, and is read as a trace that begins
+-- later than the one of the old text
 pub record IsRenewalOf (depth : ℕ) (old new : List ℕ) : Type 0 where
   pub earlier : Trace
   pub told : trace_of old ≡ Ok earlier
@@ -59,7 +59,7 @@ abbrev pub IsRenewedOver : (limit depth : ℕ) → List ℕ → List ℕ → Typ
 IsRenewedOver limit depth old new = ((length old ≤ limit) × (new ≡ old))
     ⊎ ((limit < length old) × IsRenewalOf depth old new)
 
--- A journal of whole lines was renewed as one of whole lines, with some number of events.
+-- whether a journal of whole lines was renewed as one of whole lines, with some number of events
 pub record IsRenewedAs (old new : List ℕ) : Type 0 where
   pub depth : ℕ
   pub renewal : IsRenewalOf depth old new

@@ -12,7 +12,7 @@ samples_of block = record {
   export = option_map (λ v. v.items) block.export;
 }
 
--- a block has at most `max_values` values or pairs, and its scans are right for them
+-- whether a block has at most `max_values` values or pairs, and its scans are right for them
 pub record IsBlock (block : Inside) : Type 0 where
   pub few : length block.import.items ≤ max_values
   pub even : AreEven (samples_of block)

@@ -9,7 +9,7 @@ use Rattle.lane_sampler.specs.declared.lanes.Word.{Word}
 abbrev pub mask_bit : List ℕ → ℕ → ℕ
 mask_bit words i = bit_at (slice_index words (i / 64)) (i % 64)
 
--- bit i is 1 exactly if there is a value i and it passes the test
+-- whether each bit i is 1 exactly if there is a value i and it passes the test
 pub record IsMask (test : ℕ → Bool) (values words : List ℕ) : Type 0 where
   pub bits : (i : ℕ) → i < 256 →
       mask_bit words i ≡ (if nat_lt i (length values) && test (slice_index values i) then 1 else 0)
@@ -24,7 +24,7 @@ is_over threshold value = nat_lt threshold value
 abbrev pub is_under : ℕ → ℕ → Bool
 is_under threshold value = nat_lt value threshold
 
--- the masks of the values greater than the threshold, and of the values less than it
+-- whether these are the masks of the values greater than the threshold and of those less than it
 pub record AreMasks (values : List ℕ) (threshold : ℕ) (masks : Masks) : Type 0 where
   pub over : IsMask (is_over threshold) values masks.over
   pub under : IsMask (is_under threshold) values masks.under

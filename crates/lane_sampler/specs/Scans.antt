@@ -16,7 +16,7 @@ IsRightExport None (Some scan) = ⊥
 IsRightExport (Some values) None = ⊥
 IsRightExport (Some values) (Some scan) = IsRightScan values scan
 
--- the scan of the import values and that of the export values are right for the samples
+-- whether the scan of the import values and that of the export values are right for the samples
 pub record AreRightScans (samples : Samples) (scans : Scans) : Type 0 where
   pub import : IsRightScan samples.import scans.import
   pub export : IsRightExport samples.export scans.export

@@ -23,7 +23,8 @@ use Rattle.ledger_campaigns.specs.declared.request.LedgerAnswer.{LedgerAnswer}
 use Rattle.ledger_campaigns.specs.Desks.{LedgerCalls, permits_given}
 use Rattle.ledger_campaigns.specs.Uses.{IsUse, IsRowFor, HasSwitched, permit_in}
 
--- the result of a place: the row of its job, and the use of its attempt
+-- whether the row of a place is that of its job, and the job used its attempt as the entry found at
+-- the place and these permits allow
 pub record IsPlaceRun (jobs : List Job) (found : List LedgerEntry) (passwords : List (List ℕ))
     (place : ℕ) (tells : List ℕ → Option Forecast) (permits : List ℕ) (row : Row) (stage : State)
     : Type 0 where
@@ -33,13 +34,13 @@ pub record IsPlaceRun (jobs : List Job) (found : List LedgerEntry) (passwords : 
       (permit_in place permits) (slice_index_or jobs place job)
       (slice_index_or passwords place password) row stage
 
--- the line of a job
+-- whether a line has the id of the job, and its row by the entry found at its place
 pub record IsLineFor (tells : List ℕ → Option Forecast) (job : Job) (found : LedgerEntry)
     (line : ReportLine) : Type 0 where
   pub id_is : line.id ≡ job.id
   pub row_is : IsRowFor tells job found line.row
 
--- line i is that of job i, and there are as many lines as jobs
+-- whether line i is that of job i, and there are as many lines as jobs
 pub record AreLinesFor (tells : List ℕ → Option Forecast) (jobs : List Job)
     (found : List LedgerEntry) (lines : List ReportLine) : Type 0 where
   pub count : length lines ≡ length jobs
@@ -75,8 +76,8 @@ AreSwitched jobs stages places = (place : ℕ) → IsIn place places → (place 
     (slice_index_or stages place unused))
 
 module _ {B : Type 0} (is_honest : B → Type 0) (is_marked : B → ℕ → Type 0) where
-  -- The ledger was shared in the state `start`, and has given at least the permits that the port
-  -- has seen.
+  -- whether the ledger was shared in the state `start`, and has given at least the permits that the
+  -- port has seen
   pub record Closes (known : Known LedgerRequest (LedgerAnswer B) (LedgerState B))
       (now : LedgerState B) : Type 0 where
     pub start : LedgerState B
@@ -85,9 +86,9 @@ module _ {B : Type 0} (is_honest : B → Type 0) (is_marked : B → ℕ → Type
     pub seen : StartsWith calls known.seen
     pub grants : Grants is_honest is_marked start now (permits_given calls)
 
-  -- The permits that a run gave: each place at most one, and none to a place whose command may have
-  -- been sent before. The attempts were used with these permits, and the ledger at the end has
-  -- given them.
+  -- Whether the attempts of a run were used with permits of the ledger. Each place has at most one
+  -- permit, and a place whose command may have been sent before has none. The ledger at the end has
+  -- given these permits.
   pub record IsLedgeredRun (jobs : List Job) (passwords : List (List ℕ)) (start : LedgerState B)
       (now : Option (LedgerState B)) (lines : List ReportLine) (stages : List State)
       : Type 0 where

@@ -103,8 +103,9 @@ module _ {B : Type 0} (is_honest : B → Type 0) (is_marked : B → ℕ → Type
   AreAnswered calls = AllByRecursion (λ (call : LedgerCall B).
       IsAnswer call.event call.reply) calls
 
-  -- The calls gave each place at most one permit, and none to a place whose entry said at the start
-  -- that its command may have been sent.
+  -- Whether each call has an answer that its request may have. The calls gave each place at most
+  -- one permit, and none to a place whose entry said at the start that its command may have been
+  -- sent.
   pub record IsLegalHistory (start : LedgerState B) (calls : LedgerCalls B)
       : Type 0 where
     pub answers : AreAnswered calls
@@ -112,7 +113,7 @@ module _ {B : Type 0} (is_honest : B → Type 0) (is_marked : B → ℕ → Type
     pub not_sent : (place : ℕ) → IsIn place (permits_given calls)
         → entry_at start.entries place ≡ NotSent
 
-  -- The ledger results from these calls.
+  -- whether the ledger results from these calls
   pub record Stands (desk : DeskState B) (calls : LedgerCalls B) : Type 0 where
     pub answers : AreAnswered calls
     pub grants : Grants is_honest is_marked desk.start desk.ledger (permits_given calls)

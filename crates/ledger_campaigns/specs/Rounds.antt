@@ -22,7 +22,8 @@ AreUnusedWhenDue {X} rounds round stage_of places = (place : ℕ) (x : X) → pl
 
 module _ {X : Type 0} (tells_of : X → List ℕ → Option Forecast) (permits_of : X → List ℕ)
     (row_of : X → Row) (stage_of : X → State) where
-  -- a round runs the job of a place, or leaves the place unchanged
+  -- whether a round ran the job of a place if the job has this round, and left the place unchanged
+  -- otherwise
   pub record IsPlaceRound (jobs : List Job) (found : List LedgerEntry)
       (passwords : List (List ℕ)) (rounds : List ℕ) (round place : ℕ) (old new : X)
       : Type 0 where
@@ -30,7 +31,8 @@ module _ {X : Type 0} (tells_of : X → List ℕ → Option Forecast) (permits_o
         (permits_of new) (row_of new) (stage_of new)
     pub others : ¬ (HasRound rounds round place) → new ≡ old
 
-  -- the job of a place is run, if its round is before this one; else the place is unchanged
+  -- whether the job of a place was run if its round is before this one, and the place is unchanged
+  -- otherwise
   pub record IsPlaceRunUpTo (jobs : List Job) (found : List LedgerEntry)
       (passwords : List (List ℕ)) (rounds : List ℕ) (round place : ℕ) (start now : X)
       : Type 0 where

@@ -16,9 +16,9 @@ use Rattle.ledger_files.specs.Opened.{IsOpenedFrom}
 use Rattle.ledger_runs.specs.declared.running.LedgerTexts.{LedgerTexts}
 use Rattle.ledger_runs.specs.Texts.{IsRunOnLedger}
 
--- The ledger was opened from what the files held, and the run was on this ledger: the disk is
--- honest if it returned what was written, and a place is marked if whatever a crash leaves has its
--- mark.
+-- Whether the ledger was opened from what the files held, and the run was on this ledger. The disk
+-- is honest if it returned what was written, and a place is marked if whatever a crash leaves has
+-- its mark.
 pub record IsRunOnFile {D F : Type 0} (g : Ghosts D) (held : Image)
     (tells : List ℕ → Option Forecast) (jobs : List Job) (passwords : List (List ℕ))
     (texts : Result LedgerTexts F) : Type 0 where

@@ -11,9 +11,8 @@ use Rattle.sqlite.specs.State.{IsUnchanged}
 use Rattle.sqlite_ledger.specs.Marks.{LeavesCommit}
 use Rattle.sqlite_ledger.specs.Schema.{ledger_schema}
 
--- A connection was opened over the files. If it found a ledger, that is what the files hold, and
--- the
--- connection sees it unchanged. While it is open, a crash leaves the last commit.
+-- Whether a connection was opened over these files. If it found a ledger, that is what the files
+-- hold, and the connection sees it unchanged. While it is open, a crash leaves the last commit.
 pub record IsOpenedFrom {D : Type 0} {g : Ghosts D} (held : Image) (now : Held (FileStore D g)) :
     Type 0 where
   pub was : Held (FileStore D g)

@@ -14,8 +14,8 @@ use Rattle.ledger_runs.specs.declared.running.LedgerTexts.{LedgerTexts}
 
 module _ {B : Type 0} (is_honest : B → Type 0) (is_marked : B → ℕ → Type 0)
     (may_leave : B → (ℕ → LedgerEntry) → Type 0) where
-  -- The run began with the ledger `start`, and sent switching commands with its permits alone. If
-  -- the book is honest and the commands of some places, each once, went out by the logs of the
+  -- Whether a run began with the ledger `start`, and sent switching commands only with its permits.
+  -- If the book is honest and the commands of some places, each once, went out by the logs of the
   -- connections, the run is safe, whatever entries the storage held before and a crash leaves. The
   -- report is that of the whole list.
   pub record IsRunOnLedger {F : Type 0} (tells : List ℕ → Option Forecast) (jobs : List Job)

@@ -29,15 +29,15 @@ is_written EmergencyProfileGroupIdList = true
 is_written EmergencyProfileActive = false
 is_written Actions = true
 
--- the public client has no access to the attribute; the management client may read it, and may
--- write it if it may be written
+-- whether the public client has no access to the attribute, and the management client may read it,
+-- and may write it if it may be written
 pub record IsInTable (which : Which) (attribute : LimiterAttribute) : Type 0 where
   pub public : rights_of Public (reference which attribute) ≡ record { read = false; write = false }
   pub management : rights_of Management (reference which attribute)
       ≡ record { read = true; write = is_written attribute }
 
--- a limiter monitors the register of its direction: the object table has that logical name, with
--- class 3
+-- whether a limiter monitors the register of its direction: the object table has that logical name,
+-- with class 3
 pub record IsMonitored (which : Which) : Type 0 where
   pub named : option_map (λ row. row.instance) (object_of (register_name which))
       ≡ Some (Register which)

@@ -22,18 +22,19 @@ pub record State : Type 0 where
 abbrev pub limits_of : State → Limits
 limits_of state = limits_at state.settings state.moment
 
--- the counts are those of the rows
+-- whether the counts are those of the rows
 pub record CountsRows (state : State) (rows : List Row) : Type 0 where
   pub over : state.over ≡ count_of OverThreshold rows
   pub under : state.under ≡ count_of UnderThreshold rows
 
--- samples can give this count: an empty run has not fired, and a run at the cap has
+-- whether samples can give this count: its run is at most the cap, an empty run has not fired, and
+-- a run at the cap has
 pub record IsFitCount (count : Count) : Type 0 where
   pub within : count.run ≤ cap
   pub none : count.run ≡ 0 → count.fired ≡ false
   pub full : count.run ≡ cap → count.fired ≡ true
 
--- samples that end with `last` can give both counts: at most one run is not empty, and some
+-- whether samples that end with `last` can give both counts: at most one run is not empty, and some
 -- threshold is under the last value (for a run over it) or over it (for a run under it)
 pub record IsFit (last : ℕ) (over under : Count) : Type 0 where
   pub over_fits : IsFitCount over
@@ -53,8 +54,8 @@ are_fit last over under =
     is_fit_count over && is_fit_count under && (over.run == 0 || (under.run == 0 && nat_lt 0 last))
     && (under.run == 0 || nat_lt last 4294967295)
 
--- what holds of every limiter: its counts are fit, its thresholds and durations have 32 bits, and
--- it has at most 32 group ids
+-- Whether the counts of a limiter are fit, its thresholds and durations have 32 bits, and it has at
+-- most 32 group ids. This holds of every limiter.
 pub record IsLimiter (state : State) : Type 0 where
   pub counts : IsFit state.last state.over state.under
   pub threshold_normal : state.settings.threshold_normal < 2 ^ 32

@@ -48,7 +48,7 @@ abbrev pub departure_calls : Departure → List FleetCall
 departure_calls (left key) = closed key ∷ []
 departure_calls (vacant key) = missed key ∷ []
 
--- the connections with these keys were closed, in order
+-- whether the connections with these keys were closed, in order
 pub record ClosesKeys (old : FleetState) (keys : List ℕ) (new : FleetState) : Type 0 where
   pub departures : List Departure
   pub keys_are : map departure_key departures ≡ keys
