@@ -20,7 +20,8 @@ IsFitInfo Absent = Unit {0}
 IsFitInfo (Response bits limit) = (bits < 2 ^ 24) × (limit < 2 ^ 16)
 IsFitInfo (InitiateError error) = Unit {0}
 
--- an AARE with such user information, which is an InitiateResponse if the AARE accepts
+-- whether the user information of an AARE is in range, and is an InitiateResponse if the AARE
+-- accepts
 pub record IsFitAare (aare : Aare) : Type 0 where
   pub info : IsFitInfo aare.info
   pub responds : aare.result ≡ 0 → is_response aare.info ≡ true

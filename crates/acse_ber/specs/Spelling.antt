@@ -14,7 +14,7 @@ use Rattle.acse_ber.specs.declared.aare.Info.TheVariants.{Absent, Response, Init
 
 -- ---- fields
 
--- the tag of an APDU, and the fields that fill it
+-- whether bytes are an APDU with this tag, filled by these fields
 pub record IsApdu (tag : ℕ) (fields : List Field) (bytes : List ℕ) : Type 0 where
   pub body : List ℕ
   pub is_tagged : (tagged_part tag).Spells body bytes
@@ -24,7 +24,7 @@ pub record IsApdu (tag : ℕ) (fields : List Field) (bytes : List ℕ) : Type 0 
 abbrev pub HasNone : ℕ → List Field → Type 0
 HasNone tag fields = contents_of tag fields ≡ []
 
--- exactly one field has the tag, and its contents have this property
+-- whether exactly one field has the tag, and its contents have this property
 pub record HasOne (tag : ℕ) (Holds : List ℕ → Type 0) (fields : List Field) : Type 0 where
   pub contents : List ℕ
   pub one : contents_of tag fields ≡ contents ∷ []
@@ -43,7 +43,7 @@ abbrev pub HasMechanism : List Field → List ℕ → Type 0
 HasMechanism fields mechanism = (HasNone 0x8B fields × (mechanism ≡ []))
     ⊎ HasOne 0x8B (λ contents. contents ≡ mechanism) fields
 
--- bytes that spell the AARQ
+-- whether bytes spell the AARQ
 pub record SpellsAarq (bytes : List ℕ) (aarq : Aarq) : Type 0 where
   pub fields : List Field
   pub is_apdu : IsApdu 0x60 fields bytes
@@ -66,7 +66,7 @@ abbrev pub HasInfo : List Field → Info → Type 0
 HasInfo fields info = (HasNone 0xBE fields × (info ≡ Absent))
     ⊎ ((text : List ℕ) × HasInner 0xBE 0x04 fields (Some text) × IsInfo info text)
 
--- bytes that spell the AARE; if it accepts, it has an InitiateResponse
+-- whether bytes spell the AARE; if it accepts, it has an InitiateResponse
 pub record SpellsAare (bytes : List ℕ) (aare : Aare) : Type 0 where
   pub fields : List Field
   pub is_apdu : IsApdu 0x61 fields bytes

@@ -60,7 +60,8 @@ unfoldable pub is_due : Schedule → ℕ → ℕ → Bool
 is_due schedule previous now =
     fits schedule && has_match schedule.entries (window_start previous now) now
 
--- what `is_due` means: the schedule fits, and a second of the window matches one of its entries
+-- whether a schedule is due, which `is_due` decides: it fits its type, and a second of the window
+-- matches one of its entries
 pub record IsDue (schedule : Schedule) (previous now : ℕ) : Type 0 where
   pub fit : fits schedule ≡ true
   pub second : ℕ

@@ -14,12 +14,12 @@ pub record Schedule : Type 0 where
   pub kind : ScheduleType
   pub entries : List EntryPattern
 
--- the fields of an entry are in their ranges
+-- whether the fields of an entry are in their ranges
 pub record IsEntry (entry : EntryPattern) : Type 0 where
   pub time : IsTimeFields entry.time
   pub date : IsDateFields entry.date
 
--- what holds of the entries of every schedule
+-- whether a schedule may have these entries: at most `max_entries`, with all fields in their ranges
 pub record AreEntries (entries : List EntryPattern) : Type 0 where
   pub few : length entries ≤ max_entries
   pub fit : All IsEntry entries

@@ -23,9 +23,9 @@ permits_in (Ok None) = []
 permits_in (Err fault) = []
 
 module _ {B : Type 0} (is_honest : B → Type 0) (is_marked : B → ℕ → Type 0) where
-  -- Between the two states the ledger gave permits for these places, each at most once, and only
-  -- for places whose entry said that no command was sent. If the book is honest, none of them was
-  -- marked before, and all of them are now. What had gone and what was marked remains so.
+  -- Whether the ledger gave permits for these places between the two states, each at most once, and
+  -- only for places whose entry said that no command was sent. If the book is honest, none of them
+  -- was marked before, and all of them are now. What had gone and what was marked remains so.
   pub record Grants (before after : LedgerState B) (permits : List ℕ) : Type 0 where
     pub apart : AreApart permits
     pub not_sent : (place : ℕ) → IsIn place permits → entry_at before.entries place ≡ NotSent

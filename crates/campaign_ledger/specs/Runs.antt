@@ -26,8 +26,8 @@ pub record Run : Type 0 where
   pub sent : List ℕ
   pub left : ℕ → LedgerEntry
 
--- The run sent the command of a place at most once, and only if none was sent before. It left each
--- of these places marked, and each that it found marked.
+-- Whether a run sent the command of a place at most once, and only if none was sent before. It left
+-- each of these places marked, and each that it found marked.
 pub record IsSafeRun (run : Run) : Type 0 where
   pub apart : AreApart run.sent
   pub fresh : (place : ℕ) → IsIn place run.sent → run.found place ≡ NotSent

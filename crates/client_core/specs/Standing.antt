@@ -26,8 +26,8 @@ AreLeft verb password (suc (suc zero)) aarq request release = (aarq ≡ None) ×
 AreLeft verb password (suc (suc (suc given))) aarq request release = (aarq ≡ None)
     × (request ≡ None) × (release ≡ None)
 
--- a client with this verb and password that was fed these bytes and returned this number of
--- messages
+-- Whether a client has this verb and password, was fed these bytes, and has returned this number of
+-- messages. `over`: whether its connection is over.
 pub record Stands (verb : Verb) (password fed : List ℕ) (given : ℕ) (over : Bool) (c : Client)
     : Type 0 where
   pub verb_is : c.verb ≡ verb
@@ -37,7 +37,7 @@ pub record Stands (verb : Verb) (password fed : List ℕ) (given : ℕ) (over : 
   pub left : AreLeft verb password given c.aarq c.request c.release
   pub over_is : c.is_ended ≡ over
 
--- the next message to send that was not returned, or none if each was
+-- whether a client returned the next message to send that was not returned yet, or none if each was
 pub record GivesNextMessage (old : Client) (result : Option (List ℕ)) (new : Client) : Type 0 where
   pub text : (verb : Verb) (password fed : List ℕ) (given : ℕ) (over : Bool)
       → Stands verb password fed given over old
@@ -46,20 +46,21 @@ pub record GivesNextMessage (old : Client) (result : Option (List ℕ)) (new : C
       → Stands verb password fed given over old
       → Stands verb password fed (if is_some result then suc given else given) over new
 
--- the bytes follow those fed before, unless the connection is over
+-- whether a client was fed bytes: they follow those fed before, unless the connection is over
 pub record Feeds (old : Client) (bytes : List ℕ) (new : Client) : Type 0 where
   pub stands : (verb : Verb) (password fed : List ℕ) (given : ℕ) (over : Bool)
       → Stands verb password fed given over old
       → Stands verb password (if over then fed else fed ++ bytes) given over new
 
--- the connection is over
+-- whether the connection of a client is now over, and nothing else has changed
 pub record Ends (old new : Client) : Type 0 where
   pub stands : (verb : Verb) (password fed : List ℕ) (given : ℕ) (over : Bool)
       → Stands verb password fed given over old
       → Stands verb password fed given true new
 
--- the outcome by the bytes fed: if the connection is over that of all bytes, otherwise the one that
--- they settle, if any; a settled outcome remains
+-- Whether this is the outcome by the bytes fed. If the connection is over, it is that of all bytes;
+-- otherwise it is the one that they settle, if any. A settled outcome remains, whatever bytes
+-- follow.
 pub record Tells (c : Client) (result : Option Outcome) : Type 0 where
   pub told : (verb : Verb) (password fed : List ℕ) (given : ℕ) (over : Bool)
       → Stands verb password fed given over c

@@ -1,8 +1,8 @@
 -- The progress payload by payload.
 --     progress_after        the effect of one more payload; progress_after_frame: of one more frame
 --     progress_after_bytes  the effect of more bytes on the progress so far
---     Moves                 frames are removed from the front of bytes and have their effect
---     Hears                 what Moves says, with no whole frame left
+--     Moves                 bytes have their effect, and the rest of them is kept
+--     Hears                 Moves, with a kept rest that has no effect by itself
 use Rattle.std.specs.Prelude.{◌≡◌, ℕ, ◌&&◌, ◌==◌, if◌then◌else◌, Some, is_none, List, [], ◌∷◌, ◌++◌}
 use Rattle.wrapper_frame.specs.Header.{head_of}
 use Rattle.wrapper_frame.specs.Messages.{frames_of, rest_of}
@@ -12,7 +12,8 @@ use Rattle.client_core.specs.declared.progress.Progress.{Progress}
 use Rattle.client_core.specs.Replies.{progress_after_aare, outcome_of_response}
 use Rattle.client_core.specs.Outcomes.{payloads_of, progress_by_head}
 
--- one more payload: the AARE, then the response to the request; any later one is ignored
+-- the progress after one more payload: the AARE, then the response to the request; any later one
+-- is ignored
 abbrev pub progress_after : Verb → Progress → List ℕ → Progress
 progress_after verb progress payload =
     if is_none progress.outcome then
@@ -20,7 +21,7 @@ progress_after verb progress payload =
     else progress_after_aare verb payload)
     else progress
 
--- one more frame, which has an effect only from port 1 to port 1
+-- the progress after one more frame, which has an effect only from port 1 to port 1
 abbrev pub progress_after_frame : Verb → Progress → Frame → Progress
 progress_after_frame verb progress frame = if frame.src == 1 && frame.dst == 1
     then progress_after verb progress frame.payload else progress
@@ -31,20 +32,22 @@ progress_after_all verb progress [] = progress
 progress_after_all verb progress (payload ∷ later) = progress_after_all verb
     (progress_after verb progress payload) later
 
--- more bytes: their frames, followed by their rest
+-- the progress after more bytes: by the payloads of their whole frames, then by the header of the
+-- unfinished one
 unfoldable pub progress_after_bytes : Verb → Progress → List ℕ → Progress
 progress_after_bytes verb progress bytes =
     progress_by_head (progress_after_all verb progress (payloads_of (frames_of bytes)))
     (head_of (rest_of bytes))
 
--- whatever bytes follow, the old bytes have the same effect on the old progress as the kept bytes
--- on the new one
+-- whether, whatever bytes follow, the old bytes have the same effect on the old progress as the
+-- kept bytes on the new one
 pub record Moves (verb : Verb) (old : Progress) (bytes : List ℕ) (new : Progress) (kept : List ℕ)
     : Type 0 where
   pub on : (more : List ℕ) → progress_after_bytes verb old (bytes ++ more)
       ≡ progress_after_bytes verb new (kept ++ more)
 
--- and the kept bytes have no effect by themselves
+-- whether, whatever bytes follow, the old bytes have the same effect on the old progress as the
+-- kept bytes on the new one, and the kept bytes have none by themselves
 pub record Hears (verb : Verb) (old : Progress) (bytes : List ℕ) (new : Progress) (kept : List ℕ)
     : Type 0 where
   pub moves : Moves verb old bytes new kept

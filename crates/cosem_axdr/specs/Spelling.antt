@@ -46,13 +46,14 @@ IsLength [] n = ⊥
 IsLength (first ∷ bytes) n = ((first < 0x80) × (bytes ≡ []) × (n ≡ first))
     ⊎ ((0x81 ≤ first) × (first ≤ 0x84) × (first ≡ 0x80 + length bytes) × (n ≡ big_endian bytes))
 
--- the length of a string, followed by its bytes
+-- whether contents are the length of a string, followed by its bytes
 pub record IsString (contents string : List ℕ) : Type 0 where
   pub length_text : List ℕ
   pub parts : contents ≡ length_text ++ string
   pub is_length : IsLength length_text (length string)
 
--- the number of bits, followed by the bytes that hold them, whose unused bits are read as 0
+-- whether contents are the number of bits, followed by the bytes that hold them; their unused bits
+-- are read as 0
 pub record IsBits (contents : List ℕ) (bits : ℕ) (bytes : List ℕ) : Type 0 where
   pub length_text : List ℕ
   pub raw : List ℕ
@@ -61,7 +62,7 @@ pub record IsBits (contents : List ℕ) (bits : ℕ) (bytes : List ℕ) : Type 0
   pub long : length raw ≡ bytes_for bits
   pub value : bytes ≡ without_unused_bits bits raw
 
--- the number of items, within the limit, followed by the items
+-- whether contents are the number of items, within the limit, followed by the items
 pub record IsCounted (AreItems : List ℕ → Type 0) (contents : List ℕ) (count : ℕ) : Type 0 where
   pub length_text : List ℕ
   pub items : List ℕ
@@ -122,7 +123,8 @@ abbrev mutual
 abbrev pub Spells : List ℕ → Tree → Type 0
 Spells bytes t = IsTagged (tag_of t) (λ contents. AreContents contents t) bytes
 
--- a spelling that a reader accepts: neither nested too deep nor too long
+-- whether bytes are a spelling of a value that a reader accepts: neither nested too deep nor too
+-- long
 pub record IsSpelling (bytes : List ℕ) (t : Tree) : Type 0 where
   pub spells : Spells bytes t
   pub flat : nesting t ≤ max_nesting
@@ -240,7 +242,7 @@ abbrev mutual
   AreFine no_trees = Unit {0}
   AreFine (tree t ts) = IsFine t × AreFine ts
 
--- a value within all the limits of a reader
+-- whether a value is within all the limits of a reader
 pub record IsFit (t : Tree) : Type 0 where
   pub within : IsWithin t
   pub fine : IsFine t

@@ -38,7 +38,7 @@ is_date c =
 unfoldable pub day_count : CivilDate → ℕ
 day_count c = days_of_years c.year + days_of_months c.year (c.month - 1) + (c.day - 1)
 
--- the date is day n
+-- whether a date exists in the calendar and is day n
 pub record IsDay (n : ℕ) (c : CivilDate) : Type 0 where
   pub date : IsTrue (is_date c)
   pub count : day_count c ≡ n

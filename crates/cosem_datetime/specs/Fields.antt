@@ -41,21 +41,21 @@ IsDayWithin _ = Unit {0}
 abbrev pub IsDeviationWithin : Option ℤ → Type 0
 IsDeviationWithin deviation = IfSome deviation (λ d. (negsuc 719 ≤ℤ d) × (d ≤ℤ pos 840))
 
--- the ranges of a date's fields
+-- whether the fields of a date are in their ranges
 pub record IsDateFields (p : DateFields) : Type 0 where
   pub year : IfSome p.year (λ y. y < 0xFFFF)
   pub month : IsWithin 1 12 p.month
   pub day : IsDayWithin p.day
   pub weekday : IsWithin 1 7 p.weekday
 
--- the ranges of a time's fields; hundredths of a second are 0
+-- whether the fields of a time are in their ranges; hundredths of a second are 0 or not specified
 pub record IsTimeFields (p : TimeFields) : Type 0 where
   pub hour : IsWithin 0 23 p.hour
   pub minute : IsWithin 0 59 p.minute
   pub second : IsWithin 0 59 p.second
   pub hundredths : IsWithin 0 0 p.hundredths
 
--- the ranges of a date-time's fields
+-- whether the fields of a date-time are in their ranges
 pub record IsDateTimeFields (p : DateTimeFields) : Type 0 where
   pub date : IsDateFields p.date
   pub time : IsTimeFields p.time

@@ -3,11 +3,11 @@ use Rattle.std.specs.Prelude.{◌≡◌, ℕ, ◌/◌, ◌%◌, ◌<◌, ◌≤�
 use Rattle.cosem_datetime.specs.Fields.{TimeFields}
 use Rattle.cosem_datetime.specs.Matching.{holds}
 
--- no number from `from` to before `limit` passes
+-- whether no number from `from` to before `limit` passes the test
 pub record NonePasses (test : ℕ → Bool) (from limit : ℕ) : Type 0 where
   pub none : (n : ℕ) → from ≤ n → n < limit → test n ≡ false
 
--- n passes, and no number from `from` to before n does
+-- whether n, which is less than `limit`, is the first number from `from` on that passes the test
 pub record IsFirst (test : ℕ → Bool) (from limit n : ℕ) : Type 0 where
   pub low : from ≤ n
   pub high : n < limit
@@ -32,7 +32,8 @@ hour_second_holds minute second = parts_pass 60 (holds minute) (holds second)
 abbrev pub day_second_holds : TimeFields → ℕ → Bool
 day_second_holds t = parts_pass 3600 (holds t.hour) (hour_second_holds t.minute t.second)
 
--- the answer is whether some number from `from` to `to`, both included, passes
+-- whether the answer is `true` exactly if some number from `from` to `to`, both included, passes
+-- the test
 pub record TellsPassing (test : ℕ → Bool) (from to : ℕ) (answer : Bool) : Type 0 where
   pub found : answer ≡ true → (n : ℕ) × ((from ≤ n) × ((n ≤ to) × (test n ≡ true)))
   pub none : answer ≡ false → (n : ℕ) → from ≤ n → n ≤ to → test n ≡ false

@@ -1,6 +1,6 @@
 -- Reading bytes to their end, up to a limit.
 --     FailsToRead     what a fault says about the bytes that were read before it
---     StopsReading    the bytes were not read to their end
+--     StopsReading    reading stopped with a fault
 use Rattle.std.specs.Prelude.{◌<◌, ◌≤◌, ℕ, Option, List, length, ⊤}
 use Rattle.std.specs.Io.KnownBytes.{Consumes}
 use Rattle.counted_io.specs.declared.fault.InputFault.{InputFault}
@@ -13,7 +13,7 @@ FailsToRead limit bytes failed fault.TooLong failed' = limit < length bytes
 FailsToRead limit bytes failed fault.Read failed' = (length bytes ≤ limit) × (failed < failed')
 FailsToRead limit bytes failed fault.Memory failed' = ⊤
 
--- The bytes were not read to their end.
+-- whether reading stopped with this fault, which fits the bytes and the failed reads before it
 pub record StopsReading (limit : ℕ) (left : Option (List ℕ)) (failed : ℕ) (f : InputFault)
     (left' : Option (List ℕ)) (failed' : ℕ) : Type 0 where
   pub bytes : List ℕ

@@ -25,8 +25,9 @@ left_in remaining input = reader_remaining (λ m. remaining (stream_of m)) input
 abbrev pub has_failed_in : {T A : Type 0} → BufReader (Monitored T) A → Bool
 has_failed_in input = has_failed (reader_inner input)
 
--- A piece of a line was appended: bytes that were read, of which only the last can be 0A. A piece
--- that ends the line ends with that byte, or is empty at the end of the input.
+-- Whether a piece of a line was appended: bytes that were read, of which only the last can be 0A. A
+-- piece that ends the line ends with that byte, or is empty at the end of the input. Any other
+-- piece is not empty and has no 0A.
 pub record AddsPiece (left : Option (List ℕ)) (line : List ℕ) (is_done : Bool)
     (left' : Option (List ℕ)) (line' : List ℕ) : Type 0 where
   pub piece : List ℕ
@@ -38,8 +39,8 @@ pub record AddsPiece (left : Option (List ℕ)) (line : List ℕ) (is_done : Boo
   pub ends : is_done ≡ true → IsEmptyOrEndsWith piece 10
   pub at_end : is_done ≡ true → length piece ≡ 0 → OnSome left (IsAtEnd left')
 
--- A line was appended: the bytes up to and including the first 0A, or all bytes if there is none.
--- `count` is their number.
+-- Whether a line was appended: the bytes up to and including the first 0A, or all bytes if there is
+-- none. `count` is their number.
 pub record ReadsLine (left : Option (List ℕ)) (line : List ℕ) (count : ℕ) (left' : Option (List ℕ))
     (line' : List ℕ) : Type 0 where
   pub bytes : List ℕ

@@ -32,9 +32,9 @@ HasAnsweredLines {ports = ports} sessions count =
     (i : ℕ) (late : 4 ≤ i) (below : i < ports) → 0 < length (sessions i late below).answered
     → length (lines_of_calls (sessions i late below).front) ≤ count
 
--- The meter in the second world answers as the one after the first calls of a run, which have at
--- least this number of lines. Of the calls of each session that may change the meter, all that were
--- answered are among these first calls, in their order, before any other of the session.
+-- Whether the meter in the second world answers as the one after the first calls of a run, which
+-- have at least this number of lines. Of the calls of each session that may change the meter, all
+-- that were answered are among these first calls, in their order, before any other of the session.
 pub record ContinuesAnswers {IsDurable : ℕ → Type 0} {ports : ℕ} {calls : Calls}
     (sessions : AnswerSessions IsDurable ports calls) (count : ℕ) (origin resumed : World) : Type 0
   where

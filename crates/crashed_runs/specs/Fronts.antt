@@ -14,8 +14,8 @@ use Rattle.shared_meter.specs.Pending.{lines_of_calls}
 abbrev pub run_events : Calls → List Event
 run_events calls = events_of (events_and_replies calls)
 
--- A run made these calls, from one world. The meter in the other world answers as the one after the
--- first calls of the run, which have at least this number of lines.
+-- Whether the meter in the second world answers as the one after the first calls of a run. The run
+-- made all these calls from the first world, and the first calls have at least `from` lines.
 pub record ContinuesFront (from : ℕ) (calls : Calls) (origin resumed : World) : Type 0 where
   pub front : Calls
   pub rest : Calls

@@ -21,8 +21,9 @@ pub record Stand (F : Type 0) : Type 0 where
   pub calls : Calls
   pub count : ℕ
 
--- A save of a file that held lines of a history. A crash at any moment of it leaves at least these
--- lines. If the save returned an error, the number of lines that it counts stays.
+-- Whether a save of a file led from `old` to `new`. The history is continued, the number of lines
+-- held does not fall, and a crash at any moment of the save leaves at least the lines held before
+-- it.
 pub record IsSave {F : Type 0} (moment : F → ℕ) (left_since : F → ℕ → List ℕ → Type 0)
     (Renews : List ℕ → List ℕ → Type 0) (first : List (List ℕ)) (old new : Stand F) : Type 0 where
   pub longer : StartsWith new.calls old.calls
@@ -44,8 +45,9 @@ AreSaves {F = F} moment left_since Renews first (suc saves) old new = (between :
     × AreSaves moment left_since Renews first saves old between
     × IsSave moment left_since Renews first between new
 
--- The meter in the second world answers as the one after the first calls of a run. Of the calls
--- that may change the meter, those of the shorter history are among these, before any other.
+-- Whether the meter in the second world answers as the one after the first calls of a run, which
+-- have at least `count` lines. Of the calls that may change the meter, those of the shorter history
+-- are among these first calls, before any other.
 pub record ContinuesAnswered (count : ℕ) (answered calls : Calls) (origin resumed : World) : Type 0
   where
     pub continues : ContinuesFront count calls origin resumed

@@ -54,16 +54,16 @@ Narrows old new = (c : List ℕ) → new c → old c
 abbrev pub HasOneOutcome : List ℕ → (List ℕ → Type 0) → Type 0
 HasOneOutcome bytes outcomes = (c : List ℕ) → outcomes c → c ≡ bytes
 
--- A call takes the file from one moment to another. What a crash since an earlier moment may have
--- left is what it may have left before the call, or what it may leave now.
+-- Whether a call adds to the outcomes of a crash since an earlier moment only those of a crash
+-- after the call. The outcomes from before the call remain, and the moment does not fall.
 pub record Elapses (before now : ℕ) (past since : ℕ → List ℕ → Type 0)
     (may_leave : List ℕ → Type 0) : Type 0 where
   pub later : before ≤ now
   pub nothing_else : (t : ℕ) (c : List ℕ) → t ≤ before → since t c → past t c ⊎ may_leave c
   pub keeps : (t : ℕ) (c : List ℕ) → t ≤ before → past t c → since t c
 
--- A crash at any moment from `old` to `new` leaves bytes for which P holds; so does one since an
--- earlier moment, unless it was before `old`.
+-- Whether P holds for all bytes that a crash at any moment from `old` to `new` leaves. It also
+-- holds for those of a crash since an earlier moment, unless the crash was before `old`.
 pub record LeavesOnly {F : Type 0} (moment : F → ℕ) (left_since : F → ℕ → List ℕ → Type 0)
     (old new : F) (P : List ℕ → Type 0) : Type 0 where
   pub later : moment old ≤ moment new

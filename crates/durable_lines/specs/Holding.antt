@@ -11,8 +11,8 @@ use Rattle.durable_lines.specs.Lines.{lines_in}
 abbrev pub IsSameOrRenewed : (Renews : List ℕ → List ℕ → Type 0) → List ℕ → List ℕ → Type 0
 IsSameOrRenewed Renews old new = (new ≡ old) ⊎ Renews old new
 
--- The file held the lines up to a base. It was then renewed, and the lines from the base on were
--- appended to the renewed bytes.
+-- Whether a file held the first of these lines, the base, and was then renewed. The lines of
+-- `bytes` are those of the renewed file, followed by the lines after the base.
 pub record IsRebased (Held : List (List ℕ) → List ℕ → Type 0)
     (Renews : List ℕ → List ℕ → Type 0) (lines : List (List ℕ)) (bytes : List ℕ) : Type 0 where
   pub base : List (List ℕ)

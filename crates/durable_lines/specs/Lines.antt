@@ -31,7 +31,8 @@ IsText bytes = bytes ≡ text_of (lines_in bytes)
 abbrev pub IsBetween : List (List ℕ) → List (List ℕ) → List (List ℕ) → Type 0
 IsBetween old added lines = (k : ℕ) × (k ≤ length added) × (lines ≡ old ++ take k added)
 
--- A file of whole lines, all of them on the disk: a sync returned while it had these bytes.
+-- whether a file consists of whole lines, all of them on the disk: a sync returned while it had
+-- these bytes
 pub record IsSettled {F : Type 0} (seen : F → List ℕ) (may_leave : F → List ℕ → Type 0)
     (stored : List ℕ → Type 0) (file : F) : Type 0 where
   pub text : IsText (seen file)

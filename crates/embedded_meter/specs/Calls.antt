@@ -24,14 +24,16 @@ use Rattle.embedded_meter.specs.declared.given.Tick.{Tick}
 use Rattle.embedded_meter.specs.declared.given.Tick.TheVariants as tick
 use Rattle.trace_player.specs.Traces.{trace_of}
 
--- a new meter of this name
+-- whether a meter is new and has this name and password; it keeps at most `kept` events, and no
+-- session is open
 pub record IsNew (device password : List ℕ) (kept : ℕ) (m : MeterState) : Type 0 where
   pub stands : StandsForHistory m.recorder [] (new_world device)
   pub capacity : m.recorder.capacity ≡ kept
   pub guarded : m.password ≡ password
   pub sessions : (number : ℕ) → dialogue_at m number ≡ None
 
--- a meter that continues from the trace of this text
+-- Whether a meter continues from the trace of this text. It has this password, keeps at most `kept`
+-- events and has none yet, and no session is open.
 pub record Resumes (text password : List ℕ) (kept : ℕ) (m : MeterState) : Type 0 where
   pub trace : Trace
   pub told : trace_of text ≡ Ok trace
@@ -44,8 +46,8 @@ pub record Resumes (text password : List ℕ) (kept : ℕ) (m : MeterState) : Ty
 
 -- ---- sessions
 
--- a session was opened: it will do what a session with the meter's password does, whatever its
--- input
+-- whether a session was opened in a free place: it will do what a session with the meter's password
+-- does, whatever its input, and nothing else has changed
 pub record Opens (old : MeterState) (number : ℕ) (new : MeterState) : Type 0 where
   pub within : number < max_sessions
   pub free : dialogue_at old number ≡ None
@@ -74,7 +76,7 @@ RefusedBy old number SessionTaken new = ⊥
 RefusedBy old number TooManySamples new = ⊥
 RefusedBy old number Uneven new = ⊥
 
--- a session received bytes
+-- whether an open session received bytes, and nothing else has changed
 pub record FeedsAt (old : MeterState) (number : ℕ) (bytes : List ℕ) (new : MeterState) : Type 0
   where
     pub session : AtSession old number new (λ (d d' : Dialogue). Feeds d bytes d')
@@ -85,7 +87,7 @@ abbrev pub FeedsBy : MeterState → ℕ → List ℕ → Result Unit MeterFault 
 FeedsBy old number bytes (Ok done) new = FeedsAt old number bytes new
 FeedsBy old number bytes (Err fault) new = RefusedBy old number fault new
 
--- the input of a session ended
+-- whether the input of an open session ended, and nothing else has changed
 pub record FinishesAt (old : MeterState) (number : ℕ) (new : MeterState) : Type 0 where
   pub session : AtSession old number new Finishes
   pub recorder : new.recorder ≡ old.recorder
@@ -102,7 +104,8 @@ GivesAt old number buffer given new buffer' =
     AtSession old number new
     (λ (d d' : Dialogue). GivesNext d old.recorder buffer given d' new.recorder buffer')
 
--- out of memory: no frame was returned, and whatever was done stays done
+-- whether a call of `next` that ran out of memory returned no frame: whatever was done stays done,
+-- and the buffer is unchanged
 pub record StopsAt (old : MeterState) (number : ℕ) (buffer : List ℕ) (new : MeterState)
     (buffer' : List ℕ) : Type 0 where
   pub session : AtSession old number new
@@ -120,7 +123,7 @@ NextBy old number buffer (Err SessionTaken) new buffer' = ⊥
 NextBy old number buffer (Err TooManySamples) new buffer' = ⊥
 NextBy old number buffer (Err Uneven) new buffer' = ⊥
 
--- a session was closed
+-- whether an open session was closed, and nothing else has changed
 pub record Closes (old : MeterState) (number : ℕ) (new : MeterState) : Type 0 where
   pub was_open : dialogue_at old number ≢ None
   pub free : dialogue_at new number ≡ None
@@ -148,7 +151,7 @@ IsFired (SampledBoth over under export_over export_under) fired =
     }
 IsFired _ fired = ⊥
 
--- a block of samples was applied
+-- whether a block of samples within the limit was applied, with these firings
 pub record TakesSamples (old : MeterState) (samples : Samples) (fired : Fired) (new : MeterState)
     : Type 0 where
   pub reply : Reply
@@ -173,7 +176,7 @@ IsTick (Ran count) t = t ≡ tick.Ran count
 IsTick (Stale last) t = t ≡ tick.Stale last
 IsTick _ t = ⊥
 
--- a moment was applied
+-- whether a moment was applied, with this result
 pub record TakesMoment (old : MeterState) (moment : ℕ) (t : Tick) (new : MeterState) : Type 0 where
   pub reply : Reply
   pub takes : Takes old (event.Moment moment) reply new

@@ -51,6 +51,7 @@ awaits_reply (Asked event) = true
 awaits_reply (Answered reply) = true
 awaits_reply (Due frame) = false
 
--- the invariant of every dialogue
+-- whether the invariant of a dialogue holds: the session awaits a reply exactly if an event or its
+-- reply is pending
 pub record IsDialogue (d : Dialogue) : Type 0 where
   pub agrees : is_asking d.session ≡ awaits_reply d.pending

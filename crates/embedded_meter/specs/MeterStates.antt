@@ -21,7 +21,8 @@ pub record MeterState : Type 0 where
 abbrev pub max_sessions : ℕ
 max_sessions = 8
 
--- the invariant of every meter
+-- whether the invariant of a meter holds: its password has 1 to 32 bytes, and it has a place for
+-- each session
 pub record IsMeterState (m : MeterState) : Type 0 where
   pub named : IsPassword m.password
   pub places : length m.places ≡ max_sessions
@@ -30,12 +31,13 @@ pub record IsMeterState (m : MeterState) : Type 0 where
 abbrev pub dialogue_at : MeterState → ℕ → Option Dialogue
 dialogue_at m number = slice_index_or m.places number None
 
--- the other sessions, and the password, are unchanged
+-- whether the other sessions, and the password, are unchanged
 pub record OthersStay (old : MeterState) (number : ℕ) (new : MeterState) : Type 0 where
   pub others : (other : ℕ) → other ≢ number → dialogue_at new other ≡ dialogue_at old other
   pub password : new.password ≡ old.password
 
--- a call that changes only the session with a number, and does this to it
+-- whether a call did this to the open session with this number, and left the other sessions and the
+-- password unchanged
 pub record AtSession (old : MeterState) (number : ℕ) (new : MeterState) (Does : Dialogue → Dialogue
     → Type 0) : Type 0 where
   pub before : Dialogue
@@ -45,7 +47,8 @@ pub record AtSession (old : MeterState) (number : ℕ) (new : MeterState) (Does 
   pub does : Does before after
   pub stay : OthersStay old number new
 
--- the meter applied an event, and this is its reply; the sessions are unchanged
+-- whether the meter applied an event, and this is its reply; the sessions, the password and the
+-- capacity are unchanged
 pub record Takes (old : MeterState) (event : Event) (reply : Reply) (new : MeterState) : Type 0
   where
     pub continues : Continues old.recorder new.recorder event reply

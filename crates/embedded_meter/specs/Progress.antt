@@ -3,7 +3,7 @@
 --     Feeds        bytes arrived
 --     Finishes     the input ended
 --     Advances     the meter applied events, and frames were returned
---     IsIdle       nothing must be sent until more input arrives
+--     IsIdle       nothing is to be asked or sent until more input arrives
 --     IsOver       the session is over
 --     GivesNext    what `next` did and returned
 use Rattle.std.specs.Prelude.{◌≡◌, ◌<◌, ◌++◌, ℕ, List, [], ◌∷◌, length, drop, Result, Ok, Err}
@@ -18,30 +18,31 @@ use Rattle.embedded_meter.specs.declared.given.Given.{Given}
 use Rattle.embedded_meter.specs.declared.given.Given.TheVariants.{Frame, NoRoom, Wait, End}
 use Rattle.embedded_meter.specs.declared.pending.Pending.TheVariants.{Due}
 
--- what a session with this password does, whatever its input is, is still to be done
+-- whether a session has yet to do all that a session with this password does, whatever its input is
 pub record Owes (password : List ℕ) (d : Dialogue) : Type 0 where
   pub asks : (input : List ℕ) → asks_ahead d input ≡ Asks password input
   pub sends : (input : List ℕ) (replies : List Reply)
       → sends_ahead d input replies ≡ Answers password input replies
   pub ends : (input : List ℕ) → ends_ahead d input ≡ end_of input
 
--- bytes arrived: they are the first of the remaining input
+-- whether a session received bytes: they are the first of its remaining input
 pub record Feeds (old : Dialogue) (bytes : List ℕ) (new : Dialogue) : Type 0 where
   pub asks : (more : List ℕ) → asks_ahead new more ≡ asks_ahead old (bytes ++ more)
   pub sends : (more : List ℕ) (replies : List Reply)
       → sends_ahead new more replies ≡ sends_ahead old (bytes ++ more) replies
   pub ends : (more : List ℕ) → ends_ahead new more ≡ ends_ahead old (bytes ++ more)
 
--- the input ended: no bytes remain
+-- whether the input of a session ended: no bytes remain
 pub record Finishes (old new : Dialogue) : Type 0 where
   pub asks : (more : List ℕ) → asks_ahead new more ≡ asks_ahead old []
   pub sends : (more : List ℕ) (replies : List Reply)
       → sends_ahead new more replies ≡ sends_ahead old [] replies
   pub ends : (more : List ℕ) → ends_ahead new more ≡ ends_ahead old []
 
--- the meter applied events: the first of the remaining ones, in order, each once and with the reply
--- that its history determines. These frames were returned: the first of those that remain for these
--- replies. Everything else still remains to be done.
+-- Whether the meter applied events of a session, and these frames were returned. The events are the
+-- first of the remaining ones, in order, each once and with the reply that the meter's history
+-- determines. The frames are the first of those that remain for these replies. Everything else
+-- still remains to be done.
 pub record Advances (old : Dialogue) (r : Recording) (given : List (List ℕ)) (new : Dialogue)
     (r' : Recording) : Type 0 where
   pub told : List Exchange
@@ -53,18 +54,19 @@ pub record Advances (old : Dialogue) (r : Recording) (given : List (List ℕ)) (
       → sends_ahead old more (replies_of told ++ later) ≡ given ++ sends_ahead new more later
   pub ends : (more : List ℕ) → ends_ahead old more ≡ ends_ahead new more
 
--- nothing must be sent until more input arrives
+-- whether a session has nothing to ask or to send until more input arrives
 pub record IsIdle (d : Dialogue) : Type 0 where
   pub asks : asks_ahead d [] ≡ []
   pub sends : (replies : List Reply) → sends_ahead d [] replies ≡ []
 
--- the session is over, and does nothing more
+-- whether a session is over with this end, and does nothing more
 pub record IsOver (end : SessionEnd) (d : Dialogue) : Type 0 where
   pub asks : (more : List ℕ) → asks_ahead d more ≡ []
   pub sends : (more : List ℕ) (replies : List Reply) → sends_ahead d more replies ≡ []
   pub ends : (more : List ℕ) → ends_ahead d more ≡ end
 
--- a frame was returned: it is at the start of the buffer, and the rest of the buffer is unchanged
+-- whether a frame of `count` bytes was returned: it is at the start of the buffer, and the rest of
+-- the buffer is unchanged
 pub record GivesFrame (old : Dialogue) (r : Recording) (buffer : List ℕ) (count : ℕ)
     (new : Dialogue) (r' : Recording) (buffer' : List ℕ) : Type 0 where
   pub frame : List ℕ
@@ -72,7 +74,7 @@ pub record GivesFrame (old : Dialogue) (r : Recording) (buffer : List ℕ) (coun
   pub counted : count ≡ length frame
   pub written : buffer' ≡ frame ++ drop count buffer
 
--- a frame must be sent, and is longer than the buffer
+-- whether the frame that must be sent has `count` bytes and is longer than the buffer
 pub record KeepsFrame (count : ℕ) (buffer : List ℕ) (d : Dialogue) : Type 0 where
   pub frame : List ℕ
   pub due : d.pending ≡ Due frame

@@ -17,24 +17,24 @@ use Rattle.embedded_meter.specs.declared.given.Given.TheVariants as given
 use Rattle.embedded_meter.specs.declared.pending.Pending.{Pending}
 use Rattle.embedded_meter.specs.declared.pending.Pending.TheVariants.{Nothing, Asked, Answered, Due}
 
--- the session will still do the same
+-- whether what a session will still do is unchanged
 pub record SameAhead (old new : Dialogue) : Type 0 where
   pub asks : (more : List ℕ) → asks_ahead old more ≡ asks_ahead new more
   pub sends : (more : List ℕ) (replies : List Reply)
       → sends_ahead old more replies ≡ sends_ahead new more replies
   pub ends : (more : List ℕ) → ends_ahead old more ≡ ends_ahead new more
 
--- an event is pending
+-- whether an event is pending
 pub record IsAsked (d : Dialogue) : Type 0 where
   pub event : Event
   pub is : d.pending ≡ Asked event
 
--- a reply is pending
+-- whether a reply is pending
 pub record IsAnswered (d : Dialogue) : Type 0 where
   pub reply : Reply
   pub is : d.pending ≡ Answered reply
 
--- a frame is pending
+-- whether a frame is pending
 pub record HasFrameDue (d : Dialogue) : Type 0 where
   pub frame : List ℕ
   pub is : d.pending ≡ Due frame
@@ -94,7 +94,7 @@ abbrev pub SettlesBy : {E : Type 0} → Dialogue → Recording → Result NextNe
 SettlesBy old r (Ok rest) new r' = Advances old r [] new r' × HasNoStepLeft rest new
 SettlesBy old r (Err error) new r' = Advances old r [] new r'
 
--- the pending frame was copied to the buffer, and is not pending any more
+-- whether the pending frame, of `count` bytes, was copied to the buffer and is not pending any more
 pub record TakesFrame (old : Dialogue) (buffer : List ℕ) (count : ℕ) (new : Dialogue)
     (buffer' : List ℕ) : Type 0 where
   pub frame : List ℕ
