@@ -7,7 +7,7 @@ use wire_bytes::Octets;
 use xdlms_blocks::{BlockFault, GetBlocks, JoinBlocks, Piece};
 
 /// Returns the bytes 0, 1, 2 and so on, starting at 0 again after 250.
-fn counted<const N: usize>() -> [u8; N] {
+fn count_up<const N: usize>() -> [u8; N] {
     let mut bytes = [0; N];
     for (at, byte) in bytes.iter_mut().enumerate() {
         *byte = (at % 251) as u8;
@@ -20,13 +20,13 @@ type Block = (bool, u32, usize);
 
 /// Returns a block transfer of a text of 650 bytes in blocks of 52.
 fn sending_650(alloc: Global) -> Result<GetBlocks, AllocError> {
-    let text: [u8; 650] = counted();
+    let text: [u8; 650] = count_up();
     Ok(GetBlocks::new(Octets::from_slice(alloc, &text)?, 52))
 }
 
 /// Returns a block transfer of a text of 104 bytes in blocks of 52.
 fn sending_104(alloc: Global) -> Result<GetBlocks, AllocError> {
-    let text: [u8; 104] = counted();
+    let text: [u8; 104] = count_up();
     Ok(GetBlocks::new(Octets::from_slice(alloc, &text)?, 52))
 }
 
@@ -150,7 +150,7 @@ fn check_13_blocks(
     sent: &mut GetBlocks,
     joined: &mut JoinBlocks,
 ) -> Result<(), Fail> {
-    let text: [u8; 650] = counted();
+    let text: [u8; 650] = count_up();
     for before in 0..13u32 {
         let number = before.saturating_add(1);
         let (len, whole) = if number == 13 {
@@ -184,7 +184,7 @@ fn a_text_of_650_bytes_has_13_blocks(rt: HostRuntime) -> Result<(), Fail> {
 
 #[test]
 fn a_full_block_at_the_end_is_the_last(rt: HostRuntime) -> Result<(), Fail> {
-    let text: [u8; 104] = counted();
+    let text: [u8; 104] = count_up();
     let mut sent = sending_104(rt.alloc())?;
     let rows = [
         (0, Ok((false, 1, &text[..52]))),
@@ -199,7 +199,7 @@ fn a_full_block_at_the_end_is_the_last(rt: HostRuntime) -> Result<(), Fail> {
 /// Requests the block after the first of a text of 650 bytes with a wrong number, and then with the
 /// right one.
 fn check_wrong_number(rt: &impl Abort, alloc: Global, wrong: u32) -> Result<(), Fail> {
-    let text: [u8; 52] = counted();
+    let text: [u8; 52] = count_up();
     let mut sent = sending_650(alloc)?;
     let rows = [
         (0, Ok((false, 1, text.as_slice()))),
@@ -299,7 +299,7 @@ fn check_repeated(
     sent: &mut GetBlocks,
     joined: &mut JoinBlocks,
 ) -> Result<(), Fail> {
-    let text: [u8; 104] = counted();
+    let text: [u8; 104] = count_up();
     let piece = next_again(alloc, sent, 0)?;
     let is_first_so = passes(joined, piece, (false, 1, 52), None, true)?;
     let piece = next_again(alloc, sent, 1)?;
@@ -323,7 +323,7 @@ fn a_call_that_found_no_memory_can_be_repeated(rt: HostRuntime) -> Result<(), Fa
 
 /// Returns a block transfer of a text of 8,192 bytes in blocks of 52.
 fn sending_8192(alloc: Global) -> Result<GetBlocks, AllocError> {
-    let text: [u8; 8192] = counted();
+    let text: [u8; 8192] = count_up();
     Ok(GetBlocks::new(Octets::from_slice(alloc, &text)?, 52))
 }
 
@@ -343,7 +343,7 @@ fn check_blocks(rt: &impl Abort, alloc: Global, text: &[u8]) -> Result<(), Fail>
 
 #[test]
 fn a_text_of_8192_bytes_has_158_blocks(rt: HostRuntime) -> Result<(), Fail> {
-    let text: [u8; 8192] = counted();
+    let text: [u8; 8192] = count_up();
     check_blocks(&rt, rt.alloc(), &text)
 }
 
@@ -363,7 +363,7 @@ fn check_joined(rt: &impl Abort, alloc: Global, text: &[u8]) -> Result<(), Block
 
 #[test]
 fn a_text_of_8192_bytes_comes_back_from_158_blocks(rt: HostRuntime) -> Result<(), Fail> {
-    let text: [u8; 8192] = counted();
+    let text: [u8; 8192] = count_up();
     check_joined(&rt, rt.alloc(), &text)?;
     Ok(())
 }

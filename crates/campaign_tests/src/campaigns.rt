@@ -24,7 +24,7 @@ const REPORT: &[u8] = b"m1 done 0\nm2 rejected 13\nm3 unknown\nm4 refused 2\nm5 
 pub(crate) const FIVE: &[&[u8]] = &[b"m1", b"m2", b"m3", b"m4", b"m5"];
 
 /// Returns whether this is the text of a report.
-fn reported(alloc: Global, lines: &Report, text: &[u8]) -> Result<bool, AllocError> {
+fn is_report(alloc: Global, lines: &Report, text: &[u8]) -> Result<bool, AllocError> {
     let told = report(alloc, lines)?;
     let same = told.as_slice() == text;
     drop(told);
@@ -82,7 +82,7 @@ fn is_told<R: Threads + Sync>(
     requires within_max { workers ≤ 16 }
 {
     let lines = lines_of(rt, alloc, jobs, workers, piece)?;
-    let same = reported(alloc, &lines, text);
+    let same = is_report(alloc, &lines, text);
     drop(lines);
     same
 }
@@ -124,7 +124,7 @@ fn is_put_back(alloc: Global, report: Report) -> Result<bool, AllocError> {
     let lines = report.into_vec();
     let has_all = lines.len() == 5;
     let again = Report::from_vec(lines);
-    let same = reported(alloc, &again, REPORT);
+    let same = is_report(alloc, &again, REPORT);
     drop(again);
     Ok(has_five && has_all && same?)
 }

@@ -133,7 +133,7 @@ impl<R> Listing<R> {
 }
 
 /// Passes the events of a text to a sink that lists them: each event in order, if no line is lost.
-fn handed<R: Wait + Eprint + Copy>(
+fn hand_on<R: Wait + Eprint + Copy>(
     alloc: Global,
     text: &[u8],
     buffer: LineBuffer,
@@ -159,7 +159,7 @@ const TEXTS: [(&[u8], &str); 5] = [
 fn a_console_hands_on_the_events_of_its_lines(rt: HostRuntime) -> Result<(), Fail> {
     for (text, letters) in &TEXTS {
         let mut sink = Listing::new(rt, rt.alloc());
-        let end = handed(rt.alloc(), text, LineBuffer::new(rt.alloc())?, &mut sink);
+        let end = hand_on(rt.alloc(), text, LineBuffer::new(rt.alloc())?, &mut sink);
         assert!(rt; sink.has(letters), "{letters}");
         assert!(rt; !end.has_failed() && end.lost() == 0);
     }
@@ -177,7 +177,7 @@ fn is_skipped<R: Wait + Eprint + Copy + Drop>(
     text.resize(count, b'x')?;
     text.extend_from_slice(b"button\nmoment 5\n")?;
     let mut sink = Listing::new(rt, alloc);
-    let end = handed(alloc, text.as_slice(), LineBuffer::new(alloc)?, &mut sink);
+    let end = hand_on(alloc, text.as_slice(), LineBuffer::new(alloc)?, &mut sink);
     Ok(sink.has("m") && !end.has_failed())
 }
 
@@ -314,7 +314,7 @@ fn input_of(alloc: Global, bytes: &[u8]) -> io::Result<Input<'_>> {
 }
 
 /// Applies the moment 4 to a meter that resumes from the trace at the head of an input.
-fn resumed(alloc: Global, input: &mut Input) -> Result<Seen, PlanFault> {
+fn resume_at_head(alloc: Global, input: &mut Input) -> Result<Seen, PlanFault> {
     let trace = read_head(alloc, input)?;
     let seen = resume_from(alloc, &trace);
     drop(trace);
@@ -327,7 +327,7 @@ fn resumed(alloc: Global, input: &mut Input) -> Result<Seen, PlanFault> {
 #[test]
 fn a_meter_goes_on_from_a_trace(rt: HostRuntime) -> Result<(), Fail> {
     let mut input = input_of(rt.alloc(), TRACE)?;
-    let seen = resumed(rt.alloc(), &mut input).map_err(|_| "no meter")?;
+    let seen = resume_at_head(rt.alloc(), &mut input).map_err(|_| "no meter")?;
     assert!(rt; input.buffer() == b"moment 4\n".as_slice());
     assert!(rt; seen.kept == 0 && seen.last == 5);
     Ok(())
@@ -349,7 +349,7 @@ fn the_first_wrong_line_of_a_head_is_found(rt: HostRuntime) -> Result<(), Fail> 
         let mut input = input_of(rt.alloc(), bytes)?;
         assert!(rt;
             matches!(
-            resumed(rt.alloc(), &mut input),
+            resume_at_head(rt.alloc(), &mut input),
             Err(PlanFault::Line(found)) if found == number
         )
         );
@@ -365,6 +365,11 @@ fn a_journal_is_no_trace_to_resume_from(rt: HostRuntime) -> Result<(), Fail> {
     text.extend_from_slice(b"-")?;
     text.extend_from_slice(&TRACE[298..])?;
     let mut input = input_of(rt.alloc(), text.as_slice())?;
-    assert!(rt; matches!(resumed(rt.alloc(), &mut input), Err(PlanFault::Journal)));
+    assert!(rt;
+        matches!(
+            resume_at_head(rt.alloc(), &mut input),
+            Err(PlanFault::Journal)
+        )
+    );
     Ok(())
 }

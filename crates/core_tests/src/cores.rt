@@ -74,7 +74,7 @@ fn set(place: Place, value: Data) -> Event {
 }
 
 /// Returns a management client's write of encoded Data.
-fn written(alloc: Global, place: Place, bytes: &[u8]) -> Result<Event, AllocError> {
+fn write_event(alloc: Global, place: Place, bytes: &[u8]) -> Result<Event, AllocError> {
     Ok(set(place, data(alloc, bytes)?))
 }
 
@@ -114,7 +114,7 @@ fn is_write_accepted(
     place: Place,
     bytes: &[u8],
 ) -> Result<bool, AllocError> {
-    let event = written(alloc, place, bytes)?;
+    let event = write_event(alloc, place, bytes)?;
     let told = code_of(core, alloc, &event);
     drop(event);
     Ok(told? == 0)

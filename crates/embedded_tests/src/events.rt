@@ -1,6 +1,6 @@
 //! Samples and moments of a meter that continues from a trace, and the trace that it exports
 //! itself.
-use crate::meters::{Standing, resumed, standing};
+use crate::meters::{Standing, resume_meter, standing};
 use embedded_meter::{Fired, MeterFault, SupplyMeter, Tick, TraceFault};
 use std::alloc::{AllocError, Global};
 use std::process::Abort;
@@ -114,7 +114,7 @@ fn standing_after(
     meter: &SupplyMeter,
 ) -> Result<(Standing, Option<u32>), TraceFault> {
     let text = meter.export(alloc)?;
-    let other = resumed(rt, alloc, text.as_slice());
+    let other = resume_meter(rt, alloc, text.as_slice());
     drop(text);
     let other = other?;
     let seen = (standing(&other), other.last_moment());
@@ -134,7 +134,7 @@ fn take_and_tell(rt: &impl Abort, alloc: Global, meter: &mut SupplyMeter) -> Res
 
 #[test]
 fn a_meter_goes_on_from_its_trace(rt: HostRuntime) -> Result<(), Fail> {
-    let mut meter = resumed(&rt, rt.alloc(), RESTORED)?;
+    let mut meter = resume_meter(&rt, rt.alloc(), RESTORED)?;
     let done = take_and_tell(&rt, rt.alloc(), &mut meter);
     drop(meter);
     done
@@ -157,7 +157,7 @@ fn take_pairs(rt: &impl Abort, alloc: Global, meter: &mut SupplyMeter) -> Result
 
 #[test]
 fn pairs_reach_both_limiters(rt: HostRuntime) -> Result<(), Fail> {
-    let mut meter = resumed(&rt, rt.alloc(), EXPORTING)?;
+    let mut meter = resume_meter(&rt, rt.alloc(), EXPORTING)?;
     let done = take_pairs(&rt, rt.alloc(), &mut meter);
     drop(meter);
     done
@@ -165,7 +165,7 @@ fn pairs_reach_both_limiters(rt: HostRuntime) -> Result<(), Fail> {
 
 /// Returns the fault of a text, or `None` if it is a trace.
 fn fault_of(rt: &impl Abort, alloc: Global, text: &[u8]) -> Option<TraceFault> {
-    match resumed(rt, alloc, text) {
+    match resume_meter(rt, alloc, text) {
         Ok(meter) => {
             drop(meter);
             None

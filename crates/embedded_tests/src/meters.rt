@@ -42,7 +42,7 @@ pub(crate) fn new_meter(rt: &impl Abort, alloc: Global) -> Result<SupplyMeter, A
 }
 
 /// Returns a meter that continues from the text of a trace.
-pub(crate) fn resumed(
+pub(crate) fn resume_meter(
     rt: &impl Abort,
     alloc: Global,
     trace: &[u8],

@@ -64,7 +64,11 @@ const PUBLIC_ACCEPTED: Verdict = Verdict::Accepted {
 };
 
 // Returns the bytes of an example with some bytes changed, each given by its index and new value.
-fn changed(alloc: Global, example: &[u8], changes: &[(usize, u8)]) -> Result<Vec<u8>, AllocError> {
+fn with_changes(
+    alloc: Global,
+    example: &[u8],
+    changes: &[(usize, u8)],
+) -> Result<Vec<u8>, AllocError> {
     let mut bytes = example.to_vec(alloc)?;
     for (place, byte) in changes {
         if let Some(found) = bytes.get_mut(*place) {
@@ -165,7 +169,7 @@ fn verdict_of(alloc: Global, bytes: &[u8], port: u16, password: &[u8]) -> Option
 // Returns whether the verdict on the AARQ of a row is the expected one.
 fn has_verdict(alloc: Global, row: &Judged) -> Result<bool, AllocError> {
     let (port, password, example, changes, verdict) = row;
-    let bytes = changed(alloc, example, changes)?;
+    let bytes = with_changes(alloc, example, changes)?;
     let found = verdict_of(alloc, bytes.as_slice(), *port, password);
     drop(bytes);
     Ok(found == Some(*verdict))
@@ -476,7 +480,7 @@ fn is_unreadable(
     example: &[u8],
     changes: &[(usize, u8)],
 ) -> Result<bool, AllocError> {
-    let bytes = changed(alloc, example, changes)?;
+    let bytes = with_changes(alloc, example, changes)?;
     let fault = read_aarq(alloc, bytes.as_slice()).err();
     drop(bytes);
     Ok(fault == Some(AcseFault::Unreadable))
@@ -640,7 +644,7 @@ fn is_text_of(alloc: Global, aare: &Aare, bytes: &[u8]) -> Result<bool, AllocErr
 // Returns whether the AARE of a row is written as its expected bytes.
 fn is_written(alloc: Global, row: &WrittenAare) -> Result<bool, AllocError> {
     let (aare, example, changes) = row;
-    let bytes = changed(alloc, example, changes)?;
+    let bytes = with_changes(alloc, example, changes)?;
     let found = is_text_of(alloc, aare, bytes.as_slice());
     drop(bytes);
     found
@@ -696,7 +700,7 @@ static READ_AARES: [ReadAare; 7] = [
 // Returns whether the bytes of a row are read as expected.
 fn is_read(alloc: Global, row: &ReadAare) -> Result<bool, AllocError> {
     let (example, changes, expected) = row;
-    let bytes = changed(alloc, example, changes)?;
+    let bytes = with_changes(alloc, example, changes)?;
     let found = read_aare(alloc, bytes.as_slice());
     drop(bytes);
     Ok(found == *expected)

@@ -10,7 +10,7 @@ use std::test::Fail;
 use std::{fs, io};
 
 // Returns a file with these lines, to which a text was appended.
-fn appended(alloc: Global, lines: &[u8], text: &[u8]) -> Result<MemoryFile, FileFault> {
+fn file_with(alloc: Global, lines: &[u8], text: &[u8]) -> Result<MemoryFile, FileFault> {
     let mut file = MemoryFile::new(alloc, lines.to_vec(alloc)?);
     recover(alloc, &mut file)?;
     if !is_text(text) {
@@ -56,7 +56,7 @@ fn fate_of(number: u32) -> ByteFate {
 
 #[test]
 fn lines_are_appended_after_those_of_the_file(rt: HostRuntime) -> Result<(), Fail> {
-    let file = appended(rt.alloc(), b"a\n", b"b\n\nc\n")?;
+    let file = file_with(rt.alloc(), b"a\n", b"b\n\nc\n")?;
     assert!(rt; file.bytes()?.as_slice() == b"a\nb\n\nc\n".as_slice());
     Ok(())
 }
@@ -84,7 +84,7 @@ fn whole_lines_without_a_byte_0_are_a_text(rt: HostRuntime) {
 // Returns whether a crash at each moment of an append of two lines to one line leaves these lines
 // and a front of the new ones, whatever becomes of each byte.
 fn leaves_a_front(alloc: Global) -> Result<bool, FileFault> {
-    let file = appended(alloc, b"a\n", b"b\nc\n")?;
+    let file = file_with(alloc, b"a\n", b"b\nc\n")?;
     for moment in 0..=file.moment() {
         for number in 0..81 {
             let bytes = file.after_crash(moment, &fates_of(number))?;
@@ -108,7 +108,7 @@ fn each_torn_state_of_an_append_has_a_front_of_the_lines(rt: HostRuntime) -> Res
 // Returns the number of fates of the four bytes of an append after which a crash before its sync
 // leaves no new line, the first alone, and both.
 fn counts_before_the_sync(alloc: Global) -> Result<[u32; 3], FileFault> {
-    let file = appended(alloc, b"a\n", b"b\nc\n")?;
+    let file = file_with(alloc, b"a\n", b"b\nc\n")?;
     let before = file.moment().saturating_sub(1);
     let mut counts = [0u32; 3];
     for number in 0..81 {
@@ -135,7 +135,7 @@ fn a_line_is_left_only_if_all_its_bytes_are(rt: HostRuntime) -> Result<(), Fail>
 #[test]
 fn no_crash_after_an_append_loses_a_line(rt: HostRuntime) -> Result<(), Fail> {
     let alloc = rt.alloc();
-    let file = appended(alloc, b"a\n", b"b\nc\n")?;
+    let file = file_with(alloc, b"a\n", b"b\nc\n")?;
     for number in 0..81 {
         let bytes = file.after_crash(file.moment(), &fates_of(number))?;
         assert!(rt; bytes.as_slice() == b"a\nb\nc\n".as_slice());
@@ -162,7 +162,7 @@ fn a_crash_during_a_recovery_leaves_the_same_lines(rt: HostRuntime) -> Result<()
 #[test]
 fn an_empty_text_is_not_synced(rt: HostRuntime) -> Result<(), Fail> {
     let alloc = rt.alloc();
-    let file = appended(alloc, b"a\n", b"")?;
+    let file = file_with(alloc, b"a\n", b"")?;
     let mut recovered = MemoryFile::new(alloc, b"a\n".as_slice().to_vec(alloc)?);
     recover(alloc, &mut recovered)?;
     assert!(rt; file.moment() == recovered.moment());
@@ -190,7 +190,7 @@ fn a_file_whose_sync_failed_fails_for_good(rt: HostRuntime) -> Result<(), Fail> 
 }
 
 // Opens a file of the operating system for reading and writing.
-fn opened(rt: &HostRuntime, path: &str) -> io::Result<File> {
+fn open_file(rt: &HostRuntime, path: &str) -> io::Result<File> {
     File::options().read(true).write(true).open(rt, path)
 }
 
@@ -207,7 +207,7 @@ fn a_stored_file_keeps_its_lines_up_to_its_limit(rt: HostRuntime) -> Result<(), 
     let alloc = rt.alloc();
     let path = "torn_lines_kept";
     fs::write(&rt, path, b"a\nb\0".as_slice())?;
-    let mut file = StoredFile::try_lock(opened(&rt, path)?, 8)?;
+    let mut file = StoredFile::try_lock(open_file(&rt, path)?, 8)?;
     let found = recover(alloc, &mut file)?;
     assert!(rt; found.text.as_slice() == b"a\n".as_slice() && found.cut == 2);
     append_text(&mut file, b"bc\n")?;
@@ -225,11 +225,11 @@ fn a_stored_file_keeps_its_lines_up_to_its_limit(rt: HostRuntime) -> Result<(), 
 fn a_stored_file_is_locked_until_it_is_dropped(rt: HostRuntime) -> Result<(), Fail> {
     let path = "torn_lines_locked";
     fs::write(&rt, path, b"".as_slice())?;
-    let file = StoredFile::try_lock(opened(&rt, path)?, 8)?;
-    let second = StoredFile::try_lock(opened(&rt, path)?, 8);
+    let file = StoredFile::try_lock(open_file(&rt, path)?, 8)?;
+    let second = StoredFile::try_lock(open_file(&rt, path)?, 8);
     assert!(rt; second.err() == Some(LockFault::Held));
     drop(file);
-    assert!(rt; StoredFile::try_lock(opened(&rt, path)?, 8).is_ok());
+    assert!(rt; StoredFile::try_lock(open_file(&rt, path)?, 8).is_ok());
     fs::remove_file(&rt, path)?;
     Ok(())
 }

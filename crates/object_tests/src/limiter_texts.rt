@@ -20,7 +20,7 @@ const ACTIONS: &str = "020202020906\
 
 // Calls the function under test, as do those below. They have no contracts: a test checks what no
 // clause states, and is proved faster without them.
-fn shown(
+fn read_value(
     alloc: Global,
     which: Which,
     limiter: &Limiter,
@@ -53,7 +53,7 @@ fn is_read(
     attribute: LimiterAttribute,
     text: &str,
 ) -> bool {
-    match shown(alloc, which, limiter, attribute) {
+    match read_value(alloc, which, limiter, attribute) {
         Ok(value) => {
             let found = is_text(alloc, &value, text);
             drop(value);
@@ -337,7 +337,7 @@ fn actions_are_read_back(rt: HostRuntime) {
 }
 
 /// Swaps the group ids of two limiters, and returns whether both have what is expected.
-fn traded(limiter: &mut Limiter, other: &mut Limiter) -> [bool; 4] {
+fn trade(limiter: &mut Limiter, other: &mut Limiter) -> [bool; 4] {
     swap_groups(limiter, other);
     [
         limiter.groups() == [7, 1, 7].as_slice(),
@@ -351,7 +351,7 @@ fn traded(limiter: &mut Limiter, other: &mut Limiter) -> [bool; 4] {
 fn is_traded(alloc: Global, limiter: &mut Limiter) -> bool {
     match with_ids(alloc, "0103120007120001120007") {
         Some(mut other) => {
-            let found = traded(limiter, &mut other);
+            let found = trade(limiter, &mut other);
             drop(other);
             found == [true; 4]
         }

@@ -215,7 +215,7 @@ fn entries_fit_their_type(rt: HostRuntime) {
 }
 
 /// Returns a schedule's script and type.
-fn known(schedule: &ActionSchedule) -> (u16, ScheduleType) {
+fn script_and_type(schedule: &ActionSchedule) -> (u16, ScheduleType) {
     (schedule.selector(), schedule.kind())
 }
 
@@ -232,7 +232,7 @@ static OF_A_NEW_SCHEDULE: [Written; 3] = [
 #[test]
 fn a_new_schedule(rt: HostRuntime) {
     let schedule = ActionSchedule::new(rt.alloc());
-    assert!(rt; known(&schedule) == (0, ScheduleType::Type5));
+    assert!(rt; script_and_type(&schedule) == (0, ScheduleType::Type5));
     assert!(rt; schedule.fits() && !schedule.due(0, u32::MAX));
     check_written(&rt, rt.alloc(), &schedule, &OF_A_NEW_SCHEDULE);
     drop(schedule);
@@ -253,7 +253,7 @@ fn attributes_are_written_back(rt: HostRuntime) {
     let alloc = rt.alloc();
     let mut schedule = ActionSchedule::new(alloc);
     assert!(rt; is_prepared(alloc, &mut schedule, 3, LAST_SECOND_AS_A_TIME));
-    assert!(rt; known(&schedule) == (1, ScheduleType::Type3));
+    assert!(rt; script_and_type(&schedule) == (1, ScheduleType::Type3));
     check_written(&rt, alloc, &schedule, &OF_TYPE_3);
     drop(schedule);
 }
@@ -265,7 +265,7 @@ static OF_A_COPY: [Written; 1] = [(ScheduleAttribute::ExecutionTime, LAST_SECOND
 fn check_copy(rt: &impl Abort, alloc: Global, schedule: &ActionSchedule) -> Result<(), AllocError> {
     let copy = schedule.try_clone(alloc)?;
     check_written(rt, alloc, &copy, &OF_A_COPY);
-    assert!(*rt; known(&copy) == (0, ScheduleType::Type5));
+    assert!(*rt; script_and_type(&copy) == (0, ScheduleType::Type5));
     drop(copy);
     Ok(())
 }
@@ -530,7 +530,7 @@ fn sixteen_entries_at_most(rt: HostRuntime) -> Result<(), Fail> {
 #[test]
 fn a_schedule_without_entries_is_never_due(rt: HostRuntime) {
     let schedule = ActionSchedule::without_entries(rt.alloc(), 7, ScheduleType::Type2);
-    assert!(rt; known(&schedule) == (7, ScheduleType::Type2));
+    assert!(rt; script_and_type(&schedule) == (7, ScheduleType::Type2));
     assert!(rt; schedule.fits() && !schedule.due(0, 86_400));
     drop(schedule);
     let other = ActionSchedule::without_entries(rt.alloc(), 7, ScheduleType::Type1);

@@ -23,7 +23,7 @@ fn read(alloc: Global, value: &Data) -> Result<ScriptTable, ScriptFault> {
     ScriptTable::from_data(alloc, value)
 }
 
-fn written(alloc: Global, table: &ScriptTable) -> Result<Data, AllocError> {
+fn table_data(alloc: Global, table: &ScriptTable) -> Result<Data, AllocError> {
     table.to_data(alloc)
 }
 
@@ -45,7 +45,7 @@ fn fault(alloc: Global, text: &str) -> Option<ScriptFault> {
 
 /// Returns whether a table is written as the bytes of this text.
 fn is_written(alloc: Global, table: &ScriptTable, text: &str) -> bool {
-    match written(alloc, table) {
+    match table_data(alloc, table) {
         Ok(value) => {
             let found = is_text(alloc, &value, text);
             drop(value);

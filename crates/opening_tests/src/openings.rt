@@ -113,7 +113,7 @@ fn is_as_asked(version: Version, opening: &Opening, asked: Asked) -> bool {
 
 // Returns whether the opening that is read from lines passes the check. Openings are dropped only
 // here, because the proof that one may be dropped is slow.
-fn opened(alloc: Global, lines: &mut TraceLines, asked: Asked) -> Result<bool, TraceFault> {
+fn passes_check(alloc: Global, lines: &mut TraceLines, asked: Asked) -> Result<bool, TraceFault> {
     match read_opening(alloc, lines) {
         Ok((version, opening)) => {
             let is_so = is_as_asked(version, &opening, asked);
@@ -126,7 +126,7 @@ fn opened(alloc: Global, lines: &mut TraceLines, asked: Asked) -> Result<bool, T
 
 // Returns the number of the line for which an opening is refused.
 fn wrong_line(alloc: Global, text: &[u8]) -> Option<u64> {
-    match opened(alloc, &mut TraceLines::new(text), Asked::Nothing) {
+    match passes_check(alloc, &mut TraceLines::new(text), Asked::Nothing) {
         Err(TraceFault::Line(number)) => Some(number),
         _ => None,
     }
@@ -134,13 +134,13 @@ fn wrong_line(alloc: Global, text: &[u8]) -> Option<u64> {
 
 // Returns whether an opening is read.
 fn is_read(alloc: Global, text: &[u8]) -> bool {
-    opened(alloc, &mut TraceLines::new(text), Asked::Nothing).is_ok()
+    passes_check(alloc, &mut TraceLines::new(text), Asked::Nothing).is_ok()
 }
 
 // Returns whether the opening of a text passes the check, and nothing follows it.
 fn is_whole(alloc: Global, text: &[u8], asked: Asked) -> Result<bool, TraceFault> {
     let mut lines = TraceLines::new(text);
-    Ok(opened(alloc, &mut lines, asked)? && lines.end().is_ok())
+    Ok(passes_check(alloc, &mut lines, asked)? && lines.end().is_ok())
 }
 
 // Returns the number of the line for which an opening with another line is refused.

@@ -71,7 +71,7 @@ fn ask<W: Wait>(
 
 /// Closes a lock and returns the number of events that its meter kept, or `None` if the lock is
 /// busy.
-pub(crate) fn kept(shared: Shared<Kept>, port: Port<Kept>) -> Option<u16>
+pub(crate) fn kept_count(shared: Shared<Kept>, port: Port<Kept>) -> Option<u16>
     requires { port.lock ≡ shared }
 {
     match shared.close(port) {
@@ -94,7 +94,7 @@ fn call_reads_the_name(rt: HostRuntime) -> Result<(), Fail> {
     let (shared, mut port) = new_lock(&rt, alloc)?;
     let first = ask(&rt, alloc, &mut port);
     let second = ask(&rt, alloc, &mut port);
-    let calls = kept(shared, port);
+    let calls = kept_count(shared, port);
     let (first, second) = (first?, second?);
     if (first, second, calls) == (Ok(true), Ok(true), Some(2)) {
         return Ok(());

@@ -46,7 +46,7 @@ pub(crate) fn new_recorder(
 }
 
 /// Returns the text of a recorder's trace.
-fn exported(alloc: Global, recorder: &Recorder) -> Result<Octets, AllocError> {
+fn export_text(alloc: Global, recorder: &Recorder) -> Result<Octets, AllocError> {
     let trace = recorder.export(alloc)?;
     let text = write_trace(alloc, &trace);
     drop(trace);
@@ -55,7 +55,7 @@ fn exported(alloc: Global, recorder: &Recorder) -> Result<Octets, AllocError> {
 
 /// Returns whether a recorder's trace is this text.
 fn is_exported(alloc: Global, recorder: &Recorder, text: &[u8]) -> Result<bool, AllocError> {
-    let now = exported(alloc, recorder)?;
+    let now = export_text(alloc, recorder)?;
     let same = now.as_slice() == text;
     drop(now);
     Ok(same)
@@ -94,7 +94,7 @@ fn take_table(
 
 /// Exports the recorder's trace, and then writes the script table as [`take_table`] does.
 fn look_and_take(rt: &impl Abort, alloc: Global, recorder: &mut Recorder) -> Result<(), Fail> {
-    let before = exported(alloc, recorder)?;
+    let before = export_text(alloc, recorder)?;
     let taken = take_table(rt, alloc, recorder, before.as_slice());
     drop(before);
     taken

@@ -4,7 +4,7 @@ ghost use Rattle.std.specs.Prelude.{◌≡◌};
 ghost use Rattle.acse_ber.specs.Password.{IsPassword};
 
 use crate::RefusedAndStood;
-use crate::ports::{kept, new_lock};
+use crate::ports::{kept_count, new_lock};
 use cosem_axdr::Octets;
 use lane_sampler::Block;
 use meter_server::{
@@ -163,7 +163,7 @@ fn serve_new<R: Threads + Wait + Abort + Copy + Send + 'static>(
 {
     let (shared, port) = new_lock(rt, alloc)?;
     let (port, served) = serve(rt, alloc, listener, port, password);
-    Ok((served, kept(shared, port)))
+    Ok((served, kept_count(shared, port)))
 }
 
 /// Serves these clients, and returns the result.
@@ -185,7 +185,10 @@ fn open<R: Threads + Wait + Abort + Copy + Send + 'static>(
 
 /// Returns whether no client was accepted and the fault is out of memory, or one was served as with
 /// enough memory.
-fn stood(served: &Result<Served, ServeFault>, counts: Option<(usize, usize)>) -> bool {
+fn is_served_or_refused(
+    served: &Result<Served, ServeFault>,
+    counts: Option<(usize, usize)>,
+) -> bool {
     match counts {
         None => false,
         Some((0, _)) => *served == Err(ServeFault::Memory),
@@ -215,6 +218,6 @@ fn serve_all_opens_two_sessions(rt: HostRuntime) -> Result<(), Fail> {
     if (served, counts) == (Ok(BOTH), Some((2, 2))) {
         return Ok(());
     }
-    assert!(rt; stood(&served, counts));
+    assert!(rt; is_served_or_refused(&served, counts));
     Err(RefusedAndStood)?
 }

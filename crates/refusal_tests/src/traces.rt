@@ -53,7 +53,7 @@ const OUTPUT: &[u8] = b"1: code 0; state 1; supply on
 ";
 
 /// Plays the trace, and writes to a page.
-fn played(alloc: Global, page: &mut Page) -> Result<u64, PlayFault> {
+fn play_page(alloc: Global, page: &mut Page) -> Result<u64, PlayFault> {
     let mut reader = Counted::new(TRACE);
     let mut writer = Counted::new(page);
     play(alloc, &mut reader, &mut writer)
@@ -63,10 +63,10 @@ fn played(alloc: Global, page: &mut Page) -> Result<u64, PlayFault> {
 fn play_prints_nine_lines(rt: HostRuntime) -> Result<(), Fail> {
     let alloc = rt.alloc();
     let mut page = Page::new();
-    let first = played(alloc, &mut page);
+    let first = play_page(alloc, &mut page);
     if first == Err(PlayFault::Memory) {
         assert!(rt; page.text().is_empty());
-        assert!(rt; played(alloc, &mut page) == Ok(9) && page.text() == OUTPUT);
+        assert!(rt; play_page(alloc, &mut page) == Ok(9) && page.text() == OUTPUT);
         Err(RefusedAndStood)?
     }
     assert!(rt; first == Ok(9) && page.text() == OUTPUT);

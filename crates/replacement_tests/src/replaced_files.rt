@@ -94,14 +94,14 @@ fn a_stored_file_is_replaced_and_appended_to(rt: HostRuntime) -> Result<(), Fail
 }
 
 // Returns the bytes of a file, and removes it.
-fn taken(rt: &HostRuntime, path: &str) -> Result<Vec<u8>, io::Error> {
+fn take_file(rt: &HostRuntime, path: &str) -> Result<Vec<u8>, io::Error> {
     let bytes = fs::read(rt, path)?;
     fs::remove_file(rt, path)?;
     Ok(bytes)
 }
 
 // Returns an owned text.
-fn owned(alloc: Global, text: &str) -> Result<String, AllocError> {
+fn owned_text(alloc: Global, text: &str) -> Result<String, AllocError> {
     let mut owned = String::new(alloc);
     owned.push_str(text)?;
     Ok(owned)
@@ -116,11 +116,11 @@ fn paths_of(
 ) -> Result<PlacePaths, AllocError> {
     let mut paths = Vec::new(alloc);
     for path in older {
-        paths.push(owned(alloc, path)?)?;
+        paths.push(owned_text(alloc, path)?)?;
     }
     Ok(PlacePaths {
-        path: owned(alloc, path)?,
-        draft: owned(alloc, draft)?,
+        path: owned_text(alloc, path)?,
+        draft: owned_text(alloc, draft)?,
         older: paths,
     })
 }
@@ -133,9 +133,9 @@ fn a_place_keeps_the_last_files_that_were_replaced(rt: HostRuntime) -> Result<()
     for text in [b"a\n".as_slice(), b"b\n", b"c\n", b"d\n"] {
         replace(&mut place, text)?;
     }
-    assert!(rt; taken(&rt, path)?.as_slice() == b"d\n".as_slice());
-    assert!(rt; taken(&rt, "kept_file.1")?.as_slice() == b"c\n".as_slice());
-    assert!(rt; taken(&rt, "kept_file.2")?.as_slice() == b"b\n".as_slice());
+    assert!(rt; take_file(&rt, path)?.as_slice() == b"d\n".as_slice());
+    assert!(rt; take_file(&rt, "kept_file.1")?.as_slice() == b"c\n".as_slice());
+    assert!(rt; take_file(&rt, "kept_file.2")?.as_slice() == b"b\n".as_slice());
     Ok(())
 }
 

@@ -1,5 +1,5 @@
 //! Journals that are renewed: the new file, and what a crash leaves.
-use crate::texts::{BEGUN, DISCONNECTED, EVENTS, joined};
+use crate::texts::{BEGUN, DISCONNECTED, EVENTS, join_texts};
 use durable_lines::{
     FileFault, MemoryPlace, PlacePaths, StoredFile, StoredPlace, append_and_renew, is_text,
 };
@@ -39,9 +39,9 @@ fn is_renewed_as(alloc: Global, old: &[u8], depth: usize, new: &[u8]) -> Result<
 #[test]
 fn a_renewed_journal_has_the_last_events(rt: HostRuntime) -> Result<(), Fail> {
     let alloc = rt.alloc();
-    let old = joined(alloc, &[BEGUN, EVENTS, b"moment 5\nbut"])?;
-    let last = joined(alloc, &[DISCONNECTED, b"moment 5\n"])?;
-    let all = joined(alloc, &[BEGUN, EVENTS, b"moment 5\n"])?;
+    let old = join_texts(alloc, &[BEGUN, EVENTS, b"moment 5\nbut"])?;
+    let last = join_texts(alloc, &[DISCONNECTED, b"moment 5\n"])?;
+    let all = join_texts(alloc, &[BEGUN, EVENTS, b"moment 5\n"])?;
     assert!(rt; is_renewed_as(alloc, old.as_slice(), 1, last.as_slice())?);
     assert!(rt; is_renewed_as(alloc, old.as_slice(), 3, all.as_slice())?);
     assert!(rt; is_renewed_as(alloc, old.as_slice(), 1024, all.as_slice())?);
@@ -51,7 +51,7 @@ fn a_renewed_journal_has_the_last_events(rt: HostRuntime) -> Result<(), Fail> {
 #[test]
 fn a_renewed_journal_may_have_no_event(rt: HostRuntime) -> Result<(), Fail> {
     let alloc = rt.alloc();
-    let old = joined(alloc, &[BEGUN, EVENTS])?;
+    let old = join_texts(alloc, &[BEGUN, EVENTS])?;
     assert!(rt; is_renewed_as(alloc, old.as_slice(), 0, DISCONNECTED)?);
     Ok(())
 }
@@ -59,14 +59,14 @@ fn a_renewed_journal_may_have_no_event(rt: HostRuntime) -> Result<(), Fail> {
 #[test]
 fn a_text_that_is_no_journal_is_not_renewed(rt: HostRuntime) -> Result<(), Fail> {
     let alloc = rt.alloc();
-    let wrong = joined(alloc, &[BEGUN, b"press\n"])?;
+    let wrong = join_texts(alloc, &[BEGUN, b"press\n"])?;
     let refused = is_renewed_as(alloc, wrong.as_slice(), 1, b"");
     assert!(rt; refused == Err(StartFault::Line(32)));
     Ok(())
 }
 
 // Returns an owned text.
-fn owned(alloc: Global, text: &str) -> Result<String, AllocError> {
+fn owned_text(alloc: Global, text: &str) -> Result<String, AllocError> {
     let mut owned = String::new(alloc);
     owned.push_str(text)?;
     Ok(owned)
@@ -81,10 +81,10 @@ fn place_of(
 ) -> Result<StoredPlace<HostRuntime>, Fail> {
     let alloc = rt.alloc();
     let mut paths = Vec::new(alloc);
-    paths.push(owned(alloc, older)?)?;
+    paths.push(owned_text(alloc, older)?)?;
     let paths = PlacePaths {
-        path: owned(alloc, path)?,
-        draft: owned(alloc, draft)?,
+        path: owned_text(alloc, path)?,
+        draft: owned_text(alloc, draft)?,
         older: paths,
     };
     Ok(StoredPlace::new(rt, File::open(&rt, ".")?, paths, MAX_LEN))
@@ -121,7 +121,7 @@ fn append_three(rt: HostRuntime, path: &str) -> Result<bool, Fail> {
 }
 
 // Returns the bytes of a file, and removes it.
-fn taken(rt: &HostRuntime, path: &str) -> Result<Vec<u8>, io::Error> {
+fn take_file(rt: &HostRuntime, path: &str) -> Result<Vec<u8>, io::Error> {
     let bytes = fs::read(rt, path)?;
     fs::remove_file(rt, path)?;
     Ok(bytes)
@@ -130,11 +130,15 @@ fn taken(rt: &HostRuntime, path: &str) -> Result<Vec<u8>, io::Error> {
 #[test]
 fn a_file_is_renewed_once_it_has_grown(rt: HostRuntime) -> Result<(), Fail> {
     let path = "renewed_journal";
-    fs::write(&rt, path, joined(rt.alloc(), &[BEGUN, EVENTS])?.as_slice())?;
+    fs::write(
+        &rt,
+        path,
+        join_texts(rt.alloc(), &[BEGUN, EVENTS])?.as_slice(),
+    )?;
     assert!(rt; append_three(rt, path)?);
-    let bytes = taken(&rt, path)?;
+    let bytes = take_file(&rt, path)?;
     assert!(rt; bytes.as_slice().ends_with(b"events -\nmoment 6\nbutton\n"));
-    let older = joined(rt.alloc(), &[BEGUN, EVENTS, b"moment 5\nmoment 6\n"])?;
-    assert!(rt; taken(&rt, "renewed_journal.1")?.as_slice() == older.as_slice());
+    let older = join_texts(rt.alloc(), &[BEGUN, EVENTS, b"moment 5\nmoment 6\n"])?;
+    assert!(rt; take_file(&rt, "renewed_journal.1")?.as_slice() == older.as_slice());
     Ok(())
 }

@@ -1,5 +1,5 @@
 //! A journal that is begun, grows, is left by a killed server, and is resumed.
-use crate::texts::{BEGUN, EVENTS, joined};
+use crate::texts::{BEGUN, EVENTS, join_texts};
 use cosem_axdr::Octets;
 use disconnect_control::ControlState;
 use durable_lines::{MemoryFile, MemoryPlace};
@@ -27,13 +27,13 @@ fn resume(
 
 // Resumes a file of these texts, for the meter with this name. Returns the number of bytes that
 // were cut, the state of the supply, and the bytes of the file after it.
-fn resumed(
+fn resume_file(
     alloc: Global,
     texts: &[&[u8]],
     name: &[u8],
 ) -> Result<(Result<(usize, ControlState), StartFault>, Vec<u8>), StartFault> {
     let device = Octets::from_slice(alloc, name)?;
-    let mut file = MemoryFile::new(alloc, joined(alloc, texts)?);
+    let mut file = MemoryFile::new(alloc, join_texts(alloc, texts)?);
     let found = resume(alloc, &mut file, &device);
     let bytes = file.bytes()?;
     Ok((found, bytes))
@@ -41,8 +41,8 @@ fn resumed(
 
 // Returns the fault of a file of these texts that is left as it was.
 fn refusal(alloc: Global, texts: &[&[u8]], name: &[u8]) -> Result<Option<StartFault>, StartFault> {
-    let (found, bytes) = resumed(alloc, texts, name)?;
-    let is_same = bytes.as_slice() == joined(alloc, texts)?.as_slice();
+    let (found, bytes) = resume_file(alloc, texts, name)?;
+    let is_same = bytes.as_slice() == join_texts(alloc, texts)?.as_slice();
     match found {
         Err(fault) if is_same => Ok(Some(fault)),
         _ => Ok(None),
@@ -74,9 +74,9 @@ fn a_new_meter_begins_its_journal(rt: HostRuntime) -> Result<(), Fail> {
 fn a_killed_meter_goes_on(rt: HostRuntime) -> Result<(), Fail> {
     let alloc = rt.alloc();
     for tail in [b"".as_slice(), b"butt", b"\0\0\0\0", b"\0but\nton\n"] {
-        let (found, bytes) = resumed(alloc, &[BEGUN, EVENTS, tail], b"METER7")?;
+        let (found, bytes) = resume_file(alloc, &[BEGUN, EVENTS, tail], b"METER7")?;
         assert!(rt; found == Ok((tail.len(), ControlState::Disconnected)));
-        assert!(rt; bytes.as_slice() == joined(alloc, &[BEGUN, EVENTS])?.as_slice());
+        assert!(rt; bytes.as_slice() == join_texts(alloc, &[BEGUN, EVENTS])?.as_slice());
     }
     Ok(())
 }

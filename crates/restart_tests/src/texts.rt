@@ -26,7 +26,7 @@ pub(crate) static EVENTS: &[u8] =
     b"set 1 70 000060030AFF 4 0 1601\nexecute 1 70 000060030AFF 1 0F00\n";
 
 /// Returns the texts, one after the other.
-pub(crate) fn joined(alloc: Global, texts: &[&[u8]]) -> Result<Vec<u8>, AllocError> {
+pub(crate) fn join_texts(alloc: Global, texts: &[&[u8]]) -> Result<Vec<u8>, AllocError> {
     let mut all = Vec::new(alloc);
     for text in texts {
         all.extend_from_slice(text)?;

@@ -55,7 +55,7 @@ fn written_before(block: u16) -> Option<Thresholds> {
 }
 
 /// Returns the thresholds that a block is scanned with: those in force before block 1, 65 or 129.
-fn expected(block: u16) -> Thresholds {
+fn expected_thresholds(block: u16) -> Thresholds {
     match block {
         1..=64 => FIRST,
         65..=128 => SECOND,
@@ -114,7 +114,7 @@ impl<'a, W: Wait> BlockSource for Writing<'a, W> {
 }
 
 /// Returns the thresholds that a block was scanned with, if it was scanned with both.
-fn scanned(block: &Block) -> Option<Thresholds> {
+fn scanned_thresholds(block: &Block) -> Option<Thresholds> {
     let scans = block.scanned()?;
     Some(Thresholds {
         import: scans.import.threshold,
@@ -147,10 +147,10 @@ const NOTHING: Found = Found {
 
 impl Found {
     fn add_block(&mut self, block: &Block) {
-        let scanned = scanned(block);
+        let scanned = scanned_thresholds(block);
         self.blocks = self.blocks.saturating_add(1);
         self.is_as_read &= scanned == self.read;
-        self.is_as_expected &= scanned == Some(expected(self.blocks));
+        self.is_as_expected &= scanned == Some(expected_thresholds(self.blocks));
     }
 
     fn add(&mut self, event: &Event) {

@@ -106,7 +106,7 @@ fn recorder_of(shared: Shared<Kept>, port: Port<Kept>) -> Option<Recorder>
 
 /// Closes a lock and returns the state of its meter, or `None` if the lock is busy or out of
 /// memory.
-fn closed(alloc: Global, shared: Shared<Kept>, port: Port<Kept>) -> Option<Left>
+fn close_lock(alloc: Global, shared: Shared<Kept>, port: Port<Kept>) -> Option<Left>
     requires { port.lock ≡ shared }
 {
     match recorder_of(shared, port) {
@@ -201,7 +201,7 @@ fn a_port_reads_what_another_wrote(rt: HostRuntime) -> Result<(), Fail> {
     let alloc = rt.alloc();
     let (shared, mut one) = new_lock(&rt, alloc, 9)?;
     let came = write_and_read(&rt, alloc, &mut one);
-    let left = closed(alloc, shared, one);
+    let left = close_lock(alloc, shared, one);
     let (written, told) = came?;
     assert!(rt; written == Ok((0, 0)));
     assert!(rt; told == Ok((255, 7_000)));
@@ -224,7 +224,7 @@ fn two_turns_exhaust_a_port(rt: HostRuntime) -> Result<(), Fail> {
     let second = ask(&rt, alloc, &mut port, Event::Button);
     let third = ask(&rt, alloc, &mut port, Event::Button);
     let fourth = ask(&rt, alloc, &mut port, Event::Button);
-    let left = closed(alloc, shared, port);
+    let left = close_lock(alloc, shared, port);
     assert!(rt; first == Ok((2, 0)) && second == first);
     assert!(rt; third == Err(CallFault::Exhausted) && fourth == third);
     assert!(rt; left == Some(presses(2)));
@@ -291,7 +291,7 @@ fn three_turns_exhaust_three_ports(rt: HostRuntime) -> Result<(), Fail> {
     let alloc = rt.alloc();
     let (shared, mut port) = new_lock(&rt, alloc, 3)?;
     let came = press_twice_each(&rt, alloc, &mut port);
-    let left = closed(alloc, shared, port);
+    let left = close_lock(alloc, shared, port);
     let (first, second) = came?;
     assert!(rt; first == [Ok((2, 0)); 3]);
     assert!(rt; second == [Err(CallFault::Exhausted); 3]);
@@ -376,7 +376,7 @@ fn four_threads_press_one_button(rt: HostRuntime) -> Result<(), Fail> {
     let (shared, mut port) = new_lock(&rt, alloc, 401)?;
     let written = ask(&rt, alloc, &mut port, write_mode());
     let (port, are_all) = press_on_four(&rt, alloc, port);
-    let left = closed(alloc, shared, port);
+    let left = close_lock(alloc, shared, port);
     assert!(rt; written == Ok((0, 0)));
     assert!(rt; are_all);
     assert!(rt; matches!(left, Some(left) if left.state == ControlState::Connected));

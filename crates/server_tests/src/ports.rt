@@ -60,7 +60,7 @@ pub(crate) fn new_lock(
 
 /// Closes a lock and returns the number of events that its meter kept, or `None` if the lock is
 /// busy.
-fn kept(shared: Shared<Kept>, port: Port<Kept>) -> Option<u16>
+fn kept_count(shared: Shared<Kept>, port: Port<Kept>) -> Option<u16>
     requires { port.lock ≡ shared }
 {
     match shared.close(port) {
@@ -143,7 +143,7 @@ fn serve_two<R: Wait + Abort>(
             let texts = (second.asked.as_slice(), second.answered.as_slice());
             let (two, is_second_so) = has_answer(rt, alloc, two, texts, password, end);
             one.join(two);
-            Ok((is_first_so, is_second_so, kept(shared, one)))
+            Ok((is_first_so, is_second_so, kept_count(shared, one)))
         }
         Err(error) => {
             drop(shared);
@@ -227,7 +227,7 @@ fn serve_one_turn<R: Wait + Abort>(
     let (shared, port) = new_lock(rt, alloc, 1)?;
     let end = Err(ServeFault::Exhausted);
     let (port, has_stopped) = has_answer(rt, alloc, port, texts, password, end);
-    Ok((has_stopped, kept(shared, port)))
+    Ok((has_stopped, kept_count(shared, port)))
 }
 
 /// Returns whether a session that writes the mode and then reads it stops after the answer to the

@@ -127,7 +127,7 @@ fn kinds_of(recorder: &Recorder) -> Kinds {
 /// The result of serving, and what the meter kept, or `None` if its lock is busy.
 type Evening = (Result<Served, ServeFault>, Option<Kinds>);
 
-fn kept(shared: Shared<Kept>, port: Port<Kept>) -> Option<Kinds>
+fn kept_kinds(shared: Shared<Kept>, port: Port<Kept>) -> Option<Kinds>
     requires { port.lock ≡ shared }
 {
     match shared.close(port) {
@@ -191,7 +191,7 @@ fn serve_new<L: Listener, R: Threads + Wait + Abort + Copy + Send + 'static>(
     match new_lock(rt, alloc, 1000) {
         Ok((shared, port)) => {
             let (port, served) = serve_by(rt, alloc, listener, given, port, password, limit);
-            Ok((served, kept(shared, port)))
+            Ok((served, kept_kinds(shared, port)))
         }
         Err(error) => {
             drop(given);
@@ -222,7 +222,7 @@ fn serve<L: Listener, R: Threads + Wait + Abort + Copy + Send + 'static>(
     }
 }
 
-fn told(served: u64, turned_away: u64) -> Result<Served, ServeFault> {
+fn served_counts(served: u64, turned_away: u64) -> Result<Served, ServeFault> {
     Ok(Served {
         served,
         turned_away,
@@ -365,7 +365,7 @@ fn serves_two_sessions_side_by_side(rt: HostRuntime) -> Result<(), Fail> {
     drop(one);
     drop(two);
     let (served, _) = came?;
-    assert!(rt; served == told(2, 0));
+    assert!(rt; served == served_counts(2, 0));
     assert!(rt; outcomes == (Some((READ_ONCE + 14, 1)), Some((READ_ONCE, 1))));
     Ok(())
 }
@@ -412,7 +412,7 @@ fn turns_the_ninth_away(rt: HostRuntime) -> Result<(), Fail> {
     drop(eight);
     drop(ninth);
     let (served, _) = came?;
-    assert!(rt; served == told(8, 1));
+    assert!(rt; served == served_counts(8, 1));
     assert!(rt; outcomes == (Some((8 * OPENED, 8)), Some((0, 0))));
     Ok(())
 }
@@ -469,7 +469,7 @@ fn turns_away_a_client_whose_stream_cannot_be_set_up(rt: HostRuntime) -> Result<
     let outcome = line.outcome();
     drop(line);
     let (served, _) = came?;
-    assert!(rt; served == told(1, 1));
+    assert!(rt; served == served_counts(1, 1));
     assert!(rt; outcome == Some((OPENED, 1)));
     Ok(())
 }
@@ -524,7 +524,7 @@ fn hands_all_to_one_meter(rt: HostRuntime) -> Result<(), Fail> {
     let outcome = line.outcome();
     drop(line);
     let (served, kinds) = came?;
-    assert!(rt; served == told(1, 0));
+    assert!(rt; served == served_counts(1, 0));
     assert!(rt; outcome == Some((OPENED + 12, 1)));
     let all = Kinds {
         writes: 1,
@@ -593,7 +593,7 @@ fn serves_over_the_network(rt: HostRuntime) -> Result<(), Fail> {
     drop(client);
     drop(listener);
     let (served, is_answered) = came?;
-    assert!(rt; served == told(1, 0));
+    assert!(rt; served == served_counts(1, 0));
     assert!(rt; is_answered);
     Ok(())
 }

@@ -2,7 +2,7 @@
 ghost use Rattle.acse_ber.specs.Password.{IsPassword};
 ghost use Rattle.relay_core.specs.World.{IsDeviceName};
 
-use crate::repeated::repeated;
+use crate::repeated::repeat_part;
 use crate::sessions::{Input, Output, PUBLIC_AARE, PUBLIC_AARQ, PUBLIC_GET, PUBLIC_STATE};
 use cosem_axdr::Octets;
 use counted_io::Counted;
@@ -114,7 +114,7 @@ fn texts_are_played(rt: HostRuntime) -> Result<(), Fail> {
 }
 
 /// Returns the AARQ of the public client, followed by its GET.
-fn opened(alloc: Global) -> Result<String, AllocError> {
+fn aarq_and_get(alloc: Global) -> Result<String, AllocError> {
     format!(in alloc; "{PUBLIC_AARQ}{PUBLIC_GET}")
 }
 
@@ -128,7 +128,7 @@ fn gives_both_lines(alloc: Global, text: &str) -> Result<bool, AllocError> {
 
 #[test]
 fn each_frame_is_a_line(rt: HostRuntime) -> Result<(), Fail> {
-    let text = opened(rt.alloc())?;
+    let text = aarq_and_get(rt.alloc())?;
     let is_so = gives_both_lines(rt.alloc(), text.as_str());
     drop(text);
     assert!(rt; is_so?);
@@ -138,8 +138,8 @@ fn each_frame_is_a_line(rt: HostRuntime) -> Result<(), Fail> {
 /// Returns whether the output for a text of 4,278 characters, an AARQ and 100 equal requests, has
 /// 101 lines.
 fn gives_101_lines(alloc: Global) -> Result<bool, AllocError> {
-    let text = repeated(alloc, PUBLIC_AARQ, PUBLIC_GET, "", 100)?;
-    let lines = repeated(alloc, PUBLIC_AARE, PUBLIC_STATE, "\n", 100)?;
+    let text = repeat_part(alloc, PUBLIC_AARQ, PUBLIC_GET, "", 100)?;
+    let lines = repeat_part(alloc, PUBLIC_AARE, PUBLIC_STATE, "\n", 100)?;
     let is_long = text.len() == 4_278;
     let is_so = has_output(alloc, text.as_str(), lines.as_str(), Ok(()));
     drop(text);
@@ -207,7 +207,7 @@ fn check_failing(rt: &impl Abort, alloc: Global, text: &str) -> Result<(), Alloc
 
 #[test]
 fn a_read_or_a_write_fails(rt: HostRuntime) -> Result<(), Fail> {
-    let text = opened(rt.alloc())?;
+    let text = aarq_and_get(rt.alloc())?;
     let checked = check_failing(&rt, rt.alloc(), text.as_str());
     drop(text);
     checked?;

@@ -2,7 +2,7 @@
 use std::alloc::{AllocError, Global};
 
 /// Returns the text `head`, followed by `part` repeated `count` times, with `end` after each.
-pub(crate) fn repeated(
+pub(crate) fn repeat_part(
     alloc: Global,
     head: &str,
     part: &str,

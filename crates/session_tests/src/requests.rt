@@ -1,5 +1,5 @@
 //! Requests without frames to a core, in hexadecimal, and the bytes of their responses.
-use crate::repeated::repeated;
+use crate::repeated::repeat_part;
 use cosem_axdr::Octets;
 use relay_core::RelayCore;
 use session_io::answer_apdu;
@@ -165,8 +165,8 @@ const NAME: (&str, &str) = ("0046000060030AFF0100", "000906000060030AFF");
 
 /// Returns whether a core answers a request of 404 bytes with a response of 364.
 fn is_long_answered(alloc: Global, core: &mut RelayCore) -> Result<bool, Fail> {
-    let request = repeated(alloc, FORTY.0, NAME.0, "", 40)?;
-    let answer = repeated(alloc, FORTY.1, NAME.1, "", 40)?;
+    let request = repeat_part(alloc, FORTY.0, NAME.0, "", 40)?;
+    let answer = repeat_part(alloc, FORTY.1, NAME.1, "", 40)?;
     let is_so = is_answered(alloc, core, &(request.as_str(), answer.as_str()));
     drop(request);
     drop(answer);

@@ -161,7 +161,7 @@ impl Talk {
         let asked = if before == 0 {
             hex::decode(alloc, request)?
         } else {
-            numbered(alloc, "C002C1", before)?
+            with_number(alloc, "C002C1", before)?
         };
         let head = if is_last { "C402C101" } else { "C402C100" };
         let answer = block(alloc, head, before.saturating_add(1), &[0x00], piece)?;
@@ -200,7 +200,7 @@ impl Talk {
             (_, false) => ("C103C100", "C502C1"),
         };
         let request = block(alloc, head, number, &[], piece)?;
-        let answer = numbered(alloc, answered, number)?;
+        let answer = with_number(alloc, answered, number)?;
         let pushed = self.push(request.as_slice(), answer.as_slice());
         drop(request);
         drop(answer);
@@ -276,7 +276,7 @@ fn last_end(ends: &[(usize, usize)], size: usize) -> (usize, usize) {
 }
 
 /// Returns a payload's head in hexadecimal, followed by a block number.
-fn numbered(alloc: Global, head: &str, number: usize) -> Result<Vec<u8>, Fail> {
+fn with_number(alloc: Global, head: &str, number: usize) -> Result<Vec<u8>, Fail> {
     block_of(alloc, head, number, &[], None)
 }
 

@@ -26,7 +26,7 @@ fn in_mode(rt: &impl Abort, mode: ControlMode) -> DisconnectControl {
     control
 }
 
-fn shown(control: &DisconnectControl) -> (ControlState, u8, bool) {
+fn control_values(control: &DisconnectControl) -> (ControlState, u8, bool) {
     let state = control.state();
     (state, u8::from(state), control.output())
 }
@@ -37,7 +37,10 @@ fn check_steps(rt: &impl Abort, mode: ControlMode, steps: &[Step]) -> Disconnect
     for (trigger, result, expected) in steps {
         let found = control.apply(*trigger);
         assert!(*rt; found == *result, "{mode:?}: {trigger:?}");
-        assert!(*rt; shown(&control) == *expected, "{mode:?}: {trigger:?}");
+        assert!(*rt;
+            control_values(&control) == *expected,
+            "{mode:?}: {trigger:?}"
+        );
     }
     control
 }

@@ -197,7 +197,7 @@ fn pairs_are_scanned_at_a_threshold_each(rt: HostRuntime) -> Result<(), Fail> {
 }
 
 // Creates a block of these values and returns its length, or the fault.
-fn made(alloc: Global, values: &[u32]) -> Result<usize, BlockMade> {
+fn block_length(alloc: Global, values: &[u32]) -> Result<usize, BlockMade> {
     let block = Block::from_slice(alloc, values)?;
     let len = block.values().len();
     drop(block);
@@ -228,7 +228,7 @@ static LENGTHS: [(&[u32], &[u32], Result<usize, BlockMade>); 5] = [
 fn a_block_may_have_each_length(rt: HostRuntime) {
     for len in 0..257 {
         let values = &LONG[..len];
-        assert!(rt; made(rt.alloc(), values) == Ok(len), "{len} values");
+        assert!(rt; block_length(rt.alloc(), values) == Ok(len), "{len} values");
         assert!(rt;
             made_of_pairs(rt.alloc(), values, values) == Ok(len),
             "{len} pairs"
@@ -238,8 +238,8 @@ fn a_block_may_have_each_length(rt: HostRuntime) {
 
 #[test]
 fn a_block_is_refused_by_its_lengths(rt: HostRuntime) {
-    assert!(rt; made(rt.alloc(), &LONG) == Err(BlockMade::TooLong));
-    assert!(rt; made(rt.alloc(), &LONG[..256]) == Ok(256));
+    assert!(rt; block_length(rt.alloc(), &LONG) == Err(BlockMade::TooLong));
+    assert!(rt; block_length(rt.alloc(), &LONG[..256]) == Ok(256));
     for (place, (import, export, expected)) in LENGTHS.iter().enumerate() {
         assert!(rt;
             made_of_pairs(rt.alloc(), import, export) == *expected,

@@ -14,7 +14,7 @@ use std::thread::Threads;
 /// and the number of calls that the sessions made.
 type Evening = (Accepted, u64, Option<u64>);
 
-fn told(served: u64, turned_away: u64, has_failed: bool, has_starved: bool) -> Accepted {
+fn accepted_counts(served: u64, turned_away: u64, has_failed: bool, has_starved: bool) -> Accepted {
     Accepted {
         served,
         turned_away,
@@ -69,14 +69,14 @@ fn evening<R: Threads + Wait + Copy + Send + 'static>(
 #[test]
 fn serves_two_that_wait_for_one_another(rt: HostRuntime) -> Result<(), Fail> {
     let spent = evening(&rt, rt.alloc(), 2, NONE_CLOSED, 2)?;
-    assert!(rt; spent == (told(2, 0, false, false), 2, Some(2)));
+    assert!(rt; spent == (accepted_counts(2, 0, false, false), 2, Some(2)));
     Ok(())
 }
 
 #[test]
 fn turns_the_ninth_away(rt: HostRuntime) -> Result<(), Fail> {
     let spent = evening(&rt, rt.alloc(), 9, NONE_CLOSED, 9)?;
-    assert!(rt; spent == (told(8, 1, false, false), 8, Some(8)));
+    assert!(rt; spent == (accepted_counts(8, 1, false, false), 8, Some(8)));
     Ok(())
 }
 
@@ -99,7 +99,7 @@ fn long_evening<R: Threads + Wait + Copy + Send + 'static>(
 #[test]
 fn gives_the_place_of_an_ended_session_to_the_next(rt: HostRuntime) -> Result<(), Fail> {
     let spent = long_evening(&rt, rt.alloc(), 20)?;
-    assert!(rt; spent == (told(20, 0, false, false), 20, Some(20)));
+    assert!(rt; spent == (accepted_counts(20, 0, false, false), 20, Some(20)));
     Ok(())
 }
 
@@ -123,7 +123,7 @@ fn relay_evening<R: Threads + Wait + Copy + Send + 'static>(
 #[test]
 fn waits_for_no_session_but_those_that_ended(rt: HostRuntime) -> Result<(), Fail> {
     let spent = relay_evening(&rt, rt.alloc(), 3)?;
-    assert!(rt; spent == (told(3, 0, false, false), 3, Some(3)));
+    assert!(rt; spent == (accepted_counts(3, 0, false, false), 3, Some(3)));
     Ok(())
 }
 
@@ -132,14 +132,14 @@ fn waits_for_no_session_but_those_that_ended(rt: HostRuntime) -> Result<(), Fail
 #[test]
 fn a_ninth_takes_the_place_of_the_one_that_left(rt: HostRuntime) -> Result<(), Fail> {
     let spent = relay_evening(&rt, rt.alloc(), 9)?;
-    assert!(rt; spent == (told(9, 0, false, false), 9, Some(9)));
+    assert!(rt; spent == (accepted_counts(9, 0, false, false), 9, Some(9)));
     Ok(())
 }
 
 #[test]
 fn ends_where_the_listener_fails(rt: HostRuntime) -> Result<(), Fail> {
     let spent = evening(&rt, rt.alloc(), 1, NONE_CLOSED, 0)?;
-    assert!(rt; spent == (told(1, 0, true, false), 1, Some(1)));
+    assert!(rt; spent == (accepted_counts(1, 0, true, false), 1, Some(1)));
     Ok(())
 }
 
@@ -150,7 +150,7 @@ fn counts_what_was_closed_out_of_memory(rt: HostRuntime) -> Result<(), Fail> {
         setup_failed: 0,
     };
     let spent = evening(&rt, rt.alloc(), 1, closed, 3)?;
-    assert!(rt; spent == (told(1, 2, false, true), 1, Some(1)));
+    assert!(rt; spent == (accepted_counts(1, 2, false, true), 1, Some(1)));
     Ok(())
 }
 
@@ -162,6 +162,6 @@ fn counts_those_whose_stream_cannot_be_set_up(rt: HostRuntime) -> Result<(), Fai
         setup_failed: 2,
     };
     let spent = evening(&rt, rt.alloc(), 1, closed, 3)?;
-    assert!(rt; spent == (told(1, 2, false, false), 1, Some(1)));
+    assert!(rt; spent == (accepted_counts(1, 2, false, false), 1, Some(1)));
     Ok(())
 }

@@ -99,7 +99,7 @@ fn fired_by(reply: &Reply) -> (u16, u16) {
 
 // Applies a full block and returns how many times both sides fire, or a hundred for each if the
 // reply is another.
-fn fired(recorder: &mut Recorder, alloc: Global) -> Result<(u16, u16), AllocError> {
+fn fire_block(recorder: &mut Recorder, alloc: Global) -> Result<(u16, u16), AllocError> {
     let block = full_block_event(alloc)?;
     let reply = recorder.apply(alloc, block)?;
     let given = fired_by(&reply);
@@ -108,7 +108,7 @@ fn fired(recorder: &mut Recorder, alloc: Global) -> Result<(u16, u16), AllocErro
 }
 
 // Returns the text of a recorder's export.
-fn exported(alloc: Global, recorder: &Recorder) -> Result<Octets, AllocError> {
+fn export_text(alloc: Global, recorder: &Recorder) -> Result<Octets, AllocError> {
     let trace = recorder.export(alloc)?;
     let text = write_trace(alloc, &trace);
     drop(trace);
@@ -128,7 +128,7 @@ fn has_line(text: &[u8], number: usize, wanted: &[u8]) -> bool {
 }
 
 // Returns the text that a trace plays to.
-fn played(alloc: Global, text: &[u8]) -> Result<Vec<u8>, AllocError> {
+fn play_text(alloc: Global, text: &[u8]) -> Result<Vec<u8>, AllocError> {
     let mut reader = Counted::new(text);
     let mut writer = Counted::new(Vec::new(alloc));
     let events = play(alloc, &mut reader, &mut writer);
@@ -143,7 +143,7 @@ fn played(alloc: Global, text: &[u8]) -> Result<Vec<u8>, AllocError> {
 
 // Returns whether a trace plays to these lines.
 fn text_plays_to(alloc: Global, text: &[u8], lines: &[u8]) -> Result<bool, AllocError> {
-    let output = played(alloc, text)?;
+    let output = play_text(alloc, text)?;
     let is_so = output.as_slice() == lines;
     drop(output);
     Ok(is_so)
@@ -151,7 +151,7 @@ fn text_plays_to(alloc: Global, text: &[u8], lines: &[u8]) -> Result<bool, Alloc
 
 // Returns whether a recorder's export plays to these lines.
 fn plays_to(alloc: Global, recorder: &Recorder, lines: &[u8]) -> Result<bool, AllocError> {
-    let text = exported(alloc, recorder)?;
+    let text = export_text(alloc, recorder)?;
     let is_so = text_plays_to(alloc, text.as_slice(), lines);
     drop(text);
     is_so
@@ -166,7 +166,7 @@ fn has_a_fired_run(rt: &impl Abort, text: &[u8]) {
 
 // Checks the export of a press after a run that has fired.
 fn exports_a_press(rt: &impl Abort, alloc: Global, recorder: &Recorder) -> Result<(), AllocError> {
-    let text = exported(alloc, recorder)?;
+    let text = export_text(alloc, recorder)?;
     has_a_fired_run(rt, text.as_slice());
     drop(text);
     assert!(rt; plays_to(alloc, recorder, b"1: code 2; state 1; supply on\n")?);
@@ -180,7 +180,7 @@ fn take_a_fired_run(
     recorder: &mut Recorder,
 ) -> Result<(), AllocError> {
     take(recorder, alloc, LIMITED)?;
-    assert!(rt; fired(recorder, alloc)? == (1, 1));
+    assert!(rt; fire_block(recorder, alloc)? == (1, 1));
     take(recorder, alloc, b"button\n")?;
     exports_a_press(rt, alloc, recorder)
 }
@@ -196,7 +196,7 @@ fn a_run_that_has_fired_is_exported(rt: HostRuntime) -> Result<(), Fail> {
 // Checks the export of a write and a read.
 fn exports_both(rt: &impl Abort, alloc: Global, recorder: &mut Recorder) -> Result<(), AllocError> {
     take(recorder, alloc, THRESHOLD)?;
-    let text = exported(alloc, recorder)?;
+    let text = export_text(alloc, recorder)?;
     assert!(rt; text.as_slice().ends_with(THRESHOLD));
     drop(text);
     let lines = b"1: code 0; state 1; supply on\n2: value 0600001B58; state 1; supply on\n";
@@ -282,7 +282,7 @@ fn begins_in_mode_1(rt: &impl Abort, text: &[u8]) {
 
 // Checks the export after the first of three events was dropped.
 fn exports_the_last(rt: &impl Abort, alloc: Global, recorder: &Recorder) -> Result<(), AllocError> {
-    let text = exported(alloc, recorder)?;
+    let text = export_text(alloc, recorder)?;
     begins_in_mode_1(rt, text.as_slice());
     drop(text);
     let lines = b"1: code 0; state 0; supply off\n2: code 2; state 0; supply off\n";

@@ -181,7 +181,7 @@ impl Read for Endless {
 }
 
 // Plays the text of a reader, and returns the result and the bytes that were written.
-fn played<R: Read + Drop>(alloc: Global, from: R) -> (Result<u64, PlayFault>, Vec<u8>) {
+fn play_reader<R: Read + Drop>(alloc: Global, from: R) -> (Result<u64, PlayFault>, Vec<u8>) {
     let mut reader = Counted::new(from);
     let mut writer = Counted::new(Vec::new(alloc));
     let count = play(alloc, &mut reader, &mut writer);
@@ -191,7 +191,7 @@ fn played<R: Read + Drop>(alloc: Global, from: R) -> (Result<u64, PlayFault>, Ve
 
 // Returns whether a text plays to this output, which has `lines` lines.
 fn prints(alloc: Global, text: &[u8], lines: u64, output: &[u8]) -> bool {
-    let (count, written) = played(alloc, text);
+    let (count, written) = play_reader(alloc, text);
     let same = written.as_slice() == output;
     drop(written);
     same && count == Ok(lines)
@@ -199,7 +199,7 @@ fn prints(alloc: Global, text: &[u8], lines: u64, output: &[u8]) -> bool {
 
 // Returns the fault of playing the text of a reader, or `None` if it plays or anything is written.
 fn fault_of<R: Read + Drop>(alloc: Global, from: R) -> Option<PlayFault> {
-    let (count, written) = played(alloc, from);
+    let (count, written) = play_reader(alloc, from);
     let is_silent = written.is_empty();
     drop(written);
     match count {

@@ -133,7 +133,7 @@ fn values_of(alloc: Global, stretches: &[(u16, u32)]) -> Result<Vec<u32>, AllocE
 
 /// Returns the block, scanned at this threshold if there is one. A block without export values
 /// ignores the second threshold.
-fn scanned(mut block: Block, scan: Option<u32>) -> Block {
+fn scan_block(mut block: Block, scan: Option<u32>) -> Block {
     if let Some(threshold) = scan {
         block.scan(threshold, 5000);
     }
@@ -150,7 +150,7 @@ fn block_of(
     let made = Block::from_slice(alloc, values.as_slice());
     drop(values);
     match made {
-        Ok(block) => Ok(scanned(block, scan)),
+        Ok(block) => Ok(scan_block(block, scan)),
         Err(_) => Err(AllocError),
     }
 }
