@@ -1,7 +1,7 @@
 //! `RelayedFile`: the file of a journal, whose relay is given a change after its event is on the
 //! disk.
 ghost use Rattle.std.specs.Prelude.{◌≡◌, ◌++◌, ◌↔◌, [], IsErrOf, OnOk, false};
-ghost use Rattle.durable_lines.specs.CrashModel.{Elapses, Follows, Narrows, Only, TornAppend};
+ghost use Rattle.durable_lines.specs.CrashModel.{Elapses, Follows, Narrows, HasOneOutcome, TornAppend};
 ghost use Rattle.text_lines.specs.Lines.{lines_of};
 ghost use Rattle.meter_relay.specs.Following.{MayFollowOn};
 ghost use Rattle.meter_relay.specs.RelayedFile.{HasFailed};
@@ -50,7 +50,7 @@ impl<F: DurableFile, W: Write + Drop, L: ChangeReport> RelayedFile<F, W, L> {
 
     // Gives the relay the changes by the lines that wait, all of which are on the disk.
     fn give_changes(&mut self) -> Result<(), FileFault>
-        requires on_disk { Only (F.seen self.old.file) (F.may_leave self.old.file) }
+        requires on_disk { HasOneOutcome (F.seen self.old.file) (F.may_leave self.old.file) }
         ensures file { self.new.file ≡ self.old.file }
         ensures has_failed { self.new.has_failed ≡ self.old.has_failed }
         ensures given { OnOk result (MayFollowOn W.contents (lines_of self.old.waiting.items)
@@ -72,7 +72,7 @@ impl<F: DurableFile, W: Write + Drop, L: ChangeReport> RelayedFile<F, W, L> {
         ensures has_failed { self.new.has_failed ≡ self.old.has_failed }
         ensures unchanged { OnOk result (F.seen self.new.file ≡ F.seen self.old.file) }
         ensures durable { OnOk result
-            (Only (F.seen self.old.file) (F.may_leave self.new.file)) }
+            (HasOneOutcome (F.seen self.old.file) (F.may_leave self.new.file)) }
         ensures stored { OnOk result (F.acts_as_file → F.stored (F.seen self.old.file)) }
         ensures crash { Narrows (F.may_leave self.old.file) (F.may_leave self.new.file) }
         ensures time { Elapses (F.moment self.old.file) (F.moment self.new.file)
