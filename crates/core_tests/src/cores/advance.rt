@@ -25,7 +25,7 @@ fn moves_script_3(alloc: Global, event: &Event) -> Result<bool, AllocError> {
 
 // Returns whether the parts of a write of `scripts` are script 3 with its two steps.
 fn is_moved(alloc: Global) -> Result<bool, AllocError> {
-    let event = written(alloc, SCRIPTS, MODE_0_AND_DISCONNECT)?;
+    let event = write_event(alloc, SCRIPTS, MODE_0_AND_DISCONNECT)?;
     let moves = moves_script_3(alloc, &event);
     drop(event);
     moves
@@ -62,7 +62,7 @@ fn advance(core: &mut RelayCore, alloc: Global, event: &Event) -> Result<(), All
 
 // Advances the core by a write of control_mode with these bytes.
 fn advance_write(core: &mut RelayCore, alloc: Global, bytes: &[u8]) -> Result<(), AllocError> {
-    let event = written(alloc, MODE, bytes)?;
+    let event = write_event(alloc, MODE, bytes)?;
     let taken = advance(core, alloc, &event);
     drop(event);
     taken

@@ -1,5 +1,5 @@
 //! The end of a session that its output receives.
-use super::{NOTHING, serve, told};
+use super::{NOTHING, serve, served_counts};
 use meter_server::{ListenFault, Listener, Observer, ServeFault, SessionEnd};
 use std::alloc::Global;
 use std::io;
@@ -150,7 +150,7 @@ fn an_observer_receives_the_end_of_its_session(rt: HostRuntime) -> Result<(), Fa
         next: 0,
     };
     let (served, _) = serve(&rt, alloc, &mut queue, NOTHING, 5)?;
-    assert!(rt; served == told(5, 0));
+    assert!(rt; served == served_counts(5, 0));
     // Closed, cut, another version, too long, and the fault of a read.
     for (client, number) in [1, 2, 3, 4, 11].iter().enumerate() {
         assert!(rt; ends.number(client) == *number, "client {client}");
