@@ -282,7 +282,7 @@ def play(opening, events):
     return ran.returncode, ran.stdout.decode(), ran.stderr.decode()
 
 
-def lines_wanted(rows, state=1):
+def expected_lines(rows, state=1):
     """The lines that a trace of these rows must print."""
     lines = []
     for number, (_, reply, *after) in enumerate(rows, 1):
@@ -294,7 +294,7 @@ def lines_wanted(rows, state=1):
 def tables():
     """Whether each table of rows is played as expected."""
     for name, rows in TABLES.items():
-        yield name, play(NEW_METER, [row[0] for row in rows]) == (0, lines_wanted(rows), "")
+        yield name, play(NEW_METER, [row[0] for row in rows]) == (0, expected_lines(rows), "")
 
 
 def openings():

@@ -77,12 +77,12 @@ def archives():
     rt.rtlib.guarded()  # the first call sets a signal handler, which only the main thread may do
     crate = next(it for it in rt.rtlib.crates_below(str(TOP)) if it.name == LIBRARY.name)
     is_after_ci = toolchain.is_left_by_ci(rt, [crate])
-    made_by = from_what_ci_left if is_after_ci else from_kept_work
+    build = build_as_ci if is_after_ci else build_with_lib
     targets = [PC_TARGET, ARM_TARGET] if has_arm() and (is_long or not is_after_ci) else [PC_TARGET]
-    return {target: made_by(rt, crate, target) for target in targets}
+    return {target: build(rt, crate, target) for target in targets}
 
 
-def from_kept_work(rt, crate, target):
+def build_with_lib(rt, crate, target):
     """Builds with `rt lib`, over the libraries that earlier checks proved."""
     copy = place / f"libmeter-{target}.a"
     ran = subprocess.run(["rt", "lib", "--target", target], cwd=LIBRARY, capture_output=True, text=True)
@@ -91,7 +91,7 @@ def from_kept_work(rt, crate, target):
     return copy
 
 
-def from_what_ci_left(rt, crate, target):
+def build_as_ci(rt, crate, target):
     """Builds as `rt ci` builds a program: a check, and the compiler over what it proved. It uses
     one job, which costs least, since other stages run in parallel."""
     checked, copy = place / f"checked-{target}", place / f"libmeter-{target}.a"

@@ -277,10 +277,10 @@ def read_counts():
 
 def grown_counts(found, limits):
     """The rules and folders with more places than allowed. A rule of STRICT allows none."""
-    return [it for it in sorted(found) if len(found[it]) > allowed_for(it, limits)]
+    return [it for it in sorted(found) if len(found[it]) > allowed_count(it, limits)]
 
 
-def allowed_for(place, limits):
+def allowed_count(place, limits):
     """The allowed count of a rule in a folder."""
     return 0 if place[0] in STRICT else limits.get(place, 0)
 
@@ -348,7 +348,8 @@ def main(words):
     failed = grown_counts(found, limits)
     for rule, folder in failed:
         places = found[rule, folder]
-        print(f"FAILED prose: {rule} in {folder}: at most {allowed_for((rule, folder), limits)} allowed, "
+        print(f"FAILED prose: {rule} in {folder}: "
+              f"at most {allowed_count((rule, folder), limits)} allowed, "
               f"found {len(places)}; the last ones:")
         print("\n".join(f"    {it}" for it in places[-SHOWN:]))
     lower = sum(len(found.get(it, [])) < count for it, count in limits.items())

@@ -117,7 +117,7 @@ class ScriptedMeter:
             self.talks.append(talk)
 
     def wait_for_talks(self, times):
-        """The talks, once there are `count`."""
+        """Waits until there are `times` talks; returns them."""
         wait_until(lambda: len(self.talks) >= times)
         return self.talks
 
