@@ -105,7 +105,7 @@ def write_built(top, crate):
         file.write(f"{digest_of(path)} {identity(top)}\n")
 
 
-def built(path):
+def read_built(path):
     """What an executable was built with; nothing if that is not recorded for its bytes."""
     try:
         with open(f"{path}.built", encoding="utf-8") as file:

@@ -208,7 +208,7 @@ def refusals(name, campaign, record, text):
     check(f"{name}: it is left", record.read_text() == "minutes of a meeting\n")
 
 
-def until_whole(name, campaign, choose, words_of):
+def run_until_whole(name, campaign, choose, words_of):
     """Stops or kills a campaign at random times and runs it again until it ends. Returns the number
     of runs."""
     longest = choose.choice((0.5, 1.0, 2.0))
@@ -250,7 +250,7 @@ def killed_campaigns_command_nobody_twice(name, folder):
         place.mkdir()
         try:
             campaign = Long(place, meters, lambda _: choose.choice(("disconnect", "reconnect", "state")))
-            found = until_whole(f"{name} {number}", campaign, choose, lambda it: (
+            found = run_until_whole(f"{name} {number}", campaign, choose, lambda it: (
                 "--jobs", it.choice("123"), "--workers", it.choice(("1", "4", "16"))))
             runs, left = runs + found[0], left + found[1]
         except AssertionError as error:
@@ -424,7 +424,7 @@ def machines_command_nobody_twice(name, folder):
         return
     shell = Shell(folder)
     try:
-        if not shell.answers():
+        if not shell.wait_for_login():
             print("SKIPPED ssh: the sshd that the test started does not accept connections")
             return
         place = folder / "whole"
@@ -436,7 +436,7 @@ def machines_command_nobody_twice(name, folder):
             place.mkdir()
             try:
                 campaign = ByMachines(place, meters, shell)
-                runs, left = until_whole(f"{name} {number}", campaign, choose, lambda it: (
+                runs, left = run_until_whole(f"{name} {number}", campaign, choose, lambda it: (
                     *campaign.words(), "--jobs", it.choice("12"), "--workers", it.choice(("1", "4"))))
                 print(f"{name} {number}: {runs} runs, {left} jobs left unknown", flush=True)
             except AssertionError as error:

@@ -111,14 +111,14 @@ def run(*words, text=None):
 
 def in_folder(function):
     """A test with an empty folder, or with the one of --keep."""
-    def tested(name):
+    def run_test(name):
         if keep:
             keep.mkdir(parents=True, exist_ok=True)
             return function(name, keep)
         with tempfile.TemporaryDirectory(prefix="reports-") as folder:
             return function(name, pathlib.Path(folder))
-    tested.__name__ = function.__name__
-    return tested
+    run_test.__name__ = function.__name__
+    return run_test
 
 
 def report(*words, text=None):
@@ -275,7 +275,7 @@ def wrong_input_writes_no_page(name, folder):
     check(f"{name}: no folder", status == 3 and "No such file" in errors, status, errors)
 
 
-def dumped(browser, page):
+def dump_page(browser, page):
     """The page as the browser has it after its scripts have run."""
     ran = subprocess.run([browser, "--headless", "--no-sandbox", "--disable-gpu", "--dump-dom",
                           page.as_uri()], capture_output=True, timeout=120)
@@ -293,7 +293,7 @@ def a_browser_filters_the_table(name, folder):
     ledger, path = folder / "browser.ledger", folder / "browser.html"
     make_ledger(ledger, JOBS)
     report("--output", path, ledger)
-    found = dumped(browser, path)
+    found = dump_page(browser, path)
     check(f"{name}: the title", "<title>Campaign</title>" in found)
     check(f"{name}: all rows", f'<span id="shown">{len(JOBS)}</span>' in found, found[-500:])
     # (the policy of the page allows no other script: one that sets the filters must be allowed)
@@ -307,11 +307,11 @@ def a_browser_filters_the_table(name, folder):
         changed = folder / "changed.html"
         changed.write_text(text.replace(policy, "").replace(
             "</body>", f"<script>{setting} filter();</script></body>"))
-        found = dumped(browser, changed)
+        found = dump_page(browser, changed)
         check(f"{name}: {what}", f'<span id="shown">{wanted}</span>' in found
               and found.count('hidden=""') == len(JOBS) - wanted, found[-500:])
     changed.write_text(text.replace("</body>", "<script>document.title = 'injected'</script></body>"))
-    check(f"{name}: another script", "<title>Campaign</title>" in dumped(browser, changed))
+    check(f"{name}: another script", "<title>Campaign</title>" in dump_page(browser, changed))
 
 
 TESTS = (records_are_those_of_the_rows, other_rows_are_refused, the_page_has_the_records,

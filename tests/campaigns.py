@@ -28,8 +28,8 @@ import serving
 from one_node_slurm import LONG_PATIENCE, Slurm, missing_commands
 from scripted_meters import AARQ, CROWD, HOLDING, RELEASE, REQUESTS, SCRIPTS, Crowd, ScriptedMeter, Unheard, answers_slowly, answers_the_release, does_it, \
     loopback_address
-from serving import (MODE, PASSWORD, PATIENCE, PLAYER, SERVER, TOP, Client, Server, check, played,
-                     shown_of, test, wait_until)
+from serving import (MODE, PASSWORD, PATIENCE, PLAYER, SERVER, TOP, Client, Server, check,
+                     play_trace, process_text, test, wait_until)
 
 HEAD_END = os.environ.get("HEAD_END") or TOP / "crates" / "head_end_cli" / "out" / "head_end_cli"
 CAMPAIGN = TOP / "bin" / "campaign"
@@ -99,7 +99,7 @@ class Meter(Server):
         if self.counts:
             self.end_input()
 
-    def wanted(self):
+    def expected_results(self):
         """The expected row of each campaign (IEC 62056-6-2, class 70, control modes)."""
         if self.rejects:
             return ["rejected 13"] * len(VERBS)
@@ -133,14 +133,14 @@ class OddMeter:
         self.meter = ScriptedMeter(script)
         self.port = self.meter.port
 
-    def wanted(self):
+    def expected_results(self):
         """The results that the meter's jobs must have."""
         return [self.outcomes[verb] for verb in self.verbs]
 
     def check_talks(self, name):
         """Checks that each connection had the AARQ, the request at most once, the release only
         after an outcome, and nothing else."""
-        talks = self.meter.talked(len(self.verbs))
+        talks = self.meter.wait_for_talks(len(self.verbs))
         check(f"{name}: {self.name}: a connection for each job", len(talks) == len(self.verbs), len(talks))
         for verb, talk in zip(self.verbs, talks):
             right = [AARQ, REQUESTS[verb], RELEASE][:len(talk.frames)]
@@ -155,7 +155,7 @@ class Place:
         self.port = port
         self.times = times
 
-    def wanted(self):
+    def expected_results(self):
         """The results that the meter's jobs must have."""
         return ["unknown"] * self.times
 
@@ -171,7 +171,7 @@ def start_meters(meters, count):
         meter.begin()
 
 
-def mixed(many, few):
+def mix(many, few):
     """The list `many` with the items of `few` spread over it."""
     step = len(many) // len(few)
     rest = list(many)
@@ -197,7 +197,7 @@ def run_head_end(jobs, *words):
     return made.returncode, made.stdout.decode(), without_warnings(made.stderr.decode())
 
 
-def differing(wanted, got):
+def differences(wanted, got):
     """The first lines that differ."""
     pairs = list(zip(wanted.splitlines(), got.splitlines()))
     return [pair for pair in pairs if pair[0] != pair[1]][:5], len(wanted.splitlines()), len(got.splitlines())
@@ -209,11 +209,11 @@ def run_campaigns(name, street, workers):
     rows = {one.name: [] for one in street}
     texts = []
     for turn, verb in enumerate(VERBS):
-        there = [one for one in street if len(one.wanted()) > turn]
+        there = [one for one in street if len(one.expected_results()) > turn]
         jobs = "".join(f"{one.name} 127.0.0.1:{one.port} {verb}\n" for one in there)
         status, text, errors = run_head_end(jobs, "--workers", str(workers), *LIMITS)
-        wanted = report_of((one.name, one.wanted()[turn]) for one in there)
-        check(f"{name}: {verb}", (status, text, errors) == (0, wanted, ""), status, differing(wanted, text), errors[:200])
+        wanted = report_of((one.name, one.expected_results()[turn]) for one in there)
+        check(f"{name}: {verb}", (status, text, errors) == (0, wanted, ""), status, differences(wanted, text), errors[:200])
         texts.append(text)
         for line in text.splitlines():
             known, row = line.split(" ", 1)
@@ -228,9 +228,9 @@ def check_meters(name, meters, rows):
         if not meter.process.stdin.closed:
             meter.end_input()
     for meter in meters:
-        status, trace, errors = meter.ended()
+        status, trace, errors = meter.end()
         check(f"{name}: {meter.name}: ends", status == 0 and "fault" not in errors, status, errors)
-        history = [pair for pair in played(trace) if not pair[0].startswith("getlist 1 2 71 ")]  # the sampler reads the thresholds
+        history = [pair for pair in play_trace(trace) if not pair[0].startswith("getlist 1 2 71 ")]  # the sampler reads the thresholds
         check(f"{name}: {meter.name}: its trace", history == meter.history_of(rows[meter.name]), history, rows[meter.name])
 
 
@@ -242,7 +242,7 @@ def a_street(name, workers, count):
         start_meters(meters, count)
         odd = [OddMeter(*row) for row in SCRIPTS]
         nobody = [Place("nobody_listens", unheard.closed_port, len(VERBS)), Place("nobody_accepts", unheard.full_port, 1)]
-        texts, rows = run_campaigns(name, mixed(meters, odd + nobody), workers)
+        texts, rows = run_campaigns(name, mix(meters, odd + nobody), workers)
         check_meters(name, meters, rows)
         for one in odd:
             one.check_talks(name)
@@ -267,7 +267,7 @@ def a_meter_is_reached_by_its_name(name):
     meter = ScriptedMeter(does_it)
     made = run_head_end(f"m1 localhost:{meter.port} disconnect\nm2 nowhere state\n", *LIMITS)
     check(f"{name}: report", made == (0, "m1 done 0\nm2 unknown\n", ""), made)
-    check(f"{name}: what it got", [talk.frames for talk in meter.talked(1)] == [[AARQ, REQUESTS["disconnect"], RELEASE]])
+    check(f"{name}: what it got", [talk.frames for talk in meter.wait_for_talks(1)] == [[AARQ, REQUESTS["disconnect"], RELEASE]])
     meter.stop()
 
 
@@ -281,11 +281,11 @@ def a_file_has_the_password(name):
         server = Server("--connections", "1", "--password-file", str(path), password=None)
         campaign = subprocess.Popen([str(HEAD_END), "run", "--password-file", str(path)], stdin=subprocess.PIPE, stdout=subprocess.PIPE, text=True,
                                     env={**os.environ, "METER_PASSWORD": "of the environment"})
-        shown = shown_of(campaign)
+        shown = process_text(campaign)
         check(f"{name}: not shown", b"--password-file" in shown and b"of the environment" in shown and b"of the file" not in shown, shown)
         report, _ = campaign.communicate(f"m1 127.0.0.1:{server.port} state\n", timeout=LONGEST)
         check(f"{name}: report", (campaign.returncode, report) == (0, "m1 done 1\n"), campaign.returncode, report)
-        check(f"{name}: end", server.ended()[0] == 0)
+        check(f"{name}: end", server.end()[0] == 0)
 
 
 def each_meter_has_its_password(name):
@@ -299,13 +299,13 @@ def each_meter_has_its_password(name):
         jobs = "".join(f"m{number} 127.0.0.1:{server.port} state\n" for number, server in enumerate(servers, 1))
         campaign = subprocess.Popen([str(HEAD_END), "run", "--passwords", str(path), *LIMITS], stdin=subprocess.PIPE, stdout=subprocess.PIPE, stderr=subprocess.PIPE,
                                     text=True, env={**os.environ, "METER_PASSWORD": "33333333"})
-        shown = shown_of(campaign)
+        shown = process_text(campaign)
         report, errors = campaign.communicate(jobs, timeout=LONGEST)
         wanted = "m1 done 1\nm2 done 1\nm3 done 1\nm4 rejected 13\n"
         check(f"{name}: report", (campaign.returncode, report, errors) == (0, wanted, ""), campaign.returncode, report, errors)
         check(f"{name}: not shown", not any(word in shown for word in (b"11111111", b"22222222", b"wrong")), shown)
         for server in servers:
-            check(f"{name}: end", server.ended()[0] == 0)
+            check(f"{name}: end", server.end()[0] == 0)
 
 
 def jobs_of_a_meter_run_in_order(name):
@@ -319,7 +319,7 @@ def jobs_of_a_meter_run_in_order(name):
         made = run_head_end(jobs, "--workers", workers, *LIMITS)
         check(f"{name}, workers {workers}: report", made == (0, report_of((job, "done 0") for job, _, _ in rows), ""), made)
         for meter in meters:
-            requests = [talk.frames[1] for talk in meter.talked(len(verbs))]
+            requests = [talk.frames[1] for talk in meter.wait_for_talks(len(verbs))]
             check(f"{name}, workers {workers}: order", requests == [REQUESTS[verb] for verb in verbs], requests)
             meter.stop()
 
@@ -330,7 +330,7 @@ def no_connection_is_reset(name):
     meter = ScriptedMeter(answers_the_release)
     made = run_head_end("".join(f"m{turn} 127.0.0.1:{meter.port} {verb}\n" for turn, verb in enumerate(REQUESTS)), *LIMITS)
     check(f"{name}: report", made == (0, "m0 done 0\nm1 done 0\nm2 done 0\n", ""), made)
-    endings = [talk.ending for talk in meter.talked(3)]
+    endings = [talk.ending for talk in meter.wait_for_talks(3)]
     check(f"{name}: endings", endings == ["end"] * 3, endings)
     meter.stop()
 
@@ -382,7 +382,7 @@ def crowd_jobs(crowd, count):
     return "".join(jobs), report_of(rows), expected
 
 
-def counted(expected):
+def expected_counts(expected):
     """The counts of the crowd after these jobs: for each job one connection and one AARQ, one
     request if the association was opened, and a release if the request was answered."""
     counts = []
@@ -407,9 +407,10 @@ def check_campaign(name, crowd, path, wanted, expected, *words):
     """Runs a campaign with a crowd and checks that the report is the expected one, and that each
     meter got each command once."""
     status, text, errors, seconds = run_campaign(path, *words)
-    check(f"{name}: report", (status, text, errors) == (0, wanted, ""), status, differing(wanted, text), errors[:500])
+    check(f"{name}: report", (status, text, errors) == (0, wanted, ""), status, differences(wanted, text), errors[:500])
     got = crowd.counts()
-    check(f"{name}: each command once", got == counted(expected), got, counted(expected))
+    check(f"{name}: each command once", got == expected_counts(expected), got,
+          expected_counts(expected))
     print(f"{name}: {wanted.count(chr(10)):,} jobs in {seconds:.1f} s")
 
 
@@ -442,11 +443,11 @@ def a_part_that_fails_is_named(name, crowd, folder):
     path = folder / "part"
     path.write_text("fails1 127.0.0.1:1 state\nfails2 127.0.0.1:1 state\n" + "\n" * 998 + jobs)
     status, text, errors, _ = run_campaign(path, "--jobs", "2", "--program", str(program_that_fails(folder)))
-    check(f"{name}: the other part's report", (status, text) == (1, wanted), status, differing(wanted, text))
+    check(f"{name}: the other part's report", (status, text) == (1, wanted), status, differences(wanted, text))
     lines = ["campaign: part 1 failed (exit status 4): the results of its jobs are unknown, and none is sent again. Its jobs:",
              "campaign:     fails1", "campaign:     fails2"]
     check(f"{name}: its jobs", own_lines(errors) == lines, errors)
-    check(f"{name}: each command once", crowd.counts() == counted(expected))
+    check(f"{name}: each command once", crowd.counts() == expected_counts(expected))
 
 def a_wrong_list_sends_nothing(name, crowd, folder):
     jobs, _, _ = crowd_jobs(crowd, 1001)
@@ -457,7 +458,7 @@ def a_wrong_list_sends_nothing(name, crowd, folder):
     check(f"{name}: status", (status, text) == (2, ""), status, text)
     lines = [line.split(":")[1] for line in own_lines(errors) if "findings:" not in line]
     check(f"{name}: all wrong lines", lines == [" line 1002", " line 1003", " line 2002", " nothing was sent"], errors)
-    check(f"{name}: no command", crowd.counts() == counted(none))
+    check(f"{name}: no command", crowd.counts() == expected_counts(none))
 
 def a_list_is_warned_of(name, crowd, folder):
     """Warnings about parts have the line numbers of the whole list, and the list is run."""
@@ -615,10 +616,10 @@ def what_is_known_is_printed(name, crowd, folder):
         made.send_signal(signal.SIGTERM)
         text, _ = made.communicate(timeout=60)
         client.close()
-    check(f"{name}: report", (made.returncode, text) == (143, wanted), made.returncode, differing(wanted, text))
+    check(f"{name}: report", (made.returncode, text) == (143, wanted), made.returncode, differences(wanted, text))
     lines = [line for line in own_lines(without_warnings(log.read_text())) if "SIGTERM" not in line]
     check(f"{name}: the other part", len(lines) == 2 and " part 1 failed " in lines[0] and lines[1].endswith(" silent"), lines)
-    check(f"{name}: each command once", crowd.counts() == counted(expected))
+    check(f"{name}: each command once", crowd.counts() == expected_counts(expected))
 
 
 # A head end of two jobs that reports one as done and waits for a file.
@@ -705,7 +706,7 @@ class Shell:
         return (f"ssh -F /dev/null -p {self.port} -i {self.folder}/own -o BatchMode=yes -o IdentitiesOnly=yes -o StrictHostKeyChecking=no"
                 f" -o UserKnownHostsFile={self.folder}/known -o LogLevel=ERROR {host}")
 
-    def logs_in(self):
+    def can_log_in(self):
         """Whether the test's sshd accepts a login."""
         words = [*self.login("127.0.0.1").split(), "true"]
         try:
@@ -713,9 +714,9 @@ class Shell:
         except subprocess.TimeoutExpired:
             return False
 
-    def answers(self):
+    def wait_for_login(self):
         """Waits until the test's sshd accepts a login; returns whether it does."""
-        return wait_until(lambda: self.process.poll() is not None or self.logs_in(), pause=0.1) \
+        return wait_until(lambda: self.process.poll() is not None or self.can_log_in(), pause=0.1) \
             and self.process.poll() is None
 
     def stop(self):
@@ -740,7 +741,7 @@ def campaigns_by_ssh(name, crowd, folder, count):
     shell = None
     try:
         shell = Shell(folder)
-        if not shell.answers():
+        if not shell.wait_for_login():
             print("SKIPPED ssh: the sshd that the test started does not accept connections")
             return
         hosts = f"{shell.login('127.0.0.1')},{shell.login('localhost')}"
@@ -815,12 +816,13 @@ def a_task_is_killed(name, crowd, folder):
     check(f"{name}: it is not begun again", begin_again(folder, 2) != 0)
     os.kill(int((folder / "shell.2").read_text()), signal.SIGKILL)
     text, _ = made.communicate(timeout=LONGEST)
-    check(f"{name}: report", (made.returncode, text) == (1, wanted), made.returncode, differing(wanted, text))
+    check(f"{name}: report", (made.returncode, text) == (1, wanted), made.returncode, differences(wanted, text))
     first, *names = own_lines(without_warnings(log.read_text()))
     line = r"campaign: part 2 failed \(no exit status(; Slurm: \w+)?\): the results of its jobs are unknown, and none is sent again. Its jobs:"
     check(f"{name}: its jobs", re.fullmatch(line, first) and names == [f"campaign:     own{number}" for number in range(40)], first, names)
     check(f"{name}: no head end is left", wait_until(lambda: not is_running(copy)))
-    check(f"{name}: each command once in the other parts", crowd.counts() == counted(expected))
+    check(f"{name}: each command once in the other parts",
+              crowd.counts() == expected_counts(expected))
     for meter in meters:
         meter.stop()
     counts = [sum(talk.frames.count(REQUESTS["disconnect"]) for talk in meter.talks) for meter in meters]
@@ -843,13 +845,13 @@ def an_array_is_stopped(name, crowd, slurm, folder):
         made.send_signal(signal.SIGTERM)
         text, _ = made.communicate(timeout=LONGEST)
         client.close()
-    check(f"{name}: report", (made.returncode, text) == (143, wanted), made.returncode, differing(wanted, text))
+    check(f"{name}: report", (made.returncode, text) == (143, wanted), made.returncode, differences(wanted, text))
     failed = [line for line in own_lines(without_warnings(log.read_text())) if " failed" in line]
     check(f"{name}: its parts", len(failed) == 2 and " part 2 failed " in failed[0] and "the results of its jobs are unknown" in failed[0]
           and " part 3 failed " in failed[1] and "it was not begun" in failed[1], failed)
     check(f"{name}: no head end is left", not is_running(copy))
     check(f"{name}: no task is left", slurm.has_no_task())
-    check(f"{name}: each command once", crowd.counts() == counted(expected))
+    check(f"{name}: each command once", crowd.counts() == expected_counts(expected))
 
 
 def campaigns_by_slurm(name, crowd, folder, count):

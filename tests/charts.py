@@ -109,7 +109,7 @@ def long_rows(svg):
     yield "the last moment", f"{34 * ROUNDS // 3600:02}:" in "".join(it[11:14] for it in labels if it.startswith("2000-01-01 "))
 
 
-def charted(path, to, *options):
+def draw_chart(path, to, *options):
     """Runs bin/trace_chart with its output in a file; returns what it printed."""
     with open(to, "wb") as file:
         return subprocess.run([TOP / "bin" / "trace_chart", *options, path], stdout=file, stderr=subprocess.PIPE, timeout=600)
@@ -117,7 +117,7 @@ def charted(path, to, *options):
 
 def part_of(path, to, *options):
     """The chart of a part of a trace, or an empty one."""
-    ran = charted(path, to, *options)
+    ran = draw_chart(path, to, *options)
     if ran.returncode:
         print(ran.stderr.decode(errors="replace"))
         return Tree.Element("svg")
@@ -153,7 +153,7 @@ def range_rows(room):
     """Ranges of the worked trace: the whole, a day, and those that are refused with one line."""
     whole = (room / "worked_trace.svg").read_bytes()
     for words in (["--from", "1"], ["--to", "9"], ["--from", "1", "--to", "100"], ["--to", "2000-01-01"]):
-        ran = charted(WORKED, room / "part.svg", *words)
+        ran = draw_chart(WORKED, room / "part.svg", *words)
         yield f"the whole: {words}", ran.returncode == 0 and (room / "part.svg").read_bytes() == whole
     svg = part_of(WORKED, room / "day.svg", "--from", "2000-01-01", "--to", "2000-01-01")
     yield "a day begins with its first moment", "RELAY1: events 8 to 9 of 9, 0 samples" in texts(svg)
@@ -161,10 +161,10 @@ def range_rows(room):
     yield "a part has its own labels", [it for it in texts(svg) if number_of(it)] == WORKED_LABELS[2:4]
     yield "a part begins in the state before it", all(finds(svg, f"state-{it}") is not None for it in (0, 2)) and finds(svg, "supply") is not None
     for words in (["--from", "10"], ["--to", "0"], ["--from", "5", "--to", "4"], ["--from", "2001-01-01"], ["--from", "2000-01-01", "--to", "1999-12-31"]):
-        ran = charted(WORKED, room / "part.svg", "--output", room / "none.svg", *words)
+        ran = draw_chart(WORKED, room / "part.svg", "--output", room / "none.svg", *words)
         yield f"no event: {words}", ran.returncode == 2 and ran.stderr.count(b"\n") == 1 and b"no event" in ran.stderr
     for word in ("", "now", "2000-13-01", "-1", "2000-01-01T00:00:00Z"):
-        ran = charted(WORKED, room / "part.svg", "--output", room / "none.svg", "--from", word)
+        ran = draw_chart(WORKED, room / "part.svg", "--output", room / "none.svg", "--from", word)
         yield f"no place: {word}", ran.returncode == 2 and b"--from: expected the number of an event" in ran.stderr
     yield "a refused range: no file", not (room / "none.svg").exists()
 
@@ -223,7 +223,7 @@ def command_rows(room):
     yield "a PNG", ran.returncode == 0 and (room / "run.png").read_bytes().startswith(b"\x89PNG") and set(room.iterdir()) - before == {room / "run.png"}
 
 
-def rendered(browser, svg, picture):
+def is_rendered(browser, svg, picture):
     """Whether a headless browser renders the chart without an error to a picture that is not
     empty."""
     # (the chart has points; a point is four thirds of a browser's pixel)
@@ -235,10 +235,10 @@ def rendered(browser, svg, picture):
     return ran.returncode == 0 and picture.exists() and picture.stat().st_size > 10_000
 
 
-def judged(name, path, room, rows_of, browser):
+def check_chart(name, path, room, rows_of, browser):
     """Draws a chart, and checks it by these rows, also as a browser shows it."""
     svg = room / f"{name}.svg"
-    ran = charted(path, svg)
+    ran = draw_chart(path, svg)
     yield f"{name}: drawn", ran.returncode == 0 and not ran.stderr
     if ran.returncode:
         print(ran.stderr.decode(errors="replace"))
@@ -246,17 +246,17 @@ def judged(name, path, room, rows_of, browser):
     for what, is_so in rows_of(Tree.parse(svg).getroot()):
         yield f"{name}: {what}", is_so
     if browser:
-        yield f"{name}: a browser renders it", rendered(browser, svg, room / f"{name}.png")
+        yield f"{name}: a browser renders it", is_rendered(browser, svg, room / f"{name}.png")
 
 
 def all_rows(room, browser):
     """All checks, each with its name and whether it holds."""
-    yield from judged("worked_trace", WORKED, room, worked_rows, browser)
+    yield from check_chart("worked_trace", WORKED, room, worked_rows, browser)
     for what, is_so in worked_rows(Tree.parse(COMMITTED).getroot()):
         yield f"docs/worked_trace.svg: {what}", is_so
     trace = room / "long.trace"
     trace.write_text(rows.trace_text(rows.NEW_METER, long_trace()))
-    yield from judged("long", trace, room, long_rows, browser)
+    yield from check_chart("long", trace, room, long_rows, browser)
     for rows_of in (part_rows, range_rows, last_rows, sampler_rows, command_rows):
         yield from rows_of(room)
     yield from wrong_rows(room)
@@ -266,7 +266,7 @@ def wrong_rows(room):
     """Checks that a wrong or missing trace writes no chart and one line of errors."""
     wrong = room / "wrong.trace"
     wrong.write_text("RELAYTRACE 3\n")
-    ran = charted(wrong, room / "wrong.svg")
+    ran = draw_chart(wrong, room / "wrong.svg")
     lines = ran.stderr.decode(errors="replace").splitlines()
     yield "a wrong trace is a fault of the input", ran.returncode == 2 and b"fault: input" in ran.stderr and not (room / "wrong.svg").stat().st_size
     yield "a wrong trace: one line that names it", len(lines) == 1 and f"{wrong}: line 1: " in lines[0]

@@ -59,7 +59,7 @@ def check(name, holds, *found):
         print(f"FAILED clients: {name}" + "".join(f"\n    {it}" for it in found))
 
 
-def meant(text):
+def bytes_of_line(text):
     """The bytes of a line, before two blanks and the text."""
     return "".join(re.split(r"\s{2,}", text.strip())[0].split())
 
@@ -70,9 +70,9 @@ def messages(page):
     for number, line in enumerate(page.split("\n"), 1):
         first = re.fullmatch(r"    ([<>]) (.*)", line)
         if first:
-            found.append([number, first[1], meant(first[2])])
+            found.append([number, first[1], bytes_of_line(first[2])])
         elif is_open and line.startswith(" " * 6):
-            found[-1][2] += meant(line)
+            found[-1][2] += bytes_of_line(line)
         is_open = bool(first) or is_open and line.startswith(" " * 6)
     return found
 
@@ -111,7 +111,7 @@ def the_page_is_played(page):
 
 
 @contextlib.contextmanager
-def served(*options, **more):
+def running_server(*options, **more):
     """A server, which is stopped at the end in any case."""
     server = Server(*options, **more)
     try:
@@ -122,16 +122,16 @@ def served(*options, **more):
 
 def the_page_is_played_over_tcp(page):
     rows = exchanges(page)
-    with served("--connections", "1", "--stop-with-input") as server:
+    with running_server("--connections", "1", "--stop-with-input") as server:
         client = Client(server.port)
         for number, request, expected in rows:
             client.send_bytes(bytes.fromhex(request))
-            answer = client.wanted(len(expected) // 2).hex().upper()
+            answer = client.receive_exactly(len(expected) // 2).hex().upper()
             check(f"line {number} over TCP: {request}", answer == expected, expected, answer)
         client.send_bytes(bytes.fromhex("0002000100010000"))
         check("another version ends the session without an answer", client.is_closed())
         client.close()
-        status, trace, _ = server.ended()
+        status, trace, _ = server.end()
     check("the server ends, and its trace has the page's ACTION in blocks",
           status == 0 and "execute 1 9 00000A006AFF 1 120001\n" in trace, status, trace)
 
@@ -161,14 +161,14 @@ def code(cell):
     return cell.strip("`").replace(" ", "")
 
 
-def framed(payload, port=1):
+def frame_of(payload, port=1):
     return f"0001{port:04X}0001{len(payload) // 2:04X}{payload}"
 
 
 def aarq(port=1, naming=NAMING, mechanism=LOW, secret=SECRET, version="06", bits="001E19",
          size="0400"):
     fields = naming + mechanism + secret + INITIATE.format(version=version, bits=bits, size=size)
-    return framed(f"60{len(fields) // 2:02X}{fields}", port)
+    return frame_of(f"60{len(fields) // 2:02X}{fields}", port)
 
 
 PUBLIC_AARQ = aarq(PUBLIC, mechanism="", secret="")
@@ -177,7 +177,7 @@ PUBLIC_AARQ = aarq(PUBLIC, mechanism="", secret="")
 def payloads(requests, port=1):
     """The payloads of a new meter's answers to requests after the AARQ of a port."""
     first = aarq() if port == 1 else PUBLIC_AARQ
-    answers = answers_of([first, *(framed(it, port) for it in requests)])
+    answers = answers_of([first, *(frame_of(it, port) for it in requests)])
     assert len(answers) == len(requests) + 1 and answers[0][16:18] == "61", answers[:1]
     return [it[16:] for it in answers[1:]]
 
@@ -379,22 +379,22 @@ def statements_hold(_):
 
 def statements_of_associations_hold(_):
     skipped = f"{FRAME}0002000D{GET_STATE}"
-    answers = answers_of([aarq(), skipped, framed(GET_STATE)])
+    answers = answers_of([aarq(), skipped, frame_of(GET_STATE)])
     check("a frame to another port has no answer", len(answers) == 2, answers)
-    answers = answers_of([aarq(), PUBLIC_AARQ[:-4] + "003F", framed(GET_STATE)])
+    answers = answers_of([aarq(), PUBLIC_AARQ[:-4] + "003F", frame_of(GET_STATE)])
     check("a refused AARQ ends the association", answers[2][16:] == "D80101", answers)
-    answers = answers_of([aarq(), framed(GET_STATE, PUBLIC)])
+    answers = answers_of([aarq(), frame_of(GET_STATE, PUBLIC)])
     check("a request from another port", answers[1][16:] == "D80101", answers)
-    answers = answers_of([framed("6000"), framed("6200")])
+    answers = answers_of([frame_of("6000"), frame_of("6200")])
     check("an AARQ without fields", answers[0][16:] == "D80103", answers)
     answers = answers_of([aarq(naming=f"{NAMING}A60A04084D4D4D0000BC614E")])
     check("a client's title is skipped", answers[0][16:20] == "6129", answers)
     answers = answers_of([aarq(PUBLIC, secret=SECRET[:-2] + "39")])
     check("port 16 with another password", answers[0][16:20] == "6129", answers)
     for size in ("0000", "FFFF"):
-        answers = answers_of([aarq(size=size), framed(GET_OBJECTS)])
+        answers = answers_of([aarq(size=size), frame_of(GET_OBJECTS)])
         check(f"size {size} is 1,024 bytes", answers[1][16:].startswith("C401C100010C"), answers)
-    answers = answers_of([aarq(size="0040", bits="000010"), framed(GET_OBJECTS)])
+    answers = answers_of([aarq(size="0040", bits="000010"), frame_of(GET_OBJECTS)])
     check("a long value without its bit", answers[1][16:] == "C401C101FA", answers)
     for n in (1, 32):
         text = "78" * n
@@ -411,7 +411,8 @@ def run_example(*words, password=PASSWORD):
 
 
 def the_example_switches(_):
-    with served("--connections", "2", "--resume", console=WORKED_TRACE.read_bytes()) as server:
+    console = WORKED_TRACE.read_bytes()
+    with running_server("--connections", "2", "--resume", console=console) as server:
         address = f"127.0.0.1:{server.port}"
         found = run_example(address, "disconnect")
         check("the example disconnects",
@@ -419,7 +420,7 @@ def the_example_switches(_):
         found = run_example(address, "reconnect")
         check("the example reconnects", found == (
             0, "before: Disconnected\nafter: Ready for reconnection\n", ""), found)
-        status, trace, errors = server.ended()
+        status, trace, errors = server.end()
     events = trace.partition("\nevents ")[2].splitlines()[1:]
     read = "get 1 70 000060030AFF 3 0"
     check("the trace has the example's requests", status == 0 and events == [
@@ -428,7 +429,7 @@ def the_example_switches(_):
 
 
 def the_example_reports_refusals(_):
-    with served("--connections", "2") as server:
+    with running_server("--connections", "2") as server:
         address = f"127.0.0.1:{server.port}"
         found = run_example(address, "disconnect")
         check("mode 0", found == (1, "before: Connected\n", f"{address}: disconnect: result 2 "
@@ -436,7 +437,7 @@ def the_example_reports_refusals(_):
         found = run_example(address, "disconnect", password="87654321")
         check("a wrong password", found == (1, "", f"{address}: the association: diagnostic 13 "
                                             "(13 is a wrong password)\n"), found)
-        check("the server ends", server.ended()[0] == 0)
+        check("the server ends", server.end()[0] == 0)
     status, output, errors = run_example(f"127.0.0.1:{free_port()}", "disconnect")
     check("nothing listens", (status, output) == (1, "") and "Connection refused" in errors
           and errors.count("\n") == 1, errors)
@@ -458,7 +459,7 @@ def answer_until_the_action(listener):
     with stream:
         for answer in (f"{AARE}0000110400" "0007", "C401C1001601"):
             stream.recv(1024)
-            stream.sendall(bytes.fromhex(framed(answer)))
+            stream.sendall(bytes.fromhex(frame_of(answer)))
         stream.recv(1024)
 
 

@@ -160,10 +160,10 @@ def largest_trace():
     trace = with_events(OPENING, *lines)
     assert len(trace) == 33_554_432
     quiet, fired = b"sampled 0 0; state 1; supply on", b"sampled 0 1; state 1; supply on"
-    return trace, played(*[quiet] * (full + 1), fired)
+    return trace, player_output(*[quiet] * (full + 1), fired)
 
 
-def played(*replies):
+def player_output(*replies):
     return b"".join(b"%d: %s\n" % (n, reply) for n, reply in enumerate(replies, 1))
 
 LARGEST, LARGEST_PLAYED = largest_trace()
@@ -325,10 +325,10 @@ CASES = [
     ("no event", "trace_player_cli", [], with_events(OPENING), b"", b"", 0),
     ("a run of the greatest need but one", "trace_player_cli", [],
      with_events(LONG_RUN.replace(b"\nover 0 0", b"\nover 42949672949 0"), b"samples 5001 5001"),
-     played(b"sampled 1 0; state 1; supply on"), b"", 0),
+     player_output(b"sampled 1 0; state 1; supply on"), b"", 0),
     ("a run that has fired", "trace_player_cli", [],
      with_events(LONG_RUN.replace(b"\nover 0 0", b"\nover 42949672950 1"), b"samples 5001"),
-     played(b"sampled 0 0; state 1; supply on"), b"", 0),
+     player_output(b"sampled 0 0; state 1; supply on"), b"", 0),
     ("a run that must have fired", "trace_player_cli", [],
      with_events(LONG_RUN.replace(b"\nover 0 0", b"\nover 42949672950 0"), b"samples 5001"), b"", FAULT_INPUT, 2),
     ("the export limiter opens the switch", "trace_player_cli", [],
@@ -336,10 +336,10 @@ CASES = [
          b"xminover 0", b"xminover 1").replace(b"xactions 0 0", b"xactions 1 0").replace(
              b"scripts 0100", b"scripts 010102021200010101020516021200460906000060030AFF0F010F00"),
          b"pairs" + b" 0 5001" * 10, b"button", b"pairs 0 5001"),
-     played(b"sampled 0 1 1 0; state 2; supply off", b"code 0; state 1; supply on", b"sampled 0 1 0 0; state 1; supply on"), b"", 0),
+     player_output(b"sampled 0 1 1 0; state 2; supply off", b"code 0; state 1; supply on", b"sampled 0 1 0 0; state 1; supply on"), b"", 0),
     ("a list of two attributes", "trace_player_cli", [],
      with_events(OPENING, b"getlist 1 2 70 000060030AFF 3 0 70 000060030BFF 3 0", b"getlist 1 0"),
-     played(b"values 2 value 1601 code 4; state 1; supply on", b"values 0; state 1; supply on"), b"", 0),
+     player_output(b"values 2 value 1601 code 4; state 1; supply on", b"values 0; state 1; supply on"), b"", 0),
     ("pairs in version 1", "trace_player_cli", [], with_events(OPENING, b"pairs"), b"", FAULT_INPUT, 2),
     ("no trace", "trace_player_cli", [], b"", b"", FAULT_INPUT, 2),
     ("a last line that isn't ended", "trace_player_cli", [], TRACE[:-1], b"", FAULT_INPUT, 2),
@@ -348,7 +348,7 @@ CASES = [
     ("a trace with carriage returns", "trace_player_cli", [], TRACE.replace(b"\n", b"\r\n"), b"", FAULT_INPUT, 2),
     ("a wrong last event prints nothing", "trace_player_cli", [], TRACE.replace(b"moment 4", b"moment 04"), b"", FAULT_INPUT, 2),
     ("65,536 events", "trace_player_cli", [], with_events(OPENING, *[b"button"] * 65536),
-     played(*[b"code 2; state 1; supply on"] * 65536), b"", 0),
+     player_output(*[b"code 2; state 1; supply on"] * 65536), b"", 0),
     ("65,537 events", "trace_player_cli", [], with_events(OPENING, *[b"button"] * 65537), b"", FAULT_INPUT, 2),
     ("33,554,432 bytes", "trace_player_cli", [], LARGEST, LARGEST_PLAYED, b"", 0),
     ("a byte more than the largest trace", "trace_player_cli", [], LARGEST + b"\n", b"", FAULT_INPUT, 2),

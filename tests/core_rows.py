@@ -89,7 +89,7 @@ def read(place, data):
     return f"get {MANAGEMENT} {place} 0", f"value {data}"
 
 
-def refused(place, code, selected=0):
+def refused_read(place, code, selected=0):
     """The event of a GET that is refused, and its reply."""
     return f"get {MANAGEMENT} {place} {selected}", f"code {code}"
 
@@ -121,12 +121,12 @@ def moment(second, due):
     return f"moment {second}", f"ran {due}"
 
 
-def stale(second, last):
+def stale_moment(second, last):
     """The event of a moment that is not after the last one, and its reply."""
     return f"moment {second}", f"stale {last}"
 
 
-def then(row, state):
+def with_state(row, state):
     """A row that changes the control state."""
     return *row, state
 
@@ -161,22 +161,22 @@ def emergency(which):
 
 TABLES = {
     # limiters
-    "a second over the threshold disconnects": [*IMPORT_DISCONNECTS, then(values([(10, 5001)], 1, 0), 2)],
+    "a second over the threshold disconnects": [*IMPORT_DISCONNECTS, with_state(values([(10, 5001)], 1, 0), 2)],
     "nine samples are less than a second": [*IMPORT_DISCONNECTS, values([(9, 5001)], 0, 0)],
     "an equal value is not over": [*IMPORT_DISCONNECTS, values([(10, 5000)], 0, 0)],
-    "a reconnection ends the run": [*IMPORT_DISCONNECTS, then(values([(10, 5001)], 1, 0), 2), then(press(), 1), values([(9, 5001)], 0, 0),
-                                    then(values([(1, 5001)], 1, 0), 2)],
+    "a reconnection ends the run": [*IMPORT_DISCONNECTS, with_state(values([(10, 5001)], 1, 0), 2), with_state(press(), 1), values([(9, 5001)], 0, 0),
+                                    with_state(values([(1, 5001)], 1, 0), 2)],
     # An import of 0 W is under the import limiter's 4,294,967,295 W, so its lower side fires at the
     # start and once more after a reconnection.
-    "a reconnection ends the export's run": [*EXPORT_DISCONNECTS, then(pairs(10, 0, 5001, 0, 1, 1, 0), 2), then(press(), 1), pairs(9, 0, 5001, 0, 1, 0, 0),
-                                             then(pairs(1, 0, 5001, 0, 0, 1, 0), 2)],
-    "a reconnection ends both runs": [*EXPORT_DISCONNECTS, then(pairs(10, 0, 5001, 0, 1, 1, 0), 2), then(press(), 1), pairs(1, 0, 5001, 0, 1, 0, 0)],
+    "a reconnection ends the export's run": [*EXPORT_DISCONNECTS, with_state(pairs(10, 0, 5001, 0, 1, 1, 0), 2), with_state(press(), 1), pairs(9, 0, 5001, 0, 1, 0, 0),
+                                             with_state(pairs(1, 0, 5001, 0, 0, 1, 0), 2)],
+    "a reconnection ends both runs": [*EXPORT_DISCONNECTS, with_state(pairs(10, 0, 5001, 0, 1, 1, 0), 2), with_state(press(), 1), pairs(1, 0, 5001, 0, 1, 0, 0)],
     "a shorter duration counts at the next sample": [
         *IMPORT_DISCONNECTS, write(IMPORT_MIN_OVER, long_number(10)), values([(70, 5001)], 0, 0), write(IMPORT_MIN_OVER, long_number(5)),
-        then(values([(1, 5001)], 1, 0), 2), values([(1, 5001)], 0, 0), write(IMPORT_MIN_OVER, long_number(20)), values([(200, 5001)], 0, 0)],
+        with_state(values([(1, 5001)], 1, 0), 2), values([(1, 5001)], 0, 0), write(IMPORT_MIN_OVER, long_number(20)), values([(200, 5001)], 0, 0)],
     "a shorter duration counts at the export's next sample": [
         *EXPORT_DISCONNECTS, write(EXPORT_MIN_OVER, long_number(10)), pairs(70, 0, 5001, 0, 1, 0, 0), write(EXPORT_MIN_OVER, long_number(5)),
-        then(pairs(1, 0, 5001, 0, 0, 1, 0), 2), pairs(1, 0, 5001, 0, 0, 0, 0), write(EXPORT_MIN_OVER, long_number(20)), pairs(200, 0, 5001, 0, 0, 0, 0)],
+        with_state(pairs(1, 0, 5001, 0, 0, 1, 0), 2), pairs(1, 0, 5001, 0, 0, 0, 0), write(EXPORT_MIN_OVER, long_number(20)), pairs(200, 0, 5001, 0, 0, 0, 0)],
     # The upper side fires at the 37th of the 256 samples, and 219 are under the new threshold: over
     # five seconds, and with 31 more 25.
     "a firing raises the threshold within a block": [*RAISES, write(IMPORT_MIN_UNDER, long_number(5)), values([(256, 6000)], 1, 1),
@@ -196,9 +196,10 @@ TABLES = {
         write(IMPORT_NORMAL, "121388", 12), write(f"{IMPORT_LIMITER} 9", "01011107", 12), write(f"{IMPORT_LIMITER} 3", long_number(5000), 3),
         write(IMPORT_NORMAL, long_number(5000), 3, PUBLIC)],
     # moments and schedules
-    "a moment before the last is stale": [moment(0, 0), moment(5, 0), stale(4, 5), moment(5, 0)],
-    "a schedule disconnects at the end of February": [*EACH_MONTH, moment(888_710_398, 0), moment(888_710_399, 0), then(moment(888_796_799, 1), 0)],
-    "a schedule looks back a day, less a second": [*EACH_MONTH, moment(883_612_800, 0), then(moment(888_883_198, 1), 0)],
+    "a moment before the last is stale": [
+        moment(0, 0), moment(5, 0), stale_moment(4, 5), moment(5, 0)],
+    "a schedule disconnects at the end of February": [*EACH_MONTH, moment(888_710_398, 0), moment(888_710_399, 0), with_state(moment(888_796_799, 1), 0)],
+    "a schedule looks back a day, less a second": [*EACH_MONTH, moment(883_612_800, 0), with_state(moment(888_883_198, 1), 0)],
     "a schedule looks back no whole day": [*EACH_MONTH, moment(883_612_800, 0), moment(888_883_199, 0)],
     "a schedule looks back no longer than a day": [*EACH_MONTH, moment(883_612_800, 0), moment(888_883_200, 0)],
     "a schedule that does not fit its type is kept and never due": [
@@ -208,14 +209,14 @@ TABLES = {
         write(f"{FIRST_SCHEDULE} 1", "00", 3), read(SCHEDULE_SCRIPT, SCRIPT_1), read(SCHEDULE_TYPE, "1601"), read(SCHEDULE_TIMES, END_OF_MONTH)],
     # scripts
     "a script ends at its first step, where that is refused": [
-        write(TABLE, scripts(s3=[WRITE_MODE_0, DISCONNECT])), write(MODE, mode(2)), then(press(), 2), call(f"{SCRIPTS} 1", 2, "120003"), read(MODE, mode(2))],
+        write(TABLE, scripts(s3=[WRITE_MODE_0, DISCONNECT])), write(MODE, mode(2)), with_state(press(), 2), call(f"{SCRIPTS} 1", 2, "120003"), read(MODE, mode(2))],
     "the first step of a script stands, though the second is refused": [
-        write(TABLE, scripts(s1=[DISCONNECT, WRITE_MODE_0])), write(MODE, mode(1)), then(call(f"{SCRIPTS} 1", 2, "120001"), 0), read(MODE, mode(1))],
+        write(TABLE, scripts(s1=[DISCONNECT, WRITE_MODE_0])), write(MODE, mode(1)), with_state(call(f"{SCRIPTS} 1", 2, "120001"), 0), read(MODE, mode(1))],
     "a script is selected by a long unsigned": [
         write(TABLE, scripts(s3=[WRITE_MODE_0, DISCONNECT])), call(f"{SCRIPTS} 1", 0, "120000"), call(f"{SCRIPTS} 1", 250, "120009"),
         call(f"{SCRIPTS} 1", 12, "1103"), call(f"{SCRIPTS} 1", 12)],
     "a script writes a limiter": [
-        write(TABLE, scripts(s1=[DISCONNECT, limit(IMPORT_LIMITER, 5000)])), write(MODE, mode(1)), then(call(f"{SCRIPTS} 1", 0, "120001"), 0),
+        write(TABLE, scripts(s1=[DISCONNECT, limit(IMPORT_LIMITER, 5000)])), write(MODE, mode(1)), with_state(call(f"{SCRIPTS} 1", 0, "120001"), 0),
         read(IMPORT_NORMAL, long_number(5000)), read(EXPORT_NORMAL, "06FFFFFFFF")],
     # 0 is not an identifier.
     "scripts are judged, and read as they were written": [
@@ -223,11 +224,11 @@ TABLES = {
         write(TABLE, scripts(s1=[DISCONNECT, limit(IMPORT_LIMITER, 5000)])), read(TABLE, scripts(s1=[DISCONNECT, limit(IMPORT_LIMITER, 5000)]))],
     # the switch
     "the public client writes nothing": [write(MODE, mode(2), 3, PUBLIC), read(MODE, mode(0)), write(MODE, mode(2)), read(MODE, mode(2))],
-    "in mode 2 the button alone restores what it cut": [write(MODE, mode(2)), then(press(), 2), call(f"{SWITCH} 2", 2)],
+    "in mode 2 the button alone restores what it cut": [write(MODE, mode(2)), with_state(press(), 2), call(f"{SWITCH} 2", 2)],
     "mode 1 goes by its transitions": [
-        write(MODE, mode(1)), then(call(f"{SWITCH} 1", 0), 0), call(f"{SWITCH} 1", 0), then(call(f"{SWITCH} 2", 0), 2), then(press(), 1)],
+        write(MODE, mode(1)), with_state(call(f"{SWITCH} 1", 0), 0), call(f"{SWITCH} 1", 0), with_state(call(f"{SWITCH} 2", 0), 2), with_state(press(), 1)],
     "mode 0 is refused while the supply is cut": [
-        write(MODE, mode(1)), then(call(f"{SWITCH} 1", 0), 0), write(MODE, mode(0), 2), read(MODE, mode(1)), read(f"{SWITCH} 2", "0300")],
+        write(MODE, mode(1)), with_state(call(f"{SWITCH} 1", 0), 0), write(MODE, mode(0), 2), read(MODE, mode(1)), read(f"{SWITCH} 2", "0300")],
     "the type of a written mode is judged before its value": [
         write(MODE, "1102", 12), write(MODE, "1107", 12), write(MODE, "1607", 250), call(f"{SWITCH} 3", 3)],
     # objects
@@ -235,8 +236,8 @@ TABLES = {
         read(f"{DEVICE_NAME} 2", "090652454C415931"), read(f"{DEVICE_NAME} 1", "090600002A0000FF"), read(f"{ASSOCIATION} 1", "09060000280000FF"),
         read(f"{SWITCH} 2", "0301"), read(f"{SWITCH} 3", "1601"), read(MODE, mode(0))],
     "refusals of a read come in their order": [
-        refused("70 000060030BFF 2", 4), refused("71 000060030AFF 2", 9, 1), refused(f"{SWITCH} 5", 3, 1), refused(f"{SWITCH} 3", 13, 1),
-        refused(f"{ASSOCIATION} 3", 3)],
+        refused_read("70 000060030BFF 2", 4), refused_read("71 000060030AFF 2", 9, 1), refused_read(f"{SWITCH} 5", 3, 1), refused_read(f"{SWITCH} 3", 13, 1),
+        refused_read(f"{ASSOCIATION} 3", 3)],
     "a list is read at one moment": [("getlist 16 2 70 000060030AFF 3 0 70 000060030BFF 3 0", "values 2 value 1601 code 4")],
     "a register has the last sample in watts": [
         read(f"{IMPORT_REGISTER} 2", long_number(0)), read(f"{IMPORT_REGISTER} 3", "02020F00161B"), read(f"{EXPORT_REGISTER} 2", long_number(0)),
@@ -281,7 +282,7 @@ def play(opening, events):
     return ran.returncode, ran.stdout.decode(), ran.stderr.decode()
 
 
-def lines_wanted(rows, state=1):
+def expected_lines(rows, state=1):
     """The lines that a trace of these rows must print."""
     lines = []
     for number, (_, reply, *after) in enumerate(rows, 1):
@@ -293,7 +294,7 @@ def lines_wanted(rows, state=1):
 def tables():
     """Whether each table of rows is played as expected."""
     for name, rows in TABLES.items():
-        yield name, play(NEW_METER, [row[0] for row in rows]) == (0, lines_wanted(rows), "")
+        yield name, play(NEW_METER, [row[0] for row in rows]) == (0, expected_lines(rows), "")
 
 
 def openings():
@@ -338,7 +339,7 @@ def blocks_and_singles(seed):
         yield " ".join([word, *samples]), [f"{word} {it}" for it in samples]
 
 
-def fired(line):
+def firing_counts(line):
     """How often the limiters fired, in the order of a line `sampled`."""
     return [int(it) for it in line.split("sampled ")[1].split(";")[0].split()]
 
@@ -360,8 +361,8 @@ def is_one_by_one(late, seeds=range(12)):
         block, looked = one[2 * number], one[2 * number + 1]
         singles, looked_again = each[at : at + size], each[at + size]
         at += size + 1
-        counts = [sum(it) for it in zip(*map(fired, singles))]
-        if counts != fired(block) or looked.split(": ")[1] != looked_again.split(": ")[1] or block.split(";")[1:] != singles[-1].split(";")[1:]:
+        counts = [sum(it) for it in zip(*map(firing_counts, singles))]
+        if counts != firing_counts(block) or looked.split(": ")[1] != looked_again.split(": ")[1] or block.split(";")[1:] != singles[-1].split(";")[1:]:
             return False
         sums = [a + b for a, b in zip(sums, counts + [0, 0])]
     return len(one) == 2 * len(sizes) and all(sums)

@@ -18,7 +18,7 @@ from refused_memory import METERS, PROGRAMS, print_counts, talk
 from refusing import Refusing
 from scripted_meters import AARQ as CLIENT_AARQ
 from scripted_meters import RELEASE, REQUESTS, ScriptedMeter
-from serving import PASSWORD, PLAYER, SERVER, Client, Server, check, played, stands_in, test
+from serving import PASSWORD, PLAYER, SERVER, Client, Server, check, is_part_of, play_trace, test
 
 FAULTS = {b"fault: read\n", b"fault: write\n"}
 CONSOLE_FAILED = "console: reading failed, no further line is read\n"
@@ -62,7 +62,7 @@ def campaign(jobs, **which):
     return refusing.run([HEAD_END, "run", "--password", PASSWORD, "--workers", "1", "--timeout", "5"], jobs, **which)
 
 
-def campaign_failed(jobs, **which):
+def campaign_result(jobs, **which):
     """The result of a campaign with a failed call: the fault of a standard stream, or a report in
     which at most the job of the failed connection is unknown."""
     ran = campaign(jobs, **which)
@@ -81,7 +81,7 @@ def a_client_has_failing_connections(name):
     meters = [ScriptedMeter(script) for script, _ in METERS]
     jobs = "".join(f"m{number} 127.0.0.1:{meter.port} disconnect\n" for number, meter in enumerate(meters)).encode()
     ample = campaign(jobs)
-    found = each_call(lambda **which: campaign_failed(jobs, **which), "fail_stream", ample.streams)
+    found = each_call(lambda **which: campaign_result(jobs, **which), "fail_stream", ample.streams)
     print_counts("a campaign of four jobs, failing", found, "calls failed")
     check(name, found["one job unknown"] and found["fault: read"] and found["fault: write"] and not any("WRONG" in what for what in found), found)
     for how in HARMLESS:
@@ -94,7 +94,7 @@ def a_client_has_failing_connections(name):
         check(f"{name}: each command at most once", [talk.frames for talk in meter.talks] == fronts)
 
 
-def served_failed(**which):
+def serve_two_clients(**which):
     """Serves two clients, one after the other, with a failed call. Returns whether the trace has
     what they saw. The console's read is the first call in every run, since the clients wait for
     it."""
@@ -105,7 +105,7 @@ def served_failed(**which):
     for _ in range(2):
         clients.append(Client(server.port))
         whole += talk(clients[-1])
-    status, trace, errors = server.ended()
+    status, trace, errors = server.end()
     late = refusing.counts()[2]
     if late:
         return "WRONG: a write after the failure"
@@ -114,24 +114,24 @@ def served_failed(**which):
     has_no_console = status == 3 and errors.endswith("fault: read\n") and CONSOLE_FAILED in errors
     if not has_no_console and (status != 0 or "fault" in errors or "console" in errors):
         return f"WRONG: status {status}, {errors}"
-    history = played(trace)
-    if not all(stands_in(client.seen, history) for client in clients) or len(history) > sum(len(client.seen) + 1 for client in clients):
+    history = play_trace(trace)
+    if not all(is_part_of(client.seen, history) for client in clients) or len(history) > sum(len(client.seen) + 1 for client in clients):
         return f"WRONG: a trace of {len(history)} events"
     return f"{'the fault of the console, and ' * has_no_console}the trace is complete, {whole} of 2 clients with all answers"
 
 
 def a_meter_has_failing_connections(name):
     everything = "the trace is complete, 2 of 2 clients with all answers"
-    ample = served_failed()
+    ample = serve_two_clients()
     count = refusing.counts()[1]
     check(f"{name}: nothing fails", ample == everything, ample)
-    found = each_call(served_failed, "fail_stream", count)
+    found = each_call(serve_two_clients, "fail_stream", count)
     print_counts("meter_server serve, failing", found, "calls failed")
     wanted = ("the trace is complete, 1 of 2 clients with all answers", "fault: write of the trace",
               "the fault of the console, and the trace is complete, 2 of 2 clients with all answers")
     check(name, all(found[what] for what in wanted) and not any("WRONG" in what for what in found), found)
     for how in HARMLESS:
-        found = each_call(served_failed, how, count)
+        found = each_call(serve_two_clients, how, count)
         print_counts(f"meter_server serve, {how.split('_')[0]}", found, "calls")
         check(f"{name}: {how}", set(found) == {everything}, found)
 

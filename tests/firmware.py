@@ -31,8 +31,9 @@ sys.path.insert(0, str(pathlib.Path(__file__).resolve().parent.parent / "bin"))
 
 import serving
 import toolchain
-from fuzz import changed, pieces_of, stored
-from serving import ACTIVE, DEVICE, DISCONNECT, MODE, NORMAL, OBJECTS, PASSWORD, PLAYER, RECONNECT, REGISTER, SERVER, STATE, TOP, check, described, test
+from fuzz import mutate, pieces_of, stored_inputs
+from serving import (ACTIVE, DEVICE, DISCONNECT, MODE, NORMAL, OBJECTS, PASSWORD, PLAYER, RECONNECT,
+                     REGISTER, SERVER, STATE, TOP, check, descriptor, test)
 
 LIBRARY = TOP / "crates" / "meter"
 HEADER = LIBRARY / "include" / "meter.h"
@@ -61,7 +62,7 @@ place = None  # the folder of all that is built
 is_long = False
 
 
-def made(*words):
+def run_checked(*words):
     """Runs a command that must succeed; returns its output."""
     ran = subprocess.run([str(word) for word in words], capture_output=True, text=True)
     assert ran.returncode == 0, f"{words[0]}: {ran.stdout}{ran.stderr}"
@@ -76,12 +77,12 @@ def archives():
     rt.rtlib.guarded()  # the first call sets a signal handler, which only the main thread may do
     crate = next(it for it in rt.rtlib.crates_below(str(TOP)) if it.name == LIBRARY.name)
     is_after_ci = toolchain.is_left_by_ci(rt, [crate])
-    made_by = from_what_ci_left if is_after_ci else from_kept_work
+    build = build_as_ci if is_after_ci else build_with_lib
     targets = [PC_TARGET, ARM_TARGET] if has_arm() and (is_long or not is_after_ci) else [PC_TARGET]
-    return {target: made_by(rt, crate, target) for target in targets}
+    return {target: build(rt, crate, target) for target in targets}
 
 
-def from_kept_work(rt, crate, target):
+def build_with_lib(rt, crate, target):
     """Builds with `rt lib`, over the libraries that earlier checks proved."""
     copy = place / f"libmeter-{target}.a"
     ran = subprocess.run(["rt", "lib", "--target", target], cwd=LIBRARY, capture_output=True, text=True)
@@ -90,7 +91,7 @@ def from_kept_work(rt, crate, target):
     return copy
 
 
-def from_what_ci_left(rt, crate, target):
+def build_as_ci(rt, crate, target):
     """Builds as `rt ci` builds a program: a check, and the compiler over what it proved. It uses
     one job, which costs least, since other stages run in parallel."""
     checked, copy = place / f"checked-{target}", place / f"libmeter-{target}.a"
@@ -109,7 +110,7 @@ def from_what_ci_left(rt, crate, target):
 
 def program(name, *sources, compiler="cc", words=()):
     """Compiles a C program; returns its path."""
-    made(compiler, *WARNINGS, *words, *INCLUDES, *sources, "-o", place / name)
+    run_checked(compiler, *WARNINGS, *words, *INCLUDES, *sources, "-o", place / name)
     return place / name
 
 
@@ -124,16 +125,16 @@ def request(chance):
     """A request and the kind of its response."""
     what = chance.randrange(8)
     if what < 3:
-        return bytes.fromhex("C001C1" + described(chance.choice((STATE, MODE, NORMAL, ACTIVE, REGISTER, DEVICE, OBJECTS, (70, "0000600000FF", 2)))) + "00")
+        return bytes.fromhex("C001C1" + descriptor(chance.choice((STATE, MODE, NORMAL, ACTIVE, REGISTER, DEVICE, OBJECTS, (70, "0000600000FF", 2)))) + "00")
     if what == 3:
-        return bytes.fromhex(f"C101C1{described(MODE)}00160{chance.randrange(8)}")
+        return bytes.fromhex(f"C101C1{descriptor(MODE)}00160{chance.randrange(8)}")
     if what == 4:
-        return bytes.fromhex(f"C101C1{described(NORMAL)}0006{chance.randrange(1 << 32):08X}")
+        return bytes.fromhex(f"C101C1{descriptor(NORMAL)}0006{chance.randrange(1 << 32):08X}")
     if what == 5:
-        return bytes.fromhex(f"C301C1{described(chance.choice((DISCONNECT, RECONNECT)))}010F00")
+        return bytes.fromhex(f"C301C1{descriptor(chance.choice((DISCONNECT, RECONNECT)))}010F00")
     if what == 6:
         return bytes.fromhex("C002C100000001")
-    return bytes.fromhex(f"C003C102{described(STATE)}00{described(DEVICE)}00")
+    return bytes.fromhex(f"C003C102{descriptor(STATE)}00{descriptor(DEVICE)}00")
 
 
 def session(chance):
@@ -143,10 +144,10 @@ def session(chance):
 
 def by_program(stream, *words):
     """What `meter_server hex` answers to a stream."""
-    return made_text(["hex", "--password", PASSWORD], SERVER, stream)
+    return run_hex(["hex", "--password", PASSWORD], SERVER, stream)
 
 
-def made_text(words, executable, stream, **environment):
+def run_hex(words, executable, stream, **environment):
     """Runs a program with a stream in hexadecimal; returns status, output and errors."""
     ran = subprocess.run([str(executable), *words], input=stream.hex().encode(), capture_output=True, timeout=60, env={**os.environ, **environment})
     return ran.returncode, ran.stdout, ran.stderr
@@ -186,7 +187,7 @@ def run_of(trace):
 # ---- the tests
 
 def the_header_has_the_exports(name):
-    exported = set(re.findall(r" T (meter_\w+)$", made("nm", "--defined-only", place / f"libmeter-{PC_TARGET}.a"), re.M))
+    exported = set(re.findall(r" T (meter_\w+)$", run_checked("nm", "--defined-only", place / f"libmeter-{PC_TARGET}.a"), re.M))
     declared = set(re.findall(r"\b(meter_\w+)\(struct meter", HEADER.read_text()))
     check(name, exported == declared and exported, exported ^ declared)
 
@@ -216,19 +217,19 @@ def the_header_has_the_numbers_of_the_definitions(name):
 
 
 def each_export_answers(name):
-    ran = made(place / "exports_test")
+    ran = run_checked(place / "exports_test")
     check(name, ran == "all exports passed\n", ran)
 
 
 def streams_are_answered_as_by_the_program(name):
     chance = random.Random(22)
-    seeds = [text for text in map(pieces_of, stored(("meter_server_cli", ["hex"]))) if text] + [AARQ + frame(request(chance))]
+    seeds = [text for text in map(pieces_of, stored_inputs(("meter_server_cli", ["hex"]))) if text] + [AARQ + frame(request(chance))]
     sessions = [session(chance) for _ in range(1000 if is_long else 200)]
-    others = [changed(chance.choice(seeds), chance, seeds) for _ in range(1000 if is_long else 200)]
+    others = [mutate(chance.choice(seeds), chance, seeds) for _ in range(1000 if is_long else 200)]
     events = 0
     for stream in seeds + sessions + others:
-        wanted = made_text(["hex", "--password", PASSWORD], SERVER, stream)
-        found = made_text([PASSWORD, place / "trace"], place / "session", stream)
+        wanted = run_hex(["hex", "--password", PASSWORD], SERVER, stream)
+        found = run_hex([PASSWORD, place / "trace"], place / "session", stream)
         if (found[0], found[1]) != (wanted[0], wanted[1]):
             check(f"{name}: {stream.hex()}", False, found, wanted)
         run = run_of((place / "trace").read_bytes())
@@ -246,16 +247,16 @@ def streams_are_answered_as_by_the_program(name):
 def each_refusal_can_be_made_again(name):
     chance = random.Random(7)
     stream = AARQ + b"".join(frame(bytes.fromhex(it)) for it in (
-        f"C001C1{described(OBJECTS)}00", "C002C100000001", f"C101C1{described(MODE)}001601", f"C301C1{described(DISCONNECT)}010F00",
-        f"C003C102{described(STATE)}00{described(DEVICE)}00", f"C001C1{described(STATE)}00"))
-    ample = made_text([PASSWORD, place / "trace"], place / "refused", stream)
+        f"C001C1{descriptor(OBJECTS)}00", "C002C100000001", f"C101C1{descriptor(MODE)}001601", f"C301C1{descriptor(DISCONNECT)}010F00",
+        f"C003C102{descriptor(STATE)}00{descriptor(DEVICE)}00", f"C001C1{descriptor(STATE)}00"))
+    ample = run_hex([PASSWORD, place / "trace"], place / "refused", stream)
     trace = (place / "trace").read_bytes()
     calls = int(re.search(rb"calls (\d+)", ample[2])[1])
-    check(f"{name}: ample memory", ample[:2] == made_text(["hex", "--password", PASSWORD], SERVER, stream)[:2] and b"blocks left 0" in ample[2], ample)
+    check(f"{name}: ample memory", ample[:2] == run_hex(["hex", "--password", PASSWORD], SERVER, stream)[:2] and b"blocks left 0" in ample[2], ample)
     numbers = range(1, calls + 1) if is_long else sorted({1, calls, *chance.sample(range(1, calls + 1), min(calls, 60))})
     found = collections.Counter()
     for number in numbers:
-        ran = made_text([PASSWORD, place / "trace"], place / "refused", stream, REFUSE=str(number))
+        ran = run_hex([PASSWORD, place / "trace"], place / "refused", stream, REFUSE=str(number))
         is_same = ran[:2] == ample[:2] and b"blocks left 0" in ran[2] and (place / "trace").read_bytes() == trace
         found["same answers and trace, no block left"] += is_same
         if not is_same:
@@ -266,12 +267,12 @@ def each_refusal_can_be_made_again(name):
 
 def the_pool_keeps_its_blocks(name):
     program("pool_test", TOOLS / "pool_test.c", HEAPS / "heap_pool.c")
-    print("pool:", made(place / "pool_test").strip())
+    print("pool:", run_checked(place / "pool_test").strip())
     check(name, True)
 
 
 def the_super_loop_runs(name):
-    ran = made(place / "super_loop")
+    ran = run_checked(place / "super_loop")
     print("super-loop:", ran.splitlines()[-1])
     check(name, ran.startswith(LOOP) and ran.endswith("left: 0\n"), ran)
 
@@ -298,15 +299,15 @@ def texts_in(image, slots, size, unit):
 def a_power_cut_loses_nothing_that_was_answered(name):
     """Each write of a run is cut, in each manner; then pairs of writes are."""
     pairs = 50_000 if is_long else 1_000
-    print("two slots:", *made(place / "power_cuts", "single").splitlines(), sep="\n  ")
-    print("five slots:", *made(place / "power_cuts_ring", "single", 1 if is_long else 29).splitlines()[1:], sep="\n  ")
+    print("two slots:", *run_checked(place / "power_cuts", "single").splitlines(), sep="\n  ")
+    print("five slots:", *run_checked(place / "power_cuts_ring", "single", 1 if is_long else 29).splitlines()[1:], sep="\n  ")
     for built in ("power_cuts", "power_cuts_ring"):
-        check(f"{name}: pairs, {built}", "runs with two cuts" in made(place / built, "double", pairs))
+        check(f"{name}: pairs, {built}", "runs with two cuts" in run_checked(place / built, "double", pairs))
 
 
 def damaged_slots_have_a_defined_result(name):
     for built in ("power_cuts", "power_cuts_ring"):
-        ran = made(place / built, "damage")
+        ran = run_checked(place / built, "damage")
         check(f"{name}: {built}", ran.endswith("all results of damaged slots are as defined\n"), ran)
 
 
@@ -378,15 +379,16 @@ def the_super_loop_runs_on_arm(name):
         return
     program("super_loop_arm", EXAMPLES / "super_loop.c", EXAMPLES / "platform_bare.c", HEAPS / "heap_pool.c", archive, compiler=ARM[0],
             words=["-std=gnu11", "-ffreestanding", "-nostdlib", "-static"])
-    ran = made(ARM[1], place / "super_loop_arm")
-    check(name, ran == made(place / "super_loop"), ran)
+    ran = run_checked(ARM[1], place / "super_loop_arm")
+    check(name, ran == run_checked(place / "super_loop"), ran)
 
 
 def power_cuts_lose_nothing_on_arm(name):
     archive = place / f"libmeter-{ARM_TARGET}.a"
     if archive.exists():
         program("power_cuts_arm", TOOLS / "power_cuts.c", *STORED, archive, compiler=ARM[0], words=["-static"])
-        check(name, "runs with one cut" in made(ARM[1], place / "power_cuts_arm", "single", 499))
+        check(name, "runs with one cut" in run_checked(ARM[1], place / "power_cuts_arm", "single",
+                                                       499))
 
 
 def main():

@@ -118,7 +118,7 @@ class Fleet:
         return socket.create_connection((address_of(meter), self.port), timeout=PATIENCE)
 
 
-def received(client, count):
+def receive(client, count):
     """The next bytes that a client receives, at most `count`."""
     text = b""
     while len(text) < count:
@@ -132,7 +132,7 @@ def received(client, count):
 def ask(client, request, answer):
     """Whether a request has exactly this answer."""
     client.sendall(request)
-    return received(client, len(answer)) == answer
+    return receive(client, len(answer)) == answer
 
 
 def is_closed(client):
@@ -143,8 +143,8 @@ def is_closed(client):
         return True
 
 
-def associates(fleet, meter):
-    """Whether a new connection to a meter associates."""
+def can_associate(fleet, meter):
+    """Whether a new connection to a meter can associate."""
     with fleet.connect(meter) as client:
         try:
             return ask(client, AARQ, AARE)
@@ -175,7 +175,7 @@ def a_ninth_is_closed(fleet):
     check("the eight go on", all(ask(it, STATE, DISCONNECTED) for it in clients))
     clients.pop().close()
     # The fleet may accept the next connection before it has seen this end.
-    check("a place that is free is taken", wait_until(lambda: associates(fleet, 5)))
+    check("a place that is free is taken", wait_until(lambda: can_associate(fleet, 5)))
     for client in clients:
         client.close()
 
@@ -191,9 +191,9 @@ def frames_are_cut(fleet):
         client.setsockopt(socket.IPPROTO_TCP, socket.TCP_NODELAY, 1)
         for byte in AARQ:
             client.sendall(bytes([byte]))
-        check("a frame of single bytes is answered", received(client, len(AARE)) == AARE)
+        check("a frame of single bytes is answered", receive(client, len(AARE)) == AARE)
         client.sendall(STATE * 5_000)
-        answers = received(client, 5_000 * len(DISCONNECTED))
+        answers = receive(client, 5_000 * len(DISCONNECTED))
         check("5,000 requests at once are answered", answers == 5_000 * DISCONNECTED)
         client.sendall(AARQ[:20])
     check("a client that goes in a frame disturbs nobody", talk(fleet, 7, (STATE, DISCONNECTED)))
@@ -207,7 +207,7 @@ def connections_end(fleet):
     with fleet.connect(9) as client:
         client.sendall(AARQ)
         client.shutdown(socket.SHUT_WR)
-        answered = received(client, len(AARE)) == AARE
+        answered = receive(client, len(AARE)) == AARE
         check("a client that has ended its side is answered", answered and is_closed(client))
 
 
@@ -241,7 +241,7 @@ def sends_wrong_blocks(client, choose):
     """A client that sends blocks of transfers that were not begun."""
     client.sendall(AARQ + b"".join(WRONG_BLOCKS))
     client.settimeout(0.2)
-    received(client, 4_096)
+    receive(client, 4_096)
 
 
 def has_a_wrong_password(client, choose):

@@ -31,12 +31,12 @@ LONGEST_SEED = 4_096  # the maximum length of a stored input that is changed, in
 FAULTS = (b"fault: input\n",)  # the standard error of a run with a wrong input
 
 
-def stored(words):
+def stored_inputs(words):
     """The inputs of the stored command lines of a program and command."""
     return [text for _, program, given, text, _, _, _ in CASES if (program, given[:1]) == words and 0 < len(text) <= LONGEST_SEED]
 
 
-def counted(text):
+def correct_event_count(text):
     """A trace with its line `events` corrected."""
     head, word, rest = text.partition(b"\nevents ")
     events = rest.partition(b"\n")[2]
@@ -46,15 +46,15 @@ def counted(text):
 # The targets: name, program, arguments, whether the input is hexadecimal (then its bytes are
 # changed), and seeds.
 TARGETS = [
-    ("meter_server apdu", SERVER, ["apdu"], True, stored(("meter_server_cli", ["apdu"]))),
-    ("meter_server hex", SERVER, ["hex", "--password", PASSWORD], True, [AARQ + GET_STATE, MANAGEMENT_AARQ] + stored(("meter_server_cli", ["hex"]))),
-    ("trace_player", PLAYER, [], False, [TRACE] + stored(("trace_player_cli", []))),
-    ("head_end check", HEAD_END, ["check"], False, stored(("head_end_cli", ["check"]))),
+    ("meter_server apdu", SERVER, ["apdu"], True, stored_inputs(("meter_server_cli", ["apdu"]))),
+    ("meter_server hex", SERVER, ["hex", "--password", PASSWORD], True, [AARQ + GET_STATE, MANAGEMENT_AARQ] + stored_inputs(("meter_server_cli", ["hex"]))),
+    ("trace_player", PLAYER, [], False, [TRACE] + stored_inputs(("trace_player_cli", []))),
+    ("head_end check", HEAD_END, ["check"], False, stored_inputs(("head_end_cli", ["check"]))),
 ]
 INTERESTING = (0, 1, 2, 0x0F, 0x7F, 0x80, 0x81, 0x82, 0x84, 0xFE, 0xFF, 0x09, 0x0A, 0x20, 0x30, 0x39, 0x60, 0xC0, 0xC1, 0xC3)
 
 
-def changed(text, chance, others):
+def mutate(text, chance, others):
     """A text with a few changes."""
     text = bytearray(text)
     for _ in range(chance.choice((1, 1, 2, 4, 16))):
@@ -83,7 +83,7 @@ def changed(text, chance, others):
     return bytes(text[:4 * LONGEST_SEED])
 
 
-def changed_lines(text, chance):
+def mutate_lines(text, chance):
     """A text with digits changed, and lines repeated, removed or moved."""
     lines = text.split(b"\n")
     for _ in range(chance.choice((1, 1, 2, 3))):
@@ -118,7 +118,7 @@ def pieces_of(text):
         return b""
 
 
-def ran(program, words, text):
+def run(program, words, text):
     """Runs a program; returns its status, or a text if it exceeds the time limit, and its standard
     output and error."""
     try:
@@ -128,8 +128,8 @@ def ran(program, words, text):
         return "exceeds the time limit", b"", b""
 
 
-def ran_by_bytes(program, words, text):
-    """Runs a program as `ran` does, with its input byte by byte."""
+def run_by_bytes(program, words, text):
+    """Runs a program as `run` does, with its input byte by byte."""
     process = subprocess.Popen([str(program), *words], stdin=subprocess.PIPE, stdout=subprocess.PIPE, stderr=subprocess.PIPE, bufsize=0)
     try:
         for byte in text:
@@ -171,25 +171,25 @@ def fuzz(title, program, words, is_hex, seeds, seconds, chance):
         turn += 1
         text = chance.choice(others)
         if is_hex or chance.randrange(4) == 0:
-            text = changed(text, chance, others)
+            text = mutate(text, chance, others)
         else:
-            text = changed_lines(text, chance)
-            text = counted(text) if chance.randrange(8) else text
+            text = mutate_lines(text, chance)
+            text = correct_event_count(text) if chance.randrange(8) else text
         if is_hex:
             text = lines_of(text, chance)
             if chance.randrange(16) == 0:
-                text = changed(text, chance, [text])
-        made = ran(program, words, text)
+                text = mutate(text, chance, [text])
+        made = run(program, words, text)
         found["done" if made[0] == 0 else "wrong input" if made[0] == 2 else "WRONG"] += 1
         if not is_right(made):
             check(f"{title}: a valid result", False, made, keep(title, text))
         if len(text) <= 2_000 and turn % 4 == 0:
             found["repeated byte by byte"] += 1
-            if ran_by_bytes(program, words, text) != made:
+            if run_by_bytes(program, words, text) != made:
                 check(f"{title}: the same result byte by byte", False, keep(title, text))
         if twin.exists() and turn % 4 == 2:
             found["repeated with the other compiler"] += 1
-            if ran(twin, words, text) != made:
+            if run(twin, words, text) != made:
                 check(f"{title}: the same result with the other compiler", False, keep(title, text))
     return found
 

@@ -21,8 +21,9 @@ sys.dont_write_bytecode = True  # importing the modules of tests/ leaves no file
 import serving
 from campaigns import HEAD_END, run_head_end
 from scripted_meters import ScriptedMeter, drips, is_silent, is_silent_later
-from serving import (ACTIVE, DEVICE, DISCONNECT, LIMITER, MODE, NORMAL, OBJECTS, PATIENCE, PLAYER, PUBLIC, RECONNECT, REFUSED, REGISTER, SERVER, SESSIONS,
-                     STATE, Client, Server, Vanished, again_served, check, played, stands_in, test, wait_until)
+from serving import (ACTIVE, DEVICE, DISCONNECT, LIMITER, MODE, NORMAL, OBJECTS, PATIENCE, PLAYER,
+                     PUBLIC, RECONNECT, REFUSED, REGISTER, SERVER, SESSIONS, STATE, Client, Server,
+                     Vanished, check, connect_again, is_part_of, play_trace, test, wait_until)
 
 ROUNDS = 30
 HUNDRED = 100
@@ -55,9 +56,9 @@ class Watch:
                                       for now, first in zip(self.now()[:2], self.first[:2])))
 
 
-def one_more(server):
+def serve_one_more(server):
     """Serves one more client: when it connects, the server joins the sessions that have ended."""
-    client = again_served(server)
+    client = connect_again(server)
     client.get(STATE)
     client.close()
     return client.seen
@@ -70,9 +71,10 @@ def silent_clients_are_closed(name):
     check(f"{name}: a ninth is turned away", Client(server.port).is_closed())
     begun = time.monotonic()
     check(f"{name}: all are closed", all(client.is_closed() for client in silent) and time.monotonic() - begun < 10)
-    seen = one_more(server)
-    status, trace, errors = server.ended()
-    check(f"{name}: another is served then", status == 0 and played(trace) == seen, status, errors)
+    seen = serve_one_more(server)
+    status, trace, errors = server.end()
+    check(f"{name}: another is served then", status == 0 and play_trace(trace) == seen, status,
+          errors)
     check(f"{name}: reported", errors.count("a read failed or timed out") == SESSIONS, errors)
 
 
@@ -94,9 +96,9 @@ def a_slow_client_holds_one_place(name):
         pass
     told = server.wait_for(b"a read failed or timed out")
     check(f"{name}: closed when its session is over", told and slow.is_closed() and 2 <= sent < 12, sent, server.errors)
-    seen = one_more(server)
-    status, trace, errors = server.ended()
-    check(f"{name}: end", status == 0 and played(trace) == seen, status, errors)
+    seen = serve_one_more(server)
+    status, trace, errors = server.end()
+    check(f"{name}: end", status == 0 and play_trace(trace) == seen, status, errors)
     print(f"{name}: {sent} bytes in {time.monotonic() - begun:.1f} s")
 
 
@@ -126,14 +128,14 @@ def wrong_clients_reach_no_meter(name):
         check(f"{name}: port {port}", client.associate() == REFUSED + "01" and client.ask("C301C10046000060030AFF0100") == "D80101")
         client.close()
         tried += 1
-    places = [again_served(server) for _ in range(SESSIONS)]
+    places = [connect_again(server) for _ in range(SESSIONS)]
     ninths = [Client(server.port) for _ in range(HUNDRED)]
     check(f"{name}: a ninth and a hundredth are closed without a byte", all(client.is_closed() for client in ninths))
     check(f"{name}: reported", server.wait_for(TURNED_AWAY, HUNDRED), server.errors.count(TURNED_AWAY))
     for client in (*places, *ninths):
         client.close()
-    status, trace, errors = server.ended()
-    check(f"{name}: no event", status == 0 and played(trace) == [], status, trace, errors)
+    status, trace, errors = server.end()
+    check(f"{name}: no event", status == 0 and play_trace(trace) == [], status, trace, errors)
     print(f"{name}: {tried + HUNDRED} clients, 0 events")
 
 
@@ -157,12 +159,12 @@ def ask_at_random(client, chance, count):
             client.get(chance.choice((STATE, MODE, REGISTER, ACTIVE, (*LIMITER, 7))))
 
 
-def busy(server, number, rounds, kept):
+def run_sessions(server, number, rounds, kept):
     """One of eight clients: opens and closes sessions one after the other."""
     chance = random.Random(number)
     for _ in range(rounds):
         try:
-            client = again_served(server)
+            client = connect_again(server)
             kept.append(client)
             ask_at_random(client, chance, 12)
             if chance.randrange(2):
@@ -172,7 +174,7 @@ def busy(server, number, rounds, kept):
             continue
 
 
-def busy_console(server, rounds):
+def run_console(server, rounds):
     """Presses, moments and blocks of 256 samples."""
     chance = random.Random(99)
     for turn in range(rounds):
@@ -181,7 +183,7 @@ def busy_console(server, rounds):
         time.sleep(0.001)
 
 
-def started(works):
+def start_threads(works):
     """Starts a thread for each work; returns the threads."""
     threads = [threading.Thread(target=work, args=words, daemon=True) for work, *words in works]
     for thread in threads:
@@ -191,7 +193,7 @@ def started(works):
 
 def in_threads(works):
     """Runs all functions in parallel; returns whether all end."""
-    threads = started(works)
+    threads = start_threads(works)
     for thread in threads:
         thread.join(PATIENCE * 10)
     return not any(thread.is_alive() for thread in threads)
@@ -202,16 +204,16 @@ def eight_clients_at_full_speed(name):
     begun, events, sessions = time.monotonic(), 0, 0
     for _ in range(rounds):  # (a trace has at most 1,024 events)
         server = Server("--depth", "1024", "--stop-with-input")
-        one_more(server)
+        serve_one_more(server)
         watch, kept = Watch(server.process), []
-        all_ended = in_threads([(busy, server, number, 4, kept) for number in range(SESSIONS)] + [(busy_console, server, 60)])
+        all_ended = in_threads([(run_sessions, server, number, 4, kept) for number in range(SESSIONS)] + [(run_console, server, 60)])
         check(f"{name}: all end", all_ended)
-        one_more(server)
+        serve_one_more(server)
         check(f"{name}: no thread or descriptor is leaked", watch.has_no_more(), watch.first, watch.now())
-        status, trace, errors = server.ended()
+        status, trace, errors = server.end()
         check(f"{name}: end", status == 0 and "fault" not in errors, status, errors[-500:])
-        history = played(trace)
-        found = sum(stands_in(client.seen, history) for client in kept)
+        history = play_trace(trace)
+        found = sum(is_part_of(client.seen, history) for client in kept)
         check(f"{name}: the trace has what the clients saw", found == len(kept), found, len(kept))
         blocks = sum(event.startswith(("samples", "pairs")) for event, _ in history)
         check(f"{name}: the trace has the lines of the console", blocks == 120 and sum(event == "button" for event, _ in history) == 60, blocks)
@@ -228,28 +230,28 @@ def a_soak_keeps_its_memory(name):
     watch = Watch(server.process)
     for _ in range(rounds):
         kept = []
-        in_threads([(busy, server, number, 4, kept) for number in range(SESSIONS)] + [(busy_console, server, 60)])
+        in_threads([(run_sessions, server, number, 4, kept) for number in range(SESSIONS)] + [(run_console, server, 60)])
         sessions += len(kept)
         sizes.append(watch.now()[2])
     half = rounds // 2
     check(f"{name}: memory does not grow", max(sizes[half:]) <= max(sizes[:half]) + 1024, sizes)
-    one_more(server)
-    status, trace, errors = server.ended()
-    check(f"{name}: end", status == 0 and "fault" not in errors and len(played(trace)) == 64, status, errors[-500:])
+    serve_one_more(server)
+    status, trace, errors = server.end()
+    check(f"{name}: end", status == 0 and "fault" not in errors and len(play_trace(trace)) == 64, status, errors[-500:])
     print(f"{name}: {sessions} sessions, resident {sizes[0]} KiB after the first round, {max(sizes[:half])} at most in the first half, {max(sizes[half:])} in the second, "
           f"{time.monotonic() - begun:.1f} s")
 
 
 def stops_within_a_frame(server, chance):
     """A client that stops within a frame."""
-    client = again_served(server)
+    client = connect_again(server)
     client.send_bytes(bytes.fromhex("000100010001000DC001C1")[:chance.randrange(1, 11)])
     client.close()
 
 
 def resets(server, chance):
     """A client that resets its connection after a request."""
-    client = again_served(server)
+    client = connect_again(server)
     client.send("C001C10046000060030AFF0300")
     client.socket.setsockopt(serving.socket.SOL_SOCKET, serving.socket.SO_LINGER, b"\1\0\0\0\0\0\0\0")
     client.close()
@@ -258,7 +260,7 @@ def resets(server, chance):
 def never_reads(server, chance):
     """Requests the object list again and again without reading, until the meter closes the
     connection."""
-    client = again_served(server)
+    client = connect_again(server)
     frame = bytes.fromhex("000100010001000DC001C1000F0000280000FF0200")
     try:
         while True:
@@ -282,7 +284,7 @@ def babbles(server, chance):
 
 def sends_wrong_blocks(server, chance):
     """A client that sends blocks of transfers that were not begun."""
-    client = again_served(server)
+    client = connect_again(server)
     for payload in ("C002C100000005", "C103C1010000000201AA", "C102C100470000110000FF0400000000000102" + "0600", "C103C1010000000902" + "0000", "C306C10100000007020100"):
         client.ask(payload)
     client.close()
@@ -304,13 +306,13 @@ def attack(server, script, count):
 def hostile_clients_beside_a_good_one(name):
     rounds = ROUNDS if not is_long else 10 * ROUNDS
     server = Server("--depth", "1024", "--inactivity", "2", "--stop-with-input")
-    one_more(server)
+    serve_one_more(server)
     watch = Watch(server.process)
     good = server.client()
     begun = time.monotonic()
     works = [(attack, server, script, rounds // ROUNDS if script is never_reads else rounds) for script in HOSTILE]
     sizes, slowest = [], 0.0
-    threads = started(works)
+    threads = start_threads(works)
     while any(thread.is_alive() for thread in threads) and time.monotonic() - begun < PATIENCE * 10:
         asked = time.monotonic()
         check(f"{name}: the good client is answered", good.get(MODE) == "value 1600")
@@ -321,11 +323,11 @@ def hostile_clients_beside_a_good_one(name):
         thread.join(1)
     check(f"{name}: all end", not any(thread.is_alive() for thread in threads))
     good.close()
-    one_more(server)
+    serve_one_more(server)
     check(f"{name}: no thread or descriptor is leaked", watch.has_no_more(), watch.first, watch.now())
-    status, trace, errors = server.ended()
+    status, trace, errors = server.end()
     check(f"{name}: end", status == 0 and "fault" not in errors, status, errors[-500:])
-    check(f"{name}: the trace has what the good client saw last", stands_in(good.seen[-50:], played(trace)))
+    check(f"{name}: the trace has what the good client saw last", is_part_of(good.seen[-50:], play_trace(trace)))
     check(f"{name}: a client that does not read is closed", "a write failed or timed out" in errors)
     print(f"{name}: {errors.count('connected')} connections, {len(good.seen)} answers to the good one, the slowest in {slowest:.2f} s, "
           f"resident {watch.first[2]} to {max(sizes)} KiB, {time.monotonic() - begun:.1f} s")

@@ -54,7 +54,7 @@ def tree(folder):
             for it in folder.rglob("*")}
 
 
-def recorded(root):
+def recorded_files(root):
     """The files that the record of an installation lists."""
     lines = (root / RECORD).read_text().splitlines()
     return {it.split("  ", 1)[1] for it in lines if not it.startswith("#")}
@@ -68,7 +68,7 @@ def destinations(room):
     yield "DESTDIR: installs", ran.returncode == 0 and not ran.stderr
     yield "DESTDIR: nothing in PREFIX", not prefix.exists()
     files = {str(it) for it, text in tree(root).items() if text is not None}
-    yield "DESTDIR: the record has each file", recorded(root) == files - {RECORD}
+    yield "DESTDIR: the record has each file", recorded_files(root) == files - {RECORD}
     ran = run("sha256sum", "--check", "--strict", "--quiet", RECORD, cwd=root)
     yield "DESTDIR: the digests", ran.returncode == 0
     wanted = {*(f"bin/{it}" for it in COMMANDS), "share/doc/wesplina/LICENSE",

@@ -27,12 +27,12 @@ sys.dont_write_bytecode = True  # importing the modules of tests/ leaves no file
 
 import serving
 from journal_history import (GONE, OPEN_COUNT, Console, Explanation, Journal, Talker, end_of_a_run,
-                             journal_with_events, journaled, lines_played, model_lines, restart,
+                             journal_with_events, lines_played, model_lines, restart, start_server,
                              torn_tail, whole_lines)
-from refusing import Refusing, turns
+from refusing import Refusing, call_numbers
 from serving import (DEVICE, DISCONNECT, MANAGEMENT, MODE, PASSWORD, PATIENCE, PLAYER, PUBLIC,
-                     RECONNECT, SERVER, STATE, Client, Server, check, free_port, played, run_with,
-                     stands_in, test)
+                     RECONNECT, SERVER, STATE, Client, Server, check, free_port, is_part_of,
+                     play_trace, run_with, test)
 
 KILLS, LONG_KILLS = 200, 2_000
 STARTS, LONG_STARTS = 20, 200
@@ -44,11 +44,11 @@ is_long, seed = False, SEED
 
 def in_folder(function):
     """A test with an empty folder."""
-    def tested(name):
+    def run_test(name):
         with tempfile.TemporaryDirectory(prefix="journal-") as folder:
             function(name, pathlib.Path(folder))
-    tested.__name__ = function.__name__
-    return tested
+    run_test.__name__ = function.__name__
+    return run_test
 
 
 def clients_of_a_run(server, first, choose, number, answered):
@@ -134,10 +134,10 @@ def end_in_order(name, journal):
     check(f"{name}: the last run", client.set(MODE, "1602") == "code 0")
     check(f"{name}: its mode", client.get(MODE) == "value 1602")
     client.close()
-    status, trace, errors = server.ended()
+    status, trace, errors = server.end()
     check(f"{name}: it ends in order", status == 0 and "fault" not in errors, status, errors)
     check(f"{name}: its trace",
-          stands_in(client.seen, played(trace)) and "events 6\n" in trace, trace)
+          is_part_of(client.seen, play_trace(trace)) and "events 6\n" in trace, trace)
     check(f"{name}: its line",
           journal.follow() == [client.seen[0][0]] and journal.tail() == b"")
 
@@ -176,7 +176,7 @@ def a_start_may_be_killed(name, folder):
 def an_answer_has_its_line(name, folder):
     """With one client and no console, the file ends with the event of each answer."""
     journal = Journal(folder / "journal")
-    server = journaled(journal.path)
+    server = start_server(journal.path)
     talker = Talker(server.client(), random.Random(f"{seed} lines"))
     check(f"{name}: the opening", journal.new_lines() == [] and journal.tail() == b"")
     for turn in range(60):
@@ -189,7 +189,7 @@ def an_answer_has_its_line(name, folder):
             check(f"{name}: played while the server runs",
                   lines_played(journal.path) == model_lines(journal.text))
     talker.client.close()
-    check(f"{name}: end", server.ended()[0] == 0)
+    check(f"{name}: end", server.end()[0] == 0)
 
 
 LINE, HALF = b"set 1 70 000060030AFF 4 0 1602\n", b"set 1 70 000060030AFF 4"
@@ -216,7 +216,7 @@ def a_torn_end_is_cut(name, folder):
         replies = client.execute(RECONNECT), client.execute(DISCONNECT)
         check(f"{name}: {what}, continued", replies == ("code 0", "code 0"), replies)
         client.close()
-        check(f"{name}: {what}, end", server.ended()[0] == 0)
+        check(f"{name}: {what}, end", server.end()[0] == 0)
         lines = journal.follow()
         check(f"{name}: {what}, its lines",
               lines == [event for event, _ in client.seen] and journal.tail() == b"", lines)
@@ -264,11 +264,11 @@ def a_wrong_journal_is_refused(name, folder):
 def another_meter_is_refused(name, folder):
     path = folder / "journal"
     for _ in range(2):
-        server = journaled(path, "--device", "METER7")
+        server = start_server(path, "--device", "METER7")
         client = server.client()
         check(f"{name}: its own", client.get(DEVICE) == "value 0906" + b"METER7".hex().upper())
         client.close()
-        check(f"{name}: end", server.ended()[0] == 0)
+        check(f"{name}: end", server.end()[0] == 0)
     held = path.read_bytes()
     made = start_on(path, "--device", "METER8")
     check(name, is_fault(made, 2, "input") and path.read_bytes() == held, made)
@@ -277,7 +277,7 @@ def another_meter_is_refused(name, folder):
 @in_folder
 def one_server_has_a_journal(name, folder):
     journal = journal_with_events(folder / "journal")
-    server = journaled(journal.path)
+    server = start_server(journal.path)
     made = start_on(journal.path)
     check(f"{name}: a second server",
           is_fault(made, 3, "write") and journal.path.read_bytes() == journal.text, made)
@@ -306,7 +306,7 @@ def a_journal_is_renewed(name, folder):
     plays, and a killed meter continues from it. The last journals before it are kept."""
     path, depth, limit = folder / "journal", 4, 4096
     for turn in range(2):
-        server = journaled(path, "--depth", str(depth), "--keep-journals", "2", limit=limit)
+        server = start_server(path, "--depth", str(depth), "--keep-journals", "2", limit=limit)
         client = server.client()
         for number in range(301):
             assert client.set(MODE, f"160{number % 2 + 2}") == "code 0"
@@ -316,11 +316,11 @@ def a_journal_is_renewed(name, folder):
         check(f"{name}: run {turn}, its length", length < 2 * limit, length)
         played = lines_played(path)
         check(f"{name}: run {turn}, its lines", len(played) >= depth, played[-1:])
-        server = journaled(path, limit=limit)
+        server = start_server(path, limit=limit)
         client = server.client()
         check(f"{name}: run {turn}, continued", client.get(MODE) == "value 1602")
         client.close()
-        check(f"{name}: run {turn}, end", server.ended()[0] == 0)
+        check(f"{name}: run {turn}, end", server.end()[0] == 0)
     held = sorted(it.name for it in folder.iterdir() if it.name != "journal.lock")
     check(f"{name}: the files", held == ["journal", "journal.1", "journal.2"], held)
     older = (folder / "journal.1").read_bytes()
@@ -332,7 +332,7 @@ def a_long_journal_is_renewed_at_a_start(name, folder):
     journal = journal_with_events(folder / "journal")
     with open(journal.path, "ab") as file:
         file.write(LINE * 300)
-    server = journaled(journal.path, "--depth", "1", "--keep-journals", "1", limit=4096)
+    server = start_server(journal.path, "--depth", "1", "--keep-journals", "1", limit=4096)
     client = server.client()
     check(f"{name}: the mode", client.get(MODE) == "value 1602")
     held = journal.path.read_bytes()
@@ -340,7 +340,7 @@ def a_long_journal_is_renewed_at_a_start(name, folder):
     check(f"{name}: the journal before it",
           (folder / "journal.1").read_bytes() == journal.text + LINE * 300)
     client.close()
-    check(f"{name}: end", server.ended()[0] == 0)
+    check(f"{name}: end", server.end()[0] == 0)
 
 
 def trace_of_a_run():
@@ -350,7 +350,7 @@ def trace_of_a_run():
     assert (client.set(MODE, "1604"), client.execute(DISCONNECT)) == ("code 0", "code 0")
     client.close()
     server.say("samples 10 70", "moment 300")
-    trace = server.ended()[1]
+    trace = server.end()[1]
     assert "\nsamples 10 70\n" in trace and "\nmoment 300\n" in trace, trace
     return trace.encode()
 
@@ -368,13 +368,13 @@ def a_journal_begins_from_a_trace(name, folder):
     check(f"{name}: reconnect", client.execute(RECONNECT) == "code 0")
     client.close()
     server.say("moment 400")
-    check(f"{name}: end", server.ended()[0] == 0)
+    check(f"{name}: end", server.end()[0] == 0)
     check(f"{name}: its lines",
           sorted(journal.follow()) == sorted([client.seen[1][0], "moment 400"]), journal.text)
     server, client = restart(journal, "--resume", console=trace)
     check(f"{name}: the journal has precedence", client.get(STATE) == "value 1601")
     client.close()
-    check(f"{name}: its end", server.ended()[0] == 0 and journal.follow() == [], journal.text)
+    check(f"{name}: its end", server.end()[0] == 0 and journal.follow() == [], journal.text)
 
 
 @in_folder
@@ -389,9 +389,9 @@ def a_journal_changes_no_answer(name, folder):
         for _ in range(40):
             talker.ask()
         talker.client.close()
-        status, trace, errors = server.ended()
+        status, trace, errors = server.end()
         check(f"{name}: end", status == 0 and "fault" not in errors, status, errors)
-        check(f"{name}: played", played(trace) == talker.client.seen, trace)
+        check(f"{name}: played", play_trace(trace) == talker.client.seen, trace)
         traces.append(trace)
     check(f"{name}: the same trace", traces[0] == traces[1], *traces)
     found = {it.name for it in folder.iterdir()}
@@ -455,7 +455,7 @@ def a_full_disk_ends_the_server(name, folder):
         check(f"{name}: with space it continues", client.set(MODE, "1604") == "code 0")
         check(f"{name}: its line", journal.follow() == [client.seen[0][0]])
         client.close()
-        check(f"{name}: and ends in order", server.ended()[0] == 0)
+        check(f"{name}: and ends in order", server.end()[0] == 0)
     finally:
         disk.stop()
 
@@ -480,9 +480,9 @@ def a_journal_fills_its_disk(name, journal):
     for one in (client, later):
         if one:
             one.close()
-    status, trace, errors = server.ended()
+    status, trace, errors = server.end()
     check(f"{name}: end", status == 3 and errors.endswith("fault: write\n"), status, errors)
-    check(f"{name}: the trace is printed", stands_in(client.seen[-100:], played(trace)), trace)
+    check(f"{name}: the trace is printed", is_part_of(client.seen[-100:], play_trace(trace)), trace)
     lines, answered = journal.follow(), [event for event, _ in client.seen]
     check(f"{name}: each answer has its line",
           len(answered) > 200 and lines[:len(answered)] == answered
@@ -519,9 +519,9 @@ class FailingRuns:
         """What happened in a run, in words that begin with WRONG if it must not."""
         server = self.begin(which)
         seen, replies = self.talk(server)
-        status, trace, errors = server.ended()
+        status, trace, errors = server.end()
         self.counts = self.refusing.counts()
-        wrong = self.wrong(seen, replies, which, status, errors)
+        wrong = self.find_fault(seen, replies, which, status, errors)
         if wrong:
             return f"WRONG: {wrong}"
         return self.judge(seen, status, trace, errors)
@@ -543,7 +543,7 @@ class FailingRuns:
         client.close()
         return client.seen, replies
 
-    def wrong(self, seen, replies, which, status, errors):
+    def find_fault(self, seen, replies, which, status, errors):
         """What must not happen, or None."""
         if None in replies and any(replies[replies.index(None):]):
             return f"a success after the failure: {replies}, {errors}"
@@ -575,7 +575,7 @@ class FailingRuns:
             return f"no start, {last}"
         if status == 3 and not trace.endswith("\n"):
             return f"the output failed, {last}"
-        if not stands_in(seen, played(trace)):
+        if not is_part_of(seen, play_trace(trace)):
             return f"WRONG: {seen}, and the trace {trace}"
         if JOURNAL_FAILED.format(self.path) in errors:
             return "the journal failed"
@@ -591,7 +591,7 @@ def all_calls(count):
 
 def some_calls(count):
     """The numbers of some calls, or of all with --long."""
-    return turns(count, is_long)
+    return call_numbers(count, is_long)
 
 
 def each_call_fails(name, how, place, wanted, chosen=all_calls):

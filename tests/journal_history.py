@@ -88,7 +88,7 @@ def model_lines(text):
             for number, line in enumerate(lines[opening + 1:], 1)]
 
 
-def journaled(path, *options, limit=16_777_216, **how):
+def start_server(path, *options, limit=16_777_216, **how):
     """A server on a journal, which is renewed after `limit` bytes."""
     return Server("--journal", str(path), "--journal-limit", str(limit), "--stop-with-input",
                   *options, **how)
@@ -97,7 +97,7 @@ def journaled(path, *options, limit=16_777_216, **how):
 def restart(journal, *options, **how):
     """Starts a server on a journal that another left or none. Returns it and a client that has read
     the state of the meter. Fails if they do not fit the lines of the journal."""
-    tail, server = journal.tail(), journaled(journal.path, *options, **how)
+    tail, server = journal.tail(), start_server(journal.path, *options, **how)
     try:
         return server, check_restart(journal, server, tail)
     except (AssertionError, *GONE):
@@ -126,20 +126,20 @@ def end_of_a_run(journal):
     """Whether a server starts on a journal, answers as the model and ends in order."""
     server, client = restart(journal)
     client.close()
-    return server.ended()[0] == 0
+    return server.end()[0] == 0
 
 
 def journal_with_events(path):
     """A journal of a run that ended in order: mode 4, disconnected, 70 W, second 500."""
     journal = Journal(path)
-    server = journaled(path)
+    server = start_server(path)
     client = server.client()
     replies = [client.set(MODE, "1604")]
     replies += [client.execute(place) for place in (DISCONNECT, RECONNECT, DISCONNECT)]
     assert set(replies) == {"code 0"}, replies
     client.close()
     server.say("samples 10 70", "moment 500")
-    status, _, errors = server.ended()
+    status, _, errors = server.end()
     assert status == 0, errors
     lines = journal.follow()
     assert lines[:4] == [event for event, _ in client.seen], lines
@@ -251,7 +251,7 @@ class Explanation:
         self.heard = collections.Counter()
         self.places = {tuple(0 for _ in talkers)}
 
-    def past_reads(self, place):
+    def skip_reads(self, place):
         """The place after the GETs that the meter answers now as they were answered."""
         after = list(place)
         for number, (seen, _) in enumerate(self.talkers):
@@ -273,7 +273,7 @@ class Explanation:
 
     def take(self, line):
         """Follows a line. Returns what trace_player must print of it."""
-        self.places = {self.past_reads(place) for place in self.places}
+        self.places = {self.skip_reads(place) for place in self.places}
         reply, printed = self.journal.apply(line)
         if line.split()[0] in Console.CHANNELS:
             channel = self.console.channel(line)
@@ -289,7 +289,7 @@ class Explanation:
     def end(self):
         """Fails if an answer is not explained. Returns the number of events without an answer."""
         ends = [len(seen) for seen, _ in self.talkers]
-        places = [self.past_reads(place) for place in self.places]
+        places = [self.skip_reads(place) for place in self.places]
         whole = [place for place in places if all(at >= end for at, end in zip(place, ends))]
         assert whole, f"answers are not in the journal: {self.talkers}, explained {places}"
         return sum(whole[0]) - sum(ends)

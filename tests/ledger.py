@@ -32,7 +32,7 @@ sys.dont_write_bytecode = True  # importing the modules of tests/ leaves no file
 import serving
 from counted_meters import COMMANDS, CountedMeters, kind_of
 from journal import SmallDisk, in_folder
-from refusing import Refusing, turns
+from refusing import Refusing, call_numbers
 from scripted_meters import CROWD, REQUESTS, ScriptedMeter, answers_slowly
 from serving import PASSWORD, PATIENCE, Server, TOP, check, test
 
@@ -225,7 +225,7 @@ def a_ledger_changes_no_row(name, folder):
         check(f"{name}: and no entry", entries(ledger) == found)
 
 
-def killed_until_whole(name, folder, meters, number):
+def kill_until_whole(name, folder, meters, number):
     """A campaign that is killed at random times and run again until it ends. Returns its history
     and the number of kills."""
     choose = random.Random(f"{seed} {number}")
@@ -248,7 +248,7 @@ def killed_campaigns_command_nobody_twice(name, folder):
     with running_meters() as meters:
         for number in range(1, campaigns + 1):
             try:
-                history = killed_until_whole(name, folder, meters, number)
+                history = kill_until_whole(name, folder, meters, number)
             except AssertionError as error:
                 check(f"{name}: campaign {number}, seed {seed}", False, error)
                 meters.take_counts()
@@ -379,7 +379,7 @@ def jobs_of_a_meter_run_in_order(name, folder):
         check(f"{name}, workers {workers}: report",
               (ran.status, ran.report) == (0, report_of(jobs, ["done 0"] * len(jobs))), ran)
         for meter in meters:
-            requests = [talk.frames[1] for talk in meter.talked(len(verbs))]
+            requests = [talk.frames[1] for talk in meter.wait_for_talks(len(verbs))]
             check(f"{name}, workers {workers}: order",
                   requests == [REQUESTS[verb] for verb in verbs], requests)
             meter.stop()
@@ -402,7 +402,7 @@ def each_meter_has_its_password(name, folder):
     found = [it for it in (*words, "wrongword") if it.encode() in held]
     check(f"{name}: no password in the ledger", held and not found, found)
     for server in servers:
-        check(f"{name}: end", server.ended()[0] == 0)
+        check(f"{name}: end", server.end()[0] == 0)
     missing = subprocess.run([str(HEAD_END), "run", "--ledger", str(folder / "other"),
                               "--passwords", str(path)], input=text_of(jobs), text=True,
                              capture_output=True, timeout=LONGEST,
@@ -469,7 +469,7 @@ def what_has_no_state_is_refused(name, folder):
     check(f"{name}: unchanged", before == after, sorted(after))
 
 
-def inside(disk):
+def namespace_command(disk):
     """The command that runs another one in the mount namespace of a disk. (SQLite follows links, so
     it would not open a file by the path from outside.)"""
     user = ["--user", "--preserve-credentials"] if os.geteuid() else []
@@ -488,7 +488,7 @@ def a_disk_is_filled(name, folder, meters, size):
             return
         campaign = campaign_of(meters, random.Random(f"{seed} {size}"))
         history, ledger = History(campaign), disk.path / "ledger"
-        ran = run(folder / "ledger", campaign.text, before=inside(disk))
+        ran = run(folder / "ledger", campaign.text, before=namespace_command(disk))
         check(f"{name}: {size}: the fault", ran.status == 3 and "fault: write" in ran.errors,
               ran.status, ran.errors[-300:])
         history.follow(ledger, 4)
@@ -547,7 +547,7 @@ def a_failed_call_commands_nobody_twice(name, folder):
             ample = refusing.run(words_of(folder / which), campaign.text.encode(), **{which: 0})
             campaign.take_commands()
             count, found = refusing.counts()[index], collections.Counter()
-            for call in turns(count, is_long):
+            for call in call_numbers(count, is_long):
                 try:
                     found[one_call_fails(folder, refusing, campaign, which, call)] += 1
                 except AssertionError as error:

@@ -187,7 +187,7 @@ def crates_in_heads():
                 yield f"{source.relative_to(TOP)}: no {it}"
 
 
-def lost():
+def missing_names():
     """All that documents name and that does not exist."""
     for page in pages():
         text = prose(page.read_text())
@@ -202,7 +202,7 @@ def lost():
 
 
 def main():
-    found = list(lost())
+    found = list(missing_names())
     for it in found:
         print(f"FAILED links: {it}")
     passed = len(pages()) - len({it.split(": ")[0] for it in found if ".md: " in it})

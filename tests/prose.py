@@ -220,7 +220,7 @@ def types_in(path, lines):
             yield found[1], number
 
 
-def twice_declared(texts):
+def types_declared_twice(texts):
     """The types that two crates declare, at each place after the first."""
     first = {}
     for path, text in sorted(texts.items()):
@@ -260,27 +260,27 @@ def places_of(top, paths):
             continue
         for rule, number, what in places_in(path, texts[path], patterns):
             found[rule, folder_of(path)].append(f"{path}:{number}: {what}")
-    for path, what in twice_declared(texts):
+    for path, what in types_declared_twice(texts):
         found["twice", folder_of(path)].append(what)
     return found
 
 
-def tracked():
+def tracked_files():
     ran = subprocess.run(["git", "ls-files"], cwd=TOP, capture_output=True, text=True, check=True)
     return [it for it in ran.stdout.split("\n") if it and not it.startswith("share/")]
 
 
-def allowed():
+def read_counts():
     rows = [it.split() for it in COUNTS.read_text().split("\n") if it and not it.startswith("#")]
     return {(rule, folder): int(count) for rule, folder, count in rows}
 
 
-def grown(found, limits):
+def grown_counts(found, limits):
     """The rules and folders with more places than allowed. A rule of STRICT allows none."""
-    return [it for it in sorted(found) if len(found[it]) > allowed_for(it, limits)]
+    return [it for it in sorted(found) if len(found[it]) > allowed_count(it, limits)]
 
 
-def allowed_for(place, limits):
+def allowed_count(place, limits):
     """The allowed count of a rule in a folder."""
     return 0 if place[0] in STRICT else limits.get(place, 0)
 
@@ -322,8 +322,8 @@ def self_test():
     wanted = {(rule, folder_of(path)) for rule, (path, _) in PLANTED.items()}
     strict = {it for it in wanted if it[0] in STRICT}
     is_found = set(found) == wanted and all(len(it) == 1 for it in found.values())
-    is_grown = set(grown(found, {})) == wanted
-    return is_found and is_grown and set(grown(found, dict.fromkeys(wanted, 1))) == strict
+    is_grown = set(grown_counts(found, {})) == wanted
+    return is_found and is_grown and set(grown_counts(found, dict.fromkeys(wanted, 1))) == strict
 
 
 def write(found):
@@ -337,18 +337,19 @@ def main(words):
     if words in (["-h"], ["--help"]) or words not in ([], ["--list"], ["--write"]):
         print(__doc__.strip(), file=sys.stdout if words[0] in ("-h", "--help") else sys.stderr)
         return 0 if words[0] in ("-h", "--help") else 2
-    found = places_of(TOP, tracked())
+    found = places_of(TOP, tracked_files())
     if words == ["--write"]:
         write(found)
         return 0
     if words == ["--list"]:
         print("\n".join(it for key in sorted(found) for it in found[key]))
         return 0
-    limits = allowed()
-    failed = grown(found, limits)
+    limits = read_counts()
+    failed = grown_counts(found, limits)
     for rule, folder in failed:
         places = found[rule, folder]
-        print(f"FAILED prose: {rule} in {folder}: at most {allowed_for((rule, folder), limits)} allowed, "
+        print(f"FAILED prose: {rule} in {folder}: "
+              f"at most {allowed_count((rule, folder), limits)} allowed, "
               f"found {len(places)}; the last ones:")
         print("\n".join(f"    {it}" for it in places[-SHOWN:]))
     lower = sum(len(found.get(it, [])) < count for it, count in limits.items())

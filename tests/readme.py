@@ -39,7 +39,7 @@ def run_block(lines):
     return ran.stdout.splitlines(), ran.stderr
 
 
-def shown(lines):
+def expected_output(lines):
     return [it for it in lines if not it.startswith("$ ")]
 
 
@@ -49,9 +49,9 @@ def check(heading):
     lines = block_of((TOP / "README.md").read_text(), heading)
     printed, errors = run_block(lines)
     printed = [it for it in printed if not it.startswith(f"{TOP}/crates/")]
-    if printed == shown(lines):
+    if printed == expected_output(lines):
         return True
-    print(f"FAILED readme: {heading}: expected {shown(lines)}, found {printed}; standard error: {errors[-2000:]}")
+    print(f"FAILED readme: {heading}: expected {expected_output(lines)}, found {printed}; standard error: {errors[-2000:]}")
     return False
 
 

@@ -20,11 +20,12 @@ sys.dont_write_bytecode = True  # importing the modules of tests/ leaves no file
 
 import serving
 from command_lines import AARE, AARQ, ENDED_FILE, GET_STATE, GOT_STATE, TRACE
-from refusing import Refusing, turns
+from refusing import Refusing, call_numbers
 from scripted_meters import AARQ as CLIENT_AARQ
 from scripted_meters import REQUESTS, ScriptedMeter
 from serving import AARE as OPENING
-from serving import DISCONNECT, MODE, PASSWORD, PLAYER, REFUSED, SERVER, STATE, TOP, Client, Server, Vanished, check, played, stands_in, test
+from serving import (DISCONNECT, MODE, PASSWORD, PLAYER, REFUSED, SERVER, STATE, TOP, Client,
+                     Server, Vanished, check, is_part_of, play_trace, test)
 from campaigns import HEAD_END
 
 CALLS = os.environ.get("REFUSAL_TESTS") or TOP / "crates" / "refusal_tests" / "out" / "refusal_tests_tests"
@@ -46,7 +47,7 @@ def print_counts(name, found, word="allocations refused"):
 def each_refusal(run, count, is_each=False):
     """What `run` returns for each allocation that is refused, counted. It receives the number of
     the allocation. Unless `is_each` or `--long` is set, some are left out."""
-    return collections.Counter(run(number) for number in turns(count, is_long or is_each))
+    return collections.Counter(run(number) for number in call_numbers(count, is_long or is_each))
 
 
 def verdict(ran):
@@ -114,7 +115,7 @@ def programs_are_refused_memory(name):
     check(f"{name}: the session is the stored one", refusing.run([SERVER, "hex", "--password", PASSWORD], AARQ + GET_STATE).output == AARE + GOT_STATE)
 
 
-def file_refused(words, number):
+def file_result(words, number):
     """The result of a program that reads a file of a password, with a refused allocation."""
     ran = refusing.run(words, refuse_memory=number)
     if (ran.status, ran.output, ran.errors) == (0, b"", b""):
@@ -128,13 +129,13 @@ def file_refused(words, number):
 def a_file_of_a_password_is_refused_memory(name):
     words = [HEAD_END, "run", "--password-file", ENDED_FILE]
     ample = refusing.run(words)
-    found = each_refusal(lambda number: file_refused(words, number), ample.allocations, is_each=True)
+    found = each_refusal(lambda number: file_result(words, number), ample.allocations, is_each=True)
     print_counts("a campaign with a file of its password", found)
     check(f"{name}: ample memory", (ample.status, ample.output, ample.errors) == (0, b"", b""), ample)
     check(name, found["in the file"] and found["outside the file"] and not any("WRONG" in what for what in found), found)
 
 
-def answers(opening, action=None):
+def script_of(opening, action=None):
     """A script that answers the AARQ and, if the association is open, the request. Without an
     answer to that it closes the connection."""
     def script(talk):
@@ -155,14 +156,14 @@ ACCEPTED = OPENING + "001E1904000007"
 # The meters of a campaign of four disconnect jobs, and the rows that they bring: success (0),
 # authentication-failure (13), a connection that is closed, and temporary-failure (2).
 METERS = [
-    (answers(ACCEPTED, "C701C10000"), "done 0"),
-    (answers(REFUSED + "0D"), "rejected 13"),
-    (answers(ACCEPTED), "unknown"),
-    (answers(ACCEPTED, "C701C10200"), "refused 2"),
+    (script_of(ACCEPTED, "C701C10000"), "done 0"),
+    (script_of(REFUSED + "0D"), "rejected 13"),
+    (script_of(ACCEPTED), "unknown"),
+    (script_of(ACCEPTED, "C701C10200"), "refused 2"),
 ]
 
 
-def campaign_refused(jobs, number):
+def campaign_result(jobs, number):
     """The result of a campaign with a refused allocation."""
     ran = refusing.run([HEAD_END, "run", "--password", PASSWORD, "--workers", "2", "--timeout", "5"], jobs, refuse_memory=number)
     if ran.status == 4 and ran.errors == MEMORY and not ran.output:
@@ -179,7 +180,7 @@ def a_campaign_is_refused_memory(name):
     ample = refusing.run([HEAD_END, "run", "--password", PASSWORD, "--workers", "2", "--timeout", "5"], jobs)
     wanted = "".join(f"m{number} {row}\n" for number, (_, row) in enumerate(METERS, 1)).encode()
     check(f"{name}: ample memory", (ample.status, ample.output) == (0, wanted), ample)
-    found = each_refusal(lambda number: campaign_refused(jobs, number), ample.allocations, is_each=True)
+    found = each_refusal(lambda number: campaign_result(jobs, number), ample.allocations, is_each=True)
     print_counts("a campaign of four jobs", found)
     check(name, found["whole: no connection"] and found["one job's row"] and not any("WRONG" in what for what in found), found)
     for meter in meters:
@@ -205,7 +206,7 @@ def talk(client):
         client.close()
 
 
-def served_refused(number, what="refuse_memory"):
+def serve_two_clients(number, what="refuse_memory"):
     """Serves two clients, one after the other, with a refused call. Returns whether the trace has
     what they saw."""
     server = Server("--connections", "2", environment=refusing.environment(**{what: number}))
@@ -218,7 +219,7 @@ def served_refused(number, what="refuse_memory"):
             whole += talk(clients[-1])
         except OSError:
             pass
-    status, trace, errors = server.ended()
+    status, trace, errors = server.end()
     is_fault = status == 4 and "fault: memory\n" in errors
     if not is_fault and (status != 0 or "fault" in errors):
         return f"WRONG: status {status}, {errors}"
@@ -226,19 +227,19 @@ def served_refused(number, what="refuse_memory"):
         return f"WRONG: 0 of 2 clients with all answers after an accept, {errors}"
     if not trace:
         return f"the fault, {whole} of 2 clients with all answers" if is_fault else "WRONG: no trace"
-    history = played(trace)
+    history = play_trace(trace)
     # (each client reads a list, which it does not record; and a call is an event even if there is
     # no memory for its response)
-    if not all(stands_in(client.seen, history) for client in clients) or len(history) > sum(len(client.seen) + 1 for client in clients):
+    if not all(is_part_of(client.seen, history) for client in clients) or len(history) > sum(len(client.seen) + 1 for client in clients):
         return f"WRONG: a trace of {len(history)} events"
     return f"{'the fault, and ' * is_fault}the trace is complete, {whole} of 2 clients with all answers"
 
 
 def a_meter_that_serves_is_refused_memory(name):
-    ample = served_refused(0)
+    ample = serve_two_clients(0)
     count = refusing.counts()[0]
     check(f"{name}: ample memory", ample == "the trace is complete, 2 of 2 clients with all answers", ample)
-    found = each_refusal(served_refused, count)
+    found = each_refusal(serve_two_clients, count)
     print_counts("meter_server serve", found)
     check(name, not any("WRONG" in what for what in found), found)
 
@@ -249,12 +250,12 @@ THREADS = 6
 
 
 def a_meter_that_serves_is_refused_threads(name):
-    ample = served_refused(0, "refuse_thread")
+    ample = serve_two_clients(0, "refuse_thread")
     count = refusing.counts()[4]
     check(f"{name}: none refused", (ample, count) == ("the trace is complete, 2 of 2 clients with all answers", THREADS), ample, count)
     for number, wanted in enumerate(["the fault, 0 of 2 clients with all answers"] + 3 * ["the fault, and the trace is complete, 0 of 2 clients with all answers"]
                                     + 2 * ["the fault, and the trace is complete, 1 of 2 clients with all answers"], start=1):
-        found = served_refused(number, "refuse_thread")
+        found = serve_two_clients(number, "refuse_thread")
         check(f"{name}: thread {number} of {THREADS}", found == wanted, found)
 
 
@@ -268,8 +269,8 @@ def a_press_is_not_made_without_its_thread(name):
             server.end_input()
         with contextlib.suppress(OSError):
             talk(Client(server.port))
-        status, trace, errors = server.ended()
-        presses = [event for event, _ in played(trace)].count("button")
+        status, trace, errors = server.end()
+        presses = [event for event, _ in play_trace(trace)].count("button")
         wanted = (4, 0) if number else (0, 1)
         check(f"{name}: thread {number}", (status, presses) == wanted and ("fault: memory" in errors) == (number > 0), status, trace, errors)
 

@@ -81,7 +81,7 @@ class Refusing:
         self.kept.cleanup()
 
 
-def turns(count, is_long):
+def call_numbers(count, is_long):
     """The numbers of the calls to refuse, of `count`: all, or the first eight, the last eight and
     about eight between."""
     if is_long or count <= 24:

@@ -64,14 +64,14 @@ def a_file_is_given_each_change(name):
             check(f"{name}: on, before the answer", relay.read_text() == "1\n" + (number + 1) * "0\n1\n", relay.read_text())
         client.execute(DISCONNECT)
         client.close()
-        status, trace, errors = server.ended()
+        status, trace, errors = server.end()
         check(f"{name}: the end", status == 0 and "fault" not in errors, status, errors)
         check(f"{name}: the log", errors.count(OFF) == 4 and errors.count(ON) == 3, errors)
         server = RelayedServer("--connections", "1", "--resume", "--relay", str(relay), console=trace.encode())
         check(f"{name}: what is there stays", relay.read_text() == "1\n" + 3 * "0\n1\n" + "0\n0\n", relay.read_text())
         client = server.client()
         client.close()
-        check(f"{name}: resumed", server.ended()[0] == 0)
+        check(f"{name}: resumed", server.end()[0] == 0)
 
 
 def the_meter_itself_moves_the_relay(name):
@@ -90,7 +90,7 @@ def the_meter_itself_moves_the_relay(name):
         server.say("button")
         check(f"{name}: the button", text_when(relay, "1\n0\n1\n0\n1\n") == "1\n0\n1\n0\n1\n", relay.read_text())
         client.close()
-        status, _, errors = server.ended()
+        status, _, errors = server.end()
         check(f"{name}: the end", status == 0 and "supply on: button" in errors, status, errors)
 
 
@@ -108,7 +108,7 @@ def a_pipe_keeps_what_is_written(name):
             client.execute(RECONNECT)
             check(f"{name}: later", reader.read(100) == b"1\n")
             client.close()
-            status, _, errors = server.ended()
+            status, _, errors = server.end()
             check(f"{name}: the end", status == 0, status, errors)
             check(f"{name}: nothing more", reader.read(100) == b"")
 
@@ -134,7 +134,7 @@ def a_relay_that_fails_ends_the_server(name):
             answer = None
         check(f"{name}: no answer", answer is None, answer)
         check(f"{name}: told at once", server.wait_for(b"the relay failed: the output can't be written"), server.errors)
-        status, trace, errors = server.ended()
+        status, trace, errors = server.end()
         check(f"{name}: the end", status == 3 and errors.endswith("fault: write\n"), status, errors)
         check(f"{name}: the trace", "execute 1 70 000060030AFF 1 0F00" in trace, trace)
         check(f"{name}: the relay", relay.read_text() == "1\n", relay.read_text())
@@ -155,14 +155,14 @@ def a_change_is_written_after_its_event_is_on_the_disk(name):
         except serving.Vanished:
             answer = None
         check(f"{name}: no answer", answer is None, answer)
-        status, _, errors = server.ended()
+        status, _, errors = server.end()
         check(f"{name}: the end", status == 3 and "the journal failed" in errors, status, errors)
         check(f"{name}: no change", relay.read_text() == "1\n0\n1\n", relay.read_text())
         server = RelayedServer("--connections", "1", "--relay", str(relay), "--journal", str(journal))
         client = server.client()
         check(f"{name}: as the journal says", client.get(STATE) == "value 1601" and relay.read_text() == "1\n0\n1\n1\n", relay.read_text())
         client.close()
-        check(f"{name}: started again", server.ended()[0] == 0)
+        check(f"{name}: started again", server.end()[0] == 0)
 
 
 def main():

@@ -25,7 +25,7 @@ OPENED = AARE + "001C1904000007"  # conformance: get, set and action
 WITHOUT_SERVICE = AARE + "00000804000007"  # conformance: only set
 
 
-def framed(payload, source=1, destination=1):
+def frame_of(payload, source=1, destination=1):
     return bytes.fromhex(f"0001{source:04X}{destination:04X}{len(payload) // 2:04X}{payload}")
 
 
@@ -43,7 +43,7 @@ class Talk:
         stream.settimeout(PATIENCE)
         stream.setsockopt(socket.IPPROTO_TCP, socket.TCP_NODELAY, 1)
 
-    def more(self):
+    def receive_more(self):
         try:
             piece = self.stream.recv(4096)
         except OSError as error:
@@ -55,7 +55,7 @@ class Talk:
     def take(self):
         """Receives the next frame."""
         while len(self.text) < 8 or len(self.text) < self.length():
-            self.more()
+            self.receive_more()
         length = self.length()
         self.frames.append(self.text[:length])
         self.text = self.text[length:]
@@ -71,7 +71,7 @@ class Talk:
             raise Left from error
 
     def send(self, *payloads):
-        self.send_bytes(b"".join(framed(payload) for payload in payloads))
+        self.send_bytes(b"".join(frame_of(payload) for payload in payloads))
 
     def reset(self):
         """Makes the close a reset of the connection."""
@@ -116,8 +116,8 @@ class ScriptedMeter:
                     pass
             self.talks.append(talk)
 
-    def talked(self, times):
-        """The talks, once there are `count`."""
+    def wait_for_talks(self, times):
+        """Waits until there are `times` talks; returns them."""
         wait_until(lambda: len(self.talks) >= times)
         return self.talks
 
@@ -176,7 +176,7 @@ def closes_without_aare(talk):
 
 def closes_in_mid_aare(talk):
     talk.take()
-    talk.send_bytes(framed(OPENED)[:20])
+    talk.send_bytes(frame_of(OPENED)[:20])
     return True
 
 
@@ -186,7 +186,7 @@ def closes_without_answer(talk):
 
 
 def closes_in_mid_answer(talk):
-    talk.send_bytes(framed(answer_to(talk.open()))[:11])
+    talk.send_bytes(frame_of(answer_to(talk.open()))[:11])
     return True
 
 
@@ -219,18 +219,18 @@ def says_too_long_a_frame(talk):
 def speaks_to_others_first(talk):
     """Sends frames of other ports, which would be valid answers from port 1, before the right
     ones."""
-    others = b"".join(framed("C701C10200", *ports) for ports in ((16, 1), (1, 16), (2, 2), (0, 1))) + framed("00" * 1024, 1, 16)
+    others = b"".join(frame_of("C701C10200", *ports) for ports in ((16, 1), (1, 16), (2, 2), (0, 1))) + frame_of("00" * 1024, 1, 16)
     talk.take()
-    talk.send_bytes(others + framed(REFUSED + "0D", 16, 1) + framed(OPENED))
+    talk.send_bytes(others + frame_of(REFUSED + "0D", 16, 1) + frame_of(OPENED))
     request = talk.take()
-    talk.send_bytes(others + framed(answer_to(request)))
+    talk.send_bytes(others + frame_of(answer_to(request)))
 
 
 def says_byte_by_byte(talk):
     talk.take()
-    for byte in framed(OPENED):
+    for byte in frame_of(OPENED):
         talk.send_bytes(bytes([byte]))
-    for byte in framed(answer_to(talk.take())):
+    for byte in frame_of(answer_to(talk.take())):
         talk.send_bytes(bytes([byte]))
         time.sleep(0.002)
 
@@ -241,14 +241,14 @@ def says_more_than_asked(talk):
 
 def drips(talk):
     talk.take()
-    for byte in framed("00" * 1024, 16, 1):
+    for byte in frame_of("00" * 1024, 16, 1):
         talk.send_bytes(bytes([byte]))
         time.sleep(0.1)
 
 
 def floods(talk):
     talk.take()
-    piece = framed("00" * 1024, 16, 1) * 64
+    piece = frame_of("00" * 1024, 16, 1) * 64
     while True:
         talk.send_bytes(piece)
 
@@ -399,7 +399,7 @@ def text_for(kind, name):
     if name == "release":
         return b""
     payload = opening if name == "aarq" else answers.get(name)
-    return framed(payload) if payload else False
+    return frame_of(payload) if payload else False
 
 
 TEXTS = {(kind, name): text_for(kind, name) for kind in range(len(CROWD)) for name in STAGES}

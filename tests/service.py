@@ -44,7 +44,7 @@ class Service(serving.Server):
     def ends(self, number=signal.SIGTERM):
         """Sends a signal and returns the status and standard error."""
         self.process.send_signal(number)
-        status, _, errors = self.ended()
+        status, _, errors = self.end()
         return status, errors
 
     def trace(self, number):
@@ -62,11 +62,11 @@ class Service(serving.Server):
 
 def in_folder(function):
     """A test with an empty folder."""
-    def tested(name):
+    def run_test(name):
         with tempfile.TemporaryDirectory(prefix="service-") as folder:
             function(name, Path(folder) / "meter")
-    tested.__name__ = function.__name__
-    return tested
+    run_test.__name__ = function.__name__
+    return run_test
 
 
 def server_of(service):
@@ -91,7 +91,8 @@ def a_run_is_stored_and_resumed(name, folder):
     check(f"{name}: ends", status == 0 and "stored" in errors, status, errors)
     check(f"{name}: what the folder has",
           names_of(folder) == ["console", "traces", "traces/000001.trace"], names_of(folder))
-    check(f"{name}: the trace", serving.stands_in(client.seen, serving.played(service.trace(1))))
+    check(f"{name}: the trace",
+          serving.is_part_of(client.seen, serving.play_trace(service.trace(1))))
     for number, sent in ((2, signal.SIGINT), (3, signal.SIGHUP)):
         service = Service(folder, port=service.port)
         client = service.client()
@@ -100,7 +101,7 @@ def a_run_is_stored_and_resumed(name, folder):
         status, errors = service.ends(sent)
         check(f"{name}: ends by {sent.name}", status == 0, status, errors)
         check(f"{name}: trace {number}",
-              serving.played(service.trace(number)) == client.seen, service.trace(number))
+              serving.play_trace(service.trace(number)) == client.seen, service.trace(number))
 
 
 @in_folder
@@ -112,7 +113,7 @@ def the_console_stays_open(name, folder):
     service.write("button\n" * 300)
     status, errors = service.ends()
     check(f"{name}: ends", status == 0, status, errors)
-    events = [event for event, _ in serving.played(service.trace(1))]
+    events = [event for event, _ in serving.play_trace(service.trace(1))]
     moments = [it for it in events if it.startswith("moment ")]
     check(f"{name}: all moments", moments == [f"moment {it}" for it in range(20)], events)
     check(f"{name}: what was written just before the signal",
@@ -132,10 +133,10 @@ def open_sessions_end_first(name, folder):
     service.process.send_signal(signal.SIGTERM)
     check(f"{name}: further signals change nothing", client.get(STATE) == "value 1600")
     client.close()
-    status, _, errors = service.ended()
+    status, _, errors = service.end()
     check(f"{name}: ends", status == 0, status, errors)
     check(f"{name}: the trace has the session",
-          serving.stands_in(client.seen, serving.played(service.trace(1))))
+          serving.is_part_of(client.seen, serving.play_trace(service.trace(1))))
 
 
 @in_folder
@@ -155,10 +156,10 @@ def a_killed_server_is_not_resumed(name, folder):
     status, _ = service.ends()
     service = Service(folder)
     os.kill(server_of(service), signal.SIGKILL)
-    status, _, errors = service.ended()
+    status, _, errors = service.end()
     check(f"{name}: status", status == 128 + 9 and "stays" in errors, status, errors)
     service = Service(folder)
-    status, _, errors = service.ended()
+    status, _, errors = service.end()
     check(f"{name}: refused", status == 2 and "listening" not in errors, status, errors)
     check(f"{name}: one line",
           errors.count("\n") == 1 and "000001.trace" in errors and "running" in errors, errors)
@@ -184,11 +185,11 @@ def a_killed_server_has_its_journal(name, folder):
     check(f"{name}: from the trace",
           (client.get(MODE), client.execute(DISCONNECT)) == ("value 1601", "code 0"))
     os.kill(server_of(service), signal.SIGKILL)
-    status, _, errors = service.ended()
+    status, _, errors = service.end()
     check(f"{name}: status", status == 128 + 9 and "stays" in errors, status, errors)
     client.close()
     for others in ((), ("--journal", str(folder / "other"))):
-        status, _, errors = Service(folder, *others).ended()
+        status, _, errors = Service(folder, *others).end()
         check(f"{name}: refused with {others}", status == 2 and journal[1] in errors
               and errors.count("\n") == 1 and "listening" not in errors, status, errors)
     service = Service(folder, "--journal=" + journal[1])
@@ -223,22 +224,22 @@ def a_killed_service_is_recovered(name, folder):
 def what_serves_nothing_loses_nothing(name, folder):
     service = Service(folder)
     second = Service(folder)
-    status, _, errors = second.ended()
+    status, _, errors = second.end()
     check(f"{name}: a second service",
           status == 2 and errors.count("\n") == 1 and "another" in errors, status, errors)
     other = Service(folder.with_name("other"), port=service.port)
-    status, _, errors = other.ended()
+    status, _, errors = other.end()
     check(f"{name}: a port in use", status == 3 and "fault: listen" in errors, status, errors)
     check(f"{name}: no marker stays",
           names_of(other.folder) == ["console", "traces"], names_of(other.folder))
     check(f"{name}: the first one serves", service.ends()[0] == 0)
     wrong = Service(folder, "--depth", "0")
-    status, _, errors = wrong.ended()
+    status, _, errors = wrong.end()
     check(f"{name}: a wrong option",
           status == 2 and "--depth" in errors and not (folder / "running").exists(), status, errors)
     (folder / "traces/000002.trace").write_text("RELAYTRACE 3\n")
     wrong = Service(folder)
-    status, _, errors = wrong.ended()
+    status, _, errors = wrong.end()
     check(f"{name}: a wrong trace", status == 2 and "fault: input" in errors, status, errors)
 
 
@@ -308,20 +309,20 @@ def under_runit(name):
 def commands_of_runit(name, folder, service, port):
     log, traces = service / "log" / "main" / "current", folder / "state" / "traces"
 
-    def logged(words, times):
+    def wait_for_log(words, times):
         return wait_until(lambda: log.exists() and log.read_text().count(words) >= times)
 
     def sv(*words):
         return subprocess.run(["sv", *words, service], capture_output=True).returncode == 0
 
-    check(f"{name}: runs", logged("listening on", 1))
+    check(f"{name}: runs", wait_for_log("listening on", 1))
     client = serving.Client(port)
     client.associate()
     check(f"{name}: mode and disconnect",
           (client.set(MODE, "1601"), client.execute(DISCONNECT)) == ("code 0", "code 0"))
     client.close()
     check(f"{name}: restart",
-          sv("-w", "30", "restart") and logged("listening on", 2)
+          sv("-w", "30", "restart") and wait_for_log("listening on", 2)
           and (traces / "000001.trace").exists())
     client = serving.Client(port)
     client.associate()
@@ -333,10 +334,10 @@ def commands_of_runit(name, folder, service, port):
     (folder / "state" / "running").touch()
     subprocess.run(["sv", "start", service], capture_output=True)
     check(f"{name}: what a person must decide stays down",
-          logged("left no trace", 1) and wait_until(lambda: is_down(service)))
+          wait_for_log("left no trace", 1) and wait_until(lambda: is_down(service)))
     (folder / "state" / "running").unlink()
     subprocess.run(["sv", "start", service], capture_output=True)
-    check(f"{name}: starts again", logged("listening on", 3))
+    check(f"{name}: starts again", wait_for_log("listening on", 3))
 
 
 def is_down(service):

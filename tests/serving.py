@@ -53,7 +53,7 @@ class Vanished(Exception):
     """The server closed the connection or sent nothing within the time limit."""
 
 
-def described(place):
+def descriptor(place):
     kind, name, number = place
     return f"{kind:04X}{name}{number:02X}"
 
@@ -73,7 +73,7 @@ class Client:
     def send_bytes(self, text):
         self.socket.sendall(text)
 
-    def wanted(self, count):
+    def receive_exactly(self, count):
         text = b""
         while len(text) < count:
             try:
@@ -85,15 +85,15 @@ class Client:
             text += piece
         return text
 
-    def received(self):
-        head = self.wanted(8)
+    def receive(self):
+        head = self.receive_exactly(8)
         version, source, destination, length = (int.from_bytes(head[i:i + 2], "big") for i in (0, 2, 4, 6))
         assert (version, source, destination) == (1, 1, self.source), head.hex()
-        return self.wanted(length).hex().upper()
+        return self.receive_exactly(length).hex().upper()
 
     def ask(self, payload):
         self.send(payload)
-        return self.received()
+        return self.receive()
 
     def is_closed(self):
         """Whether the server closed the connection without sending a byte."""
@@ -129,7 +129,7 @@ class Client:
 
     def get(self, place):
         """Reads an attribute and returns its Data or the result code."""
-        answer = self.ask(f"C001C1{described(place)}00")
+        answer = self.ask(f"C001C1{descriptor(place)}00")
         if answer.startswith("C402C1"):
             data = self.rest_of_blocks(answer)
         elif answer.startswith("C401C100"):
@@ -152,12 +152,12 @@ class Client:
             number += 1
 
     def get_list(self, *places):
-        answer = self.ask(f"C003C1{len(places):02X}" + "".join(described(place) + "00" for place in places))
+        answer = self.ask(f"C003C1{len(places):02X}" + "".join(descriptor(place) + "00" for place in places))
         assert answer.startswith(f"C403C1{len(places):02X}"), answer
         return answer[8:]
 
     def set(self, place, data):
-        answer = self.ask(f"C101C1{described(place)}00{data}")
+        answer = self.ask(f"C101C1{descriptor(place)}00{data}")
         assert answer.startswith("C501C1") and len(answer) == 8, answer
         return self.record(f"set {self.line(place)} 0 {data}", f"code {int(answer[6:], 16)}")
 
@@ -166,14 +166,15 @@ class Client:
         for number, piece in enumerate(pieces, 1):
             last = f"{number == len(pieces):02X}"
             raw = f"{last}{number:08X}{len(piece) // 2:02X}{piece}"
-            answer = self.ask(f"C102C1{described(place)}00{raw}" if number == 1 else f"C103C1{raw}")
+            answer = self.ask(f"C102C1{descriptor(place)}00{raw}" if number == 1
+                              else f"C103C1{raw}")
             if number < len(pieces):
                 assert answer == f"C502C1{number:08X}", answer
         assert answer[:6] == "C503C1" and answer[8:] == f"{len(pieces):08X}", answer
         return self.record(f"set {self.line(place)} 0 {''.join(pieces)}", f"code {int(answer[6:8], 16)}")
 
     def execute(self, place, parameter="0F00"):
-        answer = self.ask(f"C301C1{described(place)}" + (f"01{parameter}" if parameter else "00"))
+        answer = self.ask(f"C301C1{descriptor(place)}" + (f"01{parameter}" if parameter else "00"))
         assert answer.startswith("C701C1") and answer.endswith("00") and len(answer) == 10, answer
         return self.record(f"execute {self.line(place)} {parameter or '-'}", f"code {int(answer[6:8], 16)}")
 
@@ -225,7 +226,7 @@ class Server:
     def end_input(self):
         self.process.stdin.close()
 
-    def ended(self):
+    def end(self):
         """Closes the console, waits for the server to end, and returns its status, standard output
         and standard error."""
         try:
@@ -266,7 +267,7 @@ def run_with(*words, environment=None, console=b""):
     return made.returncode, made.stdout.decode(), made.stderr.decode()
 
 
-def played(trace):
+def play_trace(trace):
     """The events of a trace, each with the reply that trace_player prints."""
     made = subprocess.run([str(PLAYER)], input=trace.encode(), capture_output=True, timeout=PATIENCE)
     assert made.returncode == 0, made.stderr
@@ -278,7 +279,7 @@ def played(trace):
     return [(event, reply[1]) for event, reply in zip(events, replies)]
 
 
-def stands_in(seen, all_events):
+def is_part_of(seen, all_events):
     """Whether the history has these events with these replies, in this order."""
     rest = iter(all_events)
     return all(event in rest for event in seen)
@@ -321,14 +322,14 @@ def requests_of_every_kind(name):
     objects = client.get(OBJECTS)
     check(f"{name}: object list", objects.startswith("value 010C0204") and len(objects) == 6 + 2 * 650, objects)
     check(f"{name}: release", public.release() == RELEASED and client.release() == RELEASED)
-    check(f"{name}: after the release", client.ask("C001C1" + described(STATE) + "00") == "D80101")
+    check(f"{name}: after the release", client.ask("C001C1" + descriptor(STATE) + "00") == "D80101")
     public.close()
     client.close()
-    status, trace, errors = server.ended()
+    status, trace, errors = server.end()
     check(f"{name}: end", status == 0 and "fault" not in errors, status, errors)
-    history = played(trace)
-    check(f"{name}: public replies", stands_in(public.seen, history))
-    check(f"{name}: management replies", stands_in(client.seen, history))
+    history = play_trace(trace)
+    check(f"{name}: public replies", is_part_of(public.seen, history))
+    check(f"{name}: management replies", is_part_of(client.seen, history))
     check(f"{name}: nothing else", len(history) == len(public.seen) + len(client.seen) + 1, trace)
 
 
@@ -340,8 +341,8 @@ def a_long_answer_comes_in_blocks(name):
     check(f"{name}: all blocks", objects.startswith("value 010C0204") and len(objects) == 6 + 2 * 650)
     check(f"{name}: then others", client.get(STATE) == "value 1601")
     client.close()
-    status, trace, _ = server.ended()
-    check(f"{name}: played", status == 0 and stands_in(client.seen, played(trace)))
+    status, trace, _ = server.end()
+    check(f"{name}: played", status == 0 and is_part_of(client.seen, play_trace(trace)))
 
 
 def clients_interleave(name):
@@ -354,13 +355,13 @@ def clients_interleave(name):
         other.execute(RECONNECT)
         check(f"{name}: connected", one.get(STATE) == "value 1601", turn)
     for client in (one, other):  # both send before either reads
-        client.send("C001C1" + described(MODE) + "00")
-    check(f"{name}: asked at once", one.received() == other.received() == "C401C1001604")
+        client.send("C001C1" + descriptor(MODE) + "00")
+    check(f"{name}: asked at once", one.receive() == other.receive() == "C401C1001604")
     one.close()
     other.close()
-    status, trace, _ = server.ended()
-    history = played(trace)
-    check(f"{name}: played", status == 0 and stands_in(one.seen, history) and stands_in(other.seen, history))
+    status, trace, _ = server.end()
+    history = play_trace(trace)
+    check(f"{name}: played", status == 0 and is_part_of(one.seen, history) and is_part_of(other.seen, history))
     check(f"{name}: the whole history", len(history) == len(one.seen) + len(other.seen) + 2)
 
 
@@ -373,13 +374,13 @@ def a_ninth_client_is_turned_away(name):
     check(f"{name}: the eight go on", all(client.get(STATE) == "value 1601" for client in clients))
     clients[3].close()
     check(f"{name}: one ends", server.wait_for(b"session ended: the client closed the connection"))
-    later = again_served(server)
+    later = connect_again(server)
     check(f"{name}: then another is served", later.get(STATE) == "value 1601")
     for client in (*clients, later, ninth):
         client.close()
-    status, trace, _ = server.ended()
+    status, trace, _ = server.end()
     check(f"{name}: end", status == 0)
-    check(f"{name}: played", stands_in(later.seen, played(trace)))
+    check(f"{name}: played", is_part_of(later.seen, play_trace(trace)))
 
 
 def a_client_whose_stream_cannot_be_set_up_is_turned_away(name):
@@ -399,13 +400,13 @@ def a_client_whose_stream_cannot_be_set_up_is_turned_away(name):
     check(f"{name}: the next is served", later.get(STATE) == "value 1601")
     later.close()
     # (both count as connections, so the server ends)
-    status, trace, errors = server.ended()
+    status, trace, errors = server.end()
     check(f"{name}: end", status == 0 and "fault" not in errors, status, errors)
     check(f"{name}: one is turned away", errors.count("turned away") == 1, errors)
-    check(f"{name}: played", stands_in(later.seen, played(trace)))
+    check(f"{name}: played", is_part_of(later.seen, play_trace(trace)))
 
 
-def again_served(server):
+def connect_again(server):
     """Connects a client once a session is free: the server frees ended sessions when it accepts the
     next client."""
     found = []
@@ -443,10 +444,10 @@ def console_lines_act_beside_clients(name):
     check(f"{name}: the last sample", has_last)
     client.close()
     server.say_bytes(b"moment 200\nmoment 300")  # the last line has no line end
-    status, trace, errors = server.ended()
+    status, trace, errors = server.end()
     skipped = [line for line in errors.splitlines() if "console: " in line]
     check(f"{name}: what was skipped", skipped == SKIPPED, skipped)
-    history = played(trace)
+    history = play_trace(trace)
     own = [event for event, _ in history if event.split()[0] in ("samples", "pairs", "moment", "button")]
     check(f"{name}: each good line once", sorted(own) == sorted(["moment 100", "samples 10 20", "pairs 30 40", "button", "samples", "moment 200"]), own)
     samples = [event for event in own if event.split()[0] in ("samples", "pairs")]
@@ -454,7 +455,7 @@ def console_lines_act_beside_clients(name):
     check(f"{name}: moments in order", own.index("moment 100") < own.index("moment 200"))
     check(f"{name}: the sampler reads the thresholds first",
           next(event for event, _ in history if event.startswith(("getlist", "samples"))).startswith("getlist 1 2 71 0000110000FF 3 0 71 0001110000FF 3 0"))
-    check(f"{name}: played", status == 0 and stands_in(client.seen, history))
+    check(f"{name}: played", status == 0 and is_part_of(client.seen, history))
 
 
 def a_console_that_is_not_read_is_a_fault(name):
@@ -470,9 +471,9 @@ def a_console_that_is_not_read_is_a_fault(name):
     client = server.client(PUBLIC)
     client.get(STATE)
     client.close()
-    status, trace, errors = server.ended()
+    status, trace, errors = server.end()
     check(f"{name}", status == 3 and errors.endswith("fault: read\n") and errors.count("console:") == 1, status, errors)
-    check(f"{name}: the trace is printed", stands_in(client.seen, played(trace)), trace)
+    check(f"{name}: the trace is printed", is_part_of(client.seen, play_trace(trace)), trace)
 
 
 def a_limit_of_connections_ends_the_server(name):
@@ -482,8 +483,8 @@ def a_limit_of_connections_ends_the_server(name):
         client = server.client(PUBLIC)
         client.get(STATE)
         client.close()
-    status, trace, errors = server.ended()
-    check(f"{name}", status == 0 and len(played(trace)) == 2 and "fault" not in errors, status, errors)
+    status, trace, errors = server.end()
+    check(f"{name}", status == 0 and len(play_trace(trace)) == 2 and "fault" not in errors, status, errors)
 
 
 def the_end_of_input_ends_the_server(name):
@@ -508,9 +509,9 @@ def the_end_of_input_ends_the_server(name):
     check(f"{name}: no further client", not is_open)
     check(f"{name}: an open session continues", client.set(MODE, "1601") == "code 0" and server.process.poll() is None)
     client.close()
-    status, trace, errors = server.ended()
+    status, trace, errors = server.end()
     check(f"{name}: end", status == 0 and "fault" not in errors, status, errors)
-    check(f"{name}: played", stands_in(client.seen, played(trace)) and ("button", "code 2") in played(trace))
+    check(f"{name}: played", is_part_of(client.seen, play_trace(trace)) and ("button", "code 2") in play_trace(trace))
 
 
 def an_address_in_use_is_a_fault(name):
@@ -532,7 +533,7 @@ def a_meter_goes_on_from_its_trace(name):
     first.execute(DISCONNECT)
     first.close()
     server.say("moment 500", "samples 8000 8000 8000")
-    status, trace, _ = server.ended()
+    status, trace, _ = server.end()
     check(f"{name}: a first run", status == 0 and "events 4\n" in trace, trace)
     server = Server("--connections", "1", "--resume", console=trace.encode() + b"moment 400\n")
     then = server.client()
@@ -542,10 +543,10 @@ def a_meter_goes_on_from_its_trace(name):
     check(f"{name}: last sample", then.get(REGISTER) == "value 0600001F40")
     check(f"{name}: reconnect", then.execute(RECONNECT) == "code 0")
     then.close()
-    status, trace, _ = server.ended()
-    history = played(trace)
+    status, trace, _ = server.end()
+    history = play_trace(trace)
     check(f"{name}: the time too", status == 0 and ("moment 400", "stale 500") in history, history)
-    check(f"{name}: no event of the first run", stands_in(then.seen, history) and len(history) == len(then.seen) + 1, history)
+    check(f"{name}: no event of the first run", is_part_of(then.seen, history) and len(history) == len(then.seen) + 1, history)
 
 
 def a_wrong_trace_is_not_gone_on_from(name):
@@ -553,7 +554,7 @@ def a_wrong_trace_is_not_gone_on_from(name):
     client = good.client(PUBLIC)
     client.get(STATE)
     client.close()
-    trace = good.ended()[1].encode()
+    trace = good.end()[1].encode()
     for what, text in (("no trace", b"button\n"), ("nothing", b""), ("cut", trace[:-1]), ("an unfit state", trace.replace(b"state 1", b"state 3")),
                        ("another version", trace.replace(b"RELAYTRACE 2", b"RELAYTRACE 3")), ("too few events", trace.replace(b"events 1", b"events 2")),
                        ("a wrong event", trace.replace(b"get 16", b"get 17"))):
@@ -566,12 +567,13 @@ def wrong_passwords_are_refused(name):
     for password, diagnostic in (("1234567", "0D"), ("87654321", "0D")):
         client = Client(server.port)
         check(f"{name}: {password}", client.associate(password) == REFUSED + diagnostic)
-        check(f"{name}: no association", client.ask("C001C1" + described(STATE) + "00") == "D80101")
+        check(f"{name}: no association",
+              client.ask("C001C1" + descriptor(STATE) + "00") == "D80101")
         client.close()
     client = server.client()
     check(f"{name}: the right one", client.get(STATE) == "value 1601")
     client.close()
-    check(f"{name}: end", server.ended()[0] == 0)
+    check(f"{name}: end", server.end()[0] == 0)
     for words in (["--password", ""], ["--password", "x" * 33], ["--password", "x", "--device", ""], ["--password", "x", "--device", "x" * 17]):
         made = run_with(*words)
         check(f"{name}: length", made == (2, "", "fault: input\n"), words, made)
@@ -597,7 +599,7 @@ def the_log_reports_each_client(name):
     check(f"{name}: the public client is refused", client.set(MODE, "1602") == "code 3")
     client.release()
     client.close()
-    status, _, errors = server.ended()
+    status, _, errors = server.end()
     reasons = ("connected", "association refused: wrong password (diagnostic 13)", "session ended: the client closed the connection; 0 requests, 0 refused",
                "connected", "associated as the management client", "session ended: the client closed the connection; 3 requests, 1 refused",
                "connected", "associated as the public client", "session ended: the client closed the connection; 1 requests, 1 refused")
@@ -612,19 +614,19 @@ def the_environment_has_the_password(name):
     client = Client(server.port)
     check(f"{name}: taken", client.associate("of the environment").startswith(AARE))
     client.close()
-    check(f"{name}: end", server.ended()[0] == 0)
+    check(f"{name}: end", server.end()[0] == 0)
     server = Server("--connections", "1", environment={"METER_PASSWORD": "of the environment"})
     client = Client(server.port)
     check(f"{name}: the command line comes first", client.associate().startswith(AARE))
     client.close()
-    check(f"{name}: its end", server.ended()[0] == 0)
+    check(f"{name}: its end", server.end()[0] == 0)
     made = run_with("--listen", "127.0.0.1:0", environment={"METER_PASSWORD": ""})
     check(f"{name}: empty", made == (2, "", "fault: input\n"), made)
     status, output, errors = run_with("--listen", "127.0.0.1:0")
     check(f"{name}: neither", status == 2 and output == "" and "--password <TEXT>" in errors, errors)
 
 
-def shown_of(process):
+def process_text(process):
     """The command line and the environment that /proc shows of a process. They are empty until its
     program has begun."""
     files = [pathlib.Path(f"/proc/{process.pid}/{it}") for it in ("cmdline", "environ")]
@@ -640,15 +642,15 @@ def a_file_has_the_password(name):
         server = Server("--connections", "1", "--password-file", str(path), password=None, environment={"METER_PASSWORD": "of the environment"})
         client = Client(server.port)
         check(f"{name}: taken before that of the environment", client.associate("of the file").startswith(AARE))
-        shown = shown_of(server.process)
+        shown = process_text(server.process)
         check(f"{name}: not shown", b"--password-file" in shown and b"of the environment" in shown and b"of the file" not in shown, shown)
         client.close()
-        check(f"{name}: end", server.ended()[0] == 0)
+        check(f"{name}: end", server.end()[0] == 0)
         server = Server("--connections", "1", "--password-file", str(path))
         client = Client(server.port)
         check(f"{name}: the command line comes first", client.associate().startswith(AARE))
         client.close()
-        check(f"{name}: its end", server.ended()[0] == 0)
+        check(f"{name}: its end", server.end()[0] == 0)
 
 
 def a_client_may_vanish_in_mid_frame(name):
@@ -664,8 +666,8 @@ def a_client_may_vanish_in_mid_frame(name):
     check(f"{name}: other clients are served", client.get(STATE) == "value 1601")
     client.close()
     other.close()
-    status, trace, errors = server.ended()
-    check(f"{name}: end", status == 0 and len(played(trace)) == 1 and "a frame has the wrong version: expected 1" in errors, status, errors)
+    status, trace, errors = server.end()
+    check(f"{name}: end", status == 0 and len(play_trace(trace)) == 1 and "a frame has the wrong version: expected 1" in errors, status, errors)
 
 
 def a_silent_client_is_closed(name):
@@ -675,8 +677,8 @@ def a_silent_client_is_closed(name):
     begun = time.monotonic()
     check(f"{name}: closed", client.is_closed() and 0.8 <= time.monotonic() - begun < 10)
     client.close()
-    status, trace, errors = server.ended()
-    check(f"{name}: end", status == 0 and len(played(trace)) == 1 and "session ended: a read failed or timed out" in errors, status, errors)
+    status, trace, errors = server.end()
+    check(f"{name}: end", status == 0 and len(play_trace(trace)) == 1 and "session ended: a read failed or timed out" in errors, status, errors)
 
 
 def lines_on_a_terminal(*words):

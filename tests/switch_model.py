@@ -68,7 +68,7 @@ class SwitchModel:
         self.mode = mode
         return SUCCESS
 
-    def called(self, words):
+    def call(self, words):
         """The result of a SET of the mode or an ACTION of the switch."""
         if words[1] == PUBLIC:
             return READ_WRITE_DENIED
@@ -78,7 +78,7 @@ class SwitchModel:
         assert words[4:6] == ["4", "0"] and words[6][:3] == "160", words
         return self.write_mode(int(words[6][3:]))
 
-    def ticked(self, moment):
+    def tick(self, moment):
         if self.now is not None and moment < self.now:
             return f"stale {self.now}"
         self.now = moment
@@ -91,13 +91,13 @@ class SwitchModel:
         if words[0] == "button":
             return f"code {self.pull('manual disconnect' if self.is_on() else 'manual reconnect')}"
         if words[0] == "moment":
-            return self.ticked(int(words[1]))
+            return self.tick(int(words[1]))
         if words[0] in ("samples", "pairs"):
             imported = words[1:] if words[0] == "samples" else words[1::2]
             self.value = int(imported[-1]) if imported else self.value
             return "sampled"
         assert words[0] in ("set", "execute"), f"no event of a journal: {line}"
-        return f"code {self.called(words)}"
+        return f"code {self.call(words)}"
 
     def read(self, event):
         """The reply to a GET of the supply, the state, the mode or the last import sample."""

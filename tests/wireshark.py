@@ -21,9 +21,9 @@ from captures import Capture, frames_of, summaries_of, tshark
 from serving import PASSWORD, PATIENCE, SERVER
 from wireshark_lines import (
     CLASS_NAMES, CONFORMANCE, DIAGNOSTICS, INITIATE_ERRORS, MEMBERS, OBJECTS, OFFERED, RESULTS,
-    Answers, access_result, action_result, attribute, block, bytes_of, conformance, data, framed,
-    get_result, header, joined, lines_of_parts, listed, method, nested, raw_data, results_lines,
-    service, size_part)
+    Answers, access_result, action_result, attribute, block, bytes_of, conformance, data, frame_of,
+    get_result, header, indent, joined_blocks, lines_of_parts, list_of, method, raw_data,
+    results_lines, service, size_part)
 
 MUTATIONS = 2_000
 MANAGEMENT, PUBLIC = 1, 16
@@ -52,7 +52,7 @@ def association(tag, name, *fields):
 def information(tag, name, *parts):
     size = len(bytes_of(parts)) + 1
     return [(f"BE{size + 2:02X}04{size:02X}{tag:02X}",
-             f"User information: {name} (0x{tag:02x})"), *nested(parts)]
+             f"User information: {name} (0x{tag:02x})"), *indent(parts)]
 
 
 def initiate_request(bits, size, head=(("000000",),)):
@@ -140,15 +140,15 @@ def action(form, name, *parts):
     return [*service(0xC3, "ACTION-Request", form, name), *parts]
 
 
-def got(form, name, *parts):
+def get_response(form, name, *parts):
     return [*service(0xC4, "GET-Response", form, name), *parts]
 
 
-def was_set(form, name, *parts):
+def set_response(form, name, *parts):
     return [*service(0xC5, "SET-Response", form, name), *parts]
 
 
-def acted(form, name, *parts):
+def action_response(form, name, *parts):
     return [*service(0xC7, "ACTION-Response", form, name), *parts]
 
 
@@ -157,7 +157,7 @@ def number(n):
 
 
 def parameter(text):
-    return [("01", "Parameter: yes"), *nested(data(text))] if text else [("00", "Parameter: no")]
+    return [("01", "Parameter: yes"), *indent(data(text))] if text else [("00", "Parameter: no")]
 
 
 def exception(state, service_error, names):
@@ -170,7 +170,7 @@ NOT_ALLOWED = exception(1, 1, ("service-not-allowed", "operation-not-possible"))
 UNSUPPORTED = exception(2, 2, ("service-unknown", "service-not-supported"))
 UNREADABLE = exception(1, 3, ("service-not-allowed", "other-reason"))
 NO_RETURN = ("00", "Return parameter: no")
-RAW_BLOCK = [("00", "Choice: 0 (raw-data)"), *nested([raw_data("060000")])]
+RAW_BLOCK = [("00", "Choice: 0 (raw-data)"), *indent([raw_data("060000")])]
 
 # Each service and form. The forms after the first three of a request, and those with lists of
 # results, are not spoken by the meter.
@@ -179,45 +179,48 @@ FORMS = {
     "GET with selective access": get(1, "normal", *attribute(*OBJECT_LIST, (2, SCRIPT))),
     "GET of an unknown class": get(1, "normal", *attribute(*UNKNOWN)),
     "GET-next": get(2, "next", number(7)),
-    "GET of a list": get(3, "with-list", *listed(attribute(*STATE), attribute(*NORMAL))),
-    "GET of an empty list": get(3, "with-list", *listed()),
+    "GET of a list": get(3, "with-list", *list_of(attribute(*STATE), attribute(*NORMAL))),
+    "GET of an empty list": get(3, "with-list", *list_of()),
     "SET": set_(1, "normal", *attribute(*MODE), *data("1604")),
     "SET, first block": set_(2, "with-first-datablock", *attribute(*NORMAL),
                              *block(False, 1, "0600")),
     "SET, next block": set_(3, "with-datablock", *block(True, 9, "0011")),
-    "SET of a list": set_(4, "with-list", *listed(attribute(*MODE), attribute(*NORMAL)),
-                          *listed(data("1604"), data("0600001B58"))),
+    "SET of a list": set_(4, "with-list", *list_of(attribute(*MODE), attribute(*NORMAL)),
+                          *list_of(data("1604"), data("0600001B58"))),
     "SET of a list, first block": set_(5, "with-list-and-first-datablock",
-                                       *listed(attribute(*MODE)), *block(False, 1, "0116")),
+                                       *list_of(attribute(*MODE)), *block(False, 1, "0116")),
     "ACTION": action(1, "normal", *method(*DISCONNECT), *parameter("0F00")),
     "ACTION without a parameter": action(1, "normal", *method(*RECONNECT), *parameter("")),
     "ACTION of a script": action(1, "normal", *method(9, "00000A006AFF", 1), *parameter("120001")),
     "ACTION-next": action(2, "next-pblock", number(3)),
-    "ACTION of a list": action(3, "with-list", *listed(method(*DISCONNECT), method(*RECONNECT)),
-                               *listed(data("0F00"), data("00"))),
+    "ACTION of a list": action(3, "with-list", *list_of(method(*DISCONNECT), method(*RECONNECT)),
+                               *list_of(data("0F00"), data("00"))),
     "ACTION, first block": action(4, "with-first-pblock", *method(*DISCONNECT),
                                   *block(False, 1, "0F")),
     "ACTION of a list, first block": action(5, "with-list-and-first-pblock",
-                                            *listed(method(*DISCONNECT)), *block(False, 1, "01")),
+                                            *list_of(method(*DISCONNECT)), *block(False, 1, "01")),
     "ACTION, next block": action(6, "with-pblock", *block(True, 9, "00")),
-    "GET's answer": got(1, "normal", *get_result(data=data("1601"))),
-    "GET's result": got(1, "normal", *get_result(3)),
-    "GET's block": got(2, "with-datablock", ("00", "Last block: no"), number(1), *RAW_BLOCK),
-    "GET's refused block": got(2, "with-datablock", ("01", "Last block: yes"), number(1),
-                               *get_result(16)),
-    "GET's list": got(3, "with-list", *listed(get_result(data=data("1601")), get_result(4))),
-    "SET's block": was_set(2, "datablock", number(1)),
-    "SET's last block": was_set(3, "last-datablock", access_result(0), number(2)),
-    "SET's last block with a list": was_set(4, "last-datablock-with-list",
-                                            *listed([access_result(0)], [access_result(3)]),
-                                            number(2)),
-    "SET's list": was_set(5, "with-list", *listed([access_result(0)], [access_result(12)])),
-    "ACTION's return": acted(1, "normal", action_result(0), ("01", "Return parameter: yes"),
-                             *nested(get_result(data=data("1200FF")))),
-    "ACTION's answer in blocks": acted(2, "with-pblock", *block(True, 1, "00")),
-    "ACTION's list": acted(3, "with-list", *listed([action_result(0), NO_RETURN],
-                                                   [action_result(2), NO_RETURN])),
-    "ACTION's block": acted(4, "next-pblock", number(1)),
+    "GET's answer": get_response(1, "normal", *get_result(data=data("1601"))),
+    "GET's result": get_response(1, "normal", *get_result(3)),
+    "GET's block": get_response(2, "with-datablock", ("00", "Last block: no"), number(1),
+                                *RAW_BLOCK),
+    "GET's refused block": get_response(2, "with-datablock", ("01", "Last block: yes"), number(1),
+                                        *get_result(16)),
+    "GET's list": get_response(3, "with-list",
+                               *list_of(get_result(data=data("1601")), get_result(4))),
+    "SET's block": set_response(2, "datablock", number(1)),
+    "SET's last block": set_response(3, "last-datablock", access_result(0), number(2)),
+    "SET's last block with a list": set_response(4, "last-datablock-with-list",
+                                                 *list_of([access_result(0)], [access_result(3)]),
+                                                 number(2)),
+    "SET's list": set_response(5, "with-list", *list_of([access_result(0)], [access_result(12)])),
+    "ACTION's return": action_response(1, "normal", action_result(0),
+                                       ("01", "Return parameter: yes"),
+                                       *indent(get_result(data=data("1200FF")))),
+    "ACTION's answer in blocks": action_response(2, "with-pblock", *block(True, 1, "00")),
+    "ACTION's list": action_response(3, "with-list", *list_of([action_result(0), NO_RETURN],
+                                                              [action_result(2), NO_RETURN])),
+    "ACTION's block": action_response(4, "next-pblock", number(1)),
     "a service that is not allowed": NOT_ALLOWED,
     "an unknown service": UNSUPPORTED,
     "an unreadable request": UNREADABLE,
@@ -225,8 +228,8 @@ FORMS = {
                                                 "invocation-counter-error")),
                               ("00000009", "Invocation counter: 9")],
 }
-FORMS |= {f"SET's result {it}": was_set(1, "normal", access_result(it)) for it in RESULTS}
-FORMS |= {f"ACTION's result {it}": acted(1, "normal", action_result(it), NO_RETURN)
+FORMS |= {f"SET's result {it}": set_response(1, "normal", access_result(it)) for it in RESULTS}
+FORMS |= {f"ACTION's result {it}": action_response(1, "normal", action_result(it), NO_RETURN)
           for it in RESULTS if it < 16 or it == 250}
 # APDUs that are named and not dissected.
 OTHERS = {
@@ -282,10 +285,10 @@ def is_request(parts):
     return bytes_of(parts)[0] in (0x60, 0x62, 0xC0, 0xC1, 0xC3)
 
 
-def shown(parts, client=PUBLIC):
+def frame_and_lines(parts, client=PUBLIC):
     """A frame of these parts: its bytes, its lines, and whether the client sends it."""
     by_client = is_request(parts)
-    frame = framed(parts, client, by_client)
+    frame = frame_of(parts, client, by_client)
     return bytes_of(frame), lines_of_parts(frame), by_client
 
 
@@ -293,7 +296,7 @@ def compare(cases, *options):
     """Compares each frame, in a connection of its own."""
     capture, wanted = Capture(), {}
     for name, parts in cases.items():
-        text, lines, by_client = shown(parts)
+        text, lines, by_client = frame_and_lines(parts)
         wanted[capture.connection().send(text, by_client)] = name, lines
     found = frames_of(capture, *options)
     for packet, (name, lines) in wanted.items():
@@ -308,7 +311,8 @@ def all_forms():
 
 
 def all_values():
-    compare({f"Data {it[:40]}": got(1, "normal", *get_result(data=data(it))) for it in VALUES})
+    compare({f"Data {it[:40]}": get_response(1, "normal", *get_result(data=data(it)))
+             for it in VALUES})
 
 
 def all_objects():
@@ -335,30 +339,33 @@ SESSION = [
     (get(1, "normal", *attribute(*STATE)), NOT_ALLOWED),
     (aarq(*LOW_LEVEL, *initiate_request(0x001E19, 64)),
      aare(0, "accepted", user_diagnostic(0), *initiate_response(0x001E19, 1024))),
-    (get(1, "normal", *attribute(*STATE)), got(1, "normal", *get_result(data=data("1601")))),
-    (get(1, "normal", *attribute(*UNKNOWN)), got(1, "normal", *get_result(4))),
-    (get(1, "normal", *attribute(*STATE, (1, data("00")))), got(1, "normal", *get_result(13))),
-    (set_(1, "normal", *attribute(*MODE), *data("1604")), was_set(1, "normal", access_result(0))),
+    (get(1, "normal", *attribute(*STATE)),
+     get_response(1, "normal", *get_result(data=data("1601")))),
+    (get(1, "normal", *attribute(*UNKNOWN)), get_response(1, "normal", *get_result(4))),
+    (get(1, "normal", *attribute(*STATE, (1, data("00")))),
+     get_response(1, "normal", *get_result(13))),
+    (set_(1, "normal", *attribute(*MODE), *data("1604")),
+     set_response(1, "normal", access_result(0))),
     (set_(1, "normal", *attribute(*MODE), *data("1104")),
-     was_set(1, "normal", access_result(12))),
+     set_response(1, "normal", access_result(12))),
     (action(1, "normal", *method(*DISCONNECT), *parameter("0F00")), None),
-    (get(3, "with-list", *listed(attribute(*STATE), attribute(*UNKNOWN))), None),
+    (get(3, "with-list", *list_of(attribute(*STATE), attribute(*UNKNOWN))), None),
     (action(1, "normal", *method(*RECONNECT), *parameter("")), None),
     (set_(2, "with-first-datablock", *attribute(*NORMAL), *block(False, 1, "0600")), None),
     (set_(3, "with-datablock", *block(False, 2, "001B")), None),
-    (set_(3, "with-datablock", *block(True, 3, "58"), *joined(3, data("0600001B58"))), None),
+    (set_(3, "with-datablock", *block(True, 3, "58"), *joined_blocks(3, data("0600001B58"))), None),
     (get(1, "normal", *attribute(*NORMAL)),
-     got(1, "normal", *get_result(data=data("0600001B58")))),
+     get_response(1, "normal", *get_result(data=data("0600001B58")))),
     (action(4, "with-first-pblock", *method(*DISCONNECT), *block(False, 1, "0F")), None),
-    (action(6, "with-pblock", *block(True, 2, "00"), *joined(2, data("0F00"))), None),
+    (action(6, "with-pblock", *block(True, 2, "00"), *joined_blocks(2, data("0F00"))), None),
     (set_(3, "with-datablock", *block(False, 4, "00")), None),
-    (get(2, "next", number(1)), got(2, "with-datablock", ("01", "Last block: yes"), number(1),
-                                    *get_result(16))),
+    (get(2, "next", number(1)),
+     get_response(2, "with-datablock", ("01", "Last block: yes"), number(1), *get_result(16))),
     (get(1, "normal", *attribute(*OBJECT_LIST)), None),
     *[(get(2, "next", number(n)), None) for n in range(1, 13)],
-    (get(3, "with-list", *listed(attribute(*STATE), attribute(*OBJECT_LIST))), results_lines),
+    (get(3, "with-list", *list_of(attribute(*STATE), attribute(*OBJECT_LIST))), results_lines),
     *[(get(2, "next", number(n)), results_lines) for n in range(1, 13)],
-    (set_(4, "with-list", *listed(attribute(*MODE)), *listed(data("1604"))), UNSUPPORTED),
+    (set_(4, "with-list", *list_of(attribute(*MODE)), *list_of(data("1604"))), UNSUPPORTED),
     (RELEASE, RELEASED),
     (get(1, "normal", *attribute(*STATE)), NOT_ALLOWED),
 ]
@@ -383,7 +390,7 @@ def answer_lines(reader, text, wanted):
 
 
 def a_session():
-    requests = [shown(parts, MANAGEMENT) for parts, _ in SESSION]
+    requests = [frame_and_lines(parts, MANAGEMENT) for parts, _ in SESSION]
     answers = answers_of([text for text, *_ in requests])
     check("a session: each request is answered", len(answers), len(requests))
     capture, wanted, reader = Capture(), [], Answers()
@@ -406,8 +413,8 @@ def answers_name_their_requests():
     a request."""
     capture = Capture()
     connection, silent, by_id = (capture.connection() for _ in range(3))
-    texts = {name: shown(FORMS[name])[0] for name in ("GET", "GET's answer", "SET's result 0",
-                                                      "ACTION", "an unknown service")}
+    texts = {name: frame_and_lines(FORMS[name])[0]
+             for name in ("GET", "GET's answer", "SET's result 0", "ACTION", "an unknown service")}
     connection.send(texts["ACTION"] + texts["GET"])
     connection.send(texts["GET"])
     connection.send(texts["GET's answer"] + texts["SET's result 0"], is_client=False)
@@ -430,8 +437,8 @@ def answers_name_their_requests():
 
 def get_block(is_last, n, raw):
     """A block of a GET's answer."""
-    return got(2, "with-datablock", (f"{is_last:02X}", "Last block"), number(n),
-               ("00", "Choice"), raw_data(raw))
+    return get_response(2, "with-datablock", (f"{is_last:02X}", "Last block"), number(n),
+                        ("00", "Choice"), raw_data(raw))
 
 
 def only_whole_transfers_are_joined():
@@ -449,7 +456,7 @@ def only_whole_transfers_are_joined():
             "a list as a value": ((get_list, first, last), False)}
     for name, (frames, is_joined) in runs.items():
         connection = capture.connection()
-        packets = [connection.send(*(shown(it)[0::2])) for it in frames]
+        packets = [connection.send(*(frame_and_lines(it)[0::2])) for it in frames]
         joined_at.append((name, packets[-1], is_joined))
     found = frames_of(capture)
     for name, packet, is_joined in joined_at:
@@ -464,15 +471,15 @@ STREAM = [aarq(*LOW_LEVEL, *initiate_request(0x001C19, 1024)),
           set_(1, "normal", *attribute(*MODE), *data("1604")), RELEASE]
 
 
-def shown_stream():
+def stream_and_lines():
     """The bytes and the lines of several frames."""
-    frames = [shown(parts, MANAGEMENT) for parts in STREAM]
+    frames = [frame_and_lines(parts, MANAGEMENT) for parts in STREAM]
     return [text for text, *_ in frames], [lines for _, lines, _ in frames]
 
 
 def frames_are_split():
     """Frames that end at each byte of a packet, and frames of packets of one byte."""
-    texts, lines = shown_stream()
+    texts, lines = stream_and_lines()
     stream = b"".join(texts)
     capture, runs = Capture(), {}
     pieces = [(stream[:at], stream[at:]) for at in range(1, len(stream))]
@@ -487,7 +494,7 @@ def frames_are_split():
 
 def frames_are_together():
     """Several frames in a packet, the last of them whole, cut or at its end."""
-    texts, lines = shown_stream()
+    texts, lines = stream_and_lines()
     capture = Capture()
     one, other = capture.connection(), capture.connection()
     one.send(b"".join(texts))
@@ -519,7 +526,7 @@ def every_frame():
             for name, parts in (ASSOCIATIONS | FORMS).items()}
 
 
-def wrapped(payload, by_client=True, client=PUBLIC):
+def wrap(payload, by_client=True, client=PUBLIC):
     ports = (client, 1) if by_client else (1, client)
     return b"".join(it.to_bytes(2, "big") for it in (1, *ports, len(payload))) + payload
 
@@ -533,7 +540,7 @@ def cut_apdus_are_malformed():
     capture, names = Capture(), {}
     for name, (payload, by_client) in every_frame().items():
         for piece in (*(payload[:size] for size in range(len(payload))), payload + b"\0"):
-            packet = capture.connection().send(wrapped(piece, by_client), by_client)
+            packet = capture.connection().send(wrap(piece, by_client), by_client)
             names[packet] = f"{name}: {len(piece)} of {len(payload)} bytes"
     found = frames_of(capture)
     check("cut APDUs", [names[it] for it in names if not has_fault(found[it])], [])
@@ -544,24 +551,24 @@ WRONG = {
     "another protocol": (b"GET / HTTP/1.1\r\n\r\n".hex(),
                          "wrapper: expected version 1, found 18245"),
     "no APDU": ("0001001000010000", "an APDU: expected 1 byte, found 0"),
-    "an unknown form": (wrapped(bytes.fromhex("C004C1")).hex(), "4 is no form of a GET-Request"),
-    "bytes that are left": (wrapped(bytes.fromhex("C501C10000"), False).hex(),
+    "an unknown form": (wrap(bytes.fromhex("C004C1")).hex(), "4 is no form of a GET-Request"),
+    "bytes that are left": (wrap(bytes.fromhex("C501C10000"), False).hex(),
                             "1 byte after the SET-Response"),
-    "an unknown type": (wrapped(bytes.fromhex("C401C1001300"), False).hex(),
+    "an unknown type": (wrap(bytes.fromhex("C401C1001300"), False).hex(),
                         "0x13 is no known type of Data"),
-    "too many items": (wrapped(bytes.fromhex("C401C10001840FFFFFFF00"), False).hex(),
+    "too many items": (wrap(bytes.fromhex("C401C10001840FFFFFFF00"), False).hex(),
                        "the type of a Data: expected 1 byte, found 0"),
-    "a long length": (wrapped(bytes.fromhex("C401C1000984FFFFFFFF00"), False).hex(),
+    "a long length": (wrap(bytes.fromhex("C401C1000984FFFFFFFF00"), False).hex(),
                       "octet-string: expected 4294967295 bytes, found 1"),
-    "no length": (wrapped(bytes.fromhex("C401C1000985"), False).hex(),
+    "no length": (wrap(bytes.fromhex("C401C1000985"), False).hex(),
                   "octet-string: 0x85 is no length"),
-    "nested too deep": (wrapped(bytes.fromhex("C401C100" + "0201" * 33 + "00"), False).hex(),
+    "nested too deep": (wrap(bytes.fromhex("C401C100" + "0201" * 33 + "00"), False).hex(),
                         "more than 32 nested lists"),
-    "no result": (wrapped(bytes.fromhex("C401C102"), False).hex(),
+    "no result": (wrap(bytes.fromhex("C401C102"), False).hex(),
                   "Get-Data-Result: expected 0 or 1, found 2"),
-    "a field twice": (wrapped(bytes.fromhex("6206800100800100")).hex(),
+    "a field twice": (wrap(bytes.fromhex("6206800100800100")).hex(),
                       "the field 80 occurs twice"),
-    "no context": (wrapped(bytes.fromhex("6000")).hex(), "the field A1 is missing"),
+    "no context": (wrap(bytes.fromhex("6000")).hex(), "the field A1 is missing"),
 }
 
 
@@ -578,7 +585,7 @@ def wrong_bytes_are_malformed():
     check("the filter dlms_cosem.malformed", marked.split(), [str(it) for it in wanted])
 
 
-def changed(payload, chance):
+def mutate(payload, chance):
     """An APDU with one to three bytes changed, dropped or added."""
     text = bytearray(payload)
     for _ in range(chance.randrange(1, 4)):
@@ -590,8 +597,9 @@ def changed(payload, chance):
 def values_are_limited():
     """Frames with 60,000 values are shown, and 120,000 joined values are malformed."""
     nulls = "00" * 60_000
-    head = [shown(FORMS["GET"])[0], wrapped(bytes.fromhex("C401C1000182EA60" + nulls), False)]
-    blocks = [wrapped(bytes.fromhex(f"C402C1{last:02X}{n:08X}0082{len(raw) // 2:04X}{raw}"), False)
+    head = [frame_and_lines(FORMS["GET"])[0],
+            wrap(bytes.fromhex("C401C1000182EA60" + nulls), False)]
+    blocks = [wrap(bytes.fromhex(f"C402C1{last:02X}{n:08X}0082{len(raw) // 2:04X}{raw}"), False)
               for n, last, raw in ((1, 0, "018301D4C0" + nulls), (2, 1, nulls))]
     capture = Capture()
     connection = capture.connection()
@@ -612,14 +620,14 @@ def mutated_apdus_raise_no_error():
     frames = list(every_frame().values())
     for _ in range(MUTATIONS):
         payload, by_client = chance.choice(frames)
-        chance.choice(connections).send(wrapped(changed(payload, chance), by_client), by_client)
+        chance.choice(connections).send(wrap(mutate(payload, chance), by_client), by_client)
     found = frames_of(capture)
     check("mutated APDUs: one frame each", [it for it in found if len(found[it]) != 1], [])
 
 
 def a_short_capture_is_cut_off():
     capture = Capture(limit=40 + 8 + 5)
-    text, lines, _ = shown(get(1, "normal", *attribute(*STATE)))
+    text, lines, _ = frame_and_lines(get(1, "normal", *attribute(*STATE)))
     capture.connection().send(text)
     check("a capture of the first bytes", frames_of(capture)[1],
           [lines[:12] + ["Expert Info (Warning/Undecoded): The capture has 13 of 21 bytes"]])
@@ -630,7 +638,7 @@ def a_short_capture_is_cut_off():
 
 def preferences_are_obeyed():
     capture = Capture(port=4060)
-    text, lines, _ = shown(STREAM[0], MANAGEMENT)
+    text, lines, _ = frame_and_lines(STREAM[0], MANAGEMENT)
     capture.connection().send(text)
     check("another port", frames_of(capture)[1], [])
     check("the preference of the port",
@@ -650,7 +658,7 @@ def fields_are_filters():
     capture = Capture()
     packets = {}
     for name in ("GET", "SET", "ACTION", "GET's result", "SET's result 2"):
-        text, _, by_client = shown(FORMS[name])
+        text, _, by_client = frame_and_lines(FORMS[name])
         packets[name] = capture.connection().send(text, by_client)
     for words, names in (
             ("dlms_cosem.tag == 0xc0", ["GET"]),

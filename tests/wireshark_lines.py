@@ -19,20 +19,20 @@ def words_of(name):
     return re.sub(r"(?<=[a-z])(?=[A-Z])", "-", name).lower().replace("_", "-")
 
 
-def numbered(rows):
+def names_by_number(rows):
     return {int(number, 0): words_of(name) for name, number in rows}
 
 
-RESULTS = numbered(re.findall(r"(?m)^code_of (\w+) = (\d+)",
-                              spec("cosem_names/specs/ResultCode.antt")))
+RESULTS = names_by_number(re.findall(r"(?m)^code_of (\w+) = (\d+)",
+                                     spec("cosem_names/specs/ResultCode.antt")))
 USER_SIDE, INITIATE_SIDE = spec("acse_ber/specs/Diagnostics.antt").split("-- ---- Initiate")
-DIAGNOSTICS = {0: "null", **numbered(re.findall(r"(?m)^(\w+) = (\d+)", USER_SIDE))}
-INITIATE_ERRORS = numbered(re.findall(r"(?m)^(\w+) = (\d+)", INITIATE_SIDE))
+DIAGNOSTICS = {0: "null", **names_by_number(re.findall(r"(?m)^(\w+) = (\d+)", USER_SIDE))}
+INITIATE_ERRORS = names_by_number(re.findall(r"(?m)^(\w+) = (\d+)", INITIATE_SIDE))
 OFFERED = {int(bit): name for name, bit in re.findall(
     r"-- ([\w-]+)\nabbrev .*\n\w+ = conformance_bit (\d+)",
     spec("acse_ber/specs/Conformance.antt"))}
-TYPES = numbered(re.findall(r"(?m)^tag_of \(?(\w+).* = (0x\w+)",
-                            spec("cosem_axdr/specs/Spelling.antt")))
+TYPES = names_by_number(re.findall(r"(?m)^tag_of \(?(\w+).* = (0x\w+)",
+                                   spec("cosem_axdr/specs/Spelling.antt")))
 TYPES |= {0: "null-data", 22: "enum"}
 TABLE = spec("cosem_names/specs/Table.antt")
 CLASS_IDS = {name: int(number)
@@ -73,7 +73,7 @@ def lines_of_parts(parts):
     return [line for part in parts for line in part[1:]]
 
 
-def nested(parts):
+def indent(parts):
     """Parts whose lines are one level deeper."""
     return [(part[0], *("  " + line for line in part[1:])) for part in parts]
 
@@ -91,7 +91,7 @@ def header(source, destination, size, is_request):
             f"  Destination port: {destination}{there.get(destination, '')}", f"  Length: {size}")
 
 
-def framed(parts, client=1, is_request=True):
+def frame_of(parts, client=1, is_request=True):
     """A frame of these parts, from or to a client's port."""
     ports = (client, 1) if is_request else (1, client)
     return [header(*ports, len(bytes_of(parts)), is_request), *parts]
@@ -121,17 +121,17 @@ def attribute(kind, name, number, selection=None):
         return [*reference("attribute", kind, name, number), ("00", "Selective access: no")]
     selector, data = selection
     return [*reference("attribute", kind, name, number), ("01", "Selective access: yes"),
-            *nested([(f"{selector:02X}", f"Selector: {selector}"), *data])]
+            *indent([(f"{selector:02X}", f"Selector: {selector}"), *data])]
 
 
 def method(kind, name, number):
     return reference("method", kind, name, number)
 
 
-def listed(*items):
+def list_of(*items):
     """A count, followed by the parts of that number of items."""
     return [(f"{len(items):02X}", f"Items: {len(items)}"),
-            *nested([part for item in items for part in item])]
+            *indent([part for item in items for part in item])]
 
 
 def block(is_last, number, raw):
@@ -148,9 +148,9 @@ def length_text(size):
     return f"{size:02X}" if size < 0x80 else f"81{size:02X}"
 
 
-def joined(number, parts):
+def joined_blocks(number, parts):
     """The joined bytes of a transfer of this number of blocks, as lines without bytes."""
-    lines = lines_of_parts(nested(parts))
+    lines = lines_of_parts(indent(parts))
     return [("", f"Joined blocks: {number}, {count_of(len(bytes_of(parts)), 'byte')}", *lines)]
 
 
@@ -165,8 +165,8 @@ def action_result(number):
 def get_result(result=None, data=()):
     """Get-Data-Result: a result, or the parts of a Data."""
     if result is None:
-        return [("00", "Choice: 0 (data)"), *nested(data)]
-    return [("01", "Choice: 1 (data-access-result)"), *nested([access_result(result)])]
+        return [("00", "Choice: 0 (data)"), *indent(data)]
+    return [("01", "Choice: 1 (data-access-result)"), *indent([access_result(result)])]
 
 
 def conformance(bits):

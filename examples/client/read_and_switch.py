@@ -21,7 +21,7 @@ class Refused(Exception):
     """The meter refused a request, or sent an answer of another form."""
 
 
-def received(meter, count):
+def receive(meter, count):
     text = b""
     while len(text) < count:
         piece = meter.recv(count - len(text))
@@ -34,10 +34,10 @@ def received(meter, count):
 def ask(meter, payload):
     """Sends a request in a frame from port 1 to port 1, and returns the payload of the answer."""
     meter.sendall(bytes.fromhex("0001 0001 0001") + len(payload).to_bytes(2, "big") + payload)
-    head = received(meter, 8)
+    head = receive(meter, 8)
     if head[:6] != bytes.fromhex("0001 0001 0001"):
         raise Refused(f"the answer begins with {head.hex(' ')}")
-    return received(meter, int.from_bytes(head[6:], "big"))
+    return receive(meter, int.from_bytes(head[6:], "big"))
 
 
 def associate(meter, password):

@@ -41,8 +41,8 @@ SOURCES = {
     "a use gives it another name": ({"src/lib.rt": BODY, "src/more.rt": "use crate::LIMIT as MOST;\n"}, None),
 }
 
-# The functions of a crate of which `edited` is edited. Below: the expected text, names and proofs
-# with holes.
+# The functions of a crate of which `line_count` is edited. Below: the expected text, names and
+# proofs with holes.
 LEFT = """pub struct Page {
     lines: u8,
 }
@@ -84,26 +84,26 @@ impl<'a, I: Read + Drop + Send> port_threads::Connection<
     }
 }
 
-fn edited(page: &Page) -> u8 {
+fn line_count(page: &Page) -> u8 {
     page.lines()
 }
 
-fn beside() -> u8 {
+fn two() -> u8 {
     let one = 1;
     one + 1
 }
 
-pub extern "C" fn exported(n: u8) -> u8 {
+pub extern "C" fn next_number(n: u8) -> u8 {
     let one = 1;
     n + one
 }
 """
 KEPT = LEFT.replace("        self.lines\n", "loop {}\n").replace("    let one = 1;\n    one + 1\n", "loop {}\n\n").replace("    let one = 1;\n    n + one\n", "loop {}\n\n")
-NAMES = ["Page::lines", "PageDefault::default", "page::least", "page::is_even", "page::a_law", "ClientConnectionPortKept::serve", "page::edited", "page::beside", "page::exported"]
+NAMES = ["Page::lines", "PageDefault::default", "page::least", "page::is_even", "page::a_law", "ClientConnectionPortKept::serve", "page::line_count", "page::two", "page::next_number"]
 HOLES = {
     "proofs/page/Page/lines/Proof.antt": "use Rattle.book.proofs.page.Page.lines.Statement.{statement}\n\npub lines_spec : {M : Type 1} → statement M\nlines_spec = ?\n",
-    "proofs/page/beside/Proof.antt": "use Rattle.book.proofs.page.beside.Statement.{statement}\n\npub beside_spec : {M : Type 1} → statement M\nbeside_spec = ?\n",
-    "proofs/page/exported/Proof.antt": "use Rattle.book.proofs.page.exported.Statement.{statement}\n\npub exported_spec : {M : Type 1} → statement M\nexported_spec = ?\n",
+    "proofs/page/two/Proof.antt": "use Rattle.book.proofs.page.two.Statement.{statement}\n\npub two_spec : {M : Type 1} → statement M\ntwo_spec = ?\n",
+    "proofs/page/next_number/Proof.antt": "use Rattle.book.proofs.page.next_number.Statement.{statement}\n\npub next_number_spec : {M : Type 1} → statement M\nnext_number_spec = ?\n",
 }
 
 def judge():
@@ -125,11 +125,11 @@ def users_are_found():
 
 
 def bodies_are_left_out():
-    """Checks `without_bodies`."""
+    """Checks `sources_without_bodies`."""
     module = judge()
-    edited = next(it for it in module.functions_of("src/page.rt", LEFT) if it.name == "page::edited")
+    edited = next(it for it in module.functions_of("src/page.rt", LEFT) if it.name == "page::line_count")
     names = [it.name for it in module.functions_of("src/page.rt", LEFT)]
-    stubs, gone = module.without_bodies("book", {"src/page.rt": LEFT}, {(edited.path, edited.first)})
+    stubs, gone = module.sources_without_bodies("book", {"src/page.rt": LEFT}, {(edited.path, edited.first)})
     return {
         "functions have the names that a check prints": names == NAMES,
         "other bodies are left out, except those of a trait, a constant, a cycle and a law": stubs.pop("src/page.rt") == KEPT,
@@ -153,9 +153,9 @@ def edited_functions_are_kept():
             with open(f"{folder}/{path}", "w", encoding="utf-8") as file:
                 file.write(text)
         crate = types.SimpleNamespace(name="book", folder=folder)
-        changed, edited = module.changed(crate, [module.Edit(crate, f"{folder}/limit.edit")])
+        changed, edited = module.edited_sources(crate, [module.Edit(crate, f"{folder}/limit.edit")])
     sources = {path: text for path, text in texts.items() if path.startswith("src/")}
-    stubs, _ = module.without_bodies("book", {**sources, **changed}, edited)
+    stubs, _ = module.sources_without_bodies("book", {**sources, **changed}, edited)
     return {"the function of the line `by: ` keeps its body": stubs == {"src/lib.rt": texts["src/lib.rt"], "src/limits.rt": texts["src/limits.rt"].replace("3", "4")}}
 
 
@@ -209,7 +209,7 @@ def main():
     rows.update(long_ones_are_apart())
     rows.update(rounds_end_at_their_lines())
     for name, is_well in rows.items():
-        print(f"wrong_bodies_told: {name}: {'passed' if is_well else 'FAILED'}")
+        print(f"wrong_bodies_reports: {name}: {'passed' if is_well else 'FAILED'}")
     failed = sum(not it for it in rows.values())
     if failed:
         print("\n".join(lines))
