@@ -170,7 +170,7 @@ impl<R: Clock + Copy> FleetSockets<R> {
         Ok(has_clients)
     }
 
-    // Appends the keys of the connections that are idle, if a search is due.
+    // Appends the keys of the connections that are idle, if it is time for a search.
     fn find_idle(&mut self, now: u64, idle: &mut Vec<usize>) -> Result<(), NetworkFault>
         ensures { IfOk result (λ _. (keys : List ℕ) × (idle.new.items ≡ idle.old.items ++ keys)) }
     {
