@@ -1,13 +1,14 @@
 -- When connections were last active: a list of moments, in the order of the keys.
---     times_after_touch      a connection is active
+--     times_after_touch      the moments after a connection was active
 --     is_idle                whether a connection was not active for the limit
 --     idle_keys              the connections that are idle
---     moment_after_search    a connection that is idle counts as active
+--     moment_after_search    the moment of a connection after a search for idle ones
 --     TakesFirst             some of the connections that are idle
 use Rattle.std.specs.Prelude.{◌≡◌, ℕ, ◌+◌, ◌-◌, ◌++◌, Bool, List, [], ◌∷◌, length, replicate, slice_set}
 use Rattle.std.specs.Prelude.{if◌then◌else◌, nat_le, nat_lt}
 
--- The connection with this key is active now. Keys that were not used before count as active, too.
+-- The moments after the connection with this key was active now. The keys before it that had no
+-- moment count as active now, too.
 abbrev pub times_after_touch : ℕ → ℕ → List ℕ → List ℕ
 times_after_touch key now moments =
     if nat_lt key (length moments)
@@ -32,7 +33,7 @@ idle_from limit now key (moment ∷ moments) =
 abbrev pub idle_keys : ℕ → ℕ → List ℕ → List ℕ
 idle_keys limit now moments = idle_from limit now 0 moments
 
--- a connection that is idle counts as active now
+-- the moment of a connection after a search: an idle one counts as active now
 abbrev pub moment_after_search : ℕ → ℕ → ℕ → ℕ
 moment_after_search limit now moment = if is_idle limit now moment then now else moment
 
