@@ -19,7 +19,6 @@ import fcntl
 import importlib.machinery
 import importlib.util
 import os
-import pathlib
 import random
 import shutil
 import signal
@@ -57,7 +56,8 @@ def module_of(path):
     return module
 
 
-processes_of = module_of(CAMPAIGN).processes_of
+script = module_of(CAMPAIGN)
+processes_of = script.processes_of
 
 
 class Long:
@@ -95,25 +95,14 @@ class Long:
         started.remove(process)
         return status, self.output.read_text(), self.errors.read_text()
 
-    def is_free(self):
-        """Whether no process holds the lock of the record."""
-        with self.path.with_name("jobs.campaign").open("a") as record:
-            try:
-                fcntl.flock(record, fcntl.LOCK_EX | fcntl.LOCK_NB)
-            except OSError:
-                return False
-        return True
-
     def holders(self):
-        """The processes that have the record open: number, command, state and kernel function."""
-        found, record = [], self.path.with_name("jobs.campaign")
-        for process in pathlib.Path("/proc").glob("[0-9]*"):
-            with contextlib.suppress(OSError):
-                if any(it.samefile(record) for it in (process / "fd").iterdir() if it.exists()):
-                    words = (process / "cmdline").read_bytes().replace(b"\0", b" ").decode()
-                    state = (process / "stat").read_text().rsplit(")", 1)[1].split()[0]
-                    found.append((process.name, words, state, (process / "wchan").read_text()))
-        return found
+        """The commands of the processes that have the record open, by their numbers."""
+        return script.holders_of(self.path.with_name("jobs.campaign"))
+
+    def is_free(self):
+        """Whether no process has the record open, except those that a killed GNU parallel had
+        reserved: the next campaign ends them."""
+        return set(self.holders().values()) <= {script.RESERVED}
 
     def follow(self):
         """Adds what the meters received. Fails if one got a second command."""
@@ -174,6 +163,36 @@ def a_campaign_is_run_again(name, folder):
         check(f"{name}: nothing was sent",
               not any(map(sum, map(dict.values, meters.take_counts()))))
     finally:
+        meters.stop()
+
+
+@in_folder
+def what_parallel_reserved_is_ended(name, folder):
+    """A killed GNU parallel leaves the processes that it had reserved; they hold the lock."""
+    meters = CountedMeters(JOBS)
+    record, held = folder / "jobs.campaign", []
+    try:
+        campaign = Long(folder, meters)
+        wanted = 0, report_of(campaign.jobs, campaign.rows)
+        first = campaign.run("--jobs", "3")
+        check(f"{name}: report", first[:2] == wanted, first)
+        with record.open("a") as file:
+            fcntl.flock(file, fcntl.LOCK_EX)
+            for seconds in ("10101", "10102"):
+                held.append(subprocess.Popen(["sleep", seconds], pass_fds=(file.fileno(),)))
+        refused = campaign.run("--jobs", "3")
+        check(f"{name}: refused while another process holds the lock", refused[:2] == (2, "")
+              and "another campaign of this list runs" in refused[2] and held[0].poll() is None,
+              refused, held[0].poll())
+        held[1].kill()
+        held[1].wait(LONGEST)
+        again = campaign.run("--jobs", "3")
+        check(f"{name}: then not", again[:2] == wanted and held[0].wait(LONGEST) == -signal.SIGKILL,
+              again)
+    finally:
+        for it in held:
+            it.kill()
+            it.wait(LONGEST)
         meters.stop()
 
 
@@ -502,8 +521,9 @@ def machine_refusals(name, campaign, record):
     record.write_text(text)
 
 
-TESTS = (a_campaign_is_run_again, what_is_known_is_printed, killed_campaigns_command_nobody_twice,
-         machines_command_nobody_twice, arrays_command_nobody_twice, long_arrays_command_nobody_twice)
+TESTS = (a_campaign_is_run_again, what_is_known_is_printed, what_parallel_reserved_is_ended,
+         killed_campaigns_command_nobody_twice, machines_command_nobody_twice,
+         arrays_command_nobody_twice, long_arrays_command_nobody_twice)
 
 
 def main():

@@ -1,7 +1,7 @@
 #!/usr/bin/env python3
-"""Tests `head_end status --format` and bin/campaign_report over ledgers that Python's sqlite3 made:
-each record against what Python computes from the same rows, and the page against the records, also
-in a browser, which filters its table.
+"""Tests `head_end status --format` and bin/campaign_report over ledgers, and files of answers, that
+Python's sqlite3 made: each record against what Python computes from the same rows, and the page
+against the records, also in a browser, which filters its table.
 
 Without a browser (Debian: apt-get install chromium) the page is only parsed, with a message.
 
@@ -31,7 +31,7 @@ HEAD_END = os.environ.get("HEAD_END") or TOP / "crates" / "head_end_cli" / "out"
 SCRIPT = TOP / "bin" / "campaign_report"
 BROWSERS = ("chromium", "chromium-browser", "google-chrome")
 COLUMNS = ["name", "address", "verb", "outcome", "number", "sent", "begun_at", "ended_at",
-           "seconds"]
+           "seconds", "state", "asked_at"]
 # The tables of a ledger (docs/CAMPAIGNS.md), as crates/sqlite_ledger has them.
 TABLES = """
 CREATE TABLE begun (place INTEGER PRIMARY KEY, at INTEGER NOT NULL) STRICT;
@@ -40,6 +40,11 @@ at INTEGER NOT NULL) STRICT;
 CREATE TABLE job (place INTEGER PRIMARY KEY, name TEXT NOT NULL, address TEXT NOT NULL, \
 verb TEXT NOT NULL) STRICT;
 CREATE TABLE campaign (version INTEGER PRIMARY KEY, jobs INTEGER NOT NULL) STRICT;
+"""
+# The table of the answers of meters that were asked later, as crates/ledger_answers has it.
+ANSWER_TABLE = """
+CREATE TABLE answer (number INTEGER PRIMARY KEY, name TEXT NOT NULL, address TEXT NOT NULL, \
+state INTEGER NOT NULL, asked_at INTEGER NOT NULL) STRICT;
 """
 START = 1_795_856_405  # 2026-11-28T09:00:05Z
 LATEST = 2**32 - 1  # the last second that a record has
@@ -61,6 +66,16 @@ JOBS = [
     ("m10", "disconnect", 1, ("done", 0, LATEST)),
     ("m11", "disconnect", -1, ("done", 0, LATEST + 1)),
 ]
+# Answers of meters that were asked later: the place and the name of the job, the state and the
+# second. The last one counts whose meter was asked no earlier than the mark; second 0 is that of a
+# clock that could not be read.
+ANSWERS = [
+    (3, "m4", 0, START + 100),
+    (3, "m4", 1, START + 200),
+    (6, "m7", 2, 0),
+    (6, "m7", 0, START + 59),
+    (5, "m4", 2, START + 300),  # another meter
+]
 keep = None
 
 
@@ -69,13 +84,28 @@ def make_ledger(path, jobs):
     with contextlib.closing(sqlite3.connect(path)) as database:
         database.executescript(TABLES)
         for place, (name, verb, begun, outcome) in enumerate(jobs):
-            address = f"192.0.2.{place % 250}:4059"
-            database.execute("INSERT INTO job VALUES (?, ?, ?, ?)", (place, name, address, verb))
+            database.execute("INSERT INTO job VALUES (?, ?, ?, ?)",
+                             (place, name, address_of(place), verb))
             if begun is not None:
                 database.execute("INSERT INTO begun VALUES (?, ?)", (place, begun))
             if outcome is not None:
                 database.execute("INSERT INTO outcome VALUES (?, ?, ?, ?)", (place, *outcome))
         database.execute("INSERT INTO campaign VALUES (1, ?)", (len(jobs),))
+        database.commit()
+
+
+def address_of(place):
+    """The address of the meter at a place."""
+    return f"192.0.2.{place % 250}:4059"
+
+
+def make_answers(path, answers):
+    """Writes the file of these answers next to a ledger."""
+    with contextlib.closing(sqlite3.connect(f"{path}.answers")) as database:
+        database.executescript(ANSWER_TABLE)
+        for number, (place, name, state, second) in enumerate(answers, 1):
+            database.execute("INSERT INTO answer VALUES (?, ?, ?, ?, ?)",
+                             (number, name, address_of(place), state, second))
         database.commit()
 
 
@@ -87,20 +117,35 @@ def time_of(second):
     return (epoch + datetime.timedelta(seconds=second)).strftime("%Y-%m-%dT%H:%M:%SZ")
 
 
-def record_of(place, job):
-    """The record of a job, by the rows that its ledger has."""
+def answer_of(place, job, answers):
+    """The state that the meter of a job reported last, and when it was asked."""
+    name, _, begun, _ = job
+    is_marked = time_of(begun) is not None
+    found = [(state, second) for at, about, state, second in answers
+             if (at, about) == (place, name) and not (is_marked and 0 < second < begun)]
+    state, second = found[-1] if found else (None, None)
+    return state, time_of(second)
+
+
+def record_of(place, job, answers):
+    """The record of a job, by the rows that its ledger has, and by these answers."""
     name, verb, begun, outcome = job
     kind, number, ended = outcome or ("not sent" if begun is None else "unknown", None, None)
     times = time_of(begun), time_of(ended)
     seconds = ended - begun if all(times) and ended >= begun else None
     sent = {"done": "yes", "refused": "yes", "unknown": "maybe"}.get(kind, "no")
-    return dict(zip(COLUMNS, (name, f"192.0.2.{place % 250}:4059", verb, kind, number, sent, *times,
-                              seconds)))
+    return dict(zip(COLUMNS, (name, address_of(place), verb, kind, number, sent, *times, seconds,
+                              *answer_of(place, job, answers))))
 
 
-def records_of(jobs):
+def records_of(jobs, answers=()):
     """The records of jobs, as `head_end status --format json` has them."""
-    return [record_of(place, job) for place, job in enumerate(jobs)]
+    return [record_of(place, job, answers) for place, job in enumerate(jobs)]
+
+
+def lines_of(records):
+    """Records as lines of JSON."""
+    return "".join(json.dumps(it, sort_keys=True, separators=(",", ":")) + "\n" for it in records)
 
 
 def run(*words, text=None):
@@ -133,9 +178,14 @@ def records_are_those_of_the_rows(name, folder):
     ledger = folder / "rows.ledger"
     make_ledger(ledger, JOBS)
     before = ledger.read_bytes()
-    wanted = records_of(JOBS)
     ran = run(HEAD_END, "status", "--ledger", ledger, "--format", "json")
-    lines = "".join(json.dumps(it, sort_keys=True, separators=(",", ":")) + "\n" for it in wanted)
+    lines = lines_of(records_of(JOBS))
+    check(f"{name}: no answers", (ran.returncode, ran.stdout.decode()) == (0, lines),
+          ran.stdout.decode(), ran.stderr.decode())
+    make_answers(ledger, ANSWERS)
+    wanted = records_of(JOBS, ANSWERS)
+    ran = run(HEAD_END, "status", "--ledger", ledger, "--format", "json")
+    lines = lines_of(wanted)
     check(f"{name}: json", (ran.returncode, ran.stdout.decode()) == (0, lines), ran.stdout.decode(),
           ran.stderr.decode())
     ran = run(HEAD_END, "status", "--ledger", ledger, "--format", "csv")
@@ -148,6 +198,8 @@ def records_are_those_of_the_rows(name, folder):
     ran = run(HEAD_END, "status", "--ledger", ledger)
     check(f"{name}: the state", ran.stdout.decode().startswith(
         f"jobs {len(JOBS)}\ndone 6\nrefused 1\nrejected 1\nunknown 2\nnot sent 1\n"), ran)
+    looks = [line.split(" sent, no answer") for line in ran.stdout.decode().splitlines()[6:]]
+    check(f"{name}: the answers", [it[1] for it in looks] == ["; state 1", "; state 2"], ran)
     check(f"{name}: unchanged", ledger.read_bytes() == before)
     ran = run(HEAD_END, "status", "--ledger", ledger, "--format", "xml")
     check(f"{name}: another format", ran.returncode == 2 and not ran.stdout, ran)
@@ -212,10 +264,11 @@ def the_page_has_the_records(name, folder):
     ledger, path = folder / "page.ledger", folder / "page.html"
     jobs = [job for job in JOBS if job[0] not in ("m10", "m11")]
     make_ledger(ledger, jobs)
+    make_answers(ledger, ANSWERS)
     status, text, errors = report("--output", path, "--title", "<i>A & B", ledger)
     check(f"{name}: written", (status, text, errors) == (0, "", ""), status, errors)
     text = path.read_text()
-    page, wanted = Page(text), records_of(jobs)
+    page, wanted = Page(text), records_of(jobs, ANSWERS)
     check(f"{name}: its rows", page.tables["jobs"][1:] == [cells_of(it) for it in wanted],
           page.tables["jobs"][1:])
     counts = {row[0]: row[1] for row in page.tables["counts"]}

@@ -1,12 +1,16 @@
 #!/usr/bin/env python3
 """Tests `meter_fleet serve` with clients over TCP at addresses 127.a.b.c. 300 meters are switched
 and asked by hand-written frames, by hostile clients while a good one asks, and by a campaign of
-`head_end` if that is built. Another fleet resumes from a trace. Every wait has a time limit."""
+`head_end` if that is built. Another fleet resumes from a trace. The lines of the console give
+events to meters, whose traces `trace_player` plays if that is built. Meters have faults, which a
+client and a campaign of `bin/campaign` see. Every wait has a time limit."""
 
+import concurrent.futures
 import os
 import pathlib
 import random
 import re
+import shutil
 import socket
 import subprocess
 import sys
@@ -19,7 +23,9 @@ from serving import wait_until
 TOP = pathlib.Path(__file__).resolve().parent.parent
 CRATES = TOP / "crates"
 FLEET = os.environ.get("METER_FLEET") or CRATES / "meter_fleet_cli" / "out" / "meter_fleet_cli"
+PLAYER = os.environ.get("TRACE_PLAYER") or CRATES / "trace_player_cli" / "out" / "trace_player_cli"
 HEAD_END = os.environ.get("HEAD_END") or CRATES / "head_end_cli" / "out" / "head_end_cli"
+CAMPAIGN = TOP / "bin" / "campaign"
 
 PASSWORD = "12345678"
 PATIENCE = 60  # the time limit of each wait, in seconds
@@ -41,6 +47,10 @@ OBJECTS = bytes.fromhex("000100010001000DC001C1000F0000280000FF0200")
 WRONG_BLOCKS = [bytes.fromhex(f"000100010001{len(it) // 2:04X}{it}") for it in (
     "C002C100000005", "C103C1010000000201AA", "C103C10100000009020000", "C306C10100000007020100")]
 ATTACKS = 40  # of each kind
+DELAY = 2  # the time by which a slow meter answers late, in seconds
+ROUNDING = 0.01  # the fleet counts whole milliseconds
+SILENCE = 8  # the time after which a client takes a meter for silent, in seconds
+JOBS = 2_000  # of the campaign over meters with faults
 
 # The trace of a meter in mode 1 that was disconnected (docs/TRACE.md).
 OPENING = """RELAYTRACE 1
@@ -64,6 +74,15 @@ schedule 1 0 5 0100
 schedule 2 0 5 0100
 schedule 3 0 5 0100
 """
+# A meter in mode 1 whose script 1 disconnects (class 9), and which executes it after ten samples
+# above 1,000 watts, one second (class 71).
+LIMITED = (OPENING.replace("normal 4294967295", "normal 1000").replace("minover 0", "minover 1")
+           .replace("actions 0 0", "actions 1 0")
+           .replace("scripts 0100",
+                    "scripts 010102021200010101020516021200460906000060030AFF0F010F00")
+           + "events 0\n")
+# The modes in which the button disconnects (IEC 62056-6-2, class 70, control_mode).
+BUTTON_DISCONNECTS = (1, 2, 5)
 TRACE = OPENING + "events 1\nexecute 1 70 000060030AFF 1 0F00\n"
 
 passed = failed = 0
@@ -89,29 +108,50 @@ def address_of(meter):
 
 
 class Fleet:
-    """A running `meter_fleet serve` of METERS meters, on a free port: in mode 1, or with other
-    options. `variable` is the password of the environment."""
+    """A running `meter_fleet serve` of METERS meters or as many as are given, on a free port: in
+    mode 1, or with other options. `variable` is the password of the environment, `console` a file
+    with the lines of the console."""
 
-    def __init__(self, *options, password=("--password", PASSWORD), variable=None):
-        self.options = (*password, *(options or ("--mode", "1")))
+    def __init__(self, *options, password=("--password", PASSWORD), variable=None, console=None,
+                 meters=METERS):
+        self.options = ("--meters", str(meters), *password, *(options or ("--mode", "1")))
         self.environment = environment(variable)
+        self.console = console
 
     def __enter__(self):
-        words = ["serve", "--meters", str(METERS), *self.options,
+        words = ["serve", *self.options,
                  "--listen", "0.0.0.0", "--port", "0", "--verbose"]
-        self.process = subprocess.Popen([str(FLEET), *words], stderr=subprocess.PIPE, text=True,
+        self.process = subprocess.Popen([str(FLEET), *words], stdin=self.console or subprocess.PIPE,
+                                        stdout=subprocess.PIPE, stderr=subprocess.PIPE, text=True,
                                         env=self.environment)
-        guard = threading.Timer(PATIENCE, self.process.kill)
-        guard.start()
-        line = self.process.stderr.readline()
-        guard.cancel()
+        line = self.read_line(self.process.stderr)
         self.port = int(re.search(r":(\d+)$", line.strip()).group(1))
         return self
 
     def __exit__(self, *_):
         self.process.kill()
         self.process.wait()
-        self.process.stderr.close()
+        for stream in (self.process.stdin, self.process.stdout, self.process.stderr):
+            if stream:
+                stream.close()
+
+    def read_line(self, stream):
+        """The next line that the fleet writes, which it has PATIENCE for."""
+        guard = threading.Timer(PATIENCE, self.process.kill)
+        guard.start()
+        line = stream.readline()
+        guard.cancel()
+        return line.removesuffix("\n")
+
+    def write(self, text):
+        """Writes a text to the console."""
+        self.process.stdin.write(text)
+        self.process.stdin.flush()
+
+    def answers(self, line, count=1):
+        """Writes a line to the console, and returns this many lines of the answer."""
+        self.write(line + "\n")
+        return [self.read_line(self.process.stdout) for _ in range(count)]
 
     def connect(self, meter):
         """Connects to a meter of the fleet."""
@@ -404,6 +444,30 @@ def idle_connections_are_closed():
             client.close()
 
 
+def long_sessions_are_closed():
+    """A client that sends in time is closed when its session has lasted for the limit."""
+    limit = 2
+    with Fleet("--mode", "1", "--session", str(limit), "--inactivity", "0") as fleet:
+        begun = time.monotonic()
+        with fleet.connect(2) as client:
+            check("a client associates", ask(client, AARQ, AARE))
+            while time.monotonic() < begun + 10 * limit and is_answered(client):
+                time.sleep(limit / 10)
+            lasted = time.monotonic() - begun
+            check(f"its session is closed in time: {lasted:.1f} s", limit <= lasted < limit + 10)
+        with fleet.connect(2) as first:
+            check("another client associates", ask(first, AARQ, AARE))
+            check("and is answered", ask(first, STATE, CONNECTED))
+
+
+def is_answered(client):
+    """Whether a client that is associated gets an answer."""
+    try:
+        return ask(client, STATE, CONNECTED)
+    except (ConnectionResetError, BrokenPipeError):
+        return False
+
+
 def result_of_resuming(path):
     """The status and standard error of a fleet that is refused the trace in a file."""
     words = ["serve", "--meters", "3", "--password", PASSWORD, "--port", "0", "--resume", str(path)]
@@ -436,6 +500,310 @@ def meters_resume():
               result_of_resuming(path) == (3, f"{path}: the file can't be read\nfault: read\n"))
 
 
+def buttons_are_pressed():
+    """A press of the button in each mode, and another: a meter that was disconnected by hand is
+    ready for reconnection, and the button reconnects it."""
+    for mode in range(7):
+        state = "ready" if mode in BUTTON_DISCONNECTS else "connected"
+        with Fleet("--mode", str(mode)) as fleet:
+            check(f"mode {mode}: a button is pressed", fleet.answers("7 button") == ["1"])
+            check(f"mode {mode}: its meter is {state}", fleet.answers("7 state") == [f"7 {state}"])
+            if state == "ready":
+                seen = talk(fleet, 7, (STATE, READY))
+                check(f"mode {mode}: a client finds it ready", seen)
+                fleet.answers("7 button")
+            check(f"mode {mode}: it is connected", fleet.answers("7 state") == ["7 connected"])
+
+
+def events_reach_their_meters(fleet):
+    """Each meter of a range is given an event, and no other; clients and the console see the
+    same."""
+    check("no meter is ready", fleet.answers("count ready") == ["0"])
+    check("a range is counted", fleet.answers("100-199 button") == ["100"])
+    check("its meters are ready", fleet.answers("count ready") == ["100"])
+    edges = ["99 connected", "100 ready", "101 ready"]
+    check("those below it are connected", fleet.answers("99-101 state", 3) == edges)
+    edges = ["199 ready", "200 connected"]
+    check("those above it are connected", fleet.answers("199-200 state", 2) == edges)
+    agree = all(talk(fleet, meter, (STATE, READY if 100 <= meter < 200 else CONNECTED))
+                for meter in (1, 99, 100, 150, 199, 200, METERS))
+    check("clients find the same states", agree)
+    with fleet.connect(150) as client:
+        ask(client, AARQ, AARE)
+        before = ask(client, STATE, READY)
+        fleet.answers("150 button")
+        check("a client sees an event of the console", before and ask(client, STATE, CONNECTED))
+    check("a client disconnects", talk(fleet, 150, (DISCONNECT, DONE)))
+    check("the console finds it", fleet.answers("count disconnected") == ["1"])
+    check("a range ends with the fleet", fleet.answers("299-5000 state", 2)
+          == ["299 connected", "300 connected"])
+    for event in ("moment 5", "samples", "samples 10 20", "pairs 1 2 3 4"):
+        check(f"all have {event}", fleet.answers(f"all {event}") == [str(METERS)])
+
+
+def limiters_act():
+    """Ten samples above the threshold disconnect a meter, nine do not."""
+    with tempfile.TemporaryDirectory() as folder:
+        path = pathlib.Path(folder, "limited.trace")
+        path.write_text(LIMITED)
+        with Fleet("--resume", str(path)) as fleet:
+            fleet.answers("8 samples" + 10 * " 1001")
+            fleet.answers("9 samples" + 9 * " 1001" + " 1000")
+            states = ["7 connected", "8 ready", "9 connected"]
+            check("a limiter disconnects its meter", fleet.answers("7-9 state", 3) == states)
+
+
+def traces_are_written():
+    """The trace of a meter has its events, and trace_player plays it."""
+    with tempfile.TemporaryDirectory() as folder, Fleet("--mode", "1", "--depth", "16") as fleet:
+        path = pathlib.Path(folder, "a meter.trace")
+        fleet.answers("17 button")
+        fleet.answers("all moment 5")
+        check("a trace is written", fleet.answers(f"17 trace {path}") == [f"17 {path}"])
+        events = path.read_text().split("events ")[1]
+        check("it has the events of its meter", events == "2\nbutton\nmoment 5\n")
+        if os.path.exists(PLAYER):
+            ran = subprocess.run([str(PLAYER), str(path)], capture_output=True, text=True,
+                                 timeout=PATIENCE, check=False)
+            check("trace_player plays it", ran.stdout ==
+                  "1: code 0; state 2; supply off\n2: ran 0; state 2; supply off\n")
+        fleet.answers(f"18 trace {path}")
+        events = path.read_text().split("events ")[1]
+        check("the trace of another meter has its own", events == "1\nmoment 5\n")
+        fleet.write(f"17 trace {folder}/none/x\n")
+        check("a file that can't be written is reported", fleet.read_line(fleet.process.stderr)
+              == "console: line 5: the answer can't be written")
+
+
+def wrong_lines_change_nothing():
+    """A wrong line is named with its number; the lines after it are carried out."""
+    meters = "expected N, N-M, all or count"
+    request = "expected button, samples, pairs, moment, state or trace FILE"
+    lines = (("button", meters), ("0 button", meters), ("5-4 button", meters),
+             ("5", request), ("5 press", request), ("5 button now", request),
+             ("5 execute 1 70 000060030AFF 1 0F00", request),
+             ("5 trace", "trace: expected one meter and a file"),
+             ("all trace x", "trace: expected one meter and a file"),
+             ("count open", "count: expected disconnected, connected or ready"),
+             (f"{METERS + 1} button", "the fleet has no such meter"),
+             ("5 samples" + 4_100 * " 1", "a line of more than 8,192 bytes"))
+    with Fleet() as fleet:
+        for number, (line, reason) in enumerate(lines, 1):
+            fleet.write(line + "\n")
+            found = fleet.read_line(fleet.process.stderr)
+            check(f"{line[:20]!r} is wrong", found == f"console: line {number}: {reason}")
+        check("no meter has changed", fleet.answers("count connected") == [str(METERS)])
+        fleet.write("5 but")
+        time.sleep(0.1)
+        check("a line may arrive in pieces", fleet.answers("ton") == ["1"])
+        fleet.write("5 state\n" * 2_000)
+        read = [fleet.read_line(fleet.process.stdout) for _ in range(2_000)]
+        check("many lines at once are answered", read == 2_000 * ["5 ready"])
+        fleet.process.stdin.close()
+        check("the fleet outlives its console", talk(fleet, 5, (STATE, READY)))
+
+
+def a_console_may_be_a_file():
+    """The console may be a file or closed at the start."""
+    with tempfile.TemporaryFile("w+") as lines:
+        lines.write("3 button\n" + "4 state\n" * 2_000 + "3 state\nnot a whole line")
+        lines.seek(0)
+        with Fleet(console=lines) as fleet:
+            read = [fleet.read_line(fleet.process.stdout) for _ in range(2_002)]
+            wanted = ["1", *(2_000 * ["4 connected"]), "3 ready"]
+            check("the lines of a file are answered", read == wanted)
+            check("a client finds the state", talk(fleet, 3, (STATE, READY)))
+    with Fleet(console=subprocess.DEVNULL) as fleet:
+        check("a fleet without a console serves", talk(fleet, 3, (STATE, CONNECTED)))
+        used = cpu_seconds(fleet.process.pid)
+        time.sleep(1)
+        check("it waits", cpu_seconds(fleet.process.pid) - used < 0.5)
+
+
+def many_meters_are_reached():
+    """Commands for more than the 1,000 meters that are reached at a time."""
+    with Fleet(meters=2_500) as fleet:
+        check("all buttons are pressed", fleet.answers("all button") == ["2500"])
+        check("all meters are ready", fleet.answers("count ready") == ["2500"])
+        check("1,001 buttons are pressed", fleet.answers("700-1700 button") == ["1001"])
+        check("1,000 buttons are pressed", fleet.answers("1701-2700 button") == ["800"])
+        states = [f"{it} {'connected' if it >= 700 else 'ready'}" for it in range(1, 2_501)]
+        check("all states are shown", fleet.answers("all state", 2_500) == states)
+        check("a later command has its answer", fleet.answers("2500-9000 state")
+              == ["2500 connected"])
+
+
+def clients_are_answered_meanwhile():
+    """While a command reaches 40,000 meters, a client of one of them is answered."""
+    with Fleet(meters=40_000) as fleet, fleet.connect(1) as client:
+        check("a client associates", ask(client, AARQ, AARE))
+        lines, answers = [], 0
+        reader = threading.Thread(target=lambda: lines.extend(fleet.answers("all moment 5")))
+        reader.start()
+        while reader.is_alive() and ask(client, STATE, CONNECTED):
+            answers += 1
+        reader.join(PATIENCE)
+        check("the command is carried out", lines == ["40000"])
+        check("the client is answered meanwhile", answers >= 10)
+
+
+def draw_of(seed, meter):
+    """The draw of a meter, 0 to 99: the first word of SplitMix64 (Steele, Lea and Flood), started
+    at the seed and the number of the meter."""
+    mask = 2 ** 64 - 1
+    word = ((seed << 32) + meter + 0x9E3779B97F4A7C15) & mask
+    word = ((word ^ word >> 30) * 0xBF58476D1CE4E5B9) & mask
+    word = ((word ^ word >> 27) * 0x94D049BB133111EB) & mask
+    return (word ^ word >> 31) % 100
+
+
+def fault_of(seed, meter, shares):
+    """The name of the fault of a meter, or None, where the shares are in the order of the draws."""
+    draw, end = draw_of(seed, meter), 0
+    for name, percent in shares:
+        end += percent
+        if draw < end:
+            return name
+    return None
+
+
+def with_faults(seed, shares, **words):
+    """A fleet in mode 1 with these shares of faults."""
+    options = [word for name, percent in shares for word in ("--fault", f"{name}={percent}")]
+    return Fleet("--mode", "1", *options, "--seed", str(seed), **words)
+
+
+def fault_seen(fleet, meter):
+    """The fault that a client sees at a meter, whose answers are all right and late, or None."""
+    with fleet.connect(meter) as client:
+        client.settimeout(SILENCE)
+        try:
+            begun = time.monotonic()
+            client.sendall(AARQ)
+            opening = receive(client, len(AARE))
+            client.sendall(DISCONNECT)
+            answer = receive(client, len(DONE))
+            are_late = time.monotonic() - begun >= 2 * DELAY - ROUNDING
+            if (opening, answer) == (AARE, DONE):
+                return "slow" if are_late else None
+            if (opening, answer) == (AARE, DONE[:len(DONE) // 2]) and is_closed(client):
+                return "vanishes"
+        except TimeoutError:
+            return "silent"
+        except (ConnectionResetError, BrokenPipeError):
+            return "closes"
+    return "closes" if opening == b"" else "another"
+
+
+def faults_seen(fleet):
+    """The fault that a client sees at each meter of a fleet."""
+    with concurrent.futures.ThreadPoolExecutor(METERS) as clients:
+        return list(clients.map(lambda meter: fault_seen(fleet, meter), range(1, METERS + 1)))
+
+
+def state_after(fault):
+    """The control state of a meter with this fault after a client asked to disconnect it, if the
+    client waited for each answer."""
+    return "connected" if fault in ("silent", "closes") else "disconnected"
+
+
+def faults_are_drawn():
+    """Each client sees the fault that the seed and the shares give its meter, and no other."""
+    shares = (("silent", 10), ("slow", 15), ("vanishes", 20), ("closes", 25))
+    for seed, given in ((0, shares), (7, shares), (4_294_967_295, shares[::2])):
+        with with_faults(seed, given) as fleet:
+            wanted = [fault_of(seed, meter, given) for meter in range(1, METERS + 1)]
+            seen = faults_seen(fleet)
+            others = [it for it in enumerate(zip(wanted, seen), 1) if it[1][0] != it[1][1]]
+            check(f"seed {seed}: each meter has its fault: {others[:5]}", not others)
+            states = [f"{meter} {state_after(fault)}" for meter, fault in enumerate(wanted, 1)]
+            found = fleet.answers("all state", METERS)
+            check(f"seed {seed}: what was answered was carried out", found == states)
+
+
+def faults_are_whole():
+    """With a share of 100 percent all meters have the fault; a share of 0 percent is none."""
+    for name, words in (("silent", ("--fault", "silent=100")),
+                        ("vanishes", ("--fault", "vanishes=30", "--fault", "vanishes=100")),
+                        ("closes", ("--fault", "closes=100", "--fault", "slow=0")),
+                        (None, ("--fault", "silent=0", "--fault", "closes=0", "--seed", "3"))):
+        with Fleet("--mode", "1", *words) as fleet:
+            check(f"all meters: {name}", faults_seen(fleet) == METERS * [name])
+
+
+def silent_meters_act():
+    """A silent meter carries out what a client sends that does not wait."""
+    with with_faults(0, [("silent", 100)]) as fleet, fleet.connect(4) as client:
+        client.sendall(AARQ + DISCONNECT)
+        done = wait_until(lambda: fleet.answers("4 state") == ["4 disconnected"])
+        check("a silent meter is disconnected", done)
+        client.settimeout(0.5)
+        try:
+            check("it sends nothing", client.recv(1) is None)
+        except TimeoutError:
+            check("it sends nothing", True)
+
+
+def slow_meters_answer_late():
+    """Each answer of a slow meter comes after the delay, and its idle client is closed."""
+    with Fleet("--mode", "1", "--fault", "slow=100", "--inactivity", "6") as fleet:
+        with fleet.connect(9) as client:
+            for request, answer in ((AARQ, AARE), (DISCONNECT, DONE), (STATE, DISCONNECTED)):
+                begun = time.monotonic()
+                is_right = ask(client, request, answer)
+                taken = time.monotonic() - begun
+                in_time = DELAY - ROUNDING <= taken < DELAY + 5
+                check(f"a slow meter answers: {taken:.2f} s", is_right and in_time)
+            check("its idle client is closed", is_closed(client))
+        used = cpu_seconds(fleet.process.pid)
+        time.sleep(1)
+        check("a fleet of slow meters waits", cpu_seconds(fleet.process.pid) - used < 0.5)
+
+
+def wrong_faults_are_refused():
+    for words, line in (
+            (["mute=5"], "fault mute=5: expected silent, slow, vanishes or closes"),
+            (["silent"], "fault silent: expected NAME=PERCENT with 0 to 100 percent"),
+            (["slow=101"], "fault slow=101: expected NAME=PERCENT with 0 to 100 percent"),
+            (["silent=60", "slow=41"],
+             "fault slow=41: the shares are more than 100 percent together")):
+        options = [word for it in words for word in ("--fault", it)]
+        command = [str(FLEET), "serve", "--meters", "3", "--password", PASSWORD, "--port", "0"]
+        ran = subprocess.run([*command, "--verbose", *options], capture_output=True, text=True,
+                             timeout=PATIENCE, check=False)
+        check(f"{words} are refused", (ran.returncode, ran.stderr) == (2, f"{line}\nfault: input\n"))
+    ran = subprocess.run([*command, "--seed", "4294967296"], capture_output=True, timeout=PATIENCE,
+                         check=False)
+    check("a seed of 2^32 is refused", ran.returncode == 2)
+
+
+def campaigns_report_faults():
+    """The rows of a campaign over meters with faults: those that are silent, vanish or close are
+    unknown, and all others done. The console finds which meters were switched."""
+    seed, shares = 11, (("silent", 1), ("slow", 2), ("vanishes", 3), ("closes", 4))
+    faults = [fault_of(seed, meter, shares) for meter in range(1, JOBS + 1)]
+    with tempfile.TemporaryDirectory() as folder, \
+            with_faults(seed, shares, meters=JOBS) as fleet:
+        path = pathlib.Path(folder, "jobs")
+        path.write_text("".join(f"m{meter} {address_of(meter)}:{fleet.port} disconnect\n"
+                                for meter in range(1, JOBS + 1)))
+        words = ["--program", str(HEAD_END), "--jobs", "4", "--workers", "16", "--timeout", "20"]
+        ran = subprocess.run([str(CAMPAIGN), *words, str(path)], stdin=subprocess.DEVNULL,
+                             capture_output=True, text=True, timeout=6 * PATIENCE, check=False,
+                             env=environment(PASSWORD) | {"PARALLEL_HOME": folder})
+        rows = [f"m{meter} {'done 0' if fault in (None, 'slow') else 'unknown'}"
+                for meter, fault in enumerate(faults, 1)]
+        check("a campaign reports the faults", ran.stdout.splitlines() == rows)
+        states = [f"{meter} {state_after(fault)}" for meter, fault in enumerate(faults, 1)]
+        check("the console finds what was switched", fleet.answers("all state", JOBS) == states)
+
+
+def cpu_seconds(process):
+    """The processor time of a process."""
+    words = pathlib.Path(f"/proc/{process}/stat").read_text().rsplit(")", 1)[1].split()
+    return (int(words[11]) + int(words[12])) / os.sysconf("SC_CLK_TCK")
+
+
 def main():
     if not os.path.exists(FLEET):
         sys.exit(f"{FLEET} is not built")
@@ -443,7 +811,26 @@ def main():
     reasons_are_reported()
     passwords_are_found()
     idle_connections_are_closed()
+    long_sessions_are_closed()
     meters_resume()
+    buttons_are_pressed()
+    limiters_act()
+    traces_are_written()
+    wrong_lines_change_nothing()
+    a_console_may_be_a_file()
+    many_meters_are_reached()
+    clients_are_answered_meanwhile()
+    wrong_faults_are_refused()
+    faults_are_drawn()
+    faults_are_whole()
+    silent_meters_act()
+    slow_meters_answer_late()
+    if os.path.exists(HEAD_END) and shutil.which("parallel"):
+        campaigns_report_faults()
+    else:
+        print("skipped: the campaign over meters with faults")
+    with Fleet() as fleet:
+        events_reach_their_meters(fleet)
     with Fleet() as fleet:
         meters_are_apart(fleet)
         a_ninth_is_closed(fleet)

@@ -1,11 +1,11 @@
 #!/usr/bin/env python3
-"""Tests `head_end run --ledger FILE` and `head_end status`. Campaigns of 300 jobs against scripted
+"""Tests `head_end run --ledger FILE`, `head_end ask` and `head_end status`. Campaigns of 300 jobs against scripted
 meters that count what they receive are killed at random times, and run again on the same ledger
 until they are whole: no meter may get a second command, each command must have its mark in the
 ledger, no outcome may be lost, and SQLite must find each ledger that a kill left whole. Also
 tested: ledgers and lists that are refused, two runs at once, meters that were down, the order of
-one meter's jobs, meters with passwords of their own, a full disk, and each failing read, write and
-sync. Every wait has a time limit. If the program has no option --ledger, all of it is skipped.
+one meter's jobs, meters with passwords of their own, meters that are asked for their states, a full
+disk, and each failing read, write and sync. Every wait has a time limit. If the program has no option --ledger, all of it is skipped.
 
 usage: tests/ledger.py [--long] [--seed N]
 
@@ -33,7 +33,8 @@ import serving
 from counted_meters import COMMANDS, CountedMeters, kind_of
 from journal import SmallDisk, in_folder
 from refusing import Refusing, call_numbers
-from scripted_meters import CROWD, REQUESTS, ScriptedMeter, answers_slowly
+from scripted_meters import CROWD, REQUESTS, ScriptedMeter, answer_to, answers_slowly
+from scripted_meters import closes_without_answer, does_it
 from serving import PASSWORD, PATIENCE, Server, TOP, check, test
 
 HEAD_END = os.environ.get("HEAD_END") or TOP / "crates" / "head_end_cli" / "out" / "head_end_cli"
@@ -449,6 +450,130 @@ def the_state_is_that_of_the_ledger(name, folder):
             campaign.take_commands()
 
 
+def ask(ledger):
+    """Runs `head_end ask` on a ledger."""
+    words = [str(HEAD_END), "ask", "--ledger", str(ledger), "--password", PASSWORD, "--timeout", "10",
+             "--connect-timeout", "5"]
+    ran = subprocess.run(words, capture_output=True, stdin=subprocess.DEVNULL, text=True,
+                         timeout=LONGEST)
+    return Ran(ran.returncode, ran.stdout, ran.stderr)
+
+
+def answers(ledger):
+    """The answers that SQLite reads from a copy of the file next to a ledger, in their order: each
+    as name, address, state and time."""
+    with tempfile.TemporaryDirectory(prefix="answers-copy-") as folder:
+        for file in ledger.parent.glob(f"{ledger.name}.answers*"):
+            if not file.name.endswith(("-shm", ".lock")):
+                shutil.copy(file, folder)
+        with contextlib.closing(sqlite3.connect(pathlib.Path(folder) / f"{ledger.name}.answers")) as it:
+            rows = it.execute("SELECT number, name, address, state, asked_at FROM answer "
+                              "ORDER BY number").fetchall()
+            assert it.execute("PRAGMA integrity_check").fetchall() == [("ok",)]
+    assert [row[0] for row in rows] == list(range(1, len(rows) + 1)), rows
+    return [row[1:] for row in rows]
+
+
+def with_states(text, states):
+    """The text of `status` in which the meters of these names reported these states."""
+    lines = [f"{line}; state {states[line.split()[0]]}" if line.split()[0] in states else line
+             for line in text.splitlines()]
+    return "".join(f"{line}\n" for line in lines)
+
+
+def closes_at_commands(states):
+    """The script of a meter that closes the connection at a command, and reports these control
+    states to those who ask for it, in their order."""
+    left = list(states)
+
+    def play(talk):
+        request = talk.open()
+        if request != REQUESTS["state"]:
+            return True
+        talk.send(answer_to(request, state=left.pop(0)))
+        return False
+    return play
+
+
+@in_folder
+def meters_without_an_answer_are_asked(name, folder):
+    """`ask` asks the meters that did not answer a command for their states, and commands nobody;
+    `status` shows the states."""
+    scripts = (does_it, closes_at_commands(("00", "01")), closes_at_commands(("02", "02")),
+               closes_without_answer)
+    meters, ledger = [ScriptedMeter(it) for it in scripts], folder / "ledger"
+    jobs = [(f"m{number}", f"127.0.0.1:{meter.port}", "disconnect")
+            for number, meter in enumerate(meters)]
+    ran = run(ledger, text_of(jobs), 1)
+    check(f"{name}: campaign", ran.report == report_of(jobs, ["done 0", *["unknown"] * 3]), ran)
+    found, begun = entries(ledger), int(time.time())
+    check(f"{name}: state before", status(ledger) == (0, state_of(found), ""))
+    for turn, states in enumerate((("0", "2"), ("1", "2")), 1):
+        ran = ask(ledger)
+        wanted = report_of(jobs[1:], [*(f"done {it}" for it in states), "unknown"])
+        check(f"{name}: {turn}: report", ran == (0, wanted, ""), ran)
+        rows = answers(ledger)
+        expected = [(*job[:2], int(it)) for job, it in zip(jobs[1:], states)]
+        check(f"{name}: {turn}: answers", len(rows) == 2 * turn
+              and [row[:3] for row in rows[-2:]] == expected, rows)
+        check(f"{name}: {turn}: times", all(begun <= row[3] <= time.time() for row in rows), rows)
+        state = with_states(state_of(found), dict(zip(("m1", "m2"), states)))
+        check(f"{name}: {turn}: state", status(ledger) == (0, state, ""), status(ledger), state)
+        check(f"{name}: {turn}: the ledger", entries(ledger) == found)
+    mode = (folder / "ledger.answers").stat().st_mode & 0o777
+    check(f"{name}: its owner alone may read it", mode == 0o600, oct(mode))
+    for number, meter in enumerate(meters):
+        requests = [talk.frames[1] for talk in meter.wait_for_talks(3 if number else 1)]
+        wanted = [REQUESTS[it] for it in ("disconnect", *("state",) * (2 if number else 0))]
+        check(f"{name}: requests to m{number}", requests == wanted, requests)
+        meter.stop()
+
+
+@in_folder
+def nothing_to_ask_changes_nothing(name, folder):
+    """`ask` on a ledger whose commands were all answered prints nothing and makes no file."""
+    with running_meters(4) as meters:
+        campaign, ledger = Campaign(meters, lambda place: "disconnect"), folder / "ledger"
+        text = text_of([it for it, row in zip(campaign.jobs, campaign.rows) if row != "unknown"])
+        run(ledger, text)
+        meters.take_counts()
+        ran = ask(ledger)
+        check(f"{name}: no report", ran == (0, "", ""), ran)
+        check(f"{name}: no file", not (folder / "ledger.answers").exists())
+        check(f"{name}: no connection", not any(map(sum, map(dict.values, meters.take_counts()))))
+    ran = ask(folder / "missing")
+    check(f"{name}: no ledger", ran == (3, "", "ledger: can't open the file\nfault: read\n"), ran)
+
+
+@in_folder
+def other_files_of_answers_are_refused(name, folder):
+    """A file of answers that is something else is refused before a meter is asked, and stays as it
+    is. One that is empty gets its table."""
+    meter, ledger = ScriptedMeter(closes_at_commands(("01",))), folder / "ledger"
+    run(ledger, f"m1 127.0.0.1:{meter.port} disconnect\n")
+    file, talks = folder / "ledger.answers", len(meter.wait_for_talks(1))
+    with contextlib.closing(sqlite3.connect(folder / "other")) as database:
+        database.execute("CREATE TABLE meter (name TEXT)")
+        database.commit()
+    said = "answers: the file of answers has other tables\nfault: input\n"
+    for what, text in (("another database", (folder / "other").read_bytes()),
+                       ("a ledger", ledger.read_bytes()), ("a text", b"a report\n" * 1000)):
+        file.write_bytes(text)
+        for command in (ask, status):
+            ran = command(ledger)
+            check(f"{name}: {what}: {command.__name__}", ran == (2, "", said), ran)
+            check(f"{name}: {what}: unchanged", file.read_bytes() == text)
+    check(f"{name}: no connection", len(meter.talks) == talks, len(meter.talks))
+    for it in folder.glob("ledger.answers*"):
+        it.unlink()
+    file.touch()
+    before = status(ledger)
+    check(f"{name}: an empty file", before.status == 0 and "; state" not in before.report, before)
+    ran = ask(ledger)
+    check(f"{name}: is filled", ran == (0, "m1 done 1\n", "") and len(answers(ledger)) == 1, ran)
+    meter.stop()
+
+
 @in_folder
 def what_has_no_state_is_refused(name, folder):
     (folder / "text").write_text("a report\n" * 1000)
@@ -572,7 +697,9 @@ TESTS = (a_ledger_changes_no_row, killed_campaigns_command_nobody_twice, another
          what_is_no_ledger_is_refused, two_runs_at_once_are_refused,
          a_meter_that_was_down_is_commanded_later, jobs_of_a_meter_run_in_order,
          each_meter_has_its_password, the_state_is_that_of_the_ledger,
-         what_has_no_state_is_refused, a_full_disk_stops_the_commands,
+         meters_without_an_answer_are_asked, nothing_to_ask_changes_nothing,
+         other_files_of_answers_are_refused, what_has_no_state_is_refused,
+         a_full_disk_stops_the_commands,
          a_failed_call_commands_nobody_twice)
 
 

@@ -1,9 +1,11 @@
 """A Slurm cluster of one node on this machine, for tests. Its daemons have a key, ports and files
 of their own, all in one folder."""
 
+import contextlib
 import getpass
 import os
 import pathlib
+import random
 import shutil
 import signal
 import socket
@@ -50,11 +52,16 @@ def missing_commands():
 
 
 def free_ports(count):
-    taken = [socket.create_server(("127.0.0.1", 0)) for _ in range(count)]
-    ports = [it.getsockname()[1] for it in taken]
-    for it in taken:
-        it.close()
-    return ports
+    """Free ports below those that the system gives to clients, which could take one before a daemon
+    listens on it."""
+    found = []
+    for port in random.sample(range(20_000, 32_000), 1_000):
+        with contextlib.suppress(OSError), socket.socket() as taken:
+            taken.bind(("127.0.0.1", port))
+            found.append(port)
+        if len(found) == count:
+            break
+    return found
 
 
 class Slurm:

@@ -139,6 +139,8 @@ fn takes_all(
 enum Scenario {
     /// Events are applied by `advance`, without a reply.
     Advancing,
+    /// Writes return the lists that they store.
+    ReturningLists,
     /// A core with settings is saved and restored.
     WritingDown,
     /// A run in mode 1.
@@ -155,6 +157,7 @@ enum Scenario {
 fn does(core: &mut RelayCore, alloc: Global, scenario: Scenario) -> Result<bool, AllocError> {
     match scenario {
         Scenario::Advancing => advance::advances(core, alloc),
+        Scenario::ReturningLists => advance::returns_lists(core, alloc),
         Scenario::WritingDown => opening::is_told(core, alloc),
         Scenario::Running => running::runs_in_mode_1(core, alloc),
         Scenario::ListReading => running::reads_a_list(core, alloc),

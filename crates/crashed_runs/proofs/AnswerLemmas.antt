@@ -138,7 +138,7 @@ if_answered kept [] some = (kept, refl)
 if_answered kept (call ∷ answered) some = some (omega arith)
 
 -- the answered calls of one session
-session_kept : (IsDurable : ℕ → Type 0) (number : List ℕ) (calls front rest : Calls)
+session_kept : (IsDurable : Calls → ℕ → Type 0) (number : List ℕ) (calls front rest : Calls)
     → (are : AreAnswered IsDurable number [] calls) → calls ≡ front ++ rest
     → (0 < length are.answered
     → length (lines_of_calls are.front) ≤ length (lines_of_calls front))
@@ -149,7 +149,7 @@ session_kept IsDurable number calls front rest are all enough =
     (kept.0, kept.1 ∙ ap (λ (cs : Calls). changing_calls cs ++ kept.0) are.entered))
 
 -- a meter that is resumed from a file with the lines of all answered calls continues them
-pub answers_continue : (IsDurable : ℕ → Type 0) (ports : ℕ) (device began left : List ℕ)
+pub answers_continue : (IsDurable : Calls → ℕ → Type 0) (ports : ℕ) (device began left : List ℕ)
     (trace : Trace) (calls : Calls) (recorder : Recording)
     → (sessions : AnswerSessions IsDurable ports calls) → IsText began → IsJournal began
     → trace_of began ≡ Ok trace → AreTraced (changing (run_events calls))

@@ -21,12 +21,13 @@ changing_calls calls = filter (λ (call : Entry Event Reply). not (is_read call.
 
 -- whether, in a run with this number of ports, the calls of each session, all but at most the last
 -- one, were answered from a front of the run's history
-abbrev pub AnswerSessions : (IsDurable : ℕ → Type 0) → (ports : ℕ) → (calls : Calls) → Type 0
+abbrev pub AnswerSessions : (IsDurable : Calls → ℕ → Type 0) → (ports : ℕ) → (calls : Calls)
+    → Type 0
 AnswerSessions IsDurable ports calls =
     (i : ℕ) → 4 ≤ i → i < ports → AreAnswered IsDurable (i ∷ []) [] calls
 
 -- whether a count is at least the number of lines of each front from which a session was answered
-abbrev pub HasAnsweredLines : {IsDurable : ℕ → Type 0} → {ports : ℕ} → {calls : Calls}
+abbrev pub HasAnsweredLines : {IsDurable : Calls → ℕ → Type 0} → {ports : ℕ} → {calls : Calls}
     → AnswerSessions IsDurable ports calls → (count : ℕ) → Type 0
 HasAnsweredLines {ports = ports} sessions count =
     (i : ℕ) (late : 4 ≤ i) (below : i < ports) → 0 < length (sessions i late below).answered
@@ -35,7 +36,7 @@ HasAnsweredLines {ports = ports} sessions count =
 -- Whether the meter in the second world answers as the one after the first calls of a run, which
 -- have at least this number of lines. Of the calls of each session that may change the meter, all
 -- that were answered are among these first calls, in their order, before any other of the session.
-pub record ContinuesAnswers {IsDurable : ℕ → Type 0} {ports : ℕ} {calls : Calls}
+pub record ContinuesAnswers {IsDurable : Calls → ℕ → Type 0} {ports : ℕ} {calls : Calls}
     (sessions : AnswerSessions IsDurable ports calls) (count : ℕ) (origin resumed : World) : Type 0
   where
     pub continues : ContinuesFront count calls origin resumed

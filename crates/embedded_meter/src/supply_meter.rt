@@ -228,7 +228,7 @@ impl SupplyMeter {
     pub fn press(&mut self, alloc: Global) -> ResultCode
         ensures { Takes self.old Button (Code result) self.new }
     {
-        match self.take(alloc, Event::Button) {
+        match self.apply(alloc, Event::Button) {
             Ok(Reply::Code(code)) => code,
             Ok(_) | Err(_) => unreachable!(),
         }
@@ -272,7 +272,7 @@ impl SupplyMeter {
     pub fn tick(&mut self, alloc: Global, now: u32) -> Tick
         ensures { TakesMoment self.old now result self.new }
     {
-        match self.take(alloc, Event::Moment(now)) {
+        match self.apply(alloc, Event::Moment(now)) {
             Ok(Reply::Ran(count)) => Tick::Ran(count),
             Ok(Reply::Stale { last }) => Tick::Stale(last),
             Ok(_) | Err(_) => unreachable!(),
@@ -283,7 +283,7 @@ impl SupplyMeter {
     fn take_block(&mut self, alloc: Global, block: Block) -> Result<Fired, MeterFault>
         ensures { SamplesBy self.old block result self.new }
     {
-        match self.take(alloc, Event::Samples(block)) {
+        match self.apply(alloc, Event::Samples(block)) {
             Ok(Reply::Sampled { over, under }) => Ok(Fired {
                 over,
                 under,
@@ -308,8 +308,9 @@ impl SupplyMeter {
         }
     }
 
-    // Applies an event of the meter itself, and returns the reply.
-    fn take(&mut self, alloc: Global, event: Event) -> Result<Reply, AllocError>
+    /// Applies an event, and returns the reply. If out of memory, nothing has changed, as if the
+    /// event had not arrived. A press of the button and a moment do not allocate.
+    pub fn apply(&mut self, alloc: Global, event: Event) -> Result<Reply, AllocError>
         ensures takes { IfOk result (λ reply. Takes self.old event reply self.new) }
         ensures fits { IfOk result (Fits event) }
         ensures sure { IsTrue (is_sure event) → IsOk result }

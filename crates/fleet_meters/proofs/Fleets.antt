@@ -1,20 +1,26 @@
 -- A fleet after a call.
-use Rattle.std.proofs.Common.{◌≡◌, ◌≢◌, ◌<◌, ◌≤◌, ◌+◌, ℕ, zero, suc, List, [], ◌∷◌, Option, Some, None, Err, refl, sym, ◌∙◌, ap, subst, arith, length, slice_index_or, slice_set}
+use Rattle.std.proofs.Common.{◌≡◌, ◌≢◌, ◌<◌, ℕ, zero, suc, List, [], ◌∷◌, Option, Some, None, Result, Ok, Err, refl, sym, ◌∙◌, ap, subst, arith, length, slice_index_or, slice_set}
 use native.Mathlib.Decide.{ℕ_discrete}
 use Rattle.std.proofs.lemmas.List.{get_or-set_same, get_or-set_other}
 use Rattle.std.proofs.lemmas.Option.{same_Some, none-some}
 use Rattle.slab.specs.Slab.{Slab, Updates, get, with_value}
+use Rattle.relay_events.specs.declared.event.Event.{Event}
+use Rattle.relay_events.specs.declared.reply.Reply.{Reply}
 use Rattle.embedded_meter.specs.MeterStates.{MeterState}
 use Rattle.fleet_links.specs.Streams.{StreamState}
 use Rattle.fleet_links.specs.declared.link.Turn.{Turn}
 use Rattle.fleet_meters.specs.Clients.{ClientState}
+use Rattle.fleet_meters.specs.Fleets.{Applies, GivesBy}
 use Rattle.fleet_meters.specs.Fleets.{FleetState, IsFleet, Isolated, MetersStay, Admits, AdmitsBy, Runs, Releases}
+use Rattle.fleet_meters.specs.Places.{Gives, GivesIn}
 use Rattle.fleet_meters.specs.Places.{PlacesStay, Seats, SeatsIn, Frees, TurnsAt, meter_in, session_in, session_of}
+use Rattle.fleet_meters.specs.declared.place.AccessFault.{AccessFault}
+use Rattle.fleet_meters.specs.declared.place.AccessFault.TheVariants as access
 use Rattle.fleet_meters.specs.declared.place.Refusal.{Refusal}
 use Rattle.fleet_meters.specs.declared.place.Refusal.TheVariants.{NoMeter, Full}
 use Rattle.fleet_meters.specs.declared.place.Refusal.TheVariants as refusal
 use Rattle.fleet_meters.specs.declared.terms.MeterTerms.{MeterTerms}
-use Rattle.fleet_meters.proofs.Seats.{some_not_none, seats_others, seats_free, seats_open, frees_others, turns_others, turns_open, turns_in, places_set, within_places}
+use Rattle.fleet_meters.proofs.Seats.{seats_others, seats_free, seats_open, frees_others, turns_others, turns_open, turns_in, places_set, within_places, gives_sessions}
 
 -- either two sessions are the same, or they differ in the meter or in the number
 one_or_other : {X : Type 0} (place place' number number' : ℕ)
@@ -465,3 +471,68 @@ refuse_facts f f' number stream refusal.Memory seats terms clients =
 pub same_values : (s s' : Slab ClientState) → s' ≡ record s { capacity = s'.capacity }
     → (key : ℕ) → get s' key ≡ get s key
 same_values s s' kept key = ap (λ (t : Slab ClientState). get t key) kept
+
+-- ---- an event
+
+-- the meter at a place was given an event
+pub give_facts : (terms : MeterTerms) (places places' : List (Option MeterState))
+    (clients : Slab ClientState) (place : ℕ) (event : Event) (reply : Reply)
+    → IsFleet (record { terms = terms; places = places; clients = clients })
+    → Gives terms (meter_in places place) event reply (meter_in places' place)
+    → PlacesStay places place places'
+    → IsFleet (record { terms = terms; places = places'; clients = clients })
+    × Applies (record { terms = terms; places = places; clients = clients }) place event reply
+    (record { terms = terms; places = places'; clients = clients })
+give_facts terms places places' clients place event reply fleet gives stay = (
+  record {
+    is_open = λ key c at none. fleet.is_open key c at (sym (sessions c.place c.number) ∙ none);
+    apart = fleet.apart;
+  },
+  record {
+    gives = gives;
+    clients = refl;
+    sessions = sessions;
+    stay = meters_stay f f' place refl stay;
+  },
+)
+  where
+    f : FleetState
+    f = record { terms = terms; places = places; clients = clients }
+
+    f' : FleetState
+    f' = record { terms = terms; places = places'; clients = clients }
+
+    sessions : (p n : ℕ) → session_in places' p n ≡ session_in places p n
+    sessions p n = elim (ℕ_discrete p place) [
+      | yes e ↦ subst (λ (q : ℕ). session_in places' q n ≡ session_in places q n) (sym e)
+          (gives_sessions terms (meter_in places place) (meter_in places' place) event reply n
+          gives)
+      | no far ↦ ap (λ (m : Option MeterState). session_of m n) (stay.places p far)
+    ]
+
+-- the result of giving an event to the meter with a number
+pub give_by : (terms : MeterTerms) (places places' : List (Option MeterState))
+    (clients : Slab ClientState) (number : ℕ) (event : Event) (result : Result Reply AccessFault)
+    → IsFleet (record { terms = terms; places = places; clients = clients })
+    → GivesIn terms places number event result places'
+    → IsFleet (record { terms = terms; places = places'; clients = clients })
+    × GivesBy (record { terms = terms; places = places; clients = clients }) number event result
+    (record { terms = terms; places = places'; clients = clients })
+give_by terms places places' clients number event (Ok reply) fleet gives =
+    let facts = give_facts terms places places' clients gives.0 event reply fleet gives.2 gives.3 in
+    (facts.0, (gives.0, gives.1, facts.1))
+give_by terms places places' clients number event (Err access.NoMeter) fleet gives = (
+  subst (λ (ps : List (Option MeterState)).
+      IsFleet (record { terms = terms; places = ps; clients = clients })) (sym gives.1) fleet,
+  (
+    gives.0,
+    ap (λ (ps : List (Option MeterState)).
+        record { terms = terms; places = ps; clients = clients }) gives.1,
+  ),
+)
+give_by terms places places' clients number event (Err access.Memory) fleet gives = (
+  subst (λ (ps : List (Option MeterState)).
+      IsFleet (record { terms = terms; places = ps; clients = clients })) (sym gives) fleet,
+  ap (λ (ps : List (Option MeterState)).
+      record { terms = terms; places = ps; clients = clients }) gives,
+)

@@ -1,14 +1,22 @@
 -- The sessions of one meter of a fleet.
-use Rattle.std.proofs.Common.{◌≡◌, ◌≢◌, ◌<◌, ◌+◌, ℕ, zero, suc, List, [], ◌∷◌, Option, Some, None, Result, Ok, Err, refl, sym, ◌∙◌, ap, subst, arith, length, slice_index_or, slice_set}
+use Rattle.std.proofs.Common.{◌≡◌, ◌≢◌, ◌<◌, ℕ, zero, suc, List, [], ◌∷◌, Option, Some, None, Result, Ok, Err, refl, sym, ◌∙◌, ap, subst, arith, length, slice_index_or, slice_set}
 use Rattle.std.proofs.lemmas.List.{get_or_default, get_or-set_same, get_or-set_other, length-set}
-use Rattle.std.proofs.lemmas.Option.{same_Some, none-some}
+use Rattle.std.proofs.lemmas.Option.{none-some}
+use Rattle.disconnect_control.specs.declared.state.ControlState.{ControlState}
+use Rattle.relay_core.specs.Stands.{StandsFor}
+use Rattle.relay_core.specs.World.{World}
+use Rattle.relay_events.specs.declared.event.Event.{Event}
+use Rattle.relay_events.specs.declared.reply.Reply.{Reply}
+use Rattle.trace_player.specs.RunTraces.{TellsRun}
 use Rattle.embedded_meter.specs.Calls.{Resumes, Opens, OpensBy, ClosesBy}
-use Rattle.embedded_meter.specs.MeterStates.{MeterState, dialogue_at, max_sessions}
+use Rattle.embedded_meter.specs.Dialogues.{Dialogue}
+use Rattle.embedded_meter.specs.MeterStates.{MeterState, Takes, dialogue_at}
 use Rattle.embedded_meter.specs.declared.fault.MeterFault.{MeterFault}
 use Rattle.embedded_meter.specs.declared.fault.MeterFault.TheVariants.{NoSession, SessionTaken, TooManySamples, Uneven}
 use Rattle.embedded_meter.specs.declared.fault.MeterFault.TheVariants as fault
 use Rattle.fleet_links.specs.declared.link.Turn.{Turn}
 use Rattle.fleet_meters.specs.Clients.{ClientState, ClientTurns}
+use Rattle.fleet_meters.specs.Places.{Gives, HasState, HasTrace}
 use Rattle.fleet_meters.specs.Places.{Seats, SeatsBy, OpensFirst, IsFull, Frees, TurnsAt, Makes, PlacesStay, meter_in, session_in, session_of}
 use Rattle.fleet_meters.specs.declared.place.Refusal.{Refusal}
 use Rattle.fleet_meters.specs.declared.place.Refusal.TheVariants.{NoMeter, Full}
@@ -74,17 +82,79 @@ turns_open room old new c c' turn turns =
     some_not_none (session_of new c.number) turns.turns.turns.serves.after
     (at_some new turns.after c.number turns.is ∙ turns.turns.turns.serves.is)
 
+-- a meter that is given an event keeps its sessions
+pub gives_sessions : (terms : MeterTerms) (old new : Option MeterState) (event : Event)
+    (reply : Reply) (number : ℕ) → Gives terms old event reply new
+    → session_of new number ≡ session_of old number
+gives_sessions terms old new event reply number gives =
+    at_some new gives.after number gives.is
+    ∙ ap (λ (ds : List (Option Dialogue)). slice_index_or ds number None) gives.takes.places
+    ∙ makes_others terms old gives.before number gives.makes
+
 -- ---- the calls
 
-pub new_seats : (terms : MeterTerms) (trace : List ℕ) (m m' v : MeterState)
-    → trace ≡ terms.trace → Resumes trace terms.password terms.kept_events m → Opens m 0 m'
+pub makes_first : (terms : MeterTerms) (trace : List ℕ) (m : MeterState) → trace ≡ terms.trace
+    → Resumes trace terms.password terms.kept_events m → Makes terms None m
+makes_first terms trace m same resumes =
+    subst (λ (t : List ℕ). Resumes t terms.password terms.kept_events m) same resumes
+
+pub new_seats : (terms : MeterTerms) (m m' v : MeterState) → Makes terms None m → Opens m 0 m'
     → v ≡ m' → Seats terms None 0 (Some v)
-new_seats terms trace m m' v same resumes opens is = record {
+new_seats terms m m' v makes opens is = record {
   before = m;
   after = m';
-  makes = subst (λ (t : List ℕ). Resumes t terms.password terms.kept_events m) same resumes;
+  makes = makes;
   is = ap Some is;
   opens = opens;
+}
+
+pub gives_first : (terms : MeterTerms) (m v m' : MeterState) (event : Event) (reply : Reply)
+    → Makes terms None m → v ≡ m → Takes v event reply m' → Gives terms None event reply (Some m')
+gives_first terms m v m' event reply makes same takes = record {
+  before = m;
+  after = m';
+  makes = makes;
+  is = refl;
+  takes = subst (λ (q : MeterState). Takes q event reply m') same takes;
+}
+
+pub gives_there : (terms : MeterTerms) (o : Option MeterState) (m m' : MeterState) (event : Event)
+    (reply : Reply) → o ≡ Some m → Takes m event reply m'
+    → Gives terms o event reply (Some m')
+gives_there terms o m m' event reply is takes = record {
+  before = m;
+  after = m';
+  makes = subst (λ (x : Option MeterState). Makes terms x m) (sym is) refl;
+  is = refl;
+  takes = takes;
+}
+
+pub state_there : (terms : MeterTerms) (o : Option MeterState) (m : MeterState)
+    (state : ControlState) → o ≡ Some m
+    → ((w : World) → StandsFor m.recorder.core w → state ≡ w.control.state)
+    → HasState terms o state
+state_there terms o m state is tells = record {
+  meter = m;
+  makes = subst (λ (x : Option MeterState). Makes terms x m) (sym is) refl;
+  is = tells;
+}
+
+pub state_first : (terms : MeterTerms) (m : MeterState) (state : ControlState)
+    → Makes terms None m
+    → ((w : World) → StandsFor m.recorder.core w → state ≡ w.control.state)
+    → HasState terms None state
+state_first terms m state makes tells = record { meter = m; makes = makes; is = tells }
+
+pub trace_first : (terms : MeterTerms) (m : MeterState) (text : List ℕ) → Makes terms None m
+    → TellsRun m.recorder text → HasTrace terms None text
+trace_first terms m text makes tells = record { meter = m; makes = makes; tells = tells }
+
+pub trace_there : (terms : MeterTerms) (o : Option MeterState) (m : MeterState) (text : List ℕ)
+    → o ≡ Some m → TellsRun m.recorder text → HasTrace terms o text
+trace_there terms o m text is tells = record {
+  meter = m;
+  makes = subst (λ (x : Option MeterState). Makes terms x m) (sym is) refl;
+  tells = tells;
 }
 
 pub opens_unchanged : (m m' : MeterState) (number : ℕ) (why : MeterFault)
@@ -167,6 +237,17 @@ seats_in terms places at x y number within is seats =
     (subst (λ (o : Option MeterState). Seats terms x number o)
     (sym (meter_set places at y within)) seats)
 
+pub gives_in : (terms : MeterTerms) (places : List (Option MeterState)) (at : ℕ)
+    (x y : Option MeterState) (event : Event) (reply : Reply) → at < length places
+    → x ≡ slice_index_or places at x → Gives terms x event reply y
+    → Gives terms (meter_in places at) event reply (meter_in (slice_set places at y) at)
+gives_in terms places at x y event reply within is gives =
+    subst (λ (o : Option MeterState).
+    Gives terms o event reply (meter_in (slice_set places at y) at))
+    (sym (meter_is places at x within is))
+    (subst (λ (o : Option MeterState). Gives terms x event reply o)
+    (sym (meter_set places at y within)) gives)
+
 pub turns_in : (room : ℕ) (places : List (Option MeterState)) (at : ℕ)
     (x y : Option MeterState) (c c' : ClientState) (turn : Turn) → at < length places
     → x ≡ slice_index_or places at x → TurnsAt room x c turn y c'
@@ -201,3 +282,20 @@ open_at_place places at place number x same is is_open none =
     let there = subst (λ (p : ℕ). session_in places p number ≢ None) (sym same) is_open in
     there (ap (λ (m : Option MeterState). session_of m number)
     (meter_is places at x (within_places places at number there) is) ∙ none)
+
+-- the answers about a meter are those about its place
+pub state_in : (terms : MeterTerms) (places : List (Option MeterState)) (at : ℕ)
+    (x : Option MeterState) (state : ControlState) → at < length places
+    → x ≡ slice_index_or places at x → HasState terms x state
+    → HasState terms (meter_in places at) state
+state_in terms places at x state within is has =
+    subst (λ (o : Option MeterState). HasState terms o state) (sym (meter_is places at x within is))
+    has
+
+pub trace_in : (terms : MeterTerms) (places : List (Option MeterState)) (at : ℕ)
+    (x : Option MeterState) (text : List ℕ) → at < length places
+    → x ≡ slice_index_or places at x → HasTrace terms x text
+    → HasTrace terms (meter_in places at) text
+trace_in terms places at x text within is has =
+    subst (λ (o : Option MeterState). HasTrace terms o text) (sym (meter_is places at x within is))
+    has

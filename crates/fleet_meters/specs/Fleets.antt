@@ -3,13 +3,25 @@
 --     IsFleet                   each connection has a session of its meter for itself
 --     Isolated                  what one connection does leaves the others unchanged
 --     Admits, Runs, Releases    a connection was admitted, ran, or was closed
-use Rattle.std.specs.Prelude.{◌≡◌, ◌≢◌, ◌≤◌, ◌+◌, ℕ, List, [], Option, Some, None, Result, Ok, Err, length}
+--     GivesBy                   a meter was given an event
+--     StateBy, TraceBy          the control state of a meter, and its trace
+--     Counts                    the number of meters in a control state
+use Rattle.std.specs.Prelude.{◌≡◌, ◌≢◌, ◌<◌, ◌≤◌, ◌+◌, ℕ, List, [], Option, Some, None, Result, Ok}
+use Rattle.std.specs.Prelude.{Err, length, slice_index_or, ⊤}
+use Rattle.std.specs.List.{count_by}
+use Rattle.disconnect_control.specs.Transitions.{is_state}
+use Rattle.disconnect_control.specs.declared.state.ControlState.{ControlState}
+use Rattle.relay_events.specs.declared.event.Event.{Event}
+use Rattle.relay_events.specs.declared.reply.Reply.{Reply}
 use Rattle.slab.specs.Slab.{Slab, get}
 use Rattle.embedded_meter.specs.MeterStates.{MeterState}
 use Rattle.fleet_links.specs.Streams.{StreamState}
 use Rattle.fleet_links.specs.declared.link.Turn.{Turn}
 use Rattle.fleet_meters.specs.Clients.{ClientState}
-use Rattle.fleet_meters.specs.Places.{Seats, Frees, TurnsAt, IsFull, meter_in, session_in}
+use Rattle.fleet_meters.specs.Places.{Seats, Frees, TurnsAt, Gives, IsFull, HasState, HasTrace}
+use Rattle.fleet_meters.specs.Places.{meter_in, session_in}
+use Rattle.fleet_meters.specs.declared.place.AccessFault.{AccessFault}
+use Rattle.fleet_meters.specs.declared.place.AccessFault.TheVariants as access
 use Rattle.fleet_meters.specs.declared.place.Refusal.{Refusal}
 use Rattle.fleet_meters.specs.declared.place.Refusal.TheVariants.{NoMeter, Full, Memory}
 use Rattle.fleet_meters.specs.declared.terms.MeterTerms.{MeterTerms}
@@ -113,3 +125,60 @@ pub record Releases (old : FleetState) (key : ℕ) (stream : StreamState) (new :
       (meter_in new.places client.place)
   pub isolated : Isolated old key new
   pub stay : MetersStay old client.place new
+
+-- whether the meter at a place applied an event with this reply; all sessions, all connections and
+-- the other meters are unchanged
+pub record Applies (old : FleetState) (place : ℕ) (event : Event) (reply : Reply)
+    (new : FleetState) : Type 0 where
+  pub gives : Gives old.terms (meter_in old.places place) event reply (meter_in new.places place)
+  pub clients : new.clients ≡ old.clients
+  pub sessions : (other number : ℕ)
+      → session_in new.places other number ≡ session_in old.places other number
+  pub stay : MetersStay old place new
+
+-- whether the fleet has no meter with this number, counted from 1
+abbrev pub IsNoMeter : FleetState → ℕ → Type 0
+IsNoMeter f number = (place : ℕ) → number ≡ place + 1 → length f.places ≤ place
+
+-- whether the meter with this number, counted from 1, which was given an event, had this result: a
+-- reply, or a fault that left the fleet unchanged
+abbrev pub GivesBy : FleetState → ℕ → Event → Result Reply AccessFault → FleetState → Type 0
+GivesBy old number event (Ok reply) new = (place : ℕ) × (number ≡ place + 1)
+    × Applies old place event reply new
+GivesBy old number event (Err access.NoMeter) new = IsNoMeter old number × (new ≡ old)
+GivesBy old number event (Err access.Memory) new = new ≡ old
+
+-- whether a question for the control state of the meter with this number, counted from 1, had this
+-- answer
+abbrev pub StateBy : FleetState → ℕ → Result ControlState AccessFault → Type 0
+StateBy f number (Ok state) = (place : ℕ) × (number ≡ place + 1)
+    × HasState f.terms (meter_in f.places place) state
+StateBy f number (Err access.NoMeter) = IsNoMeter f number
+StateBy f number (Err access.Memory) = ⊤
+
+-- whether a question for the trace of the meter with this number, counted from 1, had this answer
+abbrev pub TraceBy : FleetState → ℕ → Result (List ℕ) AccessFault → Type 0
+TraceBy f number (Ok text) = (place : ℕ) × (number ≡ place + 1)
+    × HasTrace f.terms (meter_in f.places place) text
+TraceBy f number (Err access.NoMeter) = IsNoMeter f number
+TraceBy f number (Err access.Memory) = ⊤
+
+-- whether these are the control states of the meters at these places, in order
+pub record HaveStates (terms : MeterTerms) (places : List (Option MeterState))
+    (states : List ControlState) : Type 0 where
+  pub counted : length states ≡ length places
+  pub each : (place : ℕ) (other : ControlState) → place < length places
+      → HasState terms (meter_in places place) (slice_index_or states place other)
+
+-- the number of these control states that are this one
+abbrev pub count_of : ControlState → List ControlState → ℕ
+count_of state states = count_by (λ other. is_state other state) states
+
+-- whether this is the number of the meters at these places that are in a control state
+abbrev pub CountsIn : MeterTerms → List (Option MeterState) → ControlState → ℕ → Type 0
+CountsIn terms places state count = (states : List ControlState) × HaveStates terms places states
+    × (count ≡ count_of state states)
+
+-- whether this is the number of the meters of a fleet that are in a control state
+abbrev pub Counts : FleetState → ControlState → ℕ → Type 0
+Counts f state count = CountsIn f.terms f.places state count

@@ -2,14 +2,24 @@
 --     meter_in, session_in     the meter at a place, and a session of it
 --     Seats, Frees             a meter opened a session for a connection, or closed it
 --     TurnsAt                  a meter ran a connection
---     SeatsIn                  the meter with a number opened a session
+--     Gives                    a meter applied an event
+--     HasState, HasTrace       the control state of a meter, and its trace
+--     SeatsIn, GivesIn         the meter with a number opened a session, or applied an event
 --     PlacesStay               the meters at other places are unchanged
 use Rattle.std.specs.Prelude.{◌≡◌, ◌≢◌, ◌<◌, ◌≤◌, ◌+◌, ℕ, List, Option, Some, None, Result, Ok, Err, length, slice_index_or}
+use Rattle.disconnect_control.specs.declared.state.ControlState.{ControlState}
+use Rattle.relay_core.specs.Stands.{StandsFor}
+use Rattle.relay_core.specs.World.{World}
+use Rattle.relay_events.specs.declared.event.Event.{Event}
+use Rattle.relay_events.specs.declared.reply.Reply.{Reply}
+use Rattle.trace_player.specs.RunTraces.{TellsRun}
 use Rattle.embedded_meter.specs.Calls.{Resumes, Opens, Closes}
 use Rattle.embedded_meter.specs.Dialogues.{Dialogue}
-use Rattle.embedded_meter.specs.MeterStates.{MeterState, dialogue_at, max_sessions}
+use Rattle.embedded_meter.specs.MeterStates.{MeterState, Takes, dialogue_at, max_sessions}
 use Rattle.fleet_links.specs.declared.link.Turn.{Turn}
 use Rattle.fleet_meters.specs.Clients.{ClientState, ClientTurns}
+use Rattle.fleet_meters.specs.declared.place.AccessFault.{AccessFault}
+use Rattle.fleet_meters.specs.declared.place.AccessFault.TheVariants as access
 use Rattle.fleet_meters.specs.declared.place.Refusal.{Refusal}
 use Rattle.fleet_meters.specs.declared.place.Refusal.TheVariants.{NoMeter, Full, Memory}
 use Rattle.fleet_meters.specs.declared.terms.MeterTerms.{MeterTerms}
@@ -95,3 +105,38 @@ SeatsIn terms old number (Err NoMeter) new = ((place : ℕ) → number ≡ place
 SeatsIn terms old number (Err Full) new = ((place : ℕ) → number ≡ place + 1
     → IsFull (meter_in old place)) × (new ≡ old)
 SeatsIn terms old number (Err Memory) new = new ≡ old
+
+-- whether the meter of a place applied an event, with this reply; the meter is made if the place
+-- has none
+pub record Gives (terms : MeterTerms) (old : Option MeterState) (event : Event) (reply : Reply)
+    (new : Option MeterState) : Type 0 where
+  pub before : MeterState
+  pub after : MeterState
+  pub makes : Makes terms old before
+  pub is : new ≡ Some after
+  pub takes : Takes before event reply after
+
+-- whether the meter with this number, counted from 1, which was given an event, had this result: a
+-- reply, or a fault that left all meters unchanged
+abbrev pub GivesIn : MeterTerms → List (Option MeterState) → ℕ → Event → Result Reply AccessFault
+    → List (Option MeterState) → Type 0
+GivesIn terms old number event (Ok reply) new = (place : ℕ) × (number ≡ place + 1)
+    × Gives terms (meter_in old place) event reply (meter_in new place) × PlacesStay old place new
+GivesIn terms old number event (Err access.NoMeter) new = ((place : ℕ) → number ≡ place + 1
+    → length old ≤ place) × (new ≡ old)
+GivesIn terms old number event (Err access.Memory) new = new ≡ old
+
+-- whether this is the control state of the meter of a place: that of a new meter if the place has
+-- none
+pub record HasState (terms : MeterTerms) (place : Option MeterState) (state : ControlState)
+    : Type 0 where
+  pub meter : MeterState
+  pub makes : Makes terms place meter
+  pub is : (w : World) → StandsFor meter.recorder.core w → state ≡ w.control.state
+
+-- whether this is the text of the trace of the meter of a place: that of a new meter if the place
+-- has none
+pub record HasTrace (terms : MeterTerms) (place : Option MeterState) (text : List ℕ) : Type 0 where
+  pub meter : MeterState
+  pub makes : Makes terms place meter
+  pub tells : TellsRun meter.recorder text

@@ -1,12 +1,18 @@
 //! `Fleet`: meters, and the connections of their clients.
-ghost use Rattle.std.specs.Prelude.{◌≡◌, ◌≢◌, ◌<◌, None, IfOk, IfErr, IfSome, IfNone, length, All};
+ghost use Rattle.std.specs.Prelude.{◌≡◌, ◌≢◌, ◌<◌, ◌≤◌, ◌+◌, ℕ, None, IfOk, IfErr, IfSome, IfNone, length, All};
 ghost use Rattle.slab.specs.Slab.{get};
-ghost use Rattle.fleet_meters.specs.Places.{SeatsIn, Frees, PlacesStay, meter_in, session_in};
+ghost use Rattle.fleet_meters.specs.Places.{SeatsIn, GivesIn, Frees, PlacesStay, HasState, meter_in, session_in};
+ghost use Rattle.disconnect_control.specs.Transitions.{is_state};
+ghost use Rattle.fleet_meters.specs.Fleets.{CountsIn};
+ghost use Rattle.fleet_meters.specs.declared.terms.MeterTerms.{MeterTerms};
 
 use crate::client::FleetClient;
-use crate::place::{MeterPlace, Refusal};
+use crate::place::{AccessFault, MeterPlace, Refusal, first_state};
 use crate::terms::MeterTerms;
+use cosem_axdr::Octets;
+use disconnect_control::ControlState;
 use fleet_links::{Stream, Turn};
+use relay_events::{Event, Reply};
 use slab::Slab;
 use std::alloc::{AllocError, Global};
 use std::marker::Model;
@@ -91,8 +97,66 @@ fn release(places: &mut Vec<MeterPlace>, at: usize, session: u8)
     }
 }
 
+// Gives an event to the meter with this number. Returns the reply.
+fn give(
+    alloc: Global,
+    terms: &MeterTerms,
+    places: &mut Vec<MeterPlace>,
+    number: usize,
+    event: Event,
+) -> Result<Reply, AccessFault>
+    ensures { GivesIn terms.now places.old.items number event result places.new.items }
+{
+    let Some(at) = number.checked_sub(1) else {
+        drop(event);
+        return Err(AccessFault::NoMeter);
+    };
+    let Some(place) = places.get_mut(at) else {
+        drop(event);
+        return Err(AccessFault::NoMeter);
+    };
+    match place.give(alloc, terms, event) {
+        Ok(reply) => Ok(reply),
+        Err(_) => Err(AccessFault::Memory),
+    }
+}
+
+// Returns the place of the meter with this number, if it is one of `count`.
+fn place_of(number: usize, count: usize) -> Option<usize>
+    ensures place { IfSome result (λ at. (number ≡ at + 1) × (at < count)) }
+    ensures none { IfNone result ((at : ℕ) → number ≡ at + 1 → count ≤ at) }
+{
+    match number.checked_sub(1) {
+        Some(at) if at < count => Some(at),
+        _ => None,
+    }
+}
+
+// Returns the number of places whose meters are in a control state, where a new meter is in the
+// state `first`.
+fn count_places(places: &[MeterPlace], first: ControlState, state: ControlState) -> usize
+    ensures { (terms : MeterTerms) → HasState terms None first
+        → CountsIn terms places.now state result }
+{
+    let mut count = 0;
+    'places: for place in places {
+        if is_state(place.state_or(first), state) {
+            count += 1;
+        }
+    }
+    count
+}
+
+// Returns whether two control states are the same.
+fn is_state(one: ControlState, other: ControlState) -> bool
+    ensures { result ≡ is_state one other }
+{
+    one == other
+}
+
 impl<S: Stream + Drop> Fleet<S> {
     ghost use Rattle.fleet_meters.specs.Fleets.{IsNewFleet, AdmitsBy, RunsBy, Releases};
+    ghost use Rattle.fleet_meters.specs.Fleets.{GivesBy, StateBy, TraceBy, Counts};
     ghost use Rattle.fleet_meters.specs.Fleets.{without_stream};
 
     /// Returns a fleet of `count` meters without connections. A meter is made when its first client
@@ -178,5 +242,57 @@ impl<S: Stream + Drop> Fleet<S> {
             }
             None => None,
         }
+    }
+    /// Returns the number of meters.
+    pub fn meters(&self) -> usize
+        ensures { result ≡ length self.now.places }
+    {
+        self.places.len()
+    }
+
+    /// Gives an event to the meter with this number, which is made first if nobody has reached it.
+    /// Returns the reply. All other meters, and all connections, are unchanged. Errors: `NoMeter`,
+    /// `Memory`; then the fleet is unchanged.
+    pub fn give(&mut self, alloc: Global, number: usize, event: Event) -> Result<Reply, AccessFault>
+        ensures { GivesBy self.old number event result self.new }
+    {
+        give(alloc, &self.terms, &mut self.places, number, event)
+    }
+
+    /// Returns the control state of the meter with this number: that of a new meter if nobody has
+    /// reached it. Errors: `NoMeter`, `Memory`.
+    pub fn state(&self, alloc: Global, number: usize) -> Result<ControlState, AccessFault>
+        ensures { StateBy self.now number result }
+    {
+        let Some(at) = place_of(number, self.places.len()) else {
+            return Err(AccessFault::NoMeter);
+        };
+        match self.places[at].state(alloc, &self.terms) {
+            Ok(state) => Ok(state),
+            Err(_) => Err(AccessFault::Memory),
+        }
+    }
+
+    /// Returns the text of the trace of the meter with this number: that of a new meter if nobody
+    /// has reached it. Errors: `NoMeter`, `Memory`.
+    pub fn trace(&self, alloc: Global, number: usize) -> Result<Octets, AccessFault>
+        ensures { TraceBy self.now number result }
+    {
+        let Some(at) = place_of(number, self.places.len()) else {
+            return Err(AccessFault::NoMeter);
+        };
+        match self.places[at].trace(alloc, &self.terms) {
+            Ok(text) => Ok(text),
+            Err(_) => Err(AccessFault::Memory),
+        }
+    }
+
+    /// Returns the number of meters that are in this control state. A meter that nobody has reached
+    /// is in that of a new meter. Fails if out of memory.
+    pub fn count(&self, alloc: Global, state: ControlState) -> Result<usize, AllocError>
+        ensures { IfOk result (Counts self.now state) }
+    {
+        let first = first_state(alloc, &self.terms)?;
+        Ok(count_places(self.places.as_slice(), first, state))
     }
 }

@@ -11,5 +11,5 @@ mod terms;
 
 pub use client::FleetClient;
 pub use fleet::Fleet;
-pub use place::Refusal;
+pub use place::{AccessFault, Refusal};
 pub use terms::MeterTerms;

@@ -4,11 +4,13 @@ use Rattle.std.proofs.Common.{Ok, Err, refl, sym, ◌∙◌, ap, subst, append_a
 use Rattle.std.proofs.lemmas.Option.{same_Some, none-some}
 use Rattle.relay_recorder.specs.Histories.{Exchange, StandsForHistory}
 use Rattle.relay_recorder.specs.Recording.{Recording}
-use Rattle.embedded_meter.specs.MeterStates.{MeterState}
+use Rattle.relay_events.specs.declared.event.Event.{Event}
+use Rattle.relay_events.specs.declared.reply.Reply.{Reply}
+use Rattle.embedded_meter.specs.MeterStates.{MeterState, Takes}
 use Rattle.fleet_meters.specs.Fleets.{FleetState, MetersStay}
 use Rattle.fleet_meters.specs.Places.{Makes, meter_in}
 use Rattle.fleet_meters.specs.declared.terms.MeterTerms.{MeterTerms}
-use Rattle.fleet_runs.specs.Calls.{FleetCall, admitted, ran, closed, missed, CallsBy, Calls}
+use Rattle.fleet_runs.specs.Calls.{FleetCall, admitted, ran, closed, missed, gave, CallsBy, Calls}
 use Rattle.fleet_runs.specs.Calls.{told_there, told_at}
 use Rattle.fleet_runs.specs.Law.{HaveTheirHistories}
 use Rattle.fleet_runs.specs.Lives.{ExtendsHistory}
@@ -33,6 +35,14 @@ extends_more m m' m'' told told' first then_ = record {
       (append_assoc history told told')
       (then_.histories (history ++ told) origin (first.histories history origin stands));
   capacity = then_.capacity ∙ first.capacity;
+}
+
+-- the meter was given an event
+extends_event : (m m' : MeterState) (event : Event) (reply : Reply) → Takes m event reply m'
+    → ExtendsHistory ((event, reply) ∷ []) m m'
+extends_event m m' event reply takes = record {
+  histories = λ history origin stands. takes.continues.histories history origin stands;
+  capacity = takes.capacity;
 }
 
 -- ---- the meter at a place
@@ -120,6 +130,20 @@ history_call room place (closed key) old new m by is =
     })
 history_call room place (missed key) old new m by is =
     stays_at m new place (ap (λ (f : FleetState). meter_in f.places place) by.1 ∙ is)
+history_call room place (gave at event reply) old new m by is = by_number at place
+    (λ e e'. record {
+      meter = by.gives.after;
+      is = ap (λ (p : ℕ). meter_in new.places p) (sym e) ∙ by.gives.is;
+      goes = subst (λ (t : List Exchange). ExtendsHistory t m by.gives.after)
+          (sym (ap (λ (b : _). if b then (event, reply) ∷ [] else []) e'))
+          (subst (λ (q : MeterState). ExtendsHistory ((event, reply) ∷ []) q by.gives.after)
+          (made_there old.terms (meter_in old.places at) m by.gives.before
+          (ap (λ (p : ℕ). meter_in old.places p) e ∙ is) by.gives.makes)
+          (extends_event by.gives.before by.gives.after event reply by.gives.takes));
+    })
+    (λ far e'. subst (λ (t : List Exchange). ExtendsAt t m new place)
+    (sym (ap (λ (b : _). if b then (event, reply) ∷ [] else []) e'))
+    (stays_at m new place (by.stay.places place (λ e. far (sym e)) ∙ is)))
 
 history_calls : (room place : ℕ) (calls : List FleetCall) (old new : FleetState)
     (m : MeterState) → Calls room old calls new → meter_in old.places place ≡ Some m

@@ -7,7 +7,7 @@ use Rattle.std.specs.Io.KnownBytes.{Appends}
 use Rattle.std.proofs.KnownBytes.{Appends-nil, Appends-trans}
 use Rattle.std.proofs.lemmas.List.Folds.{concat-append}
 use Rattle.std.proofs.lemmas.Option.{same_Some, none-some}
-use Rattle.slab.specs.Slab.{get}
+use Rattle.slab.specs.Slab.{Slab, get}
 use Rattle.relay_events.specs.declared.event.Event.{Event}
 use Rattle.relay_events.specs.declared.reply.Reply.{Reply}
 use Rattle.relay_recorder.specs.Histories.{Exchange, events_of, replies_of}
@@ -26,7 +26,8 @@ use Rattle.fleet_meters.specs.Clients.{ClientState, link_of}
 use Rattle.fleet_meters.specs.Fleets.{FleetState, IsNewFleet, Isolated, Admits}
 use Rattle.fleet_meters.specs.Places.{meter_in, session_of, session_in}
 use Rattle.fleet_meters.specs.declared.terms.MeterTerms.{MeterTerms}
-use Rattle.fleet_runs.specs.Calls.{FleetCall, admitted, ran, closed, missed, RunsAt, CallsBy, Calls}
+use Rattle.fleet_runs.specs.Calls.{FleetCall, admitted, ran, closed, missed, gave, RunsAt}
+use Rattle.fleet_runs.specs.Calls.{CallsBy, Calls}
 use Rattle.fleet_runs.specs.Calls.{IsEnd, StaysOpen, told_in, exchanges_at}
 use Rattle.fleet_runs.specs.Law.{HaveTheirFrames, HaveTheirAnswers}
 use Rattle.fleet_runs.specs.Lives.{Remains, Lives, IsServed, HasAnswered}
@@ -275,6 +276,15 @@ served_call password origin told room key (missed k) f f' never by served =
     (served_same password origin told f f' key
     (ap (λ (x : FleetState). x.places) by.1)
     (ap (λ (x : FleetState). get x.clients key) by.1) served)
+served_call password origin told room key (gave place event reply) f f' never by served =
+    told_nothing password origin told f' key
+    (record {
+      client = served.client;
+      dialogue = served.dialogue;
+      is = ap (λ (clients : Slab ClientState). get clients key) by.clients ∙ served.is;
+      session = by.sessions served.client.place served.client.number ∙ served.session;
+      lives = served.lives;
+    })
 
 -- ---- several calls
 

@@ -10,7 +10,8 @@ use Rattle.fleet_meters.specs.Places.{Makes, meter_in}
 use Rattle.fleet_meters.specs.declared.place.Refusal.{Refusal}
 use Rattle.fleet_meters.specs.declared.place.Refusal.TheVariants.{NoMeter, Full, Memory}
 use Rattle.fleet_meters.specs.declared.terms.MeterTerms.{MeterTerms}
-use Rattle.fleet_runs.specs.Calls.{FleetCall, admitted, ran, closed, missed, CallsBy, Calls}
+use Rattle.fleet_runs.specs.Calls.{FleetCall, admitted, ran, closed, missed, gave, CallsBy, Calls}
+use Rattle.fleet_runs.specs.Calls.{AreGiven, GivesEvents}
 
 -- either two numbers are the same, or they differ
 pub by_number : {X : Type 0} (a b : ℕ) → (a ≡ b → (a == b) ≡ true → X)
@@ -89,6 +90,11 @@ guarded_call room old new (closed key) guarded by =
 guarded_call room old new (missed key) guarded by =
     guarded_same old new guarded (ap (λ (f : FleetState). f.terms) by.1)
     (ap (λ (f : FleetState). f.places) by.1)
+guarded_call room old new (gave place event reply) guarded by =
+    guarded_on old new place by.gives.after guarded by.stay by.gives.is
+    (by.gives.takes.password
+    ∙ made_guarded old (meter_in old.places place) place by.gives.before guarded refl
+    by.gives.makes)
 
 pub guarded_calls : (room : ℕ) (old new : FleetState) (calls : List FleetCall) → IsGuarded old
     → Calls room old calls new → IsGuarded new
@@ -109,6 +115,7 @@ same_terms room old new (admitted number stream (Err why)) by =
 same_terms room old new (ran key place turn told) by = by.runs.stay.terms
 same_terms room old new (closed key) by = by.1.stay.terms
 same_terms room old new (missed key) by = ap (λ (f : FleetState). f.terms) by.1
+same_terms room old new (gave place event reply) by = by.stay.terms
 
 pub terms_kept : (room : ℕ) (old new : FleetState) (calls : List FleetCall)
     → Calls room old calls new → new.terms ≡ old.terms
@@ -128,3 +135,29 @@ calls_on room (call ∷ calls) calls' f f' f'' first then_ = (
   first.1,
   calls_on room calls calls' first.0 f' f'' first.2 then_,
 )
+
+-- ---- events
+
+-- nothing was done
+pub gives_nothing : (f f' : FleetState) → f' ≡ f → GivesEvents f f'
+gives_nothing f f' same = record { calls = []; given = tt; leads = λ room. same }
+
+all_given : (calls calls' : List FleetCall) → AreGiven calls → AreGiven calls'
+    → AreGiven (calls ++ calls')
+all_given [] calls' first then_ = then_
+all_given (gave place event reply ∷ calls) calls' first then_ =
+    all_given calls calls' first then_
+all_given (admitted number stream result ∷ calls) calls' first then_ = absurd first
+all_given (ran key place turn told ∷ calls) calls' first then_ = absurd first
+all_given (closed key ∷ calls) calls' first then_ = absurd first
+all_given (missed key ∷ calls) calls' first then_ = absurd first
+
+-- events were given, and then others
+pub gives_more : (f f' f'' : FleetState) → GivesEvents f f' → GivesEvents f' f''
+    → GivesEvents f f''
+gives_more f f' f'' first then_ = record {
+  calls = first.calls ++ then_.calls;
+  given = all_given first.calls then_.calls first.given then_.given;
+  leads = λ room. calls_on room first.calls then_.calls f f' f'' (first.leads room)
+      (then_.leads room);
+}

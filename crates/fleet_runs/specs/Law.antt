@@ -2,7 +2,7 @@
 --     Admitted               a fleet that is new, some calls, an admission, and further calls
 --     HaveTheirFrames        each connection gets the frames of its session, in order
 --     HaveTheirAnswers       a connection that waits has all answers
---     HaveTheirHistories     each meter's history is that of its own connections
+--     HaveTheirHistories     each meter's history is that of its own calls
 use Rattle.std.specs.Prelude.{◌≡◌, ◌++◌, ℕ, List, [], Some, Ok}
 use Rattle.relay_recorder.specs.Histories.{Exchange}
 use Rattle.slab.specs.Slab.{get}
@@ -49,7 +49,8 @@ HaveTheirAnswers = (terms : MeterTerms) (room key place : ℕ) (origin : StreamS
     → get now.clients key ≡ Some c → c.pending ≡ []
     → HasAnswered terms.password origin (exchanges_at key calls ++ told) c.stream
 
--- the history of the meter at a place is extended by the events of the connections there, in order
+-- the history of the meter at a place is extended by the events of the connections there and by
+-- those that it was given, in order
 abbrev pub HaveTheirHistories : Type 0
 HaveTheirHistories = (room place : ℕ) (calls : List FleetCall) (old new : FleetState)
     (m : MeterState) → Calls room old calls new → meter_in old.places place ≡ Some m

@@ -1,4 +1,4 @@
-//! Proves what holds of a fleet after any admissions, turns and closings.
+//! Proves what holds of a fleet after any admissions, turns, closings and events.
 ghost use Rattle.fleet_runs.specs.Law.{HaveTheirFrames, HaveTheirAnswers, HaveTheirHistories};
 
 /// Proves that a connection, after any calls of its fleet, has been written the first frames that
@@ -10,7 +10,7 @@ pub fn answered_connections()
 {}
 
 /// Proves that the history of a meter, after any calls of its fleet, is the earlier one followed by
-/// the events of the connections to that meter, in order.
+/// the events of the connections to that meter and those that it was given, in order.
 pub fn separate_histories()
     ensures { HaveTheirHistories }
 {}

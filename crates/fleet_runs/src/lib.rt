@@ -1,5 +1,5 @@
 //! Theorems about a fleet over any number of calls: each connection gets the frames of its session,
-//! and each meter's history is that of its own connections.
+//! and each meter's history is that of its own calls.
 #![tactic(auto)]
 
 mod law;

@@ -1,8 +1,9 @@
 -- What `run --ledger` and `status` print.
 --     PrintsTexts       the report is printed, unless out of memory
 --     PrintsRun         the jobs were run with permits of the ledger, and the report is printed
---     PrintsStatus      the lines of a ledger are printed
-use Rattle.std.specs.Prelude.{ℕ, codes, List, Option, Result, Ok, Err}
+--     HaveAnswers       lines of a ledger have their answers
+--     PrintsStatus      the lines of a ledger, with their answers, are printed
+use Rattle.std.specs.Prelude.{◌≡◌, ℕ, codes, map, List, Option, Result, Ok, Err}
 use Rattle.std.specs.Io.KnownBytes.{Appends}
 use Rattle.std.specs.declared.alloc.AllocError.{AllocError}
 use Rattle.clap.specs.Matches.{first_value}
@@ -13,6 +14,8 @@ use Rattle.client_core.specs.declared.job.Job.{Job}
 use Rattle.head_end.specs.Connections.{Forecast}
 use Rattle.ledger_runs.specs.declared.running.LedgerTexts.{LedgerTexts}
 use Rattle.ledger_file_runs.specs.Files.{IsRunOnFile}
+use Rattle.ledger_reports.specs.Answers.{with_answer}
+use Rattle.ledger_reports.specs.declared.answer.StateAnswer.{StateAnswer}
 use Rattle.ledger_reports.specs.declared.line.LedgerLine.{LedgerLine}
 use Rattle.ledger_records.specs.Formats.{IsNamed}
 use Rattle.ledger_records.specs.Texts.{text_in}
@@ -33,10 +36,18 @@ pub record PrintsRun {D : Type 0} (g : Ghosts D) (held : Image)
   pub ran : IsRunOnFile g held tells jobs passwords texts
   pub printed : PrintsTexts texts written written'
 
--- whether the lines that were read of a ledger were printed, in the format that the option
--- `--format` names
+-- whether lines are those that were read of a ledger, each with the latest of the answers that were
+-- read next to it, if it has one
+pub record HaveAnswers (lines : List LedgerLine) : Type 0 where
+  pub read : List LedgerLine
+  pub answers : List StateAnswer
+  pub are : lines ≡ map (with_answer answers) read
+
+-- whether the lines that were read of a ledger, each with its answer, were printed, in the format
+-- that the option `--format` names
 pub record PrintsStatus (found : Found) (written written' : Option (List ℕ)) : Type 0 where
   pub lines : List LedgerLine
+  pub have_answers : HaveAnswers lines
   pub format : LedgerFormat
   pub named : IsNamed (first_value found (codes "format")) format
   pub printed : Appends written written' (text_in format lines)

@@ -128,7 +128,9 @@ fn print_texts<W: Write>(rt: &HostRuntime, texts: LedgerTexts, output: &mut W) -
 // Returns the program's fault if a ledger is not opened.
 fn open_fault(fault: LedgerOpenFault) -> Fault {
     match fault {
-        LedgerOpenFault::NotALedger | LedgerOpenFault::OtherList => Fault::Input,
+        LedgerOpenFault::NotALedger | LedgerOpenFault::OtherList | LedgerOpenFault::Answers => {
+            Fault::Input
+        }
         LedgerOpenFault::Busy | LedgerOpenFault::File => Fault::Write,
         LedgerOpenFault::Memory => Fault::Memory,
     }

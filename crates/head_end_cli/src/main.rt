@@ -1,16 +1,19 @@
 //! The program `head_end`: `head_end check` counts the jobs of a list, `head_end run` runs them and
-//! prints the report, and `head_end status` prints the state of the campaign of a ledger, or its
-//! jobs as records.
+//! prints the report, `head_end ask` asks the meters of a ledger that gave no valid answer for
+//! their states, and `head_end status` prints the state of the campaign of a ledger, or its jobs as
+//! records.
 //!
 //! The jobs, the campaign and the report are those of the crate `head_end`, the command line and
 //! `check` those of `head_end_commands`; this one has the standard streams and the exit status.
 #![tactic(auto)]
 
+mod asking;
 mod campaign;
 mod ledgered;
 mod progress;
 mod status;
 
+use crate::asking::{ask, plan_asking};
 use crate::ledgered::{LedgeredCampaign, plan_ledgered, run_on_ledger};
 use crate::status::print_status;
 use clap::ArgMatches;
@@ -31,6 +34,8 @@ enum HeadEndCommand {
     Campaign(CampaignPlan),
     // Run a campaign on its ledger.
     Ledgered(LedgeredCampaign),
+    // Ask the meters of a ledger that gave no valid answer.
+    Asking(LedgeredCampaign),
 }
 
 // Prepares the campaign of `run`, on its ledger if the option `--ledger` names one.
@@ -41,7 +46,7 @@ fn begin_run(rt: &HostRuntime, matches: &ArgMatches<'_>) -> Result<HeadEndComman
     }
 }
 
-// Runs `check` or `status`, or prepares the campaign of `run`.
+// Runs `check` or `status`, or prepares the campaign of `run` or the questions of `ask`.
 fn begin_command(rt: &HostRuntime, matches: &ArgMatches<'_>) -> Result<HeadEndCommand, Fault> {
     match matches.subcommand() {
         Some(("check", matches)) => {
@@ -54,6 +59,10 @@ fn begin_command(rt: &HostRuntime, matches: &ArgMatches<'_>) -> Result<HeadEndCo
             Ok(HeadEndCommand::Ended(0))
         }
         Some(("run", matches)) => begin_run(rt, matches),
+        Some(("ask", matches)) => {
+            let path = matches.get_str("ledger").unwrap_or("");
+            Ok(HeadEndCommand::Asking(plan_asking(rt, matches, path)?))
+        }
         Some(("status", matches)) => {
             print_status(rt, matches, &mut rt.stdout())?;
             Ok(HeadEndCommand::Ended(0))
@@ -93,6 +102,12 @@ fn main(rt: HostRuntime) -> ExitCode {
             let connector = TcpConnector::new(rt, plan.campaign.limits);
             let output = &mut rt.stdout();
             let done = run_on_ledger(&rt, &rt, &connector, &plan, Unknown, output);
+            exit_code(&rt, done.map(|_| 0))
+        }
+        Ok(HeadEndCommand::Asking(plan)) => {
+            let connector = TcpConnector::new(rt, plan.campaign.limits);
+            let output = &mut rt.stdout();
+            let done = ask(&rt, &rt, &connector, &plan, Unknown, output);
             exit_code(&rt, done.map(|_| 0))
         }
         Err(fault) => exit_code(&rt, Err(fault)),

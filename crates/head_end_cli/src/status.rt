@@ -1,18 +1,21 @@
 //! The command `head_end status`: the state of the campaign of a ledger, or its jobs as records.
-ghost use Rattle.std.specs.Prelude.{OnOk};
+ghost use Rattle.std.specs.Prelude.{◌≡◌, map, IfOk, OnOk};
 ghost use Rattle.clap.specs.Matches.{found_of};
-ghost use Rattle.head_end_cli.specs.Ledgered.{PrintsStatus};
+ghost use Rattle.head_end_cli.specs.Ledgered.{HaveAnswers, PrintsStatus};
+ghost use Rattle.ledger_reports.specs.Answers.{with_answer};
 
 use clap::ArgMatches;
-use ledger_files::read_ledger;
+use ledger_files::{read_answers_of, read_ledger};
 use ledger_records::{LedgerFormat, ledger_text};
+use ledger_reports::{LedgerLine, StateAnswer, enter_answers};
 use program::{Fault, print_text};
 use sqlite_ledger::LedgerOpenFault;
 use std::io::Write;
 
-// Prints the ledger that the option `--ledger` names, in the format of `--format`. If it can't be
-// read, writes a line on standard error. Errors: `Input` if the file is no ledger; `Read` if it is
-// missing, can't be read or is open in another process; `Write`; `Memory`.
+// Prints the ledger that the option `--ledger` names, with the answers in the file next to it, in
+// the format of `--format`. If one of the files can't be read, writes a line on standard error.
+// Errors: `Input` if one of them is something else; `Read` if the ledger is missing, or one of them
+// can't be read or is open in another process; `Write`; `Memory`.
 pub(crate) fn print_status<W: Write>(
     rt: &HostRuntime,
     matches: &ArgMatches<'_>,
@@ -22,7 +25,7 @@ pub(crate) fn print_status<W: Write>(
         (W.contents output.new)) }
 {
     let format = LedgerFormat::named(matches.get_str("format"));
-    match read_ledger(rt, matches.get_str("ledger").unwrap_or("")) {
+    match load_lines(rt, matches.get_str("ledger").unwrap_or("")) {
         Ok(lines) => {
             let text = ledger_text(rt.alloc(), format, lines.as_slice());
             drop(lines);
@@ -31,6 +34,27 @@ pub(crate) fn print_status<W: Write>(
                 Err(_) => Err(Fault::Memory),
             }
         }
+        Err(fault) => Err(fault),
+    }
+}
+
+// Returns the lines of the ledger at a path, each with its answer in the file next to it. If one of
+// the files can't be read, writes a line on standard error.
+fn load_lines(rt: &HostRuntime, path: &str) -> Result<Vec<LedgerLine>, Fault>
+    ensures { IfOk result (λ lines. HaveAnswers lines.items) }
+{
+    match read_ledger(rt, path) {
+        Ok(lines) => match load_answers(rt, path) {
+            Ok(answers) => {
+                let lines = enter(lines, answers.as_slice());
+                drop(answers);
+                Ok(lines)
+            }
+            Err(fault) => {
+                drop(lines);
+                Err(fault)
+            }
+        },
         Err(fault) => {
             let _ = eprintln!(rt; "ledger: {fault}");
             Err(read_fault(fault))
@@ -38,10 +62,34 @@ pub(crate) fn print_status<W: Write>(
     }
 }
 
-// Returns the program's fault if a ledger is not read.
-fn read_fault(fault: LedgerOpenFault) -> Fault {
+// Returns the lines with their answers.
+fn enter(lines: Vec<LedgerLine>, answers: &[StateAnswer]) -> Vec<LedgerLine>
+    ensures { result.items ≡ map (with_answer answers.now) lines.items }
+{
+    let mut lines = lines;
+    enter_answers(lines.as_mut_slice(), answers);
+    lines
+}
+
+// Returns the answers in the file next to the ledger at a path. If it can't be read, writes a line
+// on standard error. Errors: `Input` if it is something else; `Read` if it can't be read or is open
+// in another process; `Memory`.
+pub(crate) fn load_answers(rt: &HostRuntime, path: &str) -> Result<Vec<StateAnswer>, Fault> {
+    match read_answers_of(rt, path) {
+        Ok(answers) => Ok(answers),
+        Err(fault) => {
+            let _ = eprintln!(rt; "answers: {fault}");
+            Err(read_fault(fault))
+        }
+    }
+}
+
+// Returns the program's fault if a ledger, or the file of answers next to it, is not read.
+pub(crate) fn read_fault(fault: LedgerOpenFault) -> Fault {
     match fault {
-        LedgerOpenFault::NotALedger | LedgerOpenFault::OtherList => Fault::Input,
+        LedgerOpenFault::NotALedger | LedgerOpenFault::OtherList | LedgerOpenFault::Answers => {
+            Fault::Input
+        }
         LedgerOpenFault::Busy | LedgerOpenFault::File => Fault::Read,
         LedgerOpenFault::Memory => Fault::Memory,
     }

@@ -1,4 +1,4 @@
--- The values of the options of `run`.
+-- The values of the options of `run` and `ask`.
 --     IsNumber     the number of an option
 --     IsLimit      the time limit of an option
 --     AreLimits    both time limits

@@ -1,4 +1,4 @@
--- The passwords of the jobs of `run`.
+-- The passwords of the jobs of `run` and `ask`.
 --     IsCommonPassword  the password of jobs without one of their own
 --     ArePasswords      the passwords of all jobs, by the file of `--passwords` and the common one
 --     HasPasswords      the passwords of a campaign's jobs

@@ -1,11 +1,13 @@
 //! The commands of the program `head_end`: its command line; `check`, with the warnings and
-//! findings about a list of jobs; and the plan of `run`: its options, its jobs and their passwords.
+//! findings about a list of jobs; and the plan of `run` and of `ask`: the options, the jobs and
+//! their passwords.
 #![tactic(auto)]
 
 mod arguments;
 mod findings;
 mod listing;
 mod messages;
+mod options;
 mod passwords;
 mod plan;
 mod text_filter;
@@ -13,4 +15,4 @@ mod warnings;
 
 pub use arguments::command_line;
 pub use listing::check;
-pub use plan::{CampaignPlan, PASSWORD_VARIABLE, plan_campaign};
+pub use plan::{CampaignPlan, PASSWORD_VARIABLE, plan_campaign, plan_jobs};

@@ -1,4 +1,5 @@
-//! The passwords of the jobs of `run`: those of the file of `--passwords`, and the common one.
+//! The passwords of the jobs of `run` and `ask`: those of the file of `--passwords`, and the common
+//! one.
 ghost use Rattle.std.specs.Prelude.{◌≡◌, [], None, IfOk, IfSome, codes, length};
 ghost use Rattle.std.specs.List.{All};
 ghost use Rattle.std.specs.Option.{option_copied};

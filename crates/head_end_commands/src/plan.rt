@@ -1,4 +1,5 @@
-//! `plan_campaign`: what a campaign starts with: its options, and its jobs from standard input.
+//! `plan_campaign` and `plan_jobs`: what a campaign starts with: its options, and its jobs, which
+//! are those on standard input or are given.
 ghost use Rattle.std.specs.Prelude.{◌≡◌, ◌≤◌, ℕ, List, Some, codes, length, string_bytes};
 ghost use Rattle.std.specs.Prelude.{IfOk, IfSome};
 ghost use Rattle.std.specs.List.{All};
@@ -178,21 +179,22 @@ fn job_passwords(
     }
 }
 
-/// Validates the options and reads the jobs on standard input, and then the passwords of the jobs.
-/// Writes the warnings about the jobs on standard error. If `--verbose` is given, a line there
-/// describes the fault.
-pub fn plan_campaign(rt: &HostRuntime, matches: &ArgMatches<'_>) -> Result<CampaignPlan, Fault>
+// Returns the plan of these jobs, each with the password of its name, else the common one. Errors:
+// those of the passwords, with a line on standard error that describes them.
+fn plan_with(
+    rt: &HostRuntime,
+    matches: &ArgMatches<'_>,
+    jobs: Jobs,
+    common: &Option<Octets>,
+) -> Result<CampaignPlan, Fault>
+    requires { IfSome common.now IsPassword }
+    ensures jobs { IfOk result (λ plan. plan.jobs ≡ jobs) }
     ensures limits { IfOk result (λ plan. AreLimits (found_of matches.now) plan.limits) }
     ensures workers { IfOk result (λ plan. AreWorkers (found_of matches.now) plan.workers) }
-    ensures passwords { IfOk result (λ plan. HasPasswords (found_of matches.now) plan.jobs
-        plan.passwords) }
+    ensures passwords { IfOk result (λ plan. ArePasswords (found_of matches.now) common.now
+        plan.jobs plan.passwords) }
 {
-    let is_verbose = matches.get_flag("verbose");
-    let common = common_password(rt, matches, is_verbose)?;
-    let jobs = load_jobs(rt, rt.stdin(), is_verbose)?;
-    let passwords = job_passwords(rt, matches, &jobs, &common);
-    drop(common);
-    match passwords {
+    match job_passwords(rt, matches, &jobs, common) {
         Ok(passwords) => Ok(CampaignPlan {
             jobs,
             passwords,
@@ -205,4 +207,57 @@ pub fn plan_campaign(rt: &HostRuntime, matches: &ArgMatches<'_>) -> Result<Campa
             Err(fault)
         }
     }
+}
+
+/// Validates the options, and gives these jobs their passwords. Drops the jobs if it fails.
+///
+/// Errors: first those of the common password: `Read` if the file of `--password-file` cannot be
+/// read; `Input` if it has no password, if the environment's is not UTF-8, or if the password does
+/// not have 1 to 32 bytes; `Memory`. Then those of the file of `--passwords`: `Read` if it cannot
+/// be read; `Input` if it is not a list of passwords, or if a job has no password; `Memory`. A line
+/// on standard error describes the fault of a file or of a job and, if `--verbose` is given, of
+/// another password.
+pub fn plan_jobs(
+    rt: &HostRuntime,
+    matches: &ArgMatches<'_>,
+    jobs: Jobs,
+) -> Result<CampaignPlan, Fault>
+    ensures jobs { IfOk result (λ plan. plan.jobs ≡ jobs) }
+    ensures limits { IfOk result (λ plan. AreLimits (found_of matches.now) plan.limits) }
+    ensures workers { IfOk result (λ plan. AreWorkers (found_of matches.now) plan.workers) }
+    ensures passwords { IfOk result (λ plan. HasPasswords (found_of matches.now) plan.jobs
+        plan.passwords) }
+{
+    match common_password(rt, matches, matches.get_flag("verbose")) {
+        Ok(common) => {
+            let plan = plan_with(rt, matches, jobs, &common);
+            drop(common);
+            plan
+        }
+        Err(fault) => {
+            drop(jobs);
+            Err(fault)
+        }
+    }
+}
+
+/// Validates the options and reads the jobs on standard input, and then the passwords of the jobs.
+/// Writes the warnings about the jobs on standard error. If `--verbose` is given, a line there
+/// describes the fault.
+///
+/// Errors: first those of the common password, then those of the list of jobs (`Input` if it is not
+/// one, `Read`, `Memory`), then those of the file of `--passwords`; [`plan_jobs`] lists the first
+/// and the last.
+pub fn plan_campaign(rt: &HostRuntime, matches: &ArgMatches<'_>) -> Result<CampaignPlan, Fault>
+    ensures limits { IfOk result (λ plan. AreLimits (found_of matches.now) plan.limits) }
+    ensures workers { IfOk result (λ plan. AreWorkers (found_of matches.now) plan.workers) }
+    ensures passwords { IfOk result (λ plan. HasPasswords (found_of matches.now) plan.jobs
+        plan.passwords) }
+{
+    let is_verbose = matches.get_flag("verbose");
+    let common = common_password(rt, matches, is_verbose)?;
+    let jobs = load_jobs(rt, rt.stdin(), is_verbose)?;
+    let planned = plan_with(rt, matches, jobs, &common);
+    drop(common);
+    planned
 }

@@ -1,2 +1,3 @@
 -- What the contracts of a campaign on a ledger in a file refer to.
+pub mod Asked
 pub mod Files

@@ -1,6 +1,8 @@
-//! A campaign on a ledger in a file: opens the ledger, runs the jobs and closes the ledger.
+//! A campaign on a ledger in a file: opens the ledger, runs the jobs and closes the ledger. Also
+//! the questions to its meters, whose answers go to the file next to the ledger.
 #![tactic(auto)]
 
+mod asking;
 mod connected;
 
 ghost use Rattle.std.specs.Prelude.{IfOk};
@@ -8,6 +10,7 @@ ghost use Rattle.sqlite.specs.WalFiles.{image_at};
 ghost use Rattle.ledger_file_runs.specs.Files.{IsRunOnFile};
 
 use crate::connected::run_on_connection;
+pub use asking::{AskedLedger, ask_with_ledger, read_questions};
 use campaign_ledger::Ledger;
 use head_end::{Connector, Watcher};
 use ledger_campaigns::LedgeredPlan;

@@ -1,1 +1,2 @@
+pub mod AppendedStates
 pub mod NextRun

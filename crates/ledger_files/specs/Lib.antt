@@ -1,2 +1,3 @@
--- What the contracts of a ledger in an SQLite file refer to.
+-- What the contracts of a ledger in an SQLite file, and of the answers next to it, refer to.
+pub mod Answered
 pub mod Opened

@@ -1,9 +1,10 @@
-//! The ledger of a campaign in an SQLite file.
+//! The ledger of a campaign in an SQLite file, and the file of answers next to it.
 //!
 //! This crate owns the connection over files: it opens the file and closes it, so that a program
 //! only names its calls.
 #![tactic(auto)]
 
+mod answers;
 mod laws;
 mod reading;
 
@@ -14,6 +15,7 @@ ghost use Rattle.sqlite.specs.WalFiles.{image_at};
 ghost use Rattle.sqlite_ledger.specs.Schema.{ledger_schema};
 ghost use Rattle.ledger_files.specs.Opened.{IsOpenedFrom};
 
+pub use answers::{append_answers, read_answers_of};
 use campaign_ledger::{Ledger, LedgerFault};
 use client_core::Job;
 pub use laws::the_next_run_finds_what_was_left;
@@ -67,7 +69,7 @@ pub fn open_ledger_from<S: Start>(
 
 // Makes an empty file that only its owner may access, if the path has none. An error is left to the
 // open that follows.
-fn make_private(rt: &HostRuntime, path: &str) {
+pub(crate) fn make_private(rt: &HostRuntime, path: &str) {
     let made = OpenOptions::new()
         .write(true)
         .create_new(true)

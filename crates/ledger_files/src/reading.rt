@@ -6,7 +6,7 @@ use std::fs::File;
 use std::rt::HostRuntime;
 
 // Returns whether there is a file at a path with this ending.
-fn has_file(rt: &HostRuntime, path: &str, ending: &str) -> bool {
+pub(crate) fn has_file(rt: &HostRuntime, path: &str, ending: &str) -> bool {
     match format!(in rt.alloc(); "{path}{ending}") {
         Ok(path) => File::open(rt, path.as_str()).is_ok(),
         Err(_) => false,

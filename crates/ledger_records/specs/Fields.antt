@@ -1,9 +1,11 @@
--- The fields of a record, by the entry of a job and its times.
+-- The fields of a record, by the entry of a job, its times and its answer.
 --     outcome_word     the outcome as a word
 --     outcome_number   the number of the outcome, if it has one
 --     sent_word        whether the request was sent
 --     seconds_taken    the seconds from the mark to the outcome
 --     utc_text         a second since 1970 as a date and time in UTC
+--     answer_state     the state that the meter reported later
+--     answer_time      when that asking began
 use Rattle.std.specs.Prelude.{ℕ, nat_le, ◌-◌, codes, List, ◌++◌, Option, Some, None}
 use Rattle.std.specs.Prelude.{if◌then◌else◌}
 use Rattle.client_core.specs.declared.job.Outcome.TheVariants as outcome
@@ -12,6 +14,7 @@ use Rattle.campaign_ledger.specs.declared.entry.LedgerEntry.TheVariants as entry
 use Rattle.cosem_datetime.specs.Calendar.{day_count}
 use Rattle.record_parts.specs.Civil.{civil_text}
 use Rattle.ledger_reports.specs.declared.line.LedgerTimes.{LedgerTimes}
+use Rattle.ledger_reports.specs.declared.line.MeterState.{MeterState}
 use Rattle.ledger_reports.specs.declared.state.Standing.{Standing}
 use Rattle.ledger_reports.specs.declared.state.Standing.TheVariants.{Done, Refused, Rejected}
 use Rattle.ledger_reports.specs.declared.state.Standing.TheVariants.{Unknown, NotSent}
@@ -60,3 +63,13 @@ first_day_of_1970 = day_count (record { year = 1970; month = 1; day = 1 })
 -- a second since the beginning of 1970, YYYY-MM-DDThh:mm:ssZ (ISO 8601)
 abbrev pub utc_text : ℕ → List ℕ
 utc_text second = civil_text first_day_of_1970 second ++ codes "Z"
+
+-- the control state that the meter reported when it was asked later, if it did
+abbrev pub answer_state : Option MeterState → Option ℕ
+answer_state (Some answer) = Some answer.state
+answer_state None = None
+
+-- when that asking began, if the clock could be read then
+abbrev pub answer_time : Option MeterState → Option ℕ
+answer_time (Some answer) = answer.asked_at
+answer_time None = None

@@ -1,6 +1,6 @@
 -- The names of the formats.
 --     IsNamed     the format of a name, if there is one
-use Rattle.std.specs.Prelude.{◌≡◌, ◌≢◌, ℕ, codes, List, Option, Some, None}
+use Rattle.std.specs.Prelude.{◌≡◌, ◌≢◌, ℕ, codes, List, Option, Some}
 use Rattle.ledger_records.specs.declared.format.LedgerFormat.{LedgerFormat}
 use Rattle.ledger_records.specs.declared.format.LedgerFormat.TheVariants.{State, Csv, Json}
 

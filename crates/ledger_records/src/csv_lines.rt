@@ -3,13 +3,15 @@ ghost use Rattle.std.specs.Prelude.{◌≡◌, ◌++◌, OnOk, map};
 ghost use Rattle.csv.specs.Writing.{default_writer, row_text};
 ghost use Rattle.ledger_records.specs.Csv.{csv_head, csv_line};
 
-use crate::fields::{outcome_number, outcome_word, seconds_taken, sent_word, utc_text};
+use crate::fields::{
+    answer_state, answer_time, outcome_number, outcome_word, seconds_taken, sent_word, utc_text,
+};
 use ledger_reports::{LedgerLine, standing_of, verb_word};
 use record_parts::{number_column, write_row};
 use std::alloc::{AllocError, Global};
 
 // Appends a line of these columns.
-fn add_columns(alloc: Global, out: &mut Vec<u8>, columns: [&[u8]; 9]) -> Result<(), AllocError>
+fn add_columns(alloc: Global, out: &mut Vec<u8>, columns: [&[u8]; 11]) -> Result<(), AllocError>
     ensures { OnOk result (out.new.items ≡ out.old.items
         ++ row_text default_writer (map (λ field. field.now) columns.entry)) }
 {
@@ -33,14 +35,17 @@ pub fn write_csv_head(alloc: Global, out: &mut Vec<u8>) -> Result<(), AllocError
             b"begun_at",
             b"ended_at",
             b"seconds",
+            b"state",
+            b"asked_at",
         ],
     )
 }
 
 /// Appends the line of a job: its name, address and verb; its outcome as a word, and the number of
 /// the outcome; whether its request was sent (`yes`, `no` or `maybe`); when it was marked and when
-/// its outcome was stored, in UTC; and the seconds between the two. A value that the ledger does
-/// not have is empty. Fails only if out of memory.
+/// its outcome was stored, in UTC; the seconds between the two; the control state that the meter
+/// reported later, 0 to 2; and when that asking began, in UTC. A value that is not known is empty.
+/// Fails only if out of memory.
 pub fn write_csv(alloc: Global, out: &mut Vec<u8>, line: &LedgerLine) -> Result<(), AllocError>
     ensures { OnOk result (out.new.items ≡ out.old.items ++ csv_line line.now) }
 {
@@ -49,11 +54,13 @@ pub fn write_csv(alloc: Global, out: &mut Vec<u8>, line: &LedgerLine) -> Result<
     let begun = utc_text(alloc, line.times.begun)?;
     let ended = utc_text(alloc, line.times.ended)?;
     let seconds = number_column(alloc, seconds_taken(line.times))?;
+    let state = number_column(alloc, answer_state(line.answer))?;
+    let asked = utc_text(alloc, answer_time(line.answer))?;
     // (static texts are copied, since an array of borrowed texts cannot hold them)
     let verb = Vec::from_slice(alloc, verb_word(line.job.verb))?;
     let outcome = Vec::from_slice(alloc, outcome_word(standing).as_bytes())?;
     let sent = Vec::from_slice(alloc, sent_word(standing).as_bytes())?;
-    let columns: [&[u8]; 9] = [
+    let columns: [&[u8]; 11] = [
         line.job.id.as_slice(),
         line.job.address.as_slice(),
         verb.as_slice(),
@@ -63,6 +70,8 @@ pub fn write_csv(alloc: Global, out: &mut Vec<u8>, line: &LedgerLine) -> Result<
         begun.as_ref().map_or(b"", String::as_bytes),
         ended.as_ref().map_or(b"", String::as_bytes),
         seconds.as_slice(),
+        state.as_slice(),
+        asked.as_ref().map_or(b"", String::as_bytes),
     ];
     add_columns(alloc, out, columns)
 }

@@ -1,11 +1,11 @@
-//! The fields of a record, by the entry of a job and its times.
+//! The fields of a record, by the entry of a job, its times and its answer.
 ghost use Rattle.std.specs.Prelude.{◌≡◌, IfOk, option_map, string_bytes};
-ghost use Rattle.ledger_records.specs.Fields.{outcome_number, outcome_word, seconds_taken};
-ghost use Rattle.ledger_records.specs.Fields.{sent_word, utc_text};
+ghost use Rattle.ledger_records.specs.Fields.{answer_state, answer_time, outcome_number};
+ghost use Rattle.ledger_records.specs.Fields.{outcome_word, seconds_taken, sent_word, utc_text};
 
 use campaign_ledger::LedgerEntry;
 use client_core::Outcome;
-use ledger_reports::{LedgerTimes, Standing};
+use ledger_reports::{LedgerTimes, MeterState, Standing};
 use record_parts::civil_text;
 use std::alloc::{AllocError, Global};
 
@@ -56,6 +56,26 @@ pub(crate) fn seconds_taken(times: LedgerTimes) -> Option<u32>
     match (times.begun, times.ended) {
         (Some(begun), Some(ended)) if begun <= ended => Some(ended - begun),
         _ => None,
+    }
+}
+
+// Returns the control state that the meter reported when it was asked later, if it did.
+pub(crate) fn answer_state(answer: Option<MeterState>) -> Option<u32>
+    ensures { result ≡ answer_state answer }
+{
+    match answer {
+        Some(answer) => Some(u32::from(answer.state)),
+        None => None,
+    }
+}
+
+// Returns when the asking of this answer began, if there is one and the clock could be read then.
+pub(crate) fn answer_time(answer: Option<MeterState>) -> Option<u32>
+    ensures { result ≡ answer_time answer }
+{
+    match answer {
+        Some(answer) => answer.asked_at,
+        None => None,
     }
 }
 

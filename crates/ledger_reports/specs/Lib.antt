@@ -1,2 +1,3 @@
--- What the contracts of the texts about a ledger refer to.
+-- What the contracts of the texts and answers about a ledger refer to.
+pub mod Answers
 pub mod Status

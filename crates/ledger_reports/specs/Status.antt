@@ -2,11 +2,12 @@
 --     has_standing      a job has this standing, by the entry of its place
 --     count_of          the number of jobs with a standing
 --     counts_text       the number of the jobs and of each standing
+--     state_text        the state that a meter reported when it was asked later
 --     look_text         the line of a job that needs a second look
 --     second_looks      the lines of all these jobs
 --     status_text       the whole text
 use Rattle.std.specs.Prelude.{ℕ, Bool, true, false, if◌then◌else◌, List, [], ◌∷◌, ◌++◌, length}
-use Rattle.std.specs.Prelude.{codes, decimal}
+use Rattle.std.specs.Prelude.{codes, decimal, Option, Some, None}
 use Rattle.std.specs.List.{flat_map, sum_by}
 use Rattle.client_core.specs.declared.job.Job.{Job}
 use Rattle.client_core.specs.declared.job.Outcome.TheVariants as outcome
@@ -15,6 +16,7 @@ use Rattle.client_core.specs.declared.job.Verb.TheVariants.{Disconnect, Reconnec
 use Rattle.campaign_ledger.specs.declared.entry.LedgerEntry.{LedgerEntry}
 use Rattle.campaign_ledger.specs.declared.entry.LedgerEntry.TheVariants as entry
 use Rattle.ledger_reports.specs.declared.line.LedgerLine.{LedgerLine}
+use Rattle.ledger_reports.specs.declared.line.MeterState.{MeterState}
 use Rattle.ledger_reports.specs.declared.state.Standing.{Standing}
 use Rattle.ledger_reports.specs.declared.state.Standing.TheVariants.{Done, Refused, Rejected}
 use Rattle.ledger_reports.specs.declared.state.Standing.TheVariants.{Unknown, NotSent}
@@ -72,23 +74,32 @@ verb_word ReadState = codes "state"
 abbrev pub followed_by_blank : List ℕ → List ℕ
 followed_by_blank word = word ++ 32 ∷ []
 
+-- the name, the address and the verb of a job, each followed by a blank
+abbrev pub job_text : Job → List ℕ
+job_text job = followed_by_blank job.id
+    ++ (followed_by_blank job.address ++ followed_by_blank (verb_word job.verb))
+
+-- the state that a meter reported when it was asked later; no text without one
+abbrev pub state_text : Option MeterState → List ℕ
+state_text None = []
+state_text (Some answer) = codes "; state " ++ decimal answer.state
+
 -- the line of a job whose command may have been sent and that has no valid answer
-abbrev pub unanswered_text : Job → List ℕ
-unanswered_text job = followed_by_blank job.id
-    ++ (followed_by_blank job.address
-    ++ (followed_by_blank (verb_word job.verb) ++ codes "sent, no answer\n"))
+abbrev pub unanswered_text : Job → Option MeterState → List ℕ
+unanswered_text job answer =
+    job_text job ++ (codes "sent, no answer" ++ (state_text answer ++ 10 ∷ []))
 
 -- the line of a job with this standing, or no text if it needs no second look
-abbrev pub look_for : Job → Standing → List ℕ
-look_for job Done = []
-look_for job Refused = []
-look_for job Rejected = []
-look_for job Unknown = unanswered_text job
-look_for job NotSent = []
+abbrev pub look_for : LedgerLine → Standing → List ℕ
+look_for line Done = []
+look_for line Refused = []
+look_for line Rejected = []
+look_for line Unknown = unanswered_text line.job line.answer
+look_for line NotSent = []
 
 -- the line of a job, if it needs a second look
 abbrev pub look_text : LedgerLine → List ℕ
-look_text line = look_for line.job (standing_of line.entry)
+look_text line = look_for line (standing_of line.entry)
 
 -- the lines of all jobs that need a second look, in the order of the jobs
 unfoldable pub second_looks : List LedgerLine → List ℕ

@@ -12,6 +12,16 @@ pub struct LedgerTimes {
     pub ended: Option<u32>,
 }
 
+/// The control state that a meter reported when it was asked later, and when the asking began, in
+/// seconds since 1970-01-01 00:00:00 UTC; `None` if the clock could not be read then.
+#[derive(Clone, Copy, Debug, PartialEq, Eq)]
+pub struct MeterState {
+    /// The control state, 0 to 2.
+    pub state: u8,
+    /// When the asking began.
+    pub asked_at: Option<u32>,
+}
+
 /// A line of a ledger: what it knows of a job of its campaign.
 #[derive(Debug, Drop)]
 pub struct LedgerLine {
@@ -21,4 +31,6 @@ pub struct LedgerLine {
     pub entry: LedgerEntry,
     /// When it was marked and when it ended.
     pub times: LedgerTimes,
+    /// The latest state that its meter reported after the command, if it was asked.
+    pub answer: Option<MeterState>,
 }

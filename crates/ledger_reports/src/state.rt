@@ -2,10 +2,12 @@
 //! second look.
 ghost use Rattle.std.specs.Prelude.{◌≡◌, ◌++◌, ◌≤◌, length, IfOk, OnOk};
 ghost use Rattle.ledger_reports.specs.Status.{count_of, count_line, has_standing, counts_text};
-ghost use Rattle.ledger_reports.specs.Status.{look_text, unanswered_text, second_looks, verb_word};
-ghost use Rattle.ledger_reports.specs.Status.{followed_by_blank, standing_of, status_text};
+ghost use Rattle.ledger_reports.specs.Status.{job_text, look_text, unanswered_text, second_looks};
+ghost use Rattle.ledger_reports.specs.Status.{verb_word};
+ghost use Rattle.ledger_reports.specs.Status.{followed_by_blank, standing_of, state_text};
+ghost use Rattle.ledger_reports.specs.Status.{status_text};
 
-use crate::line::LedgerLine;
+use crate::line::{LedgerLine, MeterState};
 use campaign_ledger::LedgerEntry;
 use client_core::{Job, Outcome, Verb};
 use cosem_axdr::Octets;
@@ -30,7 +32,8 @@ pub enum Standing {
 /// Returns the state of a campaign by the lines of its ledger: the lines `jobs N`, `done N`,
 /// `refused N`, `rejected N`, `unknown N` and `not sent N`, and then a line
 /// `NAME ADDRESS VERB sent, no answer` for each job whose command may have been sent and that has
-/// no valid answer, in the order of the jobs. Each line is ended by the byte 0A.
+/// no valid answer, in the order of the jobs. If its meter was asked later and reported its state,
+/// `; state N` follows. Each line is ended by the byte 0A.
 pub fn status(alloc: Global, lines: &[LedgerLine]) -> Result<Octets, AllocError>
     ensures { IfOk result (λ text. text ≡ status_text lines.now) }
 {
@@ -114,8 +117,8 @@ fn put_second_look(line: &LedgerLine, out: &mut Octets) -> Result<(), AllocError
 {
     match line.entry {
         LedgerEntry::NotSent => Ok(()),
-        LedgerEntry::MaybeSent => put_unanswered(&line.job, out),
-        LedgerEntry::Came(Outcome::Unknown) => put_unanswered(&line.job, out),
+        LedgerEntry::MaybeSent => put_unanswered(line, out),
+        LedgerEntry::Came(Outcome::Unknown) => put_unanswered(line, out),
         LedgerEntry::Came(_) => Ok(()),
     }
 }
@@ -129,13 +132,34 @@ fn put_word(word: &[u8], out: &mut Octets) -> Result<(), AllocError>
 }
 
 // Appends the line of a job whose command may have been sent and that has no valid answer.
-fn put_unanswered(job: &Job, out: &mut Octets) -> Result<(), AllocError>
-    ensures { OnOk result (out.new ≡ out.old ++ unanswered_text job.now) }
+fn put_unanswered(line: &LedgerLine, out: &mut Octets) -> Result<(), AllocError>
+    ensures { OnOk result (out.new ≡ out.old ++ unanswered_text line.now.job line.now.answer) }
+{
+    put_job(&line.job, out)?;
+    out.extend_from_slice(b"sent, no answer")?;
+    put_state(line.answer, out)?;
+    out.push(b'\n')
+}
+
+// Appends the name, the address and the verb of a job, each followed by a blank.
+fn put_job(job: &Job, out: &mut Octets) -> Result<(), AllocError>
+    ensures { OnOk result (out.new ≡ out.old ++ job_text job.now) }
 {
     put_word(job.id.as_slice(), out)?;
     put_word(job.address.as_slice(), out)?;
-    put_word(verb_word(job.verb), out)?;
-    out.extend_from_slice(b"sent, no answer\n")
+    put_word(verb_word(job.verb), out)
+}
+
+// Appends the state that a meter reported, if it was asked.
+fn put_state(answer: Option<MeterState>, out: &mut Octets) -> Result<(), AllocError>
+    ensures { OnOk result (out.new ≡ out.old ++ state_text answer) }
+{
+    let Some(answer) = answer else {
+        return Ok(());
+    };
+    let mut buffer = Buffer::new();
+    out.extend_from_slice(b"; state ")?;
+    out.extend_from_slice(buffer.format(answer.state).as_bytes())
 }
 
 /// Returns the word of a verb in a list of jobs.

@@ -1,6 +1,6 @@
 //! Campaigns on a ledger: a second run on what the first left commands no meter again, and a ledger
 //! that fails lets no command out.
-use crate::meters::{Meters, jobs_at};
+use crate::meters::{DONE, Meters, jobs_at};
 use campaign_ledger::{Ledger, LedgerEntry, MemoryBook};
 use client_core::Outcome;
 use cosem_axdr::Octets;
@@ -100,7 +100,10 @@ fn run_on<R: Threads + Wait + Sync>(
         workers: 2,
         watcher: &UnwatchedCampaign,
     };
-    let meters = Meters { received };
+    let meters = Meters {
+        bytes: &DONE,
+        received,
+    };
     let run = run_ledgered_campaign(rt, alloc, &plan, ledger, &meters)?;
     end_of(alloc, run)
 }

@@ -1,5 +1,6 @@
-//! Tests of `campaign_ledger`, `ledger_campaigns`, `ledger_reports` and `ledger_records`: runs on a
-//! book in memory, whose entries the next run finds, and a ledger as text.
+//! Tests of `campaign_ledger`, `ledger_campaigns`, `ledger_reports`, `ledger_questions` and
+//! `ledger_records`: runs on a book in memory, whose entries the next run finds, a ledger as text,
+//! and its questions.
 #![tactic(auto)]
 
 #[cfg(test)]
@@ -8,6 +9,8 @@ mod campaigns;
 mod ledgers;
 #[cfg(test)]
 mod meters;
+#[cfg(test)]
+mod questions;
 #[cfg(test)]
 mod records;
 #[cfg(test)]

@@ -2,7 +2,7 @@
 use campaign_ledger::LedgerEntry;
 use client_core::{Job, Outcome, Verb};
 use cosem_axdr::Octets;
-use ledger_reports::{LedgerLine, LedgerTimes, status};
+use ledger_reports::{LedgerLine, LedgerTimes, MeterState, status};
 use std::alloc::{AllocError, Global};
 use std::test::Fail;
 
@@ -40,8 +40,18 @@ const LINES: &[(&[u8], &[u8], Verb, LedgerEntry)] = &[
 const STATE: &[u8] = b"jobs 6\ndone 1\nrefused 1\nrejected 1\nunknown 2\nnot sent 1\n\
 m4 h:4 reconnect sent, no answer\nm5 h:5 state sent, no answer\n";
 
-/// Returns the lines of the ledger of the six jobs.
-fn lines(alloc: Global) -> Result<Vec<LedgerLine>, AllocError> {
+/// The state after the meters of the two jobs that need a second look were asked.
+const ASKED_STATE: &[u8] = b"jobs 6\ndone 1\nrefused 1\nrejected 1\nunknown 2\nnot sent 1\n\
+m4 h:4 reconnect sent, no answer; state 2\nm5 h:5 state sent, no answer; state 2\n";
+
+/// The state 2, ready for reconnection, that all meters reported.
+const READY: MeterState = MeterState {
+    state: 2,
+    asked_at: Some(1_795_856_405),
+};
+
+/// Returns the lines of the ledger of the six jobs, whose meters reported this state.
+fn lines(alloc: Global, answer: Option<MeterState>) -> Result<Vec<LedgerLine>, AllocError> {
     let mut lines = Vec::new(alloc);
     for (id, address, verb, entry) in LINES {
         let job = Job {
@@ -57,6 +67,7 @@ fn lines(alloc: Global) -> Result<Vec<LedgerLine>, AllocError> {
             job,
             entry: *entry,
             times,
+            answer,
         })?;
     }
     Ok(lines)
@@ -64,9 +75,18 @@ fn lines(alloc: Global) -> Result<Vec<LedgerLine>, AllocError> {
 
 #[test]
 fn a_state_has_each_count_and_each_second_look(rt: HostRuntime) -> Result<(), Fail> {
-    let lines = lines(rt.alloc())?;
+    let lines = lines(rt.alloc(), None)?;
     let text = status(rt.alloc(), lines.as_slice());
     drop(lines);
     assert!(rt; text?.as_slice() == STATE);
+    Ok(())
+}
+
+#[test]
+fn a_state_has_the_answers_of_second_looks(rt: HostRuntime) -> Result<(), Fail> {
+    let lines = lines(rt.alloc(), Some(READY))?;
+    let text = status(rt.alloc(), lines.as_slice());
+    drop(lines);
+    assert!(rt; text?.as_slice() == ASKED_STATE);
     Ok(())
 }

@@ -4,8 +4,9 @@ use Rattle.std.proofs.Common.{Err, refl, sym, ◌∙◌, ap, subst, append-nil}
 use Rattle.std.specs.List.{flat_map}
 use Rattle.fleet_meters.specs.Fleets.{FleetState, IsNewFleet}
 use Rattle.fleet_meters.specs.declared.terms.MeterTerms.{MeterTerms}
+use Rattle.fleet_runs.specs.Calls.{GivesEvents}
 use Rattle.fleet_runs.proofs.Steps.{calls_on}
-use Rattle.meter_fleet.specs.Networks.{NetworkEvent, polled, Tells}
+use Rattle.meter_fleet.specs.Networks.{NetworkEvent, polled, operated, Tells}
 use Rattle.meter_fleet.specs.Rounds.{service_calls, arrival_calls, client_events, AcceptsClients}
 use Rattle.meter_fleet.specs.Rounds.{departure_calls, ClosesKeys}
 use Rattle.meter_fleet.specs.Rounds.{ServesKeys, ServesAll, Round, LoopState, may_wait, DoesWork}
@@ -18,96 +19,107 @@ use Rattle.meter_fleet.proofs.Meeting.{tells_on}
 -- ---- one round
 
 works : (old : LoopState) (keys idle : List ℕ) (has_clients has_more : Bool)
-    (left done again : List ℕ) (log log' : Option (List NetworkEvent)) (f g h : FleetState)
-    → Tells old.log (polled (may_wait old) keys idle has_clients ∷ []) log
-    → (closes : ClosesKeys old.fleet idle f)
-    → (meets : AcceptsClients (old.has_clients || has_clients) log f has_more log' g)
+    (left done again : List ℕ) (log log' : Option (List NetworkEvent)) (f e g h : FleetState)
+    → Tells old.log (polled (may_wait old) keys idle has_clients ∷ operated ∷ []) log
+    → (closes : ClosesKeys old.fleet idle f) → (gives : GivesEvents f e)
+    → (meets : AcceptsClients (old.has_clients || has_clients) log e has_more log' g)
     → done ++ left ≡ old.ready ++ keys → (serves : ServesKeys g done again h)
     → DoesWork old (record {
       keys = keys;
       idle = idle;
       has_clients = has_clients;
       departures = closes.departures;
+      given = gives.calls;
       arrivals = meets.arrivals;
       has_more = has_more;
       services = serves.services;
     }) left log' h
-works old keys idle has_clients has_more left done again log log' f g h tells closes meets split
-    serves = record {
-      told = tells_on old.log log log' (polled (may_wait old) keys idle has_clients ∷ [])
+works old keys idle has_clients has_more left done again log log' f e g h tells closes gives meets
+    split serves = record {
+      told = tells_on old.log log log'
+          (polled (may_wait old) keys idle has_clients ∷ operated ∷ [])
           (client_events (old.has_clients || has_clients) meets.arrivals has_more) tells meets.told;
       lapsed = closes.keys_are;
+      gives = gives.given;
       met = meets.met;
       served = ap (λ (ks : List ℕ). ks ++ left) serves.keys_are ∙ split;
       calls = calls_on frame_bytes
-          (flat_map departure_calls closes.departures ++ flat_map arrival_calls meets.arrivals)
+          (flat_map departure_calls closes.departures ++ gives.calls
+          ++ flat_map arrival_calls meets.arrivals)
           (flat_map service_calls serves.services) old.fleet g h
-          (calls_on frame_bytes (flat_map departure_calls closes.departures)
-          (flat_map arrival_calls meets.arrivals) old.fleet f g closes.calls meets.calls)
+          (calls_on frame_bytes (flat_map departure_calls closes.departures ++ gives.calls)
+          (flat_map arrival_calls meets.arrivals) old.fleet e g
+          (calls_on frame_bytes (flat_map departure_calls closes.departures) gives.calls old.fleet f
+          e closes.calls (gives.leads frame_bytes)) meets.calls)
           serves.calls;
     }
 
 round_by : (old new : LoopState) (keys idle all : List ℕ) (has_clients : Bool)
-    (log : Option (List NetworkEvent)) (f g : FleetState) (result : Result Unit FleetFault)
-    → Tells old.log (polled (may_wait old) keys idle has_clients ∷ []) log
-    → ClosesKeys old.fleet idle f
-    → AcceptsClients (old.has_clients || has_clients) log f new.has_clients new.log g
+    (log : Option (List NetworkEvent)) (f e g : FleetState) (result : Result Unit FleetFault)
+    → Tells old.log (polled (may_wait old) keys idle has_clients ∷ operated ∷ []) log
+    → ClosesKeys old.fleet idle f → GivesEvents f e
+    → AcceptsClients (old.has_clients || has_clients) log e new.has_clients new.log g
     → all ≡ old.ready ++ keys → ServesAll g all result new.ready new.fleet
     → RoundBy old result new
-round_by old new keys idle all has_clients log f g (Ok done) tells closes meets is serves = (
-  record {
-    keys = keys;
-    idle = idle;
-    has_clients = has_clients;
-    departures = closes.departures;
-    arrivals = meets.arrivals;
-    has_more = new.has_clients;
-    services = serves.services;
-  },
-  record {
-    works = works old keys idle has_clients new.has_clients [] all new.ready log new.log f g
-        new.fleet tells closes meets (append-nil all ∙ is) serves;
-    goes_on = serves.again_are;
-    has_more = refl;
-  },
-)
-round_by old new keys idle all has_clients log f g (Err Network) tells closes meets is serves =
-    absurd serves
-round_by old new keys idle all has_clients log f g (Err Memory) tells closes meets is serves = inr (
-  record {
-    keys = keys;
-    idle = idle;
-    has_clients = has_clients;
-    departures = closes.departures;
-    arrivals = meets.arrivals;
-    has_more = new.has_clients;
-    services = serves.serves.services;
-  },
-  serves.left,
-  works old keys idle has_clients new.has_clients serves.left serves.done serves.again log new.log f
-      g new.fleet tells closes meets (serves.split ∙ is) serves.serves,
-)
+round_by old new keys idle all has_clients log f e g (Ok done) tells closes gives meets is
+    serves = (
+      record {
+        keys = keys;
+        idle = idle;
+        has_clients = has_clients;
+        departures = closes.departures;
+        given = gives.calls;
+        arrivals = meets.arrivals;
+        has_more = new.has_clients;
+        services = serves.services;
+      },
+      record {
+        works = works old keys idle has_clients new.has_clients [] all new.ready log new.log f e g
+            new.fleet tells closes gives meets (append-nil all ∙ is) serves;
+        goes_on = serves.again_are;
+        has_more = refl;
+      },
+    )
+round_by old new keys idle all has_clients log f e g (Err Network) tells closes gives meets is
+    serves = absurd serves
+round_by old new keys idle all has_clients log f e g (Err Memory) tells closes gives meets is
+    serves = inr (
+      record {
+        keys = keys;
+        idle = idle;
+        has_clients = has_clients;
+        departures = closes.departures;
+        given = gives.calls;
+        arrivals = meets.arrivals;
+        has_more = new.has_clients;
+        services = serves.serves.services;
+      },
+      serves.left,
+      works old keys idle has_clients new.has_clients serves.left serves.done serves.again log
+          new.log f e g new.fleet tells closes gives meets (serves.split ∙ is) serves.serves,
+    )
 
 -- the parts of a round
-pub round_next : (log log' log'' : Option (List NetworkEvent)) (f g h j : FleetState)
+pub round_next : (log log' asked log'' : Option (List NetworkEvent)) (f g e h j : FleetState)
     (ready ready' again keys none idle idle' : List ℕ) (waits had has has_more had' : Bool)
     (result : Result Unit FleetFault)
     → waits ≡ may_wait (record { log = log; fleet = f; ready = ready; has_clients = had })
     → Tells log (polled waits keys idle has ∷ []) log' → none ≡ [] → idle' ≡ none ++ idle
-    → ClosesKeys f idle' g
-    → AcceptsClients (had || has) log' g has_more log'' h → had' ≡ has_more
+    → ClosesKeys f idle' g → GivesEvents g e → Tells log' (operated ∷ []) asked
+    → AcceptsClients (had || has) asked e has_more log'' h → had' ≡ has_more
     → ready' ≡ ready ++ keys → ServesAll h ready' result again j
     → RoundBy (record { log = log; fleet = f; ready = ready; has_clients = had }) result
     (record { log = log''; fleet = j; ready = again; has_clients = had' })
-round_next log log' log'' f g h j ready ready' again keys none idle idle' waits had has has_more
-    had' result is tells empty lapsed closes meets same grown serves =
+round_next log log' asked log'' f g e h j ready ready' again keys none idle idle' waits had has
+    has_more had' result is tells empty lapsed closes gives asks meets same grown serves =
     round_by (record { log = log; fleet = f; ready = ready; has_clients = had })
-    (record { log = log''; fleet = j; ready = again; has_clients = had' }) keys idle ready' has log'
-    g h result
-    (subst (λ (w : Bool). Tells log (polled w keys idle has ∷ []) log') is tells)
+    (record { log = log''; fleet = j; ready = again; has_clients = had' }) keys idle ready' has
+    asked g e h result
+    (subst (λ (w : Bool). Tells log (polled w keys idle has ∷ operated ∷ []) asked) is
+    (tells_on log log' asked (polled waits keys idle has ∷ []) (operated ∷ []) tells asks))
     (subst (λ (ks : List ℕ). ClosesKeys f ks g)
-    (lapsed ∙ ap (λ (ks : List ℕ). ks ++ idle) empty) closes)
-    (subst (λ (m : Bool). AcceptsClients (had || has) log' g m log'' h) (sym same) meets) grown
+    (lapsed ∙ ap (λ (ks : List ℕ). ks ++ idle) empty) closes) gives
+    (subst (λ (m : Bool). AcceptsClients (had || has) asked e m log'' h) (sym same) meets) grown
     serves
 
 -- ---- several rounds

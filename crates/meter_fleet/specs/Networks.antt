@@ -11,12 +11,13 @@ use Rattle.meter_fleet.specs.declared.network.NextClient.TheVariants as next
 
 -- A report of a network. `polled`: a call returned that might wait or not, with the keys of the
 -- connections that are ready, the keys of those that were idle for too long, and whether clients
--- may be waiting; `failed`: such a call failed;
+-- may be waiting; `failed`: such a call failed; `operated`: the operator was asked;
 -- `accepted`: a client, with the key of its connection, the address that it named, and its stream;
 -- `rejected`: a client was closed at once; `no_client`: no client was waiting.
 pub data NetworkEvent : Type 0 where
   polled : Bool → List ℕ → List ℕ → Bool → NetworkEvent
   failed : Bool → NetworkEvent
+  operated : NetworkEvent
   accepted : ℕ → List ℕ → StreamState → NetworkEvent
   rejected : NetworkEvent
   no_client : NetworkEvent

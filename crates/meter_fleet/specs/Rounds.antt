@@ -17,8 +17,9 @@ use Rattle.fleet_links.specs.declared.link.Turn.TheVariants.{Waits, Again, Over}
 use Rattle.fleet_meters.specs.Fleets.{FleetState, IsNewFleet}
 use Rattle.fleet_meters.specs.declared.place.Refusal.{Refusal}
 use Rattle.fleet_meters.specs.declared.terms.MeterTerms.{MeterTerms}
-use Rattle.fleet_runs.specs.Calls.{FleetCall, admitted, ran, closed, missed, Calls}
-use Rattle.meter_fleet.specs.Networks.{NetworkEvent, polled, failed, accepted, rejected, no_client}
+use Rattle.fleet_runs.specs.Calls.{FleetCall, admitted, ran, closed, missed, Calls, AreGiven}
+use Rattle.meter_fleet.specs.Networks.{NetworkEvent, polled, failed, operated, accepted}
+use Rattle.meter_fleet.specs.Networks.{rejected, no_client}
 use Rattle.meter_fleet.specs.Networks.{Tells}
 use Rattle.meter_fleet.specs.declared.serving.FleetFault.{FleetFault}
 use Rattle.meter_fleet.specs.declared.serving.FleetFault.TheVariants.{Network, Memory}
@@ -184,14 +185,15 @@ ServesMore old keys next (Err fault) next' new = ServesAll old keys (Err fault) 
 -- ---- rounds
 
 -- A round: the connections that were reported ready, those that were reported idle for too long,
--- and whether clients were reported; what became of each idle connection; what became of each
--- client that was accepted, and whether more may be waiting; and what became of each connection
--- that was ready.
+-- and whether clients were reported; what became of each idle connection; the events that meters
+-- were given for the operator; what became of each client that was accepted, and whether more may
+-- be waiting; and what became of each connection that was ready.
 pub record Round : Type 0 where
   pub keys : List ℕ
   pub idle : List ℕ
   pub has_clients : Bool
   pub departures : List Departure
+  pub given : List FleetCall
   pub arrivals : List Arrival
   pub has_more : Bool
   pub services : List Service
@@ -209,19 +211,21 @@ abbrev pub may_wait : LoopState → Bool
 may_wait s = (length s.ready == 0) && not s.has_clients
 
 -- Whether this work of a round was done, up to the connections that are left. Those that were
--- reported idle for too long are closed, and no others; clients are accepted if some may be
--- waiting; and then the connections that could continue and those that were reported ready are
--- served, in order. No other calls change the fleet.
+-- reported idle for too long are closed, and no others; meters are given events for the operator;
+-- clients are accepted if some may be waiting; and then the connections that could continue and
+-- those that were reported ready are served, in order. No other calls change the fleet.
 pub record DoesWork (old : LoopState) (round : Round) (left : List ℕ)
     (log : Option (List NetworkEvent)) (fleet : FleetState) : Type 0 where
   pub told : Tells old.log (polled (may_wait old) round.keys round.idle round.has_clients
-      ∷ client_events (old.has_clients || round.has_clients) round.arrivals round.has_more) log
+      ∷ operated ∷ client_events (old.has_clients || round.has_clients) round.arrivals
+      round.has_more) log
   pub lapsed : map departure_key round.departures ≡ round.idle
+  pub gives : AreGiven round.given
   pub met : AreAccepted (old.has_clients || round.has_clients) round.arrivals round.has_more
   pub served : map service_key round.services ++ left ≡ old.ready ++ round.keys
   pub calls : Calls frame_bytes old.fleet
-      (flat_map departure_calls round.departures ++ flat_map arrival_calls round.arrivals
-      ++ flat_map service_calls round.services) fleet
+      (flat_map departure_calls round.departures ++ round.given
+      ++ flat_map arrival_calls round.arrivals ++ flat_map service_calls round.services) fleet
 
 -- whether a whole round of the loop was done
 pub record DoesRound (old : LoopState) (round : Round) (new : LoopState) : Type 0 where

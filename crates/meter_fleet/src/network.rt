@@ -1,8 +1,11 @@
-//! `Network`: where clients come from, and which connections are ready.
-ghost use Rattle.std.specs.Prelude.{List, Option};
-ghost use Rattle.meter_fleet.specs.Networks.{NetworkEvent, PollsTo, AcceptsBy};
+//! `Network`: where clients come from, which connections are ready, and what the operator asks for.
+ghost use Rattle.std.specs.Prelude.{List, ◌∷◌, [], Option};
+ghost use Rattle.fleet_runs.specs.Calls.{GivesEvents};
+ghost use Rattle.meter_fleet.specs.Networks.{NetworkEvent, PollsTo, AcceptsBy, Tells, operated};
 
 use fleet_links::Stream;
+use fleet_meters::Fleet;
+use std::alloc::Global;
 use thiserror::Error;
 
 /// The network failed: it cannot wait for further events.
@@ -21,8 +24,8 @@ pub enum NextClient<S> {
     None,
 }
 
-/// A network that reports which connections are ready. It reports each change once: a connection
-/// is ready again after it has blocked.
+/// A network that reports which connections are ready, and the operator of the fleet. It reports
+/// each change once: a connection is ready again after it has blocked.
 pub trait Network {
     /// The stream of a connection.
     type Stream: Stream + Drop;
@@ -42,6 +45,12 @@ pub trait Network {
     ) -> Result<bool, NetworkFault>
         ensures { PollsTo (log self.old) may_wait ready.old.items idle.old.items result
             ready.new.items idle.new.items (log self.new) };
+
+    /// Gives the events to meters that the operator of the fleet asks for, and answers the
+    /// operator's questions about the meters. Returns at once if nothing is asked for.
+    fn operate(&mut self, alloc: Global, fleet: &mut Fleet<Self::Stream>)
+        ensures gives { GivesEvents fleet.old fleet.new }
+        ensures log { Tells (log self.old) (operated ∷ []) (log self.new) };
 
     /// Accepts a connection, whose events are then reported under this key.
     fn accept(&mut self, key: usize) -> NextClient<Self::Stream>

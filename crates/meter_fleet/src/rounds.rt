@@ -1,5 +1,5 @@
-//! `Rounds`: one round after the other: closes idle connections, accepts clients and serves
-//! connections.
+//! `Rounds`: one round after the other: closes idle connections, gives events to meters, accepts
+//! clients and serves connections.
 ghost use Rattle.std.specs.Prelude.{◌≡◌, ◌==◌, ◌&&◌, [], false, not, IfOk, length};
 ghost use Rattle.meter_fleet.specs.Rounds.{frame_bytes};
 
@@ -82,6 +82,7 @@ impl Rounds {
         match network.wait(self.may_wait(), &mut self.ready, &mut self.idle) {
             Ok(has_clients) => {
                 close_idle(fleet, self.idle.as_slice());
+                network.operate(alloc, fleet);
                 let is_due = self.has_clients | has_clients;
                 self.has_clients = accept_clients(alloc, network, fleet, is_due);
                 self.serve(alloc, fleet)

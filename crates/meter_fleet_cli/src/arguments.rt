@@ -11,11 +11,24 @@ Exit status: 2 the command line or the trace is wrong; 3 reading or listening fa
 4 out of memory.
 Example: meter_fleet serve --meters 1000 --password 12345678 --mode 1 --listen 0.0.0.0";
 
-// The end of `serve --help`.
+// The end of `serve --help`: the meters, their faults, and the lines that standard input may have.
 const ADDRESSES: &str = "\
 The address that a client names is its meter: 127.0.0.1 is meter 1, 127.0.1.0 is meter 256. \
 A connection to any other address, or to a meter that the fleet does not have, is closed at once. \
-So is the ninth connection to one meter.";
+So is the ninth connection to one meter.
+Faults, each in every connection of a meter that has it, at most 100 percent together:
+  silent     the client receives no byte; its requests are carried out
+  slow       every answer is sent 2 seconds after the last bytes of the client
+  vanishes   only half of the second frame is sent, then the connection is closed
+  closes     the connection is closed before a byte is sent
+Lines of standard input, where METERS is N, N-M or all:
+  METERS button                 press the buttons of these meters
+  METERS samples WATTS ..       at most 256 samples of imported power, ten a second
+  METERS pairs WATTS WATTS ..   at most 256 pairs of imported and exported power, ten a second
+  METERS moment SECONDS         set the clocks to this many seconds after 2000-01-01 00:00:00
+  METERS state                  show the control states
+  N trace FILE                  write the trace of meter N to FILE
+  count STATE                   count the meters that are disconnected, connected or ready";
 
 // Returns an option with a value.
 fn option<'a>(
@@ -124,6 +137,41 @@ fn inactivity<'a>(alloc: Global) -> Arg<'a> {
     .default_value("180")
 }
 
+// Returns the option `--session`.
+fn session<'a>(alloc: Global) -> Arg<'a> {
+    option(
+        alloc,
+        "session",
+        "SECONDS",
+        "Close a connection that lasts longer, 0 to 4294967295; 0: never",
+    )
+    .value_parser(value_parser!(u32))
+    .default_value("3600")
+}
+
+// Returns the option `--fault`.
+fn fault<'a>(alloc: Global) -> Arg<'a> {
+    option(
+        alloc,
+        "fault",
+        "NAME=PERCENT",
+        "Inject this fault into this share of the meters; may be given for each fault",
+    )
+    .action(ArgAction::Append)
+}
+
+// Returns the option `--seed`.
+fn seed<'a>(alloc: Global) -> Arg<'a> {
+    option(
+        alloc,
+        "seed",
+        "N",
+        "Seed that chooses the meters that have a fault, 0 to 4294967295",
+    )
+    .value_parser(value_parser!(u32))
+    .default_value("0")
+}
+
 // Returns the option `--verbose`.
 fn verbose<'a>(alloc: Global) -> Arg<'a> {
     Arg::new(alloc, "verbose")
@@ -148,6 +196,9 @@ fn serve_command<'a>(alloc: Global) -> Result<Command<'a>, AllocError> {
     let made = with_argument(made, depth(alloc));
     let made = with_argument(made, resume(alloc));
     let made = with_argument(made, inactivity(alloc));
+    let made = with_argument(made, session(alloc));
+    let made = with_argument(made, fault(alloc));
+    let made = with_argument(made, seed(alloc));
     with_argument(made, verbose(alloc))
 }
 

@@ -5,6 +5,7 @@
 #![tactic(auto)]
 
 mod arguments;
+mod faults;
 mod serving;
 mod sockets;
 mod terms;

@@ -1,7 +1,10 @@
 //! The command `serve`: meters that clients reach over TCP.
-use crate::sockets::FleetSockets;
+use crate::faults::fault_plan;
+use crate::sockets::{FleetSockets, TimeLimits};
 use crate::terms::meter_terms;
 use clap::ArgMatches;
+use fleet_console::FleetConsole;
+use fleet_faults::FaultPlan;
 use meter_fleet::{FleetFault, serve_fleet};
 use program::Fault;
 use std::io::ErrorKind;
@@ -33,6 +36,7 @@ fn listen<'a, N: Net>(
     rt: &'a HostRuntime,
     net: &N,
     matches: &ArgMatches<'_>,
+    plan: FaultPlan,
 ) -> Result<FleetSockets<&'a HostRuntime>, Fault> {
     let is_verbose = matches.get_flag("verbose");
     let Some(address) = address_of(matches) else {
@@ -41,8 +45,12 @@ fn listen<'a, N: Net>(
         }
         return Err(Fault::Input);
     };
-    let inactivity = matches.get_one::<u32>("inactivity").unwrap_or(0);
-    match FleetSockets::bind(rt, net, rt.alloc(), address, inactivity) {
+    let limits = TimeLimits {
+        inactivity: matches.get_one::<u32>("inactivity").unwrap_or(0),
+        session: matches.get_one::<u32>("session").unwrap_or(0),
+    };
+    let console = FleetConsole::new(rt.alloc(), rt.stdin(), rt.stdout(), rt);
+    match FleetSockets::bind(rt, net, rt.alloc(), address, limits, plan, console) {
         Ok(sockets) => {
             if is_verbose {
                 report_address(rt, &sockets);
@@ -66,16 +74,17 @@ fn report_address(rt: &HostRuntime, sockets: &FleetSockets<&HostRuntime>) {
     }
 }
 
-// Serves the clients of the meters until that fails. Errors: `Input` if the password, the trace or
-// the address is not valid, `Read`, `Listen`, `Memory`.
+// Serves the clients of the meters until that fails. Errors: `Input` if a fault, the password, the
+// trace or the address is not valid, `Read`, `Listen`, `Memory`.
 pub(crate) fn serve<N: Net + Wait>(
     rt: &HostRuntime,
     net: &N,
     matches: &ArgMatches<'_>,
 ) -> Result<u8, Fault> {
     let meters = matches.get_one::<u32>("meters").unwrap_or(1);
+    let plan = fault_plan(rt, matches)?;
     let terms = meter_terms(rt, matches)?;
-    match listen(rt, net, matches) {
+    match listen(rt, net, matches, plan) {
         Ok(mut sockets) => {
             let fault = serve_fleet(net, rt.alloc(), &mut sockets, terms, meters as usize);
             Err(match fault {

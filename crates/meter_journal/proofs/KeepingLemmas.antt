@@ -12,7 +12,7 @@ use Rattle.turn_lock.proofs.Watching.{watches_refl, watches_trans}
 use Rattle.shared_meter.specs.Calls.{Calls, IsLegal}
 use Rattle.shared_meter.specs.Handed.{MeterPort}
 use Rattle.shared_meter.specs.Pending.{lines_of_calls}
-use Rattle.meter_journal.specs.Saving.{IsSaved, IsSavedFrom, IsStored}
+use Rattle.meter_journal.specs.Saving.{IsSaved, IsSavedFrom, IsSynced}
 use Rattle.meter_journal.proofs.SavingLemmas.{Lines, take_zero, saved_later}
 
 pub same_self : (p : MeterPort) → IsSame p p
@@ -118,18 +118,11 @@ module _ {F : Type 0} (acts : Type 0) (seen : F → List ℕ) (may_leave : F →
   }
 
   -- the lines that a save has put on the disk
-  pub stored_lines : (began now : F) (p q : MeterPort) (count : ℕ) → Run began now p q count
-      → acts → IsStored Renews stored count
-  stored_lines began now p q count run a =
-      let legal = run.watches.sees.lawful in
-      record {
-        file = seen now;
-        kept = (run.settled a).kept;
-        first = lines_in (seen began);
-        origin = legal.origin;
-        calls = q.known.seen;
-        lawful = legal.legal_history;
-        count = count;
-        enough = omega arith;
-        saved = run.saved a;
-      }
+  pub synced_lines : (began now : F) (p q : MeterPort) (count : ℕ) → Run began now p q count
+      → acts → IsSynced Renews stored q.known.seen count
+  synced_lines began now p q count run a = record {
+    file = seen now;
+    kept = (run.settled a).kept;
+    first = lines_in (seen began);
+    saved = run.saved a;
+  }

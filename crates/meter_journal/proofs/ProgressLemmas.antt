@@ -1,40 +1,86 @@
 -- The number of lines on the disk.
-use Rattle.std.proofs.Common.{ℕ, ◌≤◌, List, arith}
+use Rattle.std.proofs.Common.{◌≡◌, ℕ, ◌≤◌, List, arith, subst, sym}
 use Rattle.durable_lines.specs.Lines.{lines_in, IsSettled}
 use Rattle.turn_lock.specs.Calls.{IsLegal}
+use Rattle.turn_lock.specs.History.{StartsWith}
+use Rattle.turn_lock.specs.Shown.{ShownNote}
+use Rattle.turn_lock.proofs.Lists.{starts_refl}
+use Rattle.relay_core.specs.declared.opening.Opening.{Opening}
+use Rattle.relay_events.specs.declared.event.Event.{Event}
+use Rattle.relay_events.specs.declared.reply.Reply.{Reply}
+use Rattle.shared_meter.specs.Calls.{Calls}
 use Rattle.shared_meter.specs.Calls.{IsLegal as IsMeterLegal}
 use Rattle.shared_meter.specs.Handed.{MeterPort}
-use Rattle.meter_journal.specs.Saving.{IsStored}
+use Rattle.shared_meter.specs.Settling.{AreDurable}
+use Rattle.meter_journal.specs.Saving.{IsStored, IsSynced}
 use Rattle.meter_journal.proofs.KeepingLemmas.{saved_none}
+use Rattle.meter_journal.proofs.SavingLemmas.{saved_later}
 
 -- a settled file has no line of a history yet
-pub stored_none : {F : Type 0} (seen : F → List ℕ) (may_leave : F → List ℕ → Type 0)
-    (stored : List ℕ → Type 0) (Renews : List ℕ → List ℕ → Type 0) (file : F) (p : MeterPort)
-    → IsLegal IsMeterLegal p.known → IsSettled seen may_leave stored file
-    → IsStored Renews stored 0
-stored_none seen may_leave stored Renews file p legal settled = record {
+pub synced_none : {F : Type 0} (seen : F → List ℕ) (may_leave : F → List ℕ → Type 0)
+    (stored : List ℕ → Type 0) (Renews : List ℕ → List ℕ → Type 0) (file : F) (calls : Calls)
+    → IsSettled seen may_leave stored file → IsSynced Renews stored calls 0
+synced_none seen may_leave stored Renews file calls settled = record {
   file = seen file;
   kept = settled.kept;
   first = lines_in (seen file);
+  saved = saved_none Renews calls (seen file);
+}
+
+-- the lines of a history that a port has seen are those of a legal one
+pub stored_by : (Renews : List ℕ → List ℕ → Type 0) (stored : List ℕ → Type 0) (p : MeterPort)
+    (n : ℕ) → IsLegal IsMeterLegal p.known → IsSynced Renews stored p.known.seen n
+    → IsStored Renews stored n
+stored_by Renews stored p n legal synced = record {
   origin = legal.origin;
   calls = p.known.seen;
   lawful = legal.legal_history;
-  count = 0;
-  enough = omega arith;
-  saved = saved_none Renews p.known.seen (seen file);
+  synced = synced;
 }
 
--- more lines are enough for fewer
-pub stored_fewer : (Renews : List ℕ → List ℕ → Type 0) (stored : List ℕ → Type 0) (n fewer : ℕ)
-    → fewer ≤ n → IsStored Renews stored n → IsStored Renews stored fewer
-stored_fewer Renews stored n fewer le is = record {
+-- the first lines of a history are those of a longer one
+pub synced_later : (Renews : List ℕ → List ℕ → Type 0) (stored : List ℕ → Type 0)
+    (calls longer : Calls) (n : ℕ) → StartsWith longer calls → IsSynced Renews stored calls n
+    → IsSynced Renews stored longer n
+synced_later Renews stored calls longer n starts is = record {
   file = is.file;
   kept = is.kept;
   first = is.first;
-  origin = is.origin;
-  calls = is.calls;
-  lawful = is.lawful;
-  count = is.count;
-  enough = omega (arith, le, is.enough);
-  saved = is.saved;
+  saved = saved_later Renews is.first n calls longer is.file starts is.saved;
 }
+
+-- lines of the history that a note has are those of a history that a port has seen since
+pub synced_as : (Renews : List ℕ → List ℕ → Type 0) (stored : List ℕ → Type 0)
+    (note old : ShownNote Event Reply Opening) (seen now : Calls) (n : ℕ) → note ≡ old
+    → StartsWith seen note.seen → now ≡ seen → IsSynced Renews stored old.seen n
+    → IsSynced Renews stored now n
+synced_as Renews stored note old seen now n same starts is_now synced =
+    let S : ShownNote Event Reply Opening → Type 0 = λ x. StartsWith seen x.seen in
+    subst (λ (calls : Calls). IsSynced Renews stored calls n) (sym is_now)
+    (synced_later Renews stored old.seen seen n (subst S same starts) synced)
+
+module _ (acts : Type 0) (Renews : List ℕ → List ℕ → Type 0) (stored : List ℕ → Type 0) where
+  -- this number of lines of a history is on the disk
+  abbrev pub Synced : Calls → ℕ → Type 0
+  Synced calls n = acts → IsSynced Renews stored calls n
+
+  -- more lines are enough for fewer
+  pub durable_fewer : (calls : Calls) (n fewer : ℕ) → fewer ≤ n → AreDurable Synced calls n
+      → AreDurable Synced calls fewer
+  durable_fewer calls n fewer few are = record {
+    saved = are.saved;
+    begins = are.begins;
+    count = are.count;
+    enough = omega (arith, few, are.enough);
+    durable = are.durable;
+  }
+
+  -- the lines of the history that a port has seen
+  pub durable_now : (calls : Calls) (n : ℕ) → Synced calls n → AreDurable Synced calls n
+  durable_now calls n synced = record {
+    saved = calls;
+    begins = starts_refl calls;
+    count = n;
+    enough = omega arith;
+    durable = synced;
+  }

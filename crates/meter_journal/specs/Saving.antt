@@ -1,7 +1,8 @@
 -- What a file holds of the lines of a history, also if it was renewed since.
 --     IsSaved        the lines that it had first, followed by a front of the lines of the history
 --     IsSavedFrom    these, with a front of at least a number of lines
---     IsStored       a sync returned while a file had at least a number of lines of a history
+--     IsSynced       a sync returned while a file had the first lines of a history
+--     IsStored       it did so for the history of a lock
 --     Leaves         what the worker of a journal leaves of its file
 --     Keeps          what the worker of a journal does
 use Rattle.std.specs.Prelude.{◌≡◌, ℕ, ◌≤◌, List, length, take, IfErr, OnOk, Result}
@@ -33,19 +34,22 @@ abbrev pub IsAllSaved : (List ℕ → List ℕ → Type 0) → List (List ℕ) �
 IsAllSaved Renews first calls file =
     IsSaved Renews first (length (lines_of_calls calls)) calls file
 
--- whether a sync returned while a file held the first lines of a legal history, at least n of them,
--- after lines that it had before
+-- whether a sync returned while a file held the first n lines of the history, after lines that it
+-- had before
+pub record IsSynced (Renews : List ℕ → List ℕ → Type 0) (stored : List ℕ → Type 0) (calls : Calls)
+    (n : ℕ) : Type 0 where
+  pub file : List ℕ
+  pub kept : stored file
+  pub first : List (List ℕ)
+  pub saved : IsSaved Renews first n calls file
+
+-- whether a sync returned while a file held the first n lines of a legal history
 pub record IsStored (Renews : List ℕ → List ℕ → Type 0) (stored : List ℕ → Type 0) (n : ℕ) : Type 0
   where
-    pub file : List ℕ
-    pub kept : stored file
-    pub first : List (List ℕ)
     pub origin : Opening
     pub calls : Calls
     pub lawful : IsLegal origin calls
-    pub count : ℕ
-    pub enough : n ≤ count
-    pub saved : IsSaved Renews first count calls file
+    pub synced : IsSynced Renews stored calls n
 
 -- Whether a crash at any moment of the worker's run leaves a file that holds the lines that it had
 -- first, followed by a front of the lines of the history. If the worker ended as it was asked to,

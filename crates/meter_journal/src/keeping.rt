@@ -1,5 +1,5 @@
 //! The loop that saves a journal until it is stopped.
-ghost use Rattle.std.specs.Prelude.{OnOk};
+ghost use Rattle.std.specs.Prelude.{◌≡◌, OnOk};
 ghost use Rattle.durable_lines.specs.CrashModel.{LeavesOnly};
 ghost use Rattle.durable_lines.specs.Lines.{lines_in, IsSettled};
 ghost use Rattle.turn_lock.specs.Calls.{Watches};
@@ -8,6 +8,7 @@ ghost use Rattle.shared_meter.specs.Calls.{IsLegal};
 ghost use Rattle.meter_journal.specs.Saving.{IsAllSaved, IsSavedFrom};
 
 use crate::fault::JournalFault;
+use crate::last_save::JournalLock;
 use crate::progress::JournalProgress;
 use crate::saving::{Saved, save};
 use durable_lines::DurableFile;
@@ -20,14 +21,15 @@ use turn_lock::Port;
 // stopped and a last save has found no further line. The history has no line when it begins.
 //
 // Errors: those of a save, after which some of the lines may be lost.
-pub(crate) fn keep_lines<F: DurableFile, W: Wait>(
+pub(crate) fn keep_lines<F: DurableFile, L: JournalLock, W: Wait>(
     rt: &W,
     alloc: Global,
     port: &mut Port<Kept>,
     file: &mut F,
-    progress: &JournalProgress<F>,
+    progress: &JournalProgress<F, L>,
     room: Vec<u8>,
 ) -> Result<(), JournalFault>
+    requires lock { port.old.lock ≡ L.lock }
     requires settled { F.acts_as_file → IsSettled F.seen F.may_leave F.stored file.old }
     ensures same { IsSame port.old port.new }
     ensures watches { Watches IsLegal port.old.known port.new.known }
@@ -50,7 +52,7 @@ pub(crate) fn keep_lines<F: DurableFile, W: Wait>(
         } = saved;
         saved = save(rt, alloc, port, file, before, room)?;
         if saved.count != before {
-            progress.announce(rt, saved.count);
+            progress.announce(rt, port, saved.count);
         } else if is_last {
             return Ok(());
         } else {

@@ -8,12 +8,14 @@
 
 mod fault;
 mod keeping;
+mod last_save;
 mod progress;
 mod saving;
 mod starting;
 mod worker;
 
 pub use fault::JournalFault;
+pub use last_save::JournalLock;
 pub use progress::JournalProgress;
 pub use saving::{Saved, save};
 pub use starting::{JournalThread, start_journal, stop_journal};

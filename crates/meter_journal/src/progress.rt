@@ -1,15 +1,16 @@
 //! `JournalProgress`: how many lines of a journal are on the disk, for the sessions that wait for
 //! theirs.
-ghost use Rattle.std.specs.Prelude.{IsTrue, OnOk};
+ghost use Rattle.std.specs.Prelude.{◌≡◌, OnOk};
 ghost use Rattle.durable_lines.specs.Lines.{IsSettled};
-ghost use Rattle.meter_journal.specs.Saving.{IsStored};
+ghost use Rattle.meter_journal.specs.Saving.{IsStored, IsSynced};
 
+use crate::last_save::{JournalLock, LastSave};
 use durable_lines::DurableFile;
 use shared_meter::{Durability, Kept};
 use std::alloc::{AllocError, Global};
 use std::marker::PhantomData;
 use std::sync::atomic::{AtomicBool, AtomicIn, Ordering, Rule};
-use std::sync::{Arc, Condvar, Wait};
+use std::sync::{Arc, Condvar, Mutex, Wait};
 use std::time::Duration;
 use turn_lock::Port;
 
@@ -35,8 +36,9 @@ impl<F: DurableFile> Rule for StoredLines<F> {
 // What the handles of a journal share. Of the two conditions one is changed for sessions that wait
 // for lines, the other for the worker.
 #[derive(Drop)]
-struct ProgressState<F: DurableFile> {
+struct ProgressState<F: DurableFile, L: JournalLock> {
     lines: AtomicIn<StoredLines<F>>,
+    last: Mutex<LastSave<F, L>>,
     has_ended: AtomicBool,
     has_failed: AtomicBool,
     is_stopped: AtomicBool,
@@ -44,27 +46,14 @@ struct ProgressState<F: DurableFile> {
     wanted: Condvar,
 }
 
-impl<F: DurableFile> ProgressState<F> {
-    // Returns whether this number of lines is on the disk.
-    fn has(&self, lines: u64) -> bool
-        ensures { IsTrue result → F.acts_as_file → IsStored F.renews F.stored lines }
-    {
-        self.lines.load(Ordering::SeqCst) >= lines
-    }
-
-    // Waits until this number of lines is on the disk, or the journal has ended. Returns whether
-    // the lines are on the disk.
-    fn wait<W: Wait>(&self, rt: &W, lines: u64) -> bool
-        ensures { IsTrue result → F.acts_as_file → IsStored F.renews F.stored lines }
-    {
+impl<F: DurableFile, L: JournalLock> ProgressState<F, L> {
+    // Waits until this number of lines is on the disk, or the journal has ended.
+    fn wait<W: Wait>(&self, rt: &W, lines: u64) {
         for _ in rt.forever() {
             let seen = self.saved.notifications();
             let has_ended = self.has_ended.load(Ordering::SeqCst);
-            if self.has(lines) {
-                return true;
-            }
-            if has_ended {
-                return false;
+            if has_ended || self.lines.load(Ordering::SeqCst) >= lines {
+                return;
             }
             self.wanted.notify_all();
             self.saved.sleep(rt, seen, Duration::from_millis(PATIENCE));
@@ -77,24 +66,31 @@ impl<F: DurableFile> ProgressState<F> {
 /// worker has one, each session has one, and the program has one to stop the worker.
 ///
 /// Lines are counted from the start of the history of the meter's lock; those that the file had
-/// before are not counted.
+/// before are not counted. The type parameter `L` is the lock.
 #[derive(Drop)]
-pub struct JournalProgress<F: DurableFile> {
-    state: Arc<ProgressState<F>, Global>,
+pub struct JournalProgress<F: DurableFile, L: JournalLock> {
+    state: Arc<ProgressState<F, L>, Global>,
 }
 
-impl<F: DurableFile> JournalProgress<F> {
+impl<F: DurableFile, L: JournalLock> JournalProgress<F, L> {
     /// Returns the handle of a journal without lines, which will be written to this file through a
     /// port of this lock: a wait for 0 lines returns true. Errors: `AllocError`.
-    pub fn new(alloc: Global, port: &Port<Kept>, file: &F) -> Result<JournalProgress<F>, AllocError>
-        requires { F.acts_as_file → IsSettled F.seen F.may_leave F.stored file.now }
-        ensures { OnOk result (F.acts_as_file → IsStored F.renews F.stored 0) }
+    pub fn new(
+        alloc: Global,
+        port: &mut Port<Kept>,
+        file: &F,
+    ) -> Result<JournalProgress<F, L>, AllocError>
+        requires lock { port.old.lock ≡ L.lock }
+        requires settled { F.acts_as_file → IsSettled F.seen F.may_leave F.stored file.now }
+        ensures port { port.new ≡ port.old }
+        ensures stored { OnOk result (F.acts_as_file → IsStored F.renews F.stored 0) }
     {
         // (no effect: the contract needs this law)
         port.history_is_legal();
         let _file = file;
         let state = ProgressState {
             lines: AtomicIn::new(0),
+            last: Mutex::new(LastSave::new(port, 0)),
             has_ended: AtomicBool::new(false),
             has_failed: AtomicBool::new(false),
             is_stopped: AtomicBool::new(false),
@@ -113,15 +109,20 @@ impl<F: DurableFile> JournalProgress<F> {
         self.state.lines.load(Ordering::SeqCst)
     }
 
-    // Records that this number of lines is on the disk, and wakes the sessions that wait. If there
-    // was more than one further line, then waits a moment for as many requests: otherwise the
-    // session that is first to return would have a sync for itself, and the others the next one.
-    // Only the worker calls it.
-    pub(crate) fn announce<W: Wait>(&self, rt: &W, lines: u64)
-        requires { F.acts_as_file → IsStored F.renews F.stored lines }
+    // Records that this number of lines of the port's history is on the disk, and wakes the
+    // sessions that wait. If there was more than one further line, then waits a moment for as many
+    // requests: otherwise the session that is first to return would have a sync for itself, and the
+    // others the next one. Only the worker calls it.
+    pub(crate) fn announce<W: Wait>(&self, rt: &W, port: &mut Port<Kept>, lines: u64)
+        requires lock { port.old.lock ≡ L.lock }
+        requires synced { F.acts_as_file → IsSynced F.renews F.stored port.old.known.seen lines }
+        ensures { port.new ≡ port.old }
     {
+        // (no effect: the contract needs this law)
+        port.history_is_legal();
         let woken = lines.saturating_sub(self.lines());
         let seen = self.requests();
+        self.state.last.lock(rt).update(port, lines);
         self.state.lines.store(lines, Ordering::SeqCst);
         self.state.saved.notify_all();
         if woken > 1 {
@@ -183,17 +184,18 @@ impl<F: DurableFile> JournalProgress<F> {
     }
 }
 
-impl<F: DurableFile> Durability for JournalProgress<F> {
-    ghost is_durable = { λ lines. F.acts_as_file → IsStored F.renews F.stored lines };
+impl<F: DurableFile, L: JournalLock> Durability for JournalProgress<F, L> {
+    ghost fits = { λ lock. lock ≡ L.lock };
 
-    fn wait<W: Wait>(&self, rt: &W, lines: u64) -> bool {
-        if self.state.has(lines) {
-            return true;
-        }
-        self.state.wait(rt, lines)
+    ghost is_durable = { λ calls lines. F.acts_as_file → IsSynced F.renews F.stored calls lines };
+
+    fn wait<W: Wait>(&self, rt: &W, port: &mut Port<Kept>, lines: u64) -> bool {
+        self.state.wait(rt, lines);
+        let saved = self.state.last.lock(rt).show(port);
+        saved >= lines
     }
 
-    fn share(&self) -> Result<JournalProgress<F>, AllocError> {
+    fn share(&self) -> Result<JournalProgress<F, L>, AllocError> {
         Ok(JournalProgress {
             state: Arc::try_clone(&self.state)?,
         })

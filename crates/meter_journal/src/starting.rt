@@ -4,6 +4,7 @@ ghost use Rattle.port_threads.specs.Ports.{AreJoined, PortContinues, SplitsOff};
 ghost use Rattle.port_threads.specs.Workers.{ReturnsPort};
 ghost use Rattle.meter_journal.specs.Saving.{Keeps};
 
+use crate::last_save::JournalLock;
 use crate::progress::JournalProgress;
 use crate::worker::{FailureAction, JournalWorker};
 use durable_lines::DurableFile;
@@ -15,7 +16,7 @@ use std::thread::Threads;
 use turn_lock::{CallFault, Port};
 
 /// The handle of a running journal's thread.
-pub type JournalThread<F, A> = WorkerThread<Kept, JournalWorker<F, A>>;
+pub type JournalThread<F, A, L> = WorkerThread<Kept, JournalWorker<F, A, L>>;
 
 /// Starts a thread for the worker of a journal, with a port split off from this one. Returns `None`
 /// if no memory, port or thread is available; the worker is dropped with its file, every wait for a
@@ -23,14 +24,16 @@ pub type JournalThread<F, A> = WorkerThread<Kept, JournalWorker<F, A>>;
 pub fn start_journal<
     F: DurableFile + Send + 'static,
     A: FailureAction + 'static,
+    L: JournalLock + Send + Sync + 'static,
     R: Threads + Wait + Copy + Send + 'static,
 >(
     rt: &R,
     alloc: Global,
-    worker: JournalWorker<F, A>,
-    progress: &JournalProgress<F>,
+    worker: JournalWorker<F, A, L>,
+    progress: &JournalProgress<F, L>,
     port: &mut Port<Kept>,
-) -> Option<JournalThread<F, A>>
+) -> Option<JournalThread<F, A, L>>
+    requires { port.old.lock ≡ L.lock }
     ensures worker { IfSome result (λ running. running.promise.worker.value ≡ worker) }
     ensures port { IfSome result
         (λ running. SplitsOff port.old running.promise.port.value port.new) }
@@ -48,10 +51,15 @@ pub fn start_journal<
 /// Asks the worker of a journal to save the lines that have been noted, waits for its end, and
 /// joins its port in. Returns `None` if its work was not started, and `Err(Journal)` if the journal
 /// has failed.
-pub fn stop_journal<F: DurableFile + Send, A: FailureAction, R: Threads>(
+pub fn stop_journal<
+    F: DurableFile + Send,
+    A: FailureAction,
+    L: JournalLock + Send + Sync,
+    R: Threads,
+>(
     rt: &R,
-    running: JournalThread<F, A>,
-    progress: &JournalProgress<F>,
+    running: JournalThread<F, A, L>,
+    progress: &JournalProgress<F, L>,
     port: &mut Port<Kept>,
 ) -> Option<Result<(), CallFault>>
     requires { running.promise.port.value.lock ≡ port.old.lock }

@@ -4,6 +4,7 @@ ghost use Rattle.durable_lines.specs.Lines.{IsSettled};
 
 use crate::fault::JournalFault;
 use crate::keeping::keep_lines;
+use crate::last_save::JournalLock;
 use crate::progress::JournalProgress;
 use durable_lines::DurableFile;
 use port_threads::Worker;
@@ -23,16 +24,16 @@ pub trait FailureAction: Drop + Send {
 
 /// The worker of a journal: it saves the lines of the meter's events to its file, and announces
 /// them, until the journal is stopped or fails. Its file has whole lines, and all of them are on
-/// the disk. Contracts see the file.
+/// the disk. It works through a port of the lock `L`. Contracts see the file.
 #[derive(Drop)]
-pub struct JournalWorker<F: DurableFile, A: FailureAction> {
+pub struct JournalWorker<F: DurableFile, A: FailureAction, L: JournalLock> {
     file: F,
-    progress: JournalProgress<F>,
+    progress: JournalProgress<F, L>,
     on_failure: A,
     room: Vec<u8>,
 }
 
-impl<F: DurableFile, A: FailureAction> Model for JournalWorker<F, A> {
+impl<F: DurableFile, A: FailureAction, L: JournalLock> Model for JournalWorker<F, A, L> {
     ghost Value = { F };
 
     ghost view = { λ w. w.file };
@@ -40,16 +41,16 @@ impl<F: DurableFile, A: FailureAction> Model for JournalWorker<F, A> {
     ghost invariant = { λ w. F.acts_as_file → IsSettled F.seen F.may_leave F.stored w.file };
 }
 
-impl<F: DurableFile, A: FailureAction> JournalWorker<F, A> {
+impl<F: DurableFile, A: FailureAction, L: JournalLock> JournalWorker<F, A, L> {
     /// Makes the worker of a journal that was recovered or begun, so that its file has whole lines
     /// and all of them are on the disk. Errors: `AllocError`.
     pub fn new(
         alloc: Global,
         file: F,
-        progress: &JournalProgress<F>,
+        progress: &JournalProgress<F, L>,
         on_failure: A,
         room: usize,
-    ) -> Result<JournalWorker<F, A>, AllocError>
+    ) -> Result<JournalWorker<F, A, L>, AllocError>
         requires { F.acts_as_file → IsSettled F.seen F.may_leave F.stored file }
         ensures { IfOk result (λ worker. worker ≡ file) }
     {
@@ -64,8 +65,11 @@ impl<F: DurableFile, A: FailureAction> JournalWorker<F, A> {
     }
 }
 
-impl<F: DurableFile + Send, A: FailureAction> Worker<Port<Kept>> for JournalWorker<F, A> {
+impl<F: DurableFile + Send, A: FailureAction, L: JournalLock + Send + Sync> Worker<Port<Kept>>
+    for JournalWorker<F, A, L> {
     ghost use Rattle.meter_journal.specs.Saving.{Keeps};
+
+    ghost fits = { λ port. port.lock ≡ L.lock };
 
     ghost did = { λ worker p q end. Keeps F.acts_as_file F.seen F.may_leave F.moment F.left_since
         F.renews worker p q end };

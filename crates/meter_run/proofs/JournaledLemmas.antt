@@ -5,7 +5,7 @@ use Rattle.std.proofs.Common.{length, Result, Ok, Err, IfOk, OnOk, refl, sym, ap
 use Rattle.durable_lines.specs.CrashModel.{LeavesOnly}
 use Rattle.durable_lines.proofs.Moments.{begin}
 use Rattle.durable_lines.specs.Lines.{lines_in, IsSettled}
-use Rattle.meter_journal.specs.Saving.{IsSaved, IsSavedFrom, IsStored, Keeps}
+use Rattle.meter_journal.specs.Saving.{IsSaved, IsSavedFrom, IsSynced, Keeps}
 use Rattle.meter_journal.proofs.KeepingLemmas.{saved_none}
 use Rattle.meter_journal.proofs.SavingLemmas.{saved_later}
 use Rattle.meter_run.specs.Journaled.{IsJournaledRun, IsStarted, IsFinished, LeavesFront}
@@ -77,7 +77,7 @@ serves_joined did given served lent p q after end s back =
     }
 
 -- and so are the sessions that waited for the journal
-journaled_joined : (did : Did) (IsDurable : ℕ → Type 0) (given : Given)
+journaled_joined : (did : Did) (IsDurable : Calls → ℕ → Type 0) (given : Given)
     (served : Result Served ServeFault) (lent p q after : MeterPort)
     (end : Option (Result (Unit {0}) CallFault))
     → ServesAll given p q served → ReturnsPort did lent end q after
@@ -154,9 +154,9 @@ module _ {F : Type 0} (acts : Type 0) (seen : F → List ℕ) (may_leave : F →
   abbrev JournalDid : Did
   JournalDid = Keeps acts seen may_leave moment left_since Renews file
 
-  -- this number of lines is on the disk
-  abbrev OnDisk : ℕ → Type 0
-  OnDisk n = acts → IsStored Renews stored n
+  -- this number of lines of a history is on the disk
+  abbrev OnDisk : Calls → ℕ → Type 0
+  OnDisk calls n = acts → IsSynced Renews stored calls n
 
   quiet : (p q : MeterPort) (end : Result (Unit {0}) CallFault) → JournalDid p q end
       → Watches IsLegal p.known q.known

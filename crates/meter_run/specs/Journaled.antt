@@ -8,7 +8,7 @@ use Rattle.std.specs.Prelude.{◌≡◌, ℕ, ◌<◌, ◌≤◌, List, [], ◌�
 use Rattle.std.specs.Prelude.{IfOk, OnOk}
 use Rattle.durable_lines.specs.CrashModel.{LeavesOnly}
 use Rattle.durable_lines.specs.Lines.{lines_in}
-use Rattle.meter_journal.specs.Saving.{IsSaved, IsSavedFrom, IsStored}
+use Rattle.meter_journal.specs.Saving.{IsSaved, IsSavedFrom, IsSynced}
 use Rattle.meter_run.specs.Runs.{Given, IsRunFrom, StartsFrom, Traces}
 use Rattle.meter_server.specs.JournaledSessions.{AreAnswered}
 use Rattle.meter_server.specs.declared.serving_all.Served.{Served}
@@ -32,8 +32,9 @@ LeavesFront may_leave Renews first calls =
 
 -- Whether this is a run in which the first port that was split off is the journal's. The calls of
 -- each session, all but at most the last one, were answered from a front of the run's own history,
--- once as many lines as that front has were on the disk. If the file acts as the crash model has
--- it, a crash at any moment of the run leaves a file that holds the lines that it had first,
+-- once the lines of that front were on the disk: a sync had returned while the file held at least
+-- these lines of the same history. If the file acts as the crash model has it, a crash at any
+-- moment of the run leaves a file that holds the lines that it had first,
 -- followed by a front of the lines of the same history, however often it was renewed. If the
 -- journal has not failed either, every crash after the run leaves the same front.
 pub record IsJournaledRun {F : Type 0} (acts : Type 0) (seen : F → List ℕ)
@@ -43,7 +44,7 @@ pub record IsJournaledRun {F : Type 0} (acts : Type 0) (seen : F → List ℕ)
     (journal : Result (Unit {0}) Fault) (text : List ℕ) : Type 0 where
   pub run : IsRunFrom 1 recorder given served text
   pub journaled : (i : ℕ) → 4 ≤ i → i < run.of_run.ports
-      → AreAnswered (λ n. acts → IsStored Renews stored n) (i ∷ []) [] run.calls
+      → AreAnswered (λ calls n. acts → IsSynced Renews stored calls n) (i ∷ []) [] run.calls
   pub kept : acts → (ended : F) × LeavesOnly moment left_since file ended
       (IsSavedFrom Renews 0 (lines_in (seen file)) run.calls)
       × OnOk journal (LeavesFront (may_leave ended) Renews (lines_in (seen file)) run.calls)

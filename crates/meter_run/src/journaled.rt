@@ -1,5 +1,5 @@
 //! `run_journaled_meter`: one run of a meter whose events are on the disk before they are answered.
-ghost use Rattle.std.specs.Prelude.{◌≡◌, ◌⊎◌, ⊤, ◌+◌, [], IfOk, IfErr, IfSome};
+ghost use Rattle.std.specs.Prelude.{◌≡◌, ◌⊎◌, ⊤, ◌+◌, [], Err, IfOk, IfErr, IfSome};
 ghost use Rattle.acse_ber.specs.Password.{IsPassword};
 ghost use Rattle.durable_lines.specs.CrashModel.{LeavesOnly};
 ghost use Rattle.durable_lines.specs.Lines.{lines_in, IsSettled};
@@ -9,7 +9,10 @@ ghost use Rattle.meter_run.specs.Journaled.{fault_of_journal};
 ghost use Rattle.meter_server.specs.ServingAll.{IsLimit, StopsFor};
 ghost use Rattle.port_threads.specs.Listening.{IsCounted};
 ghost use Rattle.program.specs.declared.fault.Fault.TheVariants.{Memory, Turns, Write};
+ghost use Rattle.session_io.specs.declared.fault.ServeFault.TheVariants as fault;
 ghost use Rattle.relay_core.specs.Opening.{opening_of};
+ghost use Rattle.relay_core.specs.declared.opening.Opening.{Opening};
+ghost use Rattle.relay_recorder.specs.Recording.{Recording};
 ghost use Rattle.shared_meter.specs.Calls.{Calls};
 ghost use Rattle.turn_lock.specs.Rule.{first_known};
 
@@ -17,7 +20,8 @@ use crate::running::{close_and_export, lock, serve};
 use cosem_axdr::Octets;
 use durable_lines::DurableFile;
 use meter_journal::{
-    FailureAction, JournalProgress, JournalThread, JournalWorker, start_journal, stop_journal,
+    FailureAction, JournalLock, JournalProgress, JournalThread, JournalWorker, start_journal,
+    stop_journal,
 };
 use meter_server::{
     BlockSource, ButtonSource, ClientTerms, Listener, MomentSource, ServeFault, Served, Sources,
@@ -26,6 +30,7 @@ use program::Fault;
 use relay_recorder::Recorder;
 use shared_meter::{Durability, Kept, PendingLines};
 use std::alloc::{AllocError, Global};
+use std::marker::Brand;
 use std::sync::Wait;
 use std::thread::Threads;
 use turn_lock::{CallFault, Port, Shared};
@@ -66,13 +71,13 @@ pub struct RunTerms<'a> {
 
 // A meter in its lock, and the running worker of its journal.
 #[derive(Drop)]
-struct Started<F: DurableFile + Send, A: FailureAction> {
+struct Started<F: DurableFile + Send, A: FailureAction, L: JournalLock + Send + Sync> {
     shared: Shared<Kept>,
     port: Port<Kept>,
     // A handle of the journal for the sessions, and one to stop the worker.
-    sessions: JournalProgress<F>,
-    progress: JournalProgress<F>,
-    running: JournalThread<F, A>,
+    sessions: JournalProgress<F, L>,
+    progress: JournalProgress<F, L>,
+    running: JournalThread<F, A, L>,
 }
 
 // Returns a lock over a recorder with a journal, and its first port.
@@ -93,28 +98,32 @@ fn lock_journaled(
     }
 }
 
-// Puts a recorder into a lock, and starts the worker of its journal. Returns `None` if no memory,
-// port or thread is available.
-fn start<F: DurableFile + Send + 'static, A: FailureAction + 'static, R>(
+// Starts the worker of the journal of a meter in its lock. Returns `None` if no memory, port or
+// thread is available.
+fn start<
+    F: DurableFile + Send + 'static,
+    A: FailureAction + 'static,
+    L: JournalLock + Send + Sync + 'static,
+    R: Threads + Wait + Copy + Send + 'static,
+>(
     rt: &R,
     alloc: Global,
-    recorder: Recorder,
+    meter: (Shared<Kept>, Port<Kept>),
     journal: MeterJournal<F, A>,
-) -> Option<Started<F, A>>
-where
-    R: Threads + Wait + Copy + Send + 'static,
-    requires unused { recorder.events ≡ [] }
+) -> Option<Started<F, A, L>>
+    requires lock { meter.1.lock ≡ meter.0 }
+    requires same_lock { meter.1.lock ≡ L.lock }
     requires settled { F.acts_as_file → IsSettled F.seen F.may_leave F.stored journal.file }
     ensures lock { IfSome result (λ s. s.port.lock ≡ s.shared) }
-    ensures starts { IfSome result
-        (λ s. IsStarted (opening_of recorder.core) s.running.promise.port.value s.port) }
+    ensures same_lock { IfSome result (λ s. s.port.lock ≡ L.lock) }
+    ensures lent { IfSome result (λ s. s.running.promise.port.value.lock ≡ s.port.lock) }
+    ensures starts { IfSome result (λ s. (o : Opening) → meter.1.known ≡ first_known o
+        → IsStarted o s.running.promise.port.value s.port) }
     ensures file { IfSome result (λ s. s.running.promise.worker.value ≡ journal.file) }
 {
     let MeterJournal { file, on_failure } = journal;
-    let Ok((shared, mut port)) = lock_journaled(alloc, recorder) else {
-        return None;
-    };
-    let Ok(progress) = JournalProgress::new(alloc, &port, &file) else {
+    let (shared, mut port) = meter;
+    let Ok(progress) = JournalProgress::<F, L>::new(alloc, &mut port, &file) else {
         return None;
     };
     let Ok(sessions) = progress.share() else {
@@ -159,13 +168,13 @@ fn file_is_idle<F: DurableFile>(file: &F)
 }
 
 // Stops the journal once it has written all lines, closes the lock, and writes the trace.
-fn finish<F: DurableFile + Send, A: FailureAction, R: Threads>(
+fn finish<F: DurableFile + Send, A: FailureAction, L: JournalLock + Send + Sync, R: Threads>(
     rt: &R,
     alloc: Global,
     shared: Shared<Kept>,
     mut port: Port<Kept>,
-    progress: JournalProgress<F>,
-    running: JournalThread<F, A>,
+    progress: JournalProgress<F, L>,
+    running: JournalThread<F, A, L>,
 ) -> (Result<Octets, Fault>, Result<(), Fault>)
     requires lock { port.lock ≡ shared }
     requires lent { running.promise.port.value.lock ≡ port.lock }
@@ -178,6 +187,88 @@ fn finish<F: DurableFile + Send, A: FailureAction, R: Threads>(
     let end = stop_journal(rt, running, &progress, &mut port);
     drop(progress);
     (close_and_export(alloc, shared, port), journal_fault(end))
+}
+
+// What a run returns for which no lock, journal, port or thread is available.
+fn no_run() -> JournaledRun
+    ensures served { result.served ≡ Err fault.Memory }
+    ensures trace { result.trace ≡ Err Memory }
+    ensures journal { result.journal ≡ Err Memory }
+{
+    JournaledRun {
+        served: Err(ServeFault::Memory),
+        trace: Err(Fault::Memory),
+        journal: Err(Fault::Memory),
+    }
+}
+
+// Runs a meter with a journal that is in its lock already, as `run_journaled_meter` does. `K` is
+// that lock.
+fn run_in_lock<
+    L: Listener,
+    B: BlockSource + Send + 'static,
+    M: MomentSource + Send + 'static,
+    U: ButtonSource + Send + 'static,
+    F: DurableFile + Send + 'static,
+    A: FailureAction + 'static,
+    K: JournalLock + Send + Sync + 'static,
+    R: Threads + Wait + Copy + Send + 'static,
+>(
+    rt: &R,
+    alloc: Global,
+    meter: (Shared<Kept>, Port<Kept>),
+    listener: &mut L,
+    sources: Sources<B, M, U>,
+    journal: MeterJournal<F, A>,
+    terms: &RunTerms<'_>,
+) -> JournaledRun
+    requires lock { meter.1.lock ≡ meter.0 }
+    requires same_lock { meter.1.lock ≡ K.lock }
+    requires settled { F.acts_as_file → IsSettled F.seen F.may_leave F.stored journal.file }
+    requires password { IsPassword terms.now.password.now }
+    ensures run { (recorder : Recording) → meter.1.known ≡ first_known (opening_of recorder.core)
+        → IfOk result.trace (IsJournaledRun F.acts_as_file F.seen F.may_leave F.moment
+        F.left_since F.stored F.renews journal.file recorder
+        (record {
+          blocks = B.forecast sources.blocks;
+          moments = M.forecast sources.moments;
+          presses = U.forecast sources.buttons;
+          password = terms.now.password.now;
+        })
+        result.served result.journal) }
+    ensures limit { IfOk result.served (IsLimit terms.now.limit) }
+    ensures counted { IfOk result.served (λ served. IsCounted (L.accepted listener.old)
+        (served.served + served.turned_away) (L.accepted listener.new)) }
+    ensures fault { IfErr result.served (StopsFor ⊤ (L.has_failed listener.new)) }
+    ensures err { IfErr result.trace (λ fault. (fault ≡ Turns) ⊎ (fault ≡ Memory)) }
+    ensures journal { IfErr result.journal (λ fault. (fault ≡ Write) ⊎ (fault ≡ Memory)) }
+{
+    // (no effect: the contract needs this law)
+    file_is_idle(&journal.file);
+    let Some(started) = start::<F, A, K, R>(rt, alloc, meter, journal) else {
+        drop(sources);
+        return no_run();
+    };
+    let Started {
+        shared,
+        port,
+        sessions,
+        progress,
+        running,
+    } = started;
+    let terms = ClientTerms {
+        password: terms.password,
+        limit: terms.limit,
+        journal: Some(sessions),
+    };
+    let (port, served) = serve(rt, alloc, listener, sources, port, &terms);
+    drop(terms);
+    let (trace, journal) = finish(rt, alloc, shared, port, progress, running);
+    JournaledRun {
+        served,
+        trace,
+        journal,
+    }
 }
 
 /// Runs a meter with a journal: puts its recorder, which has no event yet, into a lock for 2^62
@@ -229,34 +320,14 @@ pub fn run_journaled_meter<
     ensures err { IfErr result.trace (λ fault. (fault ≡ Turns) ⊎ (fault ≡ Memory)) }
     ensures journal { IfErr result.journal (λ fault. (fault ≡ Write) ⊎ (fault ≡ Memory)) }
 {
-    // (no effect: the contract needs this law)
-    file_is_idle(&journal.file);
-    let Some(started) = start(rt, alloc, recorder, journal) else {
-        drop(sources);
-        return JournaledRun {
-            served: Err(ServeFault::Memory),
-            trace: Err(Fault::Memory),
-            journal: Err(Fault::Memory),
-        };
-    };
-    let Started {
-        shared,
-        port,
-        sessions,
-        progress,
-        running,
-    } = started;
-    let terms = ClientTerms {
-        password: terms.password,
-        limit: terms.limit,
-        journal: Some(sessions),
-    };
-    let (port, served) = serve(rt, alloc, listener, sources, port, &terms);
-    drop(terms);
-    let (trace, journal) = finish(rt, alloc, shared, port, progress, running);
-    JournaledRun {
-        served,
-        trace,
-        journal,
+    match lock_journaled(alloc, recorder) {
+        Ok(meter) => run_in_lock::<L, B, M, U, F, A, Brand, R>(
+            rt, alloc, meter, listener, sources, journal, terms,
+        ),
+        Err(_) => {
+            drop(sources);
+            drop(journal);
+            no_run()
+        }
     }
 }

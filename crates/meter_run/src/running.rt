@@ -71,7 +71,8 @@ pub(crate) fn serve<
     port: Port<Kept>,
     terms: &ClientTerms<'_, D>,
 ) -> (Port<Kept>, Result<Served, ServeFault>)
-    requires { IsPassword terms.now.password.now }
+    requires password { IsPassword terms.now.password.now }
+    requires fits { D.fits port.lock }
     ensures lock { result.0.lock ≡ port.lock }
     ensures serves { ServesAll
         (record {

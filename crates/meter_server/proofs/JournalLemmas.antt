@@ -5,7 +5,8 @@ use Rattle.std.proofs.Common.{Option, Some, None, Result, Ok, Err, refl, sym, ap
 use Rattle.std.proofs.Common.{inl, inr, arith}
 use Rattle.std.proofs.lemmas.List.{append-nil, append_assoc}
 use Rattle.std.specs.Prelude.{IfSome}
-use Rattle.meter_server.specs.Journaled.{AreWritten, HasCalled, IsHeldBack, IsOnDisk, JournalSteps}
+use Rattle.meter_server.specs.Journaled.{AreWritten, HasCalled, IsHeldBack, IsOnDisk, IsWritten}
+use Rattle.meter_server.specs.Journaled.{JournalSteps}
 use Rattle.meter_server.specs.JournaledSessions.{AnswersCalls, AreAnswered, AreJournaled, HandsBack}
 use Rattle.meter_server.specs.JournaledSessions.{HasJournal, client_terms}
 use Rattle.meter_server.specs.Ports.{Enters, MeterPort, entries}
@@ -20,6 +21,7 @@ use Rattle.session_io.specs.Serving.{ServesSession, plan_of}
 use Rattle.session_io.specs.Sides.{Sides}
 use Rattle.session_io.specs.declared.fault.ServeFault.{ServeFault}
 use Rattle.shared_meter.specs.Calls.{Calls}
+use Rattle.shared_meter.specs.Settling.{AreDurable}
 use Rattle.turn_lock.proofs.Lists.{starts_refl, starts_trans}
 use Rattle.turn_lock.specs.History.{StartsWith, calls_by, entry}
 use Rattle.turn_lock.specs.Shown.{IsSame}
@@ -62,8 +64,20 @@ held_seen : (p : MeterPort) (event : Event) (q : MeterPort) → IsHeldBack p eve
 held_seen p event q held =
     subst (λ x. StartsWith x.known.seen p.known.seen) (sym held.1) (starts_refl p.known.seen)
 
+-- lines of a history that are on the disk are those of a longer one
+durable_later : (IsDurable : Calls → ℕ → Type 0) (before after : Calls) (lines : ℕ)
+    → StartsWith after before → AreDurable IsDurable before lines
+    → AreDurable IsDurable after lines
+durable_later IsDurable before after lines longer are = record {
+  saved = are.saved;
+  begins = starts_trans after before are.saved longer are.begins;
+  count = are.count;
+  enough = are.enough;
+  durable = are.durable;
+}
+
 -- the calls of a session are the same in a longer history without further calls of its port
-pub answered_later : (IsDurable : ℕ → Type 0) (number : List ℕ) (before after : Calls)
+pub answered_later : (IsDurable : Calls → ℕ → Type 0) (number : List ℕ) (before after : Calls)
     → StartsWith after before → calls_by number after ≡ calls_by number before
     → AreAnswered IsDurable number [] before → AreAnswered IsDurable number [] after
 answered_later IsDurable number before after longer same are = record {
@@ -74,18 +88,10 @@ answered_later IsDurable number before after longer same are = record {
   front = are.front;
   begins = starts_trans after before are.front longer are.begins;
   entered = are.entered;
-  on_disk = are.on_disk;
+  on_disk = λ low. durable_later IsDurable before after _ longer (are.on_disk low);
 }
 
--- there are replies if there are calls
-some_replies : (by : List ℕ) (events : List Event) (replies : List Reply)
-    → 0 < length (entries by events replies) → 0 < length replies
-some_replies by [] [] low = low
-some_replies by (event ∷ events) [] low = low
-some_replies by [] (reply ∷ replies) low = omega arith
-some_replies by (event ∷ events) (reply ∷ replies) low = omega arith
-
-module _ (IsDurable : ℕ → Type 0) where
+module _ (IsDurable : Calls → ℕ → Type 0) where
   journal_same : (p : MeterPort) (event : Event) (result : Result Reply CallFault) (q : MeterPort)
       → JournalSteps IsDurable p event result q → IsSame p q
   journal_same p event (Ok reply) q step = called_same p event reply q step.0
@@ -132,6 +138,34 @@ module _ (IsDurable : ℕ → Type 0) where
       (λ p q. StartsWith q.known.seen p.known.seen) (λ p. starts_refl p.known.seen)
       (λ a b c one two. starts_trans c.known.seen b.known.seen a.known.seen two one) journal_seen
 
+  -- the first reply has the history up to it on the disk
+  first_written : (p : MeterPort) (event : Event) (reply : Reply) (next q : MeterPort)
+      → JournalSteps IsDurable p event (Ok reply) next → StartsWith q.known.seen next.known.seen
+      → IsWritten IsDurable p (event ∷ []) (reply ∷ []) q
+  first_written p event reply next q step later =
+      let between = step.0.between.known.seen in
+      record {
+        history = between;
+        begins = starts_trans q.known.seen next.known.seen between later
+            step.0.watches.sees.seen;
+        entered = step.0.call.calls.own_calls;
+        on_disk = durable_later IsDurable next.known.seen q.known.seen _ later step.1;
+      }
+
+  -- and so have the replies after it
+  more_written : (p : MeterPort) (event : Event) (reply : Reply) (next : MeterPort)
+      (events : List Event) (replies : List Reply) (q : MeterPort)
+      → JournalSteps IsDurable p event (Ok reply) next → IsWritten IsDurable next events replies q
+      → IsWritten IsDurable p (event ∷ events) (reply ∷ replies) q
+  more_written p event reply next events replies q step later = record {
+    history = later.history;
+    begins = later.begins;
+    entered = enters_more p event reply next events replies later.history
+        (called_same p event reply next step.0).number
+        (called_enters p event reply next step.0) later.entered;
+    on_disk = later.on_disk;
+  }
+
   -- each reply has the history up to it on the disk
   pub written : (p : MeterPort) (events : List Event) (replies : List Reply) (q : MeterPort)
       → RepliesTo (JournalSteps IsDurable) p events replies q
@@ -141,37 +175,57 @@ module _ (IsDurable : ℕ → Type 0) where
   written p (event ∷ events) [] q never n low high = absurd never
   written p (event ∷ events) (reply ∷ replies) q step zero low high =
       absurd (omega (arith, low))
-  written p (event ∷ events) (reply ∷ replies) q (next, step, rest) (suc zero) low high = record {
-    history = next.known.seen;
-    begins = replied_seen next events replies q rest;
-    entered = called_enters p event reply next step.0;
-    on_disk = step.1;
-  }
+  written p (event ∷ events) (reply ∷ replies) q (next, step, rest) (suc zero) low high =
+      first_written p event reply next q step (replied_seen next events replies q rest)
   written p (event ∷ events) (reply ∷ replies) q (next, step, rest) (suc (suc n)) low high =
-      let later = written next events replies q rest (suc n) (omega arith) (omega (arith, high)) in
-      record {
-        history = later.history;
-        begins = later.begins;
-        entered = enters_more p event reply next (take (suc n) events)
-            (take (suc n) replies) later.history
-            (called_same p event reply next step.0).number
-            (called_enters p event reply next step.0) later.entered;
-        on_disk = later.on_disk;
-      }
+      more_written p event reply next (take (suc n) events) (take (suc n) replies) q step
+      (written next events replies q rest (suc n) (omega arith) (omega (arith, high)))
 
-  -- after the last of some replies, all lines that the port has seen are on the disk
-  last_on_disk : (p : MeterPort) (events : List Event) (replies : List Reply) (q : MeterPort)
+  -- the last of some replies has the history up to it on the disk
+  last_written : (p : MeterPort) (events : List Event) (replies : List Reply) (q : MeterPort)
       → RepliesTo (JournalSteps IsDurable) p events replies q → 0 < length replies
-      → IsOnDisk IsDurable q.known.seen
-  last_on_disk p [] [] q same low = absurd (omega (arith, low))
-  last_on_disk p [] (reply ∷ replies) q never low = absurd never
-  last_on_disk p (event ∷ events) [] q never low = absurd never
-  last_on_disk p (event ∷ []) (reply ∷ []) q (next, step, same) low =
-      subst (λ (x : MeterPort). IsOnDisk IsDurable x.known.seen) (sym same) step.1
-  last_on_disk p (event ∷ []) (reply ∷ later ∷ replies) q (next, step, never) low = absurd never
-  last_on_disk p (event ∷ other ∷ events) (reply ∷ []) q (next, step, never) low = absurd never
-  last_on_disk p (event ∷ other ∷ events) (reply ∷ later ∷ replies) q (next, step, rest) low =
-      last_on_disk next (other ∷ events) (later ∷ replies) q rest (omega arith)
+      → IsWritten IsDurable p events replies q
+  last_written p [] [] q same low = absurd (omega (arith, low))
+  last_written p [] (reply ∷ replies) q never low = absurd never
+  last_written p (event ∷ events) [] q never low = absurd never
+  last_written p (event ∷ []) (reply ∷ []) q (next, step, same) low =
+      first_written p event reply next q step (replied_seen next [] [] q same)
+  last_written p (event ∷ []) (reply ∷ later ∷ replies) q (next, step, never) low = absurd never
+  last_written p (event ∷ other ∷ events) (reply ∷ []) q (next, step, never) low = absurd never
+  last_written p (event ∷ other ∷ events) (reply ∷ later ∷ replies) q (next, step, rest) low =
+      more_written p event reply next (other ∷ events) (later ∷ replies) q step
+      (last_written next (other ∷ events) (later ∷ replies) q rest (omega arith))
+
+  -- a front of the history that has the answered calls, of which the lines are on the disk
+  record IsFront (p : MeterPort) (taken : List Event) (replies : List Reply) (q : MeterPort)
+      : Type 0 where
+    pub front : Calls
+    pub begins : StartsWith q.known.seen front
+    pub entered : calls_by p.known.number front ≡ calls_by p.known.number p.known.seen
+        ++ entries p.known.number taken replies
+    pub on_disk : 0 < length (entries p.known.number taken replies)
+        → IsOnDisk IsDurable q.known.seen front
+
+  front_of : (p : MeterPort) (taken : List Event) (replies : List Reply) (mid q : MeterPort)
+      → RepliesTo (JournalSteps IsDurable) p taken replies mid
+      → StartsWith q.known.seen mid.known.seen → IsFront p taken replies q
+  front_of p [] [] mid q same begins = record {
+    front = p.known.seen;
+    begins = starts_trans q.known.seen mid.known.seen p.known.seen begins
+        (replied_seen p [] [] mid same);
+    entered = sym (append-nil (calls_by p.known.number p.known.seen));
+    on_disk = λ low. absurd (omega (arith, low));
+  }
+  front_of p [] (reply ∷ replies) mid q never begins = absurd never
+  front_of p (event ∷ events) [] mid q never begins = absurd never
+  front_of p (event ∷ events) (reply ∷ replies) mid q replied begins =
+      let last = last_written p (event ∷ events) (reply ∷ replies) mid replied (omega arith) in
+      record {
+        front = last.history;
+        begins = starts_trans q.known.seen mid.known.seen last.history begins last.begins;
+        entered = last.entered;
+        on_disk = λ low. durable_later IsDurable mid.known.seen q.known.seen _ begins last.on_disk;
+      }
 
   -- some replies were returned, and then at most one call was made that was not answered
   answered_by : (p : MeterPort) (taken : List Event) (replies : List Reply) (mid : MeterPort)
@@ -186,16 +240,16 @@ module _ (IsDurable : ℕ → Type 0) where
       let same = replied_on (JournalSteps IsDurable) IsSame is_same same_on journal_same p taken
       replies mid replied in
       let enters = entered (JournalSteps IsDurable) journal_steps p taken replies mid replied in
+      let found = front_of p taken replies mid q replied begins in
       record {
         answered = entries by taken replies;
         unanswered = last;
         all = subst A same.number adds ∙ ap (λ (calls : Calls). calls ++ last) enters;
         most = most;
-        front = mid.known.seen;
-        begins = begins;
-        entered = enters;
-        on_disk = λ low. last_on_disk p taken replies mid replied (some_replies by taken replies
-            low);
+        front = found.front;
+        begins = found.begins;
+        entered = found.entered;
+        on_disk = found.on_disk;
       }
 
   replied_answered : (p : MeterPort) (events : List Event) (replies : List Reply) (q : MeterPort)

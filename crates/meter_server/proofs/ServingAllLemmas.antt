@@ -13,6 +13,7 @@ use Rattle.turn_lock.specs.Shown.{IsSame}
 use Rattle.port_threads.specs.Ports.{PortContinues, AreJoined, SplitsOff, TakesIn, child}
 use Rattle.port_threads.specs.Workers.{EndsWork, ReturnsPort}
 use Rattle.port_threads.proofs.Going.{goes_trans}
+use Rattle.shared_meter.specs.Calls.{Calls}
 use Rattle.shared_meter.specs.Handed.{MeterPort, PassesAll, own_events}
 use Rattle.shared_meter.specs.Handed.{StopsFor as WorkerStops}
 use Rattle.shared_meter.specs.Sources.{Includes}
@@ -283,7 +284,7 @@ module _ {W : Type 0} (CanFollow : W → List Event → Type 0) (worker : W)
       (omega (arith, off.splits)) (acted i (omega (arith, low)))
 
   -- the calls of the sessions, served in parallel with the worker alone, or with others too
-  pub journaled_alone : {D : Type 0} (journal : Option D) (IsDurable : ℕ → Type 0)
+  pub journaled_alone : {D : Type 0} (journal : Option D) (IsDurable : Calls → ℕ → Type 0)
       → AreJoined lent.known.splits mid
       → IfSome journal (λ _. AreJournaled IsDurable lent.known.splits mid)
       → IfSome journal (λ _. AreJournaled IsDurable (p.known.splits + 1) last)
@@ -292,7 +293,8 @@ module _ {W : Type 0} (CanFollow : W → List Event → Type 0) (worker : W)
       last (omega (arith, off.splits)) (omega arith) ends.back.taken.goes ends.back.taken.splits
       joined so
 
-  pub journaled_beside : {D : Type 0} (journal : Option D) (IsDurable : ℕ → Type 0) (count : ℕ)
+  pub journaled_beside : {D : Type 0} (journal : Option D) (IsDurable : Calls → ℕ → Type 0)
+      (count : ℕ)
       → AreJoined lent.known.splits mid
       → IfSome journal (λ _. AreJournaled IsDurable (lent.known.splits + count) mid)
       → IfSome journal (λ _. AreJournaled IsDurable (p.known.splits + (count + 1)) last)

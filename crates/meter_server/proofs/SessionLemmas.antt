@@ -149,7 +149,7 @@ module _ (steps : MeterPort → Event → Result Reply CallFault → MeterPort �
       effect_asks password served.seen before result after served.effect
 
 -- the calls of a new port that served a session, or was returned unused
-calls_asked : (IsDurable : ℕ → Type 0) (terms number : List ℕ) (history : Calls)
+calls_asked : (IsDurable : Calls → ℕ → Type 0) (terms number : List ℕ) (history : Calls)
     → AreCallsOf (HandsBack IsDurable terms) number history
     → AreAsked (drop 1 terms) (map event_of (calls_by number history))
 calls_asked IsDurable terms number history c =
@@ -175,7 +175,7 @@ calls_asked IsDurable terms number history c =
           subst A (sym those) session.1.are
     ]
 
-pub are_sessions : (IsDurable : ℕ → Type 0) (terms : List ℕ) (from : ℕ) (port : MeterPort)
+pub are_sessions : (IsDurable : Calls → ℕ → Type 0) (terms : List ℕ) (from : ℕ) (port : MeterPort)
     → AreServed (HandsBack IsDurable terms) from port → AreSessions (drop 1 terms) from port
 are_sessions IsDurable terms from port served i low high =
     calls_asked IsDurable terms (child port.known.number i) _ (served i low high)
@@ -225,17 +225,17 @@ pub sessions_on : (password : List ℕ) (first from before : ℕ) (p q : MeterPo
     → AreJoined first p → AreSessions password from p → AreSessions password before q
 sessions_on password = each_on (Asked password) (asked_later password)
 
-abbrev Answered : (ℕ → Type 0) → List ℕ → Calls → Type 0
+abbrev Answered : (Calls → ℕ → Type 0) → List ℕ → Calls → Type 0
 Answered IsDurable number history = AreAnswered IsDurable number [] history
 
-pub no_journaled : {D : Type 0} (journal : Option D) (IsDurable : ℕ → Type 0) (from : ℕ)
+pub no_journaled : {D : Type 0} (journal : Option D) (IsDurable : Calls → ℕ → Type 0) (from : ℕ)
     (port : MeterPort) → port.known.splits ≤ from
     → IfSome journal (λ _. AreJournaled IsDurable from port)
 no_journaled None IsDurable from port few = tt
 no_journaled (Some given) IsDurable from port few =
     none_each (Answered IsDurable) (answered_later IsDurable) from port few
 
-pub journaled_on : {D : Type 0} (journal : Option D) (IsDurable : ℕ → Type 0)
+pub journaled_on : {D : Type 0} (journal : Option D) (IsDurable : Calls → ℕ → Type 0)
     (first from before : ℕ) (p q : MeterPort) → from ≡ before
     → first ≤ from → PortContinues p q → q.known.splits ≡ p.known.splits
     → AreJoined first p → IfSome journal (λ _. AreJournaled IsDurable from p)

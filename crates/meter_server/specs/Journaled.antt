@@ -1,5 +1,5 @@
 -- A port that waits for its journal, as a meter.
---     IsOnDisk        the lines of a history are on the disk
+--     IsOnDisk        the lines of a front of a history are on the disk
 --     HasCalled       the port passed an event on and made no further call
 --     IsHeldBack      the event was not passed on
 --     JournalSteps    a step of the port: passing an event on, and waiting
@@ -12,15 +12,16 @@ use Rattle.relay_events.specs.declared.event.Event.{Event}
 use Rattle.relay_events.specs.declared.reply.Reply.{Reply}
 use Rattle.shared_meter.specs.Calls.{Calls, IsLegal}
 use Rattle.shared_meter.specs.Pending.{lines_of_calls}
+use Rattle.shared_meter.specs.Settling.{AreDurable}
 use Rattle.turn_lock.specs.Calls.{Watches}
 use Rattle.turn_lock.specs.History.{StartsWith, calls_by}
 use Rattle.turn_lock.specs.Shown.{IsSame}
 use Rattle.turn_lock.specs.declared.call_fault.CallFault.{CallFault}
 use Rattle.turn_lock.specs.declared.call_fault.CallFault.TheVariants.{Memory, Exhausted, Journal}
 
--- whether as many lines as these calls have are on the disk
-abbrev pub IsOnDisk : (IsDurable : ℕ → Type 0) → Calls → Type 0
-IsOnDisk IsDurable calls = IsDurable (length (lines_of_calls calls))
+-- whether as many lines of the history as its front has are on the disk
+abbrev pub IsOnDisk : (IsDurable : Calls → ℕ → Type 0) → (history front : Calls) → Type 0
+IsOnDisk IsDurable history front = AreDurable IsDurable history (length (lines_of_calls front))
 
 -- whether the port passed the event on, had this reply, and made no further call
 pub record HasCalled (p : MeterPort) (event : Event) (reply : Reply) (q : MeterPort) : Type 0 where
@@ -34,12 +35,12 @@ abbrev pub IsHeldBack : MeterPort → Event → MeterPort → Type 0
 IsHeldBack p event q = (is_read event ≡ false) × (q ≡ p)
 
 -- Whether a call through a port that waits for its journal had this result. After a reply, the
--- lines of all calls that the port has seen are on the disk. If the journal has failed, the event
--- was not passed on, or it was and its reply is not returned.
-abbrev pub JournalSteps : (IsDurable : ℕ → Type 0) → MeterPort → Event → Result Reply CallFault
-    → MeterPort → Type 0
-JournalSteps IsDurable p event (Ok reply) q = HasCalled p event reply q
-    × IsOnDisk IsDurable q.known.seen
+-- lines of all calls up to it are on the disk, as lines of the history that the port has seen. If
+-- the journal has failed, the event was not passed on, or it was and its reply is not returned.
+abbrev pub JournalSteps : (IsDurable : Calls → ℕ → Type 0) → MeterPort → Event
+    → Result Reply CallFault → MeterPort → Type 0
+JournalSteps IsDurable p event (Ok reply) q = (called : HasCalled p event reply q)
+    × IsOnDisk IsDurable q.known.seen called.between.known.seen
 JournalSteps IsDurable p event (Err Memory) q = PortSteps p event (Err Memory) q
 JournalSteps IsDurable p event (Err Exhausted) q = PortSteps p event (Err Exhausted) q
 JournalSteps IsDurable p event (Err Journal) q = IsHeldBack p event q
@@ -47,16 +48,16 @@ JournalSteps IsDurable p event (Err Journal) q = IsHeldBack p event q
 
 -- whether the history that port q knows begins with one that has the calls of these events, with
 -- these replies, as the new calls of port p; the lines of that one are on the disk
-pub record IsWritten (IsDurable : ℕ → Type 0) (p : MeterPort) (events : List Event)
+pub record IsWritten (IsDurable : Calls → ℕ → Type 0) (p : MeterPort) (events : List Event)
     (replies : List Reply) (q : MeterPort) : Type 0 where
   pub history : Calls
   pub begins : StartsWith q.known.seen history
   pub entered : calls_by p.known.number history ≡ calls_by p.known.number p.known.seen
       ++ entries p.known.number events replies
-  pub on_disk : IsOnDisk IsDurable history
+  pub on_disk : IsOnDisk IsDurable q.known.seen history
 
 -- whether each reply has the history up to it on the disk
-abbrev pub AreWritten : (IsDurable : ℕ → Type 0) → MeterPort → List Event → List Reply → MeterPort
-    → Type 0
+abbrev pub AreWritten : (IsDurable : Calls → ℕ → Type 0) → MeterPort → List Event → List Reply
+    → MeterPort → Type 0
 AreWritten IsDurable p events replies q = (n : ℕ) → 0 < n → n ≤ length replies
     → IsWritten IsDurable p (take n events) (take n replies) q

@@ -29,16 +29,17 @@ HasJournal terms = take 1 terms ≡ 1 ∷ []
 
 -- whether a call through a client's port had this result; if the meter has a journal, the port
 -- waits for it
-abbrev pub client_steps : {D : Type 0} → (IsDurable : ℕ → Type 0) → Option D → MeterPort → Event
-    → Result Reply CallFault → MeterPort → Type 0
+abbrev pub client_steps : {D : Type 0} → (IsDurable : Calls → ℕ → Type 0) → Option D → MeterPort
+    → Event → Result Reply CallFault → MeterPort → Type 0
 client_steps IsDurable None = PortSteps
 client_steps IsDurable (Some journal) = JournalSteps IsDurable
 
 -- Whether all calls of a port, except at most the last, were answered from the disk. In the
 -- history, the calls of the port with this number are the earlier ones, then some that were
 -- answered, and at most one that was not. A front of the same history has the earlier and the
--- answered ones as the calls of this port, and its lines are on the disk if any was answered.
-pub record AreAnswered (IsDurable : ℕ → Type 0) (number : List ℕ) (earlier history : Calls)
+-- answered ones as the calls of this port. If any was answered, the lines of that front are on the
+-- disk, as lines of this history.
+pub record AreAnswered (IsDurable : Calls → ℕ → Type 0) (number : List ℕ) (earlier history : Calls)
     : Type 0 where
   pub answered : Calls
   pub unanswered : Calls
@@ -47,21 +48,22 @@ pub record AreAnswered (IsDurable : ℕ → Type 0) (number : List ℕ) (earlier
   pub front : Calls
   pub begins : StartsWith history front
   pub entered : calls_by number front ≡ earlier ++ answered
-  pub on_disk : 0 < length answered → IsOnDisk IsDurable front
+  pub on_disk : 0 < length answered → IsOnDisk IsDurable history front
 
 -- whether the new calls of a port were answered once they were on the disk
-abbrev pub AnswersCalls : (IsDurable : ℕ → Type 0) → (p q : MeterPort) → Type 0
+abbrev pub AnswersCalls : (IsDurable : Calls → ℕ → Type 0) → (p q : MeterPort) → Type 0
 AnswersCalls IsDurable p q = AreAnswered IsDurable p.known.number
     (calls_by p.known.number p.known.seen) q.known.seen
 
 -- whether a session on these terms returned its port with the calls that it made, which were
 -- answered once they were on the disk if the meter has a journal
-abbrev pub HandsBack : (IsDurable : ℕ → Type 0) → (terms : List ℕ) → (p q : MeterPort) → Type 0
+abbrev pub HandsBack : (IsDurable : Calls → ℕ → Type 0) → (terms : List ℕ) → (p q : MeterPort)
+    → Type 0
 HandsBack IsDurable terms p q = IsSame p q × AsksThrough (drop 1 terms) p q
     × (HasJournal terms → AnswersCalls IsDurable p q)
 
 -- whether the calls of each port that was split off, from the count `from` on, were answered once
 -- they were on the disk
-abbrev pub AreJournaled : (IsDurable : ℕ → Type 0) → (from : ℕ) → MeterPort → Type 0
+abbrev pub AreJournaled : (IsDurable : Calls → ℕ → Type 0) → (from : ℕ) → MeterPort → Type 0
 AreJournaled IsDurable from port = (i : ℕ) → from ≤ i → i < port.known.splits
     → AreAnswered IsDurable (child port.known.number i) [] port.known.seen

@@ -54,12 +54,15 @@ impl<'a, W: Wait, D: Durability> Model for JournaledPort<'a, W, D> {
     ) };
 
     ghost view = { λ meter. meter.port };
+
+    ghost invariant = { λ meter. D.fits meter.port.lock };
 }
 
 impl<'a, W: Wait, D: Durability> JournaledPort<'a, W, D> {
     /// Returns the meter of this port. Its calls wait for their turns by `rt`, and for the disk by
     /// `journal`.
     pub fn new(rt: &'a W, journal: &'a D, port: Port<Kept>) -> JournaledPort<'a, W, D>
+        requires { D.fits port.lock }
         ensures { result ≡ port }
     {
         JournaledPort { rt, journal, port }
@@ -88,6 +91,7 @@ fn ask<W: Wait, D: Durability>(
     journal: &D,
     event: Event,
 ) -> Result<Reply, CallFault>
+    requires { D.fits port.old.lock }
     ensures step { JournalSteps D.is_durable port.old event result port.new }
     ensures fits { IfOk result (Fits event) }
 {
@@ -142,6 +146,7 @@ pub fn serve_journaled<R: Reader, O: Writer, W: Wait, D: Durability>(
     requires readable { R.can_read reader.now }
     requires writable { O.can_write writer.now }
     requires password { IsPassword password.now }
+    requires fits { D.fits port.lock }
     ensures served { ServesSession (JournalSteps D.is_durable) password.now
         (record {
           input = input_of R.remaining R.reads R.failures reader.old;

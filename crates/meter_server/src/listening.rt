@@ -70,6 +70,7 @@ fn serve_client<R: Reader, O: Writer, W: Wait, D: Durability>(
     requires readable { R.can_read reader.now }
     requires writable { O.can_write writer.now }
     requires password { IsPassword password.now }
+    requires fits { D.fits port.lock }
     ensures served { ServesSession (client_steps D.is_durable journal.now) password.now
         (record {
           input = input_of R.remaining R.reads R.failures reader.old;
@@ -106,6 +107,8 @@ impl<I: Read + Drop + Send, O: Write + Observer + Drop + Send, D: Durability + S
     ghost use Rattle.meter_server.specs.JournaledSessions.{HandsBack, client_terms};
 
     ghost terms = { λ client. client_terms client.journal client.password };
+
+    ghost fits = { λ port. D.fits port.lock };
 
     ghost hands_back = { HandsBack D.is_durable };
 

@@ -87,7 +87,8 @@ fn serve_clients<
     port: &mut Port<Kept>,
     terms: &ClientTerms<'_, D>,
 ) -> Result<Served, ServeFault>
-    requires { IsPassword terms.now.password.now }
+    requires password { IsPassword terms.now.password.now }
+    requires fits { D.fits port.old.lock }
     ensures port_continues { PortContinues port.old port.new }
     ensures joined { AreJoined port.old.known.splits port.new }
     ensures sessions { AreSessions terms.now.password.now port.old.known.splits port.new }
@@ -149,7 +150,8 @@ fn serve_with_one<
     port: &mut Port<Kept>,
     terms: &ClientTerms<'_, D>,
 ) -> Result<Served, ServeFault>
-    requires { IsPassword terms.now.password.now }
+    requires password { IsPassword terms.now.password.now }
+    requires fits { D.fits port.old.lock }
     ensures serves { ServesWith terms.now.password.now 1
         (first_then (S.can_follow source) (λ _ _. ⊤))
         port.old port.new result }
@@ -183,7 +185,8 @@ fn serve_with_two<
     port: &mut Port<Kept>,
     terms: &ClientTerms<'_, D>,
 ) -> Result<Served, ServeFault>
-    requires { IsPassword terms.now.password.now }
+    requires password { IsPassword terms.now.password.now }
+    requires fits { D.fits port.old.lock }
     ensures serves { ServesWith terms.now.password.now 2
         (first_then (S.can_follow sources.0)
         (first_then (T.can_follow sources.1) (λ _ _. ⊤)))
@@ -220,7 +223,8 @@ fn serve_with_three<
     port: &mut Port<Kept>,
     terms: &ClientTerms<'_, D>,
 ) -> Result<Served, ServeFault>
-    requires { IsPassword terms.now.password.now }
+    requires password { IsPassword terms.now.password.now }
+    requires fits { D.fits port.old.lock }
     ensures serves { ServesWith terms.now.password.now 3
         (first_then (S.can_follow sources.0)
         (first_then (T.can_follow sources.1.0)
@@ -266,7 +270,8 @@ pub fn serve_all_journaled<
     mut port: Port<Kept>,
     terms: &ClientTerms<'_, D>,
 ) -> Result<(Port<Kept>, Served), (Port<Kept>, ServeFault)>
-    requires { IsPassword terms.now.password.now }
+    requires password { IsPassword terms.now.password.now }
+    requires fits { D.fits port.lock }
     ensures port_continues { IfOk result (λ r. PortContinues port r.0 × IsLegal IsLegalRun r.0.known
         × AreJoined port.known.splits r.0) }
     ensures port_continues_err { IfErr result

@@ -12,10 +12,13 @@ use thiserror::Error;
 /// Dropping it closes it without a byte sent. The ghost value `terms` holds the terms on which it
 /// is served, as bytes (for example a password). The relation `hands_back` states what a session on
 /// these terms does with the port: for [`serve_connections`](crate::serve_connections) it must
-/// imply `IsSame` of turn_lock.
+/// imply `IsSame` of turn_lock. The predicate `fits` states through which ports it can be served.
 pub trait PortConnection<P>: Drop + Send {
     /// Ghost value: the terms on which the peer is served, as bytes.
     ghost terms: { Self → List ℕ } = { λ _. [] };
+
+    /// Ghost predicate: the connection can be served through this port. The default is every port.
+    ghost fits: { P → Type 0 } = { λ _. ⊤ };
 
     /// Ghost relation: what a session on these terms does with its port.
     ghost hands_back: { List ℕ → P → P → Type 0 };
@@ -24,6 +27,7 @@ pub trait PortConnection<P>: Drop + Send {
     fn serve<W: Wait>(self, rt: &W, alloc: Global, port: P) -> P
     where
         Self: Sized,
+        requires { fits port }
         ensures { hands_back (terms self) port result };
 }
 

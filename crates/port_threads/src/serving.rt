@@ -32,6 +32,7 @@ where
     T::Origin: 'static,
     requires held { AreHeld port_of port.old sessions.old.handles }
     requires hands_back { (t : _) (p : _) (q : _) → L.Connection.hands_back t p q → IsSame p q }
+    requires fits { (p : _) → p.lock ≡ port.old.lock → L.Connection.fits p }
     ensures keeps_ports { KeepsPorts port_of (terms_of L.Connection.terms) L.Connection.hands_back
         (L.terms listener.old) port.old sessions.old.handles port.new sessions.new.handles }
     ensures splits { IfSome result
@@ -72,6 +73,7 @@ where
     T::Origin: 'static,
     requires held { AreHeld port_of port.old sessions.old.handles }
     requires hands_back { (t : _) (p : _) (q : _) → L.Connection.hands_back t p q → IsSame p q }
+    requires fits { (p : _) → p.lock ≡ port.old.lock → L.Connection.fits p }
     ensures keeps_ports { KeepsPorts port_of (terms_of L.Connection.terms) L.Connection.hands_back
         (L.terms listener.old) port.old sessions.old.handles port.new sessions.new.handles }
     ensures complete { IsComplete limit result }
@@ -119,7 +121,8 @@ where
     T::Event: Send + 'static,
     T::Reply: Send + 'static,
     T::Origin: 'static,
-    requires { (t : _) (p : _) (q : _) → L.Connection.hands_back t p q → IsSame p q }
+    requires hands_back { (t : _) (p : _) (q : _) → L.Connection.hands_back t p q → IsSame p q }
+    requires fits { (p : _) → p.lock ≡ port.old.lock → L.Connection.fits p }
     ensures port_continues { PortContinues port.old port.new }
     ensures lawful { OnOk result (IsLegal T.legal port.new.known) }
     ensures joined { AreJoined port.old.known.splits port.new }

@@ -39,7 +39,8 @@ pub(crate) fn attend<T: Turned, C: PortConnection<Port<T>>, W: Wait + Copy>(
     connection: C,
     port: Port<T>,
 ) -> Port<T>
-    requires { key < SESSIONS }
+    requires place { key < SESSIONS }
+    requires fits { C.fits port }
     ensures { Returns (C.hands_back (C.terms connection)) port result }
 {
     if flags.is_refused(key) {
@@ -68,7 +69,8 @@ where
     T::Event: Send + 'static,
     T::Reply: Send + 'static,
     T::Origin: 'static,
-    requires { key < SESSIONS }
+    requires place { key < SESSIONS }
+    requires fits { C.fits port }
     ensures ok { IfOk result (λ session. session.promise.port.value ≡ port) }
     ensures connection { IfOk result (λ session. session.promise.connection.value ≡ connection) }
     ensures err { IfErr result (λ back. Returns (C.hands_back (C.terms connection)) port back) }
@@ -86,7 +88,7 @@ where
         rt,
         lent,
         move || -> Port<T>
-            requires { key < SESSIONS }
+            requires { (key < SESSIONS) × C.fits port }
         { attend(here, alloc, theirs, key, connection, port) },
     );
     match session {

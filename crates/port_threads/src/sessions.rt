@@ -129,6 +129,7 @@ impl<T: Turned, C: PortConnection<Port<T>>> Sessions<T, C> {
         T::Origin: 'static,
         requires held { AreHeld port_of port.old self.old.handles }
         requires hands_back { (t : _) (p : _) (q : _) → C.hands_back t p q → IsSame p q }
+        requires fits { (p : _) → p.lock ≡ port.old.lock → C.fits p }
         ensures keeps_ports { KeepsPorts port_of (terms_of C.terms) C.hands_back
             (C.terms connection) port.old
             self.old.handles port.new self.new.handles }
@@ -172,6 +173,7 @@ impl<T: Turned, C: PortConnection<Port<T>>> Sessions<T, C> {
         T::Origin: 'static,
         requires held { AreHeld port_of port.old self.old.handles }
         requires hands_back { (t : _) (p : _) (q : _) → C.hands_back t p q → IsSame p q }
+        requires fits { (p : _) → p.lock ≡ port.old.lock → C.fits p }
         ensures keeps_ports { (t : List ℕ) → IfReady (λ c. C.terms c ≡ t) incoming
             → KeepsPorts port_of (terms_of C.terms) C.hands_back t port.old self.old.handles
             port.new self.new.handles }

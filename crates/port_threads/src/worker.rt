@@ -15,10 +15,13 @@ use turn_lock::{CallFault, Port, Turned};
 /// Work for a thread of its own, through a port of type `P`.
 ///
 /// The relation `did` states what was done, in terms of the worker at its start, its port as lent
-/// and as returned, and the result.
+/// and as returned, and the result. The predicate `fits` states through which ports it can work.
 pub trait Worker<P>: Drop + Send {
-    ghost use Rattle.std.specs.Prelude.{Result};
+    ghost use Rattle.std.specs.Prelude.{⊤, Result};
     ghost use Rattle.turn_lock.specs.declared.call_fault.CallFault.{CallFault};
+
+    /// Ghost predicate: the worker can work through this port. The default is every port.
+    ghost fits: { P → Type 0 } = { λ _. ⊤ };
 
     /// Ghost relation: what the worker did with its port, and its result.
     ghost did: { Self → P → P → Result Unit CallFault → Type 0 };
@@ -27,6 +30,7 @@ pub trait Worker<P>: Drop + Send {
     fn work<W: Wait>(self, rt: &W, alloc: Global, port: P) -> (P, Result<(), CallFault>)
     where
         Self: Sized,
+        requires { fits port }
         ensures { did self port result.0 result.1 };
 }
 
@@ -57,6 +61,7 @@ pub(crate) fn do_work<T: Turned, K: Worker<Port<T>>, W: Wait + Copy>(
     worker: K,
     port: Port<T>,
 ) -> Handed<T>
+    requires { K.fits port }
     ensures { EndsWork (K.did worker) port result.0 result.1 }
 {
     if refused.load(Ordering::SeqCst) {
@@ -77,7 +82,8 @@ where
     T::Event: Send + 'static,
     T::Reply: Send + 'static,
     T::Origin: 'static,
-    requires { (w : _) (p : _) (q : _) (end : _) → K.did w p q end → IsSame p q }
+    requires hands_back { (w : _) (p : _) (q : _) (end : _) → K.did w p q end → IsSame p q }
+    requires fits { K.fits port }
     ensures ok { IfOk result (λ running. (running.promise.worker.value ≡ worker)
         × (running.promise.port.value ≡ port)) }
     ensures err { IfErr result (λ back. IsSame port back) }
@@ -93,7 +99,10 @@ where
         worker: Snapshot::of(&worker),
         port: Snapshot::of(&port),
     };
-    match thread::spawn_with(rt, task, move || do_work(here, alloc, theirs, worker, port)) {
+    let work = move || -> Handed<T>
+        requires { K.fits port }
+    { do_work(here, alloc, theirs, worker, port) };
+    match thread::spawn_with(rt, task, work) {
         Ok(running) => Ok(running),
         Err(unused) => {
             refused.store(true, Ordering::SeqCst);
@@ -113,7 +122,8 @@ where
     T::Event: Send + 'static,
     T::Reply: Send + 'static,
     T::Origin: 'static,
-    requires { (w : _) (p : _) (q : _) (end : _) → K.did w p q end → IsSame p q }
+    requires hands_back { (w : _) (p : _) (q : _) (end : _) → K.did w p q end → IsSame p q }
+    requires fits { (p : _) → p.lock ≡ port.old.lock → K.fits p }
     ensures worker { IfSome result (λ running. running.promise.worker.value ≡ worker) }
     ensures port { IfSome result
         (λ running. SplitsOff port.old running.promise.port.value port.new) }

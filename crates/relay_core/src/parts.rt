@@ -111,7 +111,7 @@ pub(crate) fn read_list(
 }
 
 // Decodes the list that a write of an attribute stores, if any.
-fn read_parts(
+pub(crate) fn read_parts(
     alloc: Global,
     instance: Instance,
     number: u8,

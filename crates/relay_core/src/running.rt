@@ -8,7 +8,8 @@ ghost use Rattle.relay_events.specs.Kinds.{is_read, Fits};
 ghost use Rattle.relay_core.specs.Moving.{parts_of};
 ghost use Rattle.relay_core.specs.Runs.{line_at, Runs, StopsEarly};
 
-use crate::parts::Parts;
+use crate::access::write_target;
+use crate::parts::{Parts, WrittenList, read_parts};
 use crate::relay::RelayCore;
 use cosem_names::GetResult;
 use relay_events::{Event, Events, Line, Lines, Reply};
@@ -64,6 +65,52 @@ impl RelayCore {
 }
 
 impl RelayCore {
+    /// Applies an event as [`step`](RelayCore::step) does, and returns with the reply the list that
+    /// the event's write stores, as [`parts`](RelayCore::parts) decodes it. The object of a SET is
+    /// sought once. If out of memory, the core is unchanged, as if the event had not arrived.
+    #[tactic(auto, unfolding(crate::specs::Machine::at_event, crate::specs::Machine::is_sure, crate::specs::Writing::at_set, crate::specs::Writing::at_write, crate::specs::Moving::set_parts, crate::specs::Memory::writes_plainly))]
+    pub fn step_with_parts(
+        &mut self,
+        alloc: Global,
+        event: &Event,
+    ) -> Result<(Reply, Parts), AllocError>
+        ensures world { OnOk result ((w : World) → StandsFor self.old w
+            → StandsFor self.new (at_event event.now w).world) }
+        ensures reply { IfOk result (λ stepped. (w : World) → StandsFor self.old w
+            → stepped.0 ≡ (at_event event.now w).reply) }
+        ensures parts { IfOk result (λ stepped. stepped.1 ≡ parts_of event.now) }
+        ensures fits { IfOk result (λ stepped. Fits event.now stepped.0) }
+        ensures sure { IsTrue (is_sure event.now) → IsOk result }
+        ensures err { OnErr result (self.new ≡ self.old) }
+    {
+        let Event::Set {
+            level,
+            attr,
+            selected,
+            value,
+        } = event
+        else {
+            let reply = self.step(alloc, event)?;
+            return Ok((reply, Parts::Plain));
+        };
+        let instance = match write_target(*level, attr, *selected) {
+            Ok(instance) => instance,
+            Err(refusal) => return Ok((Reply::Code(refusal), Parts::Plain)),
+        };
+        if WrittenList::new(instance, attr.number).is_none() {
+            let code = self.write_plain(instance, attr.number, value);
+            return Ok((Reply::Code(code), Parts::Plain));
+        }
+        let parts = read_parts(alloc, instance, attr.number, value)?;
+        match self.write(alloc, instance, attr.number, value) {
+            Ok(code) => Ok((Reply::Code(code), parts)),
+            Err(error) => {
+                drop(parts);
+                Err(error)
+            }
+        }
+    }
+
     /// Applies an event whose list, if it writes one, was decoded before; returns no reply. Does
     /// not allocate.
     #[tactic(auto, unfolding(crate::specs::Machine::at_event))]

@@ -111,6 +111,7 @@ impl RelayCore {
     }
 
     // Writes an attribute of the switch; only its mode can be written.
+    #[tactic(auto, unfolding(crate::specs::Writing::at_mode))]
     fn write_control(&mut self, number: u8, value: &Data) -> ResultCode
         ensures world { (w : World) → StandsFor self.old w
             → StandsFor self.new (at_control (control_attribute number) value.now w).world }
@@ -121,13 +122,13 @@ impl RelayCore {
             return ResultCode::ReadWriteDenied;
         };
         match read_mode(value) {
-            Ok(mode) => self.write_mode(mode),
+            Ok(mode) => self.control.set_mode(mode),
             Err(fault) => fault.code(),
         }
     }
 
     // Writes an attribute of an object other than a list.
-    fn write_plain(&mut self, instance: Instance, number: u8, value: &Data) -> ResultCode
+    pub(crate) fn write_plain(&mut self, instance: Instance, number: u8, value: &Data) -> ResultCode
         ensures world { (w : World) → StandsFor self.old w
             → StandsFor self.new (at_plain instance number value.now w).world }
         ensures code { (w : World) → StandsFor self.old w
@@ -146,7 +147,7 @@ impl RelayCore {
 
     // Writes an attribute of an object.
     #[tactic(auto, unfolding(crate::specs::Writing::at_write))]
-    fn write(
+    pub(crate) fn write(
         &mut self,
         alloc: Global,
         instance: Instance,

@@ -107,8 +107,7 @@ impl Recorder {
         ensures sure { IsTrue (is_sure event) → IsOk result }
         ensures err { OnErr result (self.new ≡ self.old) }
     {
-        let parts = RelayCore::parts(alloc, &event)?;
-        let reply = self.core.step(alloc, &event)?;
+        let (reply, parts) = self.core.step_with_parts(alloc, &event)?;
         keep(
             &mut self.kept,
             &mut self.opening,

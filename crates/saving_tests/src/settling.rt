@@ -1,46 +1,84 @@
 //! Ports that settle: they wait until the lines of all calls that they have seen are on the disk.
+ghost use Rattle.std.specs.Prelude.{◌≡◌};
 ghost use Rattle.durable_lines.specs.Lines.{IsSettled};
 
 use crate::fronts::{FIRST, first_file};
 use crate::meters::asked_port;
 use crate::waiting::run_journal;
 use durable_lines::{DurableFile, MemoryFile, recover};
-use meter_journal::JournalProgress;
+use meter_journal::JournalLock;
 use relay_events::Event;
 use shared_meter::{Durability, Kept, settle};
-use std::alloc::{AllocError, Global};
+use std::alloc::Global;
+use std::marker::Brand;
 use std::sync::Wait;
 use std::test::Fail;
 use turn_lock::Port;
 
-/// Returns a port of a meter that replied to three events, and the handle of a journal that was run
-/// with this file through another port of the meter, and has ended. Returns `None` if out of
-/// memory.
-fn port_after_journal<W: Wait>(
+/// What a port learned that settled twice, before and after a press.
+#[derive(Clone, Copy, Debug, PartialEq, Eq)]
+struct Settled {
+    /// Whether it settled before the press.
+    is_settled: bool,
+    /// Whether the press was replied to.
+    is_pressed: bool,
+    /// Whether it settled after the press.
+    is_press_settled: bool,
+    /// Whether the journal has failed.
+    has_failed: bool,
+    /// The number of lines on the disk.
+    lines: u64,
+}
+
+/// Runs a journal with this file through another port of the meter, and then settles the port
+/// before and after a press. Returns `None` if out of memory.
+fn settle_twice<L: JournalLock + Send + Sync, W: Wait>(
     rt: &W,
     alloc: Global,
     file: MemoryFile,
-) -> Result<Option<(Port<Kept>, JournalProgress<MemoryFile>)>, AllocError>
+    mut port: Port<Kept>,
+    other: Port<Kept>,
+) -> Option<Settled>
+    requires settled { let D = ⟦<MemoryFile as DurableFile>⟧
+        in IsSettled D.seen D.may_leave D.stored file }
+    requires same_lock { (port.lock ≡ L.lock) × (other.lock ≡ L.lock) }
+{
+    let (ran, _end) = run_journal::<L, W>(rt, alloc, file, other);
+    let Some((progress, other)) = ran else {
+        drop(port);
+        return None;
+    };
+    drop(other);
+    let is_settled = settle(rt, alloc, &mut port, &progress);
+    let is_pressed = port.call(rt, alloc, Event::Button).is_ok();
+    let is_press_settled = settle(rt, alloc, &mut port, &progress);
+    drop(port);
+    let settled = Settled {
+        is_settled,
+        is_pressed,
+        is_press_settled,
+        has_failed: progress.has_failed(),
+        lines: progress.lines(),
+    };
+    drop(progress);
+    Some(settled)
+}
+
+/// Settles a port of a meter that replied to three events, as [`settle_twice`] does.
+fn settle_asked<W: Wait>(rt: &W, alloc: Global, file: MemoryFile) -> Option<Settled>
     requires { let D = ⟦<MemoryFile as DurableFile>⟧
         in IsSettled D.seen D.may_leave D.stored file }
 {
-    let Some(mut port) = asked_port(rt, alloc)? else {
+    let Ok(Some(mut port)) = asked_port(rt, alloc) else {
         drop(file);
-        return Ok(None);
+        return None;
     };
     let Ok(other) = port.split() else {
         drop(file);
         drop(port);
-        return Ok(None);
+        return None;
     };
-    let (progress, _end) = run_journal(rt, alloc, file, other);
-    match progress {
-        Some(progress) => Ok(Some((port, progress))),
-        None => {
-            drop(port);
-            Ok(None)
-        }
-    }
+    settle_twice::<Brand, W>(rt, alloc, file, port, other)
 }
 
 #[test]
@@ -48,17 +86,11 @@ fn a_port_settles_once_its_lines_are_on_the_disk(rt: HostRuntime) -> Result<(), 
     let alloc = rt.alloc();
     let mut file = first_file(alloc)?;
     recover(alloc, &mut file)?;
-    let Some((mut port, progress)) = port_after_journal(&rt, alloc, file)? else {
+    let Some(settled) = settle_asked(&rt, alloc, file) else {
         return Ok(());
     };
-    let is_settled = settle(&rt, alloc, &mut port, &progress);
-    let is_pressed = port.call(&rt, alloc, Event::Button).is_ok();
-    let is_press_settled = settle(&rt, alloc, &mut port, &progress);
-    drop(port);
-    let lines = progress.lines();
-    drop(progress);
-    assert!(rt; is_settled && is_pressed && !is_press_settled);
-    assert!(rt; lines == 3);
+    assert!(rt; settled.is_settled && settled.is_pressed && !settled.is_press_settled);
+    assert!(rt; settled.lines == 3 && !settled.has_failed);
     Ok(())
 }
 
@@ -67,13 +99,10 @@ fn a_port_does_not_settle_if_the_sync_fails(rt: HostRuntime) -> Result<(), Fail>
     let alloc = rt.alloc();
     let mut file = MemoryFile::failing_after(alloc, FIRST.to_vec(alloc)?, 2);
     recover(alloc, &mut file)?;
-    let Some((mut port, progress)) = port_after_journal(&rt, alloc, file)? else {
+    let Some(settled) = settle_asked(&rt, alloc, file) else {
         return Ok(());
     };
-    let is_settled = settle(&rt, alloc, &mut port, &progress);
-    drop(port);
-    let has_failed = progress.has_failed();
-    drop(progress);
-    assert!(rt; has_failed && !is_settled);
+    assert!(rt; settled.has_failed && !settled.is_settled && !settled.is_press_settled);
+    assert!(rt; settled.lines == 0);
     Ok(())
 }

@@ -1,13 +1,15 @@
 //! What a session learns that waits for lines of a journal.
+ghost use Rattle.std.specs.Prelude.{◌≡◌, IfSome};
 ghost use Rattle.durable_lines.specs.Lines.{IsSettled};
 
 use crate::fronts::{FIRST, first_file};
 use crate::meters::asked_port;
 use durable_lines::{DurableFile, MemoryFile, recover};
-use meter_journal::{FailureAction, JournalFault, JournalProgress, JournalWorker};
+use meter_journal::{FailureAction, JournalFault, JournalLock, JournalProgress, JournalWorker};
 use port_threads::Worker;
 use shared_meter::{Durability, Kept};
 use std::alloc::Global;
+use std::marker::Brand;
 use std::sync::Wait;
 use std::test::Fail;
 use turn_lock::{CallFault, Port};
@@ -21,32 +23,89 @@ impl FailureAction for Nothing {
 }
 
 /// Runs the worker of a journal that is asked to stop, through a port. Returns the journal's handle
-/// and the result of the work, as far as there was memory for them.
-pub(crate) fn run_journal<W: Wait>(
+/// with the port, and the result of the work, as far as there was memory for them.
+pub(crate) fn run_journal<L: JournalLock + Send + Sync, W: Wait>(
     rt: &W,
     alloc: Global,
     file: MemoryFile,
-    port: Port<Kept>,
+    mut port: Port<Kept>,
 ) -> (
-    Option<JournalProgress<MemoryFile>>,
+    Option<(JournalProgress<MemoryFile, L>, Port<Kept>)>,
     Option<Result<(), CallFault>>,
 )
-    requires { let D = ⟦<MemoryFile as DurableFile>⟧
+    requires settled { let D = ⟦<MemoryFile as DurableFile>⟧
         in IsSettled D.seen D.may_leave D.stored file }
+    requires same_lock { port.lock ≡ L.lock }
+    ensures { IfSome result.0 (λ r. r.1.lock ≡ L.lock) }
 {
-    let Ok(progress) = JournalProgress::new(alloc, &port, &file) else {
+    let Ok(progress) = JournalProgress::<MemoryFile, L>::new(alloc, &mut port, &file) else {
         drop(file);
         drop(port);
         return (None, None);
     };
     progress.stop();
     let Ok(worker) = JournalWorker::new(alloc, file, &progress, Nothing, 64) else {
-        drop(port);
-        return (Some(progress), None);
+        return (Some((progress, port)), None);
     };
     let (back, end) = worker.work(rt, alloc, port);
-    drop(back);
-    (Some(progress), Some(end))
+    (Some((progress, back)), Some(end))
+}
+
+/// What a port learned of a journal that has ended.
+#[derive(Clone, Copy, Debug, PartialEq, Eq)]
+struct Waits {
+    /// The result of the worker.
+    end: Option<Result<(), CallFault>>,
+    /// Whether a wait for no line returned true.
+    has_none: bool,
+    /// Whether a wait for one line returned true, by another handle.
+    has_one: bool,
+    /// Whether a wait for three lines returned true.
+    has_three: bool,
+    /// Whether a wait for four lines returned true.
+    has_four: bool,
+    /// Whether the journal has failed.
+    has_failed: bool,
+    /// The number of lines on the disk.
+    lines: u64,
+}
+
+/// Runs a journal, and then waits for its lines through the port. Returns `None` if out of memory.
+fn waits_after<L: JournalLock + Send + Sync, W: Wait>(
+    rt: &W,
+    alloc: Global,
+    file: MemoryFile,
+    port: Port<Kept>,
+) -> Option<Waits>
+    requires settled { let D = ⟦<MemoryFile as DurableFile>⟧
+        in IsSettled D.seen D.may_leave D.stored file }
+    requires same_lock { port.lock ≡ L.lock }
+{
+    let (ran, end) = run_journal::<L, W>(rt, alloc, file, port);
+    let Some((progress, mut port)) = ran else {
+        return None;
+    };
+    let Ok(other) = progress.share() else {
+        drop(port);
+        return None;
+    };
+    let has_none = progress.wait(rt, &mut port, 0);
+    let has_one = other.wait(rt, &mut port, 1);
+    let has_three = progress.wait(rt, &mut port, 3);
+    let has_four = progress.wait(rt, &mut port, 4);
+    drop(port);
+    let waits = Waits {
+        end,
+        has_none,
+        has_one,
+        has_three,
+        has_four,
+        has_failed: progress.has_failed(),
+        lines: progress.lines(),
+    };
+    drop(other);
+    drop(progress);
+    Some(waits)
 }
 
 #[test]
@@ -57,14 +116,13 @@ fn a_wait_returns_true_for_saved_lines(rt: HostRuntime) -> Result<(), Fail> {
     };
     let mut file = first_file(alloc)?;
     recover(alloc, &mut file)?;
-    let (progress, end) = run_journal(&rt, alloc, file, port);
-    let Some(progress) = progress else {
+    let Some(waits) = waits_after::<Brand, _>(&rt, alloc, file, port) else {
         return Ok(());
     };
-    assert!(rt; end == Some(Ok(())));
-    assert!(rt; progress.wait(&rt, 3) && progress.share()?.wait(&rt, 1));
-    assert!(rt; !progress.wait(&rt, 4) && !progress.has_failed());
-    assert!(rt; progress.lines() == 3);
+    assert!(rt; waits.end == Some(Ok(())));
+    assert!(rt; waits.has_none && waits.has_one && waits.has_three);
+    assert!(rt; !waits.has_four && !waits.has_failed);
+    assert!(rt; waits.lines == 3);
     Ok(())
 }
 
@@ -76,13 +134,11 @@ fn a_wait_returns_false_if_the_sync_fails(rt: HostRuntime) -> Result<(), Fail> {
     };
     let mut file = MemoryFile::failing_after(alloc, FIRST.to_vec(alloc)?, 2);
     recover(alloc, &mut file)?;
-    let (progress, end) = run_journal(&rt, alloc, file, port);
-    let Some(progress) = progress else {
+    let Some(waits) = waits_after::<Brand, _>(&rt, alloc, file, port) else {
         return Ok(());
     };
-    assert!(rt; end == Some(Err(CallFault::Journal)));
-    assert!(rt; progress.has_failed() && progress.lines() == 0);
-    assert!(rt; !progress.wait(&rt, 1) && progress.wait(&rt, 0));
-    assert!(rt; !progress.share()?.wait(&rt, 1));
+    assert!(rt; waits.end == Some(Err(CallFault::Journal)));
+    assert!(rt; waits.has_none && !waits.has_one && !waits.has_three && !waits.has_four);
+    assert!(rt; waits.has_failed && waits.lines == 0);
     Ok(())
 }

@@ -8,13 +8,15 @@ use Rattle.std.proofs.lemmas.Slice.Eq.{text_from_reads}
 use Rattle.relay_events.specs.declared.event.Event.{Event}
 use Rattle.relay_events.specs.declared.reply.Reply.{Reply}
 use Rattle.session_core.proofs.Tasks.{hears_any, takes_any, gives_any}
-use Rattle.session_core.specs.Calls.{IsShortRequest, call_by, call_of, is_negotiated, request_form, short_event, short_form}
+use Rattle.session_core.specs.Calls.{IsShortRequest, call_by, call_of, is_negotiated, request_form, short_event}
 use Rattle.session_core.specs.Outgoing.{outgoing_by}
 use Rattle.session_core.specs.Progress.{AnswersBy, AsksShort, WorksBy}
 use Rattle.session_core.specs.Remaining.{is_asking, is_asking_short, load_of, task_load}
 use Rattle.session_core.specs.Rules.{HearsShort, heard_frame, incoming_after, link_after, outgoing_after, reply_text, turn_of}
 use Rattle.session_core.specs.Standard.{management_device}
 use Rattle.session_core.specs.declared.asked.Asked.{Asked}
+use Rattle.session_core.specs.declared.asked.ReplyForm.{ReplyForm}
+use Rattle.session_core.specs.declared.asked.ReplyForm.TheVariants as asked_form
 use Rattle.session_core.specs.declared.call.Call.TheVariants.{Refused}
 use Rattle.session_core.specs.declared.link.Link.{Link}
 use Rattle.session_core.specs.declared.next.Next.TheVariants as next
@@ -29,7 +31,6 @@ use Rattle.wrapper_frame.specs.Messages.{first_frame, after_first}
 use Rattle.wrapper_frame.specs.Stream.{KeepsFrames}
 use Rattle.wrapper_frame.specs.declared.header.Head.TheVariants as head
 use Rattle.xdlms_apdu.specs.Requests.{request_of}
-use Rattle.xdlms_apdu.specs.declared.invoke_id.InvokeId.{InvokeId}
 use Rattle.xdlms_apdu.specs.declared.response.Exception.TheVariants.{Unknown}
 use Rattle.xdlms_blocks.specs.Transfer.{Sending}
 
@@ -40,7 +41,7 @@ get_of : (conformance id high low a b c d e f number : ℕ)
     → (bit_and conformance 0x10 == 0x10) ≡ true
     → IsShortRequest conformance (0xC0 ∷ 0x01 ∷ id ∷ high ∷ low ∷ a ∷ b ∷ c ∷ d ∷ e ∷ f ∷ number ∷
     0x00
-    ∷ []) (record { 0 = id })
+    ∷ []) (asked_form.Get (record { 0 = id }))
     (short.Get (record {
       class = record { 0 = from_be_bytes w16 (high ∷ low ∷ []) };
       name = record { 0 = a ∷ b ∷ c ∷ d ∷ e ∷ f ∷ [] };
@@ -51,6 +52,8 @@ get_of conformance id high low a b c d e f number negotiated =
     let payload : List ℕ = 0xC0 ∷ 0x01 ∷ id ∷ high ∷ low ∷ a ∷ b ∷ c ∷ d ∷ e ∷ f ∷ number
     ∷ 0x00 ∷ [] in
     record {
+      id = record { 0 = id };
+      answered = refl;
       opens = refl;
       calls = refl;
       call = ap (λ (has_get : Bool). if has_get then call_by (request_of payload) else Refused
@@ -61,7 +64,7 @@ pub reads_get : (conformance : ℕ) (s : List ℕ) (class : ℕ) → 13 ≤ leng
     → get_or s 0 0 ≡ 0xC0 → get_or s 1 0 ≡ 0x01 → get_or s 12 0 ≡ 0x00
     → (bit_and conformance 0x10 == 0x10) ≡ true → class
     ≡ big_number 2 (get_or s 3 0 ∷ get_or s 4 0 ∷ [])
-    → IsShortRequest conformance s (record { 0 = get_or s 2 0 })
+    → IsShortRequest conformance s (asked_form.Get (record { 0 = get_or s 2 0 }))
     (short.Get (record {
       class = record { 0 = class };
       name = record {
@@ -96,7 +99,7 @@ reads_get conformance s class least most tag form selection negotiated is_class 
 set_of : (conformance id high low a b c d e f number value : ℕ)
     → (bit_and conformance 0x08 == 0x08) ≡ true
     → IsShortRequest conformance (0xC1 ∷ 0x01 ∷ id ∷ high ∷ low ∷ a ∷ b ∷ c ∷ d ∷ e ∷ f ∷ number
-    ∷ 0x00 ∷ 0x16 ∷ value ∷ []) (record { 0 = id })
+    ∷ 0x00 ∷ 0x16 ∷ value ∷ []) (asked_form.Set (record { 0 = id }))
     (short.Set (record {
       class = record { 0 = from_be_bytes w16 (high ∷ low ∷ []) };
       name = record { 0 = a ∷ b ∷ c ∷ d ∷ e ∷ f ∷ [] };
@@ -108,6 +111,8 @@ set_of conformance id high low a b c d e f number value negotiated =
     let payload : List ℕ = 0xC1 ∷ 0x01 ∷ id ∷ high ∷ low ∷ a ∷ b ∷ c ∷ d ∷ e ∷ f ∷ number
     ∷ 0x00 ∷ 0x16 ∷ value ∷ [] in
     record {
+      id = record { 0 = id };
+      answered = refl;
       opens = refl;
       calls = refl;
       call = ap (λ (has_set : Bool). if has_set then call_by (request_of payload) else Refused
@@ -118,7 +123,7 @@ set_of conformance id high low a b c d e f number value negotiated =
 action_of : (conformance id high low a b c d e f number value : ℕ)
     → (bit_and conformance 0x01 == 0x01) ≡ true
     → IsShortRequest conformance (0xC3 ∷ 0x01 ∷ id ∷ high ∷ low ∷ a ∷ b ∷ c ∷ d ∷ e ∷ f ∷ number
-    ∷ 0x01 ∷ 0x0F ∷ value ∷ []) (record { 0 = id })
+    ∷ 0x01 ∷ 0x0F ∷ value ∷ []) (asked_form.Action (record { 0 = id }))
     (short.Action (record {
       class = record { 0 = from_be_bytes w16 (high ∷ low ∷ []) };
       name = record { 0 = a ∷ b ∷ c ∷ d ∷ e ∷ f ∷ [] };
@@ -130,6 +135,8 @@ action_of conformance id high low a b c d e f number value negotiated =
     let payload : List ℕ = 0xC3 ∷ 0x01 ∷ id ∷ high ∷ low ∷ a ∷ b ∷ c ∷ d ∷ e ∷ f ∷ number
     ∷ 0x01 ∷ 0x0F ∷ value ∷ [] in
     record {
+      id = record { 0 = id };
+      answered = refl;
       opens = refl;
       calls = refl;
       call = ap (λ (has_action : Bool). if has_action then call_by (request_of payload) else Refused
@@ -178,7 +185,7 @@ pub reads_set : (conformance : ℕ) (s : List ℕ) (class : ℕ) → 15 ≤ leng
     → get_or s 0 0 ≡ 0xC1 → get_or s 1 0 ≡ 0x01 → get_or s 12 0 ≡ 0x00 → get_or s 13 0 ≡ 0x16
     → (bit_and conformance 0x08 == 0x08) ≡ true → class
     ≡ big_number 2 (get_or s 3 0 ∷ get_or s 4 0 ∷ [])
-    → IsShortRequest conformance s (record { 0 = get_or s 2 0 })
+    → IsShortRequest conformance s (asked_form.Set (record { 0 = get_or s 2 0 }))
     (short.Set (record {
       class = record { 0 = class };
       name = record {
@@ -200,7 +207,7 @@ pub reads_action : (conformance : ℕ) (s : List ℕ) (class : ℕ) → 15 ≤ l
     → get_or s 0 0 ≡ 0xC3 → get_or s 1 0 ≡ 0x01 → get_or s 12 0 ≡ 0x01 → get_or s 13 0 ≡ 0x0F
     → (bit_and conformance 0x01 == 0x01) ≡ true → class
     ≡ big_number 2 (get_or s 3 0 ∷ get_or s 4 0 ∷ [])
-    → IsShortRequest conformance s (record { 0 = get_or s 2 0 })
+    → IsShortRequest conformance s (asked_form.Action (record { 0 = get_or s 2 0 }))
     (short.Action (record {
       class = record { 0 = class };
       name = record {
@@ -221,33 +228,36 @@ reads_action conformance s class least most tag form presence kind negotiated is
 -- ---- its frame
 
 -- the client of the association sends a short request
-pub hears_short : (s : State) (src : ℕ) (payload : List ℕ) (link : Link) (id : InvokeId)
+pub hears_short : (s : State) (src : ℕ) (payload : List ℕ) (link : Link) (form : ReplyForm)
     (request : ShortRequest) → s.link ≡ Some link → link.source ≡ src
-    → IsShortRequest link.conformance.0 payload id request
+    → IsShortRequest link.conformance.0 payload form request
     → HearsShort s (heard_frame src payload)
-    (record { link = link; form = short_form id request }) request
+    (record { link = link; form = form }) request
     (record { link = s.link; incoming = None; outgoing = None })
 unfolding turn_of link_after incoming_after outgoing_after
-hears_short s src payload link id (short.Get attr) linked same read =
+hears_short s src payload link form (short.Get attr) linked same read =
     let here : (link.source == src) ≡ true = eq-eqb link.source src same in
     record {
-      outcome = λ password. rw (read.opens, read.calls, linked, here, read.call) refl;
+      outcome = λ password.
+          rw (read.answered, read.opens, read.calls, linked, here, read.call) refl;
       after = λ password. rw (read.opens, linked, read.calls, here, read.call) refl;
-      is_short = refl;
+      is_short = rw read.answered refl;
     }
-hears_short s src payload link id (short.Set attr value) linked same read =
+hears_short s src payload link form (short.Set attr value) linked same read =
     let here : (link.source == src) ≡ true = eq-eqb link.source src same in
     record {
-      outcome = λ password. rw (read.opens, read.calls, linked, here, read.call) refl;
+      outcome = λ password.
+          rw (read.answered, read.opens, read.calls, linked, here, read.call) refl;
       after = λ password. rw (read.opens, linked, read.calls, here, read.call) refl;
-      is_short = refl;
+      is_short = rw read.answered refl;
     }
-hears_short s src payload link id (short.Action method value) linked same read =
+hears_short s src payload link form (short.Action method value) linked same read =
     let here : (link.source == src) ≡ true = eq-eqb link.source src same in
     record {
-      outcome = λ password. rw (read.opens, read.calls, linked, here, read.call) refl;
+      outcome = λ password.
+          rw (read.answered, read.opens, read.calls, linked, here, read.call) refl;
       after = λ password. rw (read.opens, linked, read.calls, here, read.call) refl;
-      is_short = refl;
+      is_short = rw read.answered refl;
     }
 
 -- the frame at the front is a short request

@@ -94,9 +94,11 @@ short_form id (short.Get attr) = form.Get id
 short_form id (short.Set attr value) = form.Set id
 short_form id (short.Action method value) = form.Action id
 
--- whether the payload is this short request, whole
-pub record IsShortRequest (conformance : ℕ) (payload : List ℕ) (id : InvokeId)
+-- whether the payload is this short request, whole, and this is the form of its answer
+pub record IsShortRequest (conformance : ℕ) (payload : List ℕ) (answered_by : ReplyForm)
     (request : ShortRequest) : Type 0 where
+  pub id : InvokeId
+  pub answered : answered_by ≡ short_form id request
   pub opens : is_opening payload ≡ false
   pub calls : is_call payload ≡ true
   pub call : call_of conformance payload ≡ Service (whole_request id request)

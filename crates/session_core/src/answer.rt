@@ -13,8 +13,9 @@ use xdlms_apdu::{InvokeId, Response, append_response};
 
 // The wrapper port of the server.
 pub(crate) const SERVER_PORT: u16 = 1;
-// The initial capacity of an answer in bytes. Most answers are shorter.
-const ROOM: usize = 64;
+// The initial capacity of an answer in bytes. Most answers are shorter, also a list of ten numbers
+// and a block for a client that receives 64 bytes, which then allocate once.
+const ROOM: usize = 128;
 
 // The tag of a Get-Response (IEC 62056-5-3, GET).
 const GET_RESPONSE: u8 = 0xC4;

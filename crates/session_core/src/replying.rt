@@ -3,7 +3,7 @@
 ghost use Rattle.std.specs.Prelude.{◌≡◌, ◌≤◌, ◌<◌, ◌*◌, ◌-◌, None, length, option_and_then, true, IfOk, IfErr, OnOk, OnErr};
 ghost use Rattle.session_core.specs.Answers.{answer_text, due_text, way_text, IsSmall};
 ghost use Rattle.session_core.specs.Outgoing.{transfer_after, unsent_transfer, can_go_in_blocks, long_response, long_text, response_in_blocks, text_in_blocks, block_response, code_response, reply_code, reply_response, answer_with_header, reply_in, outgoing_by};
-ghost use Rattle.session_core.specs.Rules.{asks_short, asks_value, asks_code, reply_text};
+ghost use Rattle.session_core.specs.Rules.{asks_short, asks_value, reply_text};
 ghost use Rattle.session_core.specs.Standard.{block_header};
 ghost use Rattle.session_core.specs.declared.answer.Answer.TheVariants.{Service};
 ghost use Rattle.wrapper_frame.specs.Header.{max_payload};
@@ -84,6 +84,7 @@ pub(crate) fn answer_reply(
 
 // Returns the frame with the answer to the reply to a short request. A long GET that it begins
 // replaces the last one. If out of memory, nothing has changed.
+#[tactic(auto, unfolding(crate::specs::Outgoing::reply_response, crate::specs::Outgoing::reply_transfer, crate::specs::Answers::answer_text, xdlms_apdu::specs::Responses::response_text))]
 #[inline(always)]
 pub(crate) fn answer_short(
     alloc: Global,
@@ -96,12 +97,21 @@ pub(crate) fn answer_short(
     ensures outgoing { OnOk result (outgoing.new ≡ outgoing_by asked reply.now) }
     ensures err { OnErr result (outgoing.new ≡ outgoing.old) }
 {
+    let to = asked.link.source;
     match asked.form {
         ReplyForm::Get(_) => answer_get(alloc, asked, reply, outgoing),
-        ReplyForm::Set(_) | ReplyForm::Action(_) => {
-            let text = answer_command(alloc, asked, reply)?;
-            *outgoing = None;
-            Ok(text)
+        ReplyForm::Set(id) => {
+            let code = reply_code(reply).code();
+            last_frame(alloc, to, &[SET_RESPONSE, NORMAL, id.0, code], outgoing)
+        }
+        ReplyForm::Action(id) => {
+            let code = reply_code(reply).code();
+            last_frame(
+                alloc,
+                to,
+                &[ACTION_RESPONSE, NORMAL, id.0, code, NO_VALUE],
+                outgoing,
+            )
         }
         ReplyForm::GetList(_) | ReplyForm::SetLastBlock(_, _) => unreachable!(),
     }
@@ -137,35 +147,25 @@ fn answer_get(
     answer_value(alloc, asked.link, id, value, outgoing)
 }
 
-// Returns the frame with the answer to the reply to a SET or an ACTION, which begins no long GET.
-#[tactic(auto, unfolding(crate::specs::Outgoing::reply_response, crate::specs::Outgoing::reply_transfer, crate::specs::Answers::answer_text, xdlms_apdu::specs::Responses::response_text))]
-#[inline(always)]
-fn answer_command(alloc: Global, asked: Asked, reply: &Reply) -> Result<Octets, AllocError>
-    requires { asks_code asked.form ≡ true }
-    ensures text { IfOk result (λ text. text ≡ reply_text asked reply.now) }
-    ensures outgoing { outgoing_by asked reply.now ≡ None }
-{
-    let to = asked.link.source;
-    let code = reply_code(reply).code();
-    match asked.form {
-        ReplyForm::Set(id) => frame_of(alloc, to, &[SET_RESPONSE, NORMAL, id.0, code]),
-        ReplyForm::Action(id) => {
-            frame_of(alloc, to, &[ACTION_RESPONSE, NORMAL, id.0, code, NO_VALUE])
-        }
-        ReplyForm::Get(_) | ReplyForm::GetList(_) | ReplyForm::SetLastBlock(_, _) => {
-            unreachable!()
-        }
-    }
-}
-
-// Returns the frame that carries a short payload to a port.
+// Returns the frame that carries a short payload to a port, after which no long GET is in progress.
+// If out of memory, nothing has changed.
 #[tactic(auto, unfolding(crate::specs::Answers::due_text))]
-fn frame_of(alloc: Global, to: u16, payload: &[u8]) -> Result<Octets, AllocError>
+fn last_frame(
+    alloc: Global,
+    to: u16,
+    payload: &[u8],
+    outgoing: &mut Option<Outgoing>,
+) -> Result<Octets, AllocError>
     requires { length payload.now ≤ max_payload }
-    ensures { IfOk result (λ text. text ≡ due_text to payload.now) }
+    ensures text { IfOk result (λ text. text ≡ due_text to payload.now) }
+    ensures outgoing { OnOk result (outgoing.new ≡ None) }
+    ensures err { OnErr result (outgoing.new ≡ outgoing.old) }
 {
     match frame(alloc, SERVER_PORT, to, payload) {
-        Ok(text) => Ok(text),
+        Ok(text) => {
+            *outgoing = None;
+            Ok(text)
+        }
         Err(WrapperFault::Memory) => Err(AllocError),
         Err(WrapperFault::Version | WrapperFault::TooLong) => unreachable!(),
     }

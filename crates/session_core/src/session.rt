@@ -183,7 +183,7 @@ impl Session {
         let (asked, request) = self.state.receive_short(source, payload)?;
         let level = asked.link.level;
         self.deframer.pass(size);
-        self.turn_to(SessionTask::Await(asked));
+        self.task = SessionTask::Await(asked);
         Some((level, request))
     }
 
@@ -200,7 +200,7 @@ impl Session {
             unreachable!()
         };
         let text = answer_short(alloc, asked, reply, &mut self.state.outgoing)?;
-        self.turn_to(SessionTask::Listen);
+        self.task = SessionTask::Listen;
         Ok(text)
     }
 

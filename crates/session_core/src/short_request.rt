@@ -1,7 +1,7 @@
 //! Reads the most frequent requests without allocating: a GET of one attribute, a SET of one to an
 //! enum, and an ACTION with an integer (IEC 62056-5-3).
 ghost use Rattle.std.specs.Prelude.{◌≡◌, IfSome};
-ghost use Rattle.session_core.specs.Calls.{IsShortRequest, short_event, short_form};
+ghost use Rattle.session_core.specs.Calls.{IsShortRequest, short_event};
 
 use crate::asked::ReplyForm;
 use acse_ber::Conformance;
@@ -14,6 +14,10 @@ use xdlms_apdu::InvokeId;
 use xdlms_apdu::form::NORMAL;
 use xdlms_apdu::tag::{ACTION_REQUEST, GET_REQUEST, SET_REQUEST};
 
+// The length in bytes of a GET of one attribute.
+const GET_SIZE: usize = 13;
+// The length in bytes of a SET or an ACTION whose value has two bytes.
+const COMMAND_SIZE: usize = 15;
 // The byte that says that a GET or a SET has no access selection.
 const ABSENT: u8 = 0;
 // The byte that says that an ACTION has a parameter.
@@ -60,38 +64,29 @@ impl ShortRequest {
             },
         }
     }
-
-    // Returns the form of the answer to the request with this invoke-id.
-    #[inline(always)]
-    pub(crate) fn form(self, id: InvokeId) -> ReplyForm
-        ensures { result ≡ short_form id self }
-    {
-        match self {
-            ShortRequest::Get(_) => ReplyForm::Get(id),
-            ShortRequest::Set(_, _) => ReplyForm::Set(id),
-            ShortRequest::Action(_, _) => ReplyForm::Action(id),
-        }
-    }
 }
 
-// Reads a short request and its invoke-id. Returns `None` for any other payload and if its service
-// was not negotiated. `read_call` reads the same request, but this function does not allocate.
+// Reads a short request and the form of its answer. Returns `None` for any other payload and if its
+// service was not negotiated. `read_call` reads the same request, but this function does not
+// allocate.
 #[inline(always)]
 pub(crate) fn read_short_request(
     conformance: Conformance,
     payload: &[u8],
-) -> Option<(InvokeId, ShortRequest)>
+) -> Option<(ReplyForm, ShortRequest)>
     ensures { IfSome result (λ read. IsShortRequest conformance.0 payload.now read.0 read.1) }
 {
-    match read_get(conformance, payload) {
-        Some(read) => Some(read),
-        None => read_command(conformance, payload),
+    match payload.len() {
+        GET_SIZE => read_get(conformance, payload),
+        COMMAND_SIZE if payload[0] == SET_REQUEST => read_set(conformance, payload),
+        COMMAND_SIZE => read_action(conformance, payload),
+        _ => None,
     }
 }
 
-// Reads a GET of 13 bytes.
+// Reads a GET.
 #[inline(always)]
-fn read_get(conformance: Conformance, payload: &[u8]) -> Option<(InvokeId, ShortRequest)>
+fn read_get(conformance: Conformance, payload: &[u8]) -> Option<(ReplyForm, ShortRequest)>
     ensures { IfSome result (λ read. IsShortRequest conformance.0 payload.now read.0 read.1) }
 {
     let [
@@ -123,12 +118,54 @@ fn read_get(conformance: Conformance, payload: &[u8]) -> Option<(InvokeId, Short
         name: Obis([*a, *b, *c, *d, *e, *f]),
         number: *number,
     };
-    Some((InvokeId(*id), ShortRequest::Get(attr)))
+    Some((ReplyForm::Get(InvokeId(*id)), ShortRequest::Get(attr)))
 }
 
-// Reads a SET or an ACTION of 15 bytes, with a value of one byte.
+// Reads a SET to an enum.
 #[inline(always)]
-fn read_command(conformance: Conformance, payload: &[u8]) -> Option<(InvokeId, ShortRequest)>
+fn read_set(conformance: Conformance, payload: &[u8]) -> Option<(ReplyForm, ShortRequest)>
+    ensures { IfSome result (λ read. IsShortRequest conformance.0 payload.now read.0 read.1) }
+{
+    let [
+        tag,
+        form,
+        id,
+        class_high,
+        class_low,
+        a,
+        b,
+        c,
+        d,
+        e,
+        f,
+        number,
+        selection,
+        kind,
+        value,
+    ] = payload
+    else {
+        return None;
+    };
+    if *tag != SET_REQUEST || *form != NORMAL || *selection != ABSENT || *kind != ENUM {
+        return None;
+    }
+    if !conformance.contains(Conformance::SET) {
+        return None;
+    }
+    let attr = AttrRef {
+        class: ClassId(BigEndian::read_u16(&[*class_high, *class_low])),
+        name: Obis([*a, *b, *c, *d, *e, *f]),
+        number: *number,
+    };
+    Some((
+        ReplyForm::Set(InvokeId(*id)),
+        ShortRequest::Set(attr, *value),
+    ))
+}
+
+// Reads an ACTION with an integer.
+#[inline(always)]
+fn read_action(conformance: Conformance, payload: &[u8]) -> Option<(ReplyForm, ShortRequest)>
     ensures { IfSome result (λ read. IsShortRequest conformance.0 payload.now read.0 read.1) }
 {
     let [
@@ -151,30 +188,19 @@ fn read_command(conformance: Conformance, payload: &[u8]) -> Option<(InvokeId, S
     else {
         return None;
     };
-    if *form != NORMAL {
+    if *tag != ACTION_REQUEST || *form != NORMAL || *presence != PRESENT || *kind != INTEGER {
         return None;
     }
-    let id = InvokeId(*id);
-    let class = ClassId(BigEndian::read_u16(&[*class_high, *class_low]));
-    let name = Obis([*a, *b, *c, *d, *e, *f]);
-    let number = *number;
-    match (*tag, *presence, *kind) {
-        (SET_REQUEST, ABSENT, ENUM) if conformance.contains(Conformance::SET) => {
-            let attr = AttrRef {
-                class,
-                name,
-                number,
-            };
-            Some((id, ShortRequest::Set(attr, *value)))
-        }
-        (ACTION_REQUEST, PRESENT, INTEGER) if conformance.contains(Conformance::ACTION) => {
-            let method = MethodRef {
-                class,
-                name,
-                number,
-            };
-            Some((id, ShortRequest::Action(method, *value)))
-        }
-        _ => None,
+    if !conformance.contains(Conformance::ACTION) {
+        return None;
     }
+    let method = MethodRef {
+        class: ClassId(BigEndian::read_u16(&[*class_high, *class_low])),
+        name: Obis([*a, *b, *c, *d, *e, *f]),
+        number: *number,
+    };
+    Some((
+        ReplyForm::Action(InvokeId(*id)),
+        ShortRequest::Action(method, *value),
+    ))
 }

@@ -95,10 +95,9 @@ impl State {
         if link.source != src {
             return None;
         }
-        let (id, request) = read_short_request(link.conformance, payload)?;
+        let (form, request) = read_short_request(link.conformance, payload)?;
         self.incoming = None;
         self.outgoing = None;
-        let form = request.form(id);
         Some((Asked { link, form }, request))
     }
 

@@ -4,4 +4,5 @@ pub mod HandedLemmas
 pub mod PassingLemmas
 pub mod PendingLemmas
 pub mod Sent
+pub mod SettlingLemmas
 pub mod SourceLemmas

@@ -1,9 +1,10 @@
 //! Waits until the journal has reached the disk.
 ghost use Rattle.std.specs.Prelude.{ℕ, ⊤, IsTrue};
+ghost use Rattle.atomic_table.specs.Seated.{TableId};
 ghost use Rattle.turn_lock.specs.Calls.{Watches};
 ghost use Rattle.turn_lock.specs.Shown.{IsSame};
-ghost use Rattle.shared_meter.specs.Calls.{IsLegal};
-ghost use Rattle.shared_meter.specs.Settling.{Settles};
+ghost use Rattle.shared_meter.specs.Calls.{Calls, IsLegal};
+ghost use Rattle.shared_meter.specs.Settling.{AreDurable, Settles};
 
 use crate::kept::Kept;
 use crate::pending::{Finding, Question};
@@ -15,12 +16,19 @@ use turn_lock::Port;
 ///
 /// Lines are counted from the start of the lock's history.
 pub trait Durability: Drop {
-    /// Ghost predicate: the first lines of the journal, of this number, are on the disk.
-    ghost is_durable: { ℕ → Type 0 };
+    /// Ghost predicate: the journal is that of this lock.
+    ghost fits: { TableId → Type 0 };
+
+    /// Ghost predicate: the first lines of these calls, of this number, are on the disk.
+    ghost is_durable: { Calls → ℕ → Type 0 };
 
     /// Waits until this number of lines is on the disk. Returns false if the journal has failed.
-    fn wait<W: Wait>(&self, rt: &W, lines: u64) -> bool
-        ensures { IsTrue result → is_durable lines };
+    /// After true the port has seen the calls whose lines they are.
+    fn wait<W: Wait>(&self, rt: &W, port: &mut Port<Kept>, lines: u64) -> bool
+        requires { fits port.old.lock }
+        ensures same { IsSame port.old port.new }
+        ensures watches { Watches IsLegal port.old.known port.new.known }
+        ensures durable { IsTrue result → AreDurable is_durable port.new.known.seen lines };
 
     /// Returns whether the journal has failed. Once it has, this does not change.
     fn has_failed(&self) -> bool;
@@ -38,9 +46,13 @@ pub trait Durability: Drop {
 pub struct NoJournal;
 
 impl Durability for NoJournal {
-    ghost is_durable = { λ _. ⊤ };
+    ghost fits = { λ _. ⊤ };
 
-    fn wait<W: Wait>(&self, _rt: &W, _lines: u64) -> bool {
+    ghost is_durable = { λ _ _. ⊤ };
+
+    fn wait<W: Wait>(&self, _rt: &W, port: &mut Port<Kept>, _lines: u64) -> bool {
+        // (no effect: the contract needs this law)
+        port.history_is_legal();
         true
     }
 
@@ -61,12 +73,13 @@ pub fn settle<D: Durability, W: Wait>(
     port: &mut Port<Kept>,
     durability: &D,
 ) -> bool
+    requires { D.fits port.old.lock }
     ensures same { IsSame port.old port.new }
     ensures watches { Watches IsLegal port.old.known port.new.known }
     ensures settled { IsTrue result → Settles D.is_durable port.old port.new }
 {
     match port.inspect(rt, alloc, Question::Count) {
-        Some(Finding::Count(lines)) => durability.wait(rt, lines),
+        Some(Finding::Count(lines)) => durability.wait(rt, port, lines),
         _ => false,
     }
 }

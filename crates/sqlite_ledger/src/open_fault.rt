@@ -6,7 +6,7 @@ use sqlite::{Error as SqliteError, ErrorCode};
 use std::alloc::AllocError;
 use thiserror::Error;
 
-/// Why a ledger was not opened.
+/// Why a ledger, or the file of answers next to it, was not opened.
 #[derive(Clone, Copy, Debug, PartialEq, Eq, Error)]
 pub enum LedgerOpenFault {
     /// The file is a database with other tables, or no database.
@@ -24,6 +24,9 @@ pub enum LedgerOpenFault {
     /// Out of memory.
     #[error("out of memory")]
     Memory = 5,
+    /// The file of answers next to a ledger is a database with other tables, or no database.
+    #[error("the file of answers has other tables")]
+    Answers = 6,
 }
 
 /// Returns the fault for an error of SQLite while a ledger is opened.

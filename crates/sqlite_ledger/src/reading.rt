@@ -188,8 +188,13 @@ fn lines_of(
             begun: *begun,
             ended: *ended,
         };
-        let entry = *entry;
-        if lines.push(LedgerLine { job, entry, times }).is_err() {
+        let line = LedgerLine {
+            job,
+            entry: *entry,
+            times,
+            answer: None,
+        };
+        if lines.push(line).is_err() {
             return Err(LedgerOpenFault::Memory);
         }
     }

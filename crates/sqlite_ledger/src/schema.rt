@@ -9,8 +9,8 @@ use sqlite_schema::schema::{Column, Kind, Schema, Stamps, Table};
 use sqlite_value::keys::Collation;
 use sqlite_value::value::Value;
 
-// Returns whether a column is that of a STRICT table, without a default.
-fn is_strict_column(column: &Column, name: &str, kind: Kind, not_null: bool) -> bool
+/// Returns whether a column is that of a STRICT table, without a default.
+pub fn is_strict_column(column: &Column, name: &str, kind: Kind, not_null: bool) -> bool
     ensures { IsTrue result → column.now ≡ strict_column name.now kind not_null }
 {
     column.name.as_slice() == name.as_bytes()
@@ -54,8 +54,9 @@ fn is_first_place(places: &[usize]) -> bool
     matches!(places, [0])
 }
 
-// Returns whether a table has this name and number, the first column as its key, and no other rule.
-fn is_keyed_table(table: &Table, name: &str, tree: u32) -> bool
+/// Returns whether a table has this name and number, the first column as its key, and no other
+/// rule.
+pub fn is_keyed_table(table: &Table, name: &str, tree: u32) -> bool
     ensures { IsTrue result → table.now ≡ keyed_table name.now tree table.now.columns }
 {
     table.name.as_slice() == name.as_bytes()

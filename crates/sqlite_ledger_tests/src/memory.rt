@@ -69,7 +69,7 @@ fn fault_of(rt: &HostRuntime, conn: Connection<MemStore>, jobs: &[Job]) -> Optio
 }
 
 /// Returns a connection to a database in memory, on which a text has run.
-fn database(rt: &HostRuntime, text: &str) -> Option<Connection<MemStore>> {
+pub(crate) fn database(rt: &HostRuntime, text: &str) -> Option<Connection<MemStore>> {
     match Connection::open_in_memory(rt.alloc()) {
         Ok(mut conn) => {
             if conn.execute_batch(text).is_ok() {

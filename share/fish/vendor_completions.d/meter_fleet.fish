@@ -11,4 +11,7 @@ complete -c meter_fleet -f -n '__fish_seen_subcommand_from serve' -l mode -r -d 
 complete -c meter_fleet -f -n '__fish_seen_subcommand_from serve' -l depth -r -d 'Number of events that each meter keeps, the latest ones, 1 to 1024'
 complete -c meter_fleet -f -n '__fish_seen_subcommand_from serve' -l resume -r -d 'Each meter resumes from the trace in FILE; --mode is not used'
 complete -c meter_fleet -f -n '__fish_seen_subcommand_from serve' -l inactivity -r -d 'Close a connection that is idle for this time, 0 to 4294967295; 0: never'
+complete -c meter_fleet -f -n '__fish_seen_subcommand_from serve' -l session -r -d 'Close a connection that lasts longer, 0 to 4294967295; 0: never'
+complete -c meter_fleet -f -n '__fish_seen_subcommand_from serve' -l fault -r -d 'Inject this fault into this share of the meters; may be given for each fault'
+complete -c meter_fleet -f -n '__fish_seen_subcommand_from serve' -l seed -r -d 'Seed that chooses the meters that have a fault, 0 to 4294967295'
 complete -c meter_fleet -f -n '__fish_seen_subcommand_from serve' -l verbose -d 'Report the address, and faults in full, on standard error'

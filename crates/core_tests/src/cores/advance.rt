@@ -1,5 +1,5 @@
 //! `advance`, which returns no reply, has the effect of `step`, and moves in scripts that were
-//! decoded before.
+//! decoded before. `step_with_parts` returns such scripts next to the reply.
 use super::*;
 
 /// Script 3: writes mode 0 and disconnects the supply.
@@ -100,4 +100,35 @@ pub(super) fn advances(core: &mut RelayCore, alloc: Global) -> Result<bool, Allo
 #[test]
 fn an_event_without_a_reply_does_the_same(rt: HostRuntime) {
     assert!(rt; matches!(is_done(rt.alloc(), Scenario::Advancing), Ok(true)));
+}
+
+// Applies a write with `step_with_parts`. Returns the code of the reply, and the number of steps of
+// script 3 if the parts are scripts.
+fn step_apart(
+    core: &mut RelayCore,
+    alloc: Global,
+    place: Place,
+    bytes: &[u8],
+) -> Result<(u8, Option<u8>), AllocError> {
+    let event = write_event(alloc, place, bytes)?;
+    let stepped = core.step_with_parts(alloc, &event);
+    drop(event);
+    let (reply, parts) = stepped?;
+    let told = (code(&reply), steps_of(&parts, 3));
+    drop(reply);
+    drop(parts);
+    Ok(told)
+}
+
+/// Returns whether a core accepts a write of scripts and returns script 3 with its two steps, and
+/// accepts mode 1 and returns no list.
+pub(super) fn returns_lists(core: &mut RelayCore, alloc: Global) -> Result<bool, AllocError> {
+    let scripts = step_apart(core, alloc, SCRIPTS, MODE_0_AND_DISCONNECT)?;
+    let mode = step_apart(core, alloc, MODE, &[0x16, 1])?;
+    Ok(scripts == (0, Some(2)) && mode == (0, None) && u8::from(core.mode()) == 1)
+}
+
+#[test]
+fn a_written_list_is_returned_with_the_reply(rt: HostRuntime) {
+    assert!(rt; matches!(is_done(rt.alloc(), Scenario::ReturningLists), Ok(true)));
 }

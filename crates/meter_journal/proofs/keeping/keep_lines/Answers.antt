@@ -1,7 +1,10 @@
-use Rattle.std.proofs.Common.{ℕ, subst}
+use Rattle.std.proofs.Common.{ℕ, subst, sym}
 use Rattle.durable_lines.specs.Lines.{lines_in}
 use Rattle.meter_journal.specs.Saving.{IsSaved}
-use Rattle.meter_journal.proofs.KeepingLemmas.{crashes_on, run_begins, run_on, stored_lines}
+use Rattle.meter_journal.proofs.KeepingLemmas.{Run, crashes_on, run_begins, run_on}
+use Rattle.meter_journal.proofs.KeepingLemmas.{synced_lines}
+use Rattle.shared_meter.specs.Handed.{MeterPort}
+use Rattle.turn_lock.proofs.Watching.{watches_trans}
 use Rattle.meter_journal.proofs.keeping.keep_lines.Goals as goal
 
 pub saving-init : goal.saving-init
@@ -23,11 +26,19 @@ returns-in_err-saved-clause-any_moment g c =
 pub saving-preserved-then-saved-before : goal.saving-preserved-then-saved-before
 saving-preserved-then-saved-before g c =
     let D = g.F.DurableFile in
-    run_on D.acts_as_file D.seen D.may_leave D.stored D.moment D.left_since D.renews c.args.file.now
+    subst (λ (r : MeterPort). Run D.acts_as_file D.seen D.may_leave D.stored D.moment D.left_since
+    D.renews c.args.file.now c.save.new.file c.args.port.now r c.in_ok-saved.saved.count)
+    (sym c.announce.ensures)
+    (run_on D.acts_as_file D.seen D.may_leave D.stored D.moment D.left_since D.renews
+    c.args.file.now
     c.saving.file c.save.new.file c.args.port.now c.saving.port c.save.new.port
     c.saving.saved.count c.in_ok-saved.saved.count c.saving.invariant c.save.ensures.same
     c.save.ensures.watches c.in_ok-saved.ensures.settled c.in_ok-saved.ensures.saved
-    c.save.ensures.any_moment
+    c.save.ensures.any_moment)
+
+pub returns-in_err-saved-clause-watches : goal.returns-in_err-saved-clause-watches
+returns-in_err-saved-clause-watches g c = watches_trans c.args.port.now.known
+    c.saving.port.known c.save.new.port.known c.saving.invariant.watches c.save.ensures.watches
 
 pub saving-preserved : goal.saving-preserved
 saving-preserved g c =
@@ -58,10 +69,10 @@ returns-then-is_last-clause-any_moment g c =
     c.save.ensures.any_moment in
     run.any_moment
 
-pub announce-requires : goal.announce-requires
-announce-requires g c =
+pub announce-requires-clause-synced : goal.announce-requires-clause-synced
+announce-requires-clause-synced g c =
     let D = g.F.DurableFile in
-    stored_lines D.acts_as_file D.seen D.may_leave D.stored D.moment D.left_since D.renews
+    synced_lines D.acts_as_file D.seen D.may_leave D.stored D.moment D.left_since D.renews
     c.args.file.now c.save.new.file c.args.port.now c.save.new.port c.in_ok-saved.saved.count
     (run_on D.acts_as_file D.seen D.may_leave D.stored D.moment D.left_since D.renews
     c.args.file.now c.saving.file c.save.new.file c.args.port.now c.saving.port c.save.new.port

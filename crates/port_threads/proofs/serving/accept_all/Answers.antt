@@ -37,3 +37,7 @@ connections-preserved g c =
 pub returns-in_default-clause-counted : goal.returns-in_default-clause-counted
 returns-in_default-clause-counted g c =
     counted_still _ _ _ _ c.connections.invariant.counted c.in_default.ensures.accepted_none
+
+pub take_next-requires-clause-fits : goal.take_next-requires-clause-fits
+take_next-requires-clause-fits g c κs within = λ p same.
+    c.requires.fits p (same ∙ c.connections.invariant.keeps_ports.goes.lock)

@@ -1,4 +1,4 @@
-use Rattle.std.proofs.Common.{[]}
+use Rattle.std.proofs.Common.{[], ◌∙◌}
 use Rattle.port_threads.specs.Sessions.{port_of, terms_of}
 use Rattle.port_threads.proofs.PortsKept.{keeps_trans}
 use Rattle.port_threads.proofs.serving.take_next.Goals as goal
@@ -15,3 +15,7 @@ returns-in-Err-clause-keeps_ports g c = c.reap.ensures.keeps_ports _
 
 pub take_in-requires-clause-held : goal.take_in-requires-clause-held
 take_in-requires-clause-held g c κs within = (c.reap.ensures.keeps_ports []).holds c.requires.held
+
+pub take_in-requires-clause-fits : goal.take_in-requires-clause-fits
+take_in-requires-clause-fits g c κs within = λ p same.
+    c.requires.fits p (same ∙ (c.reap.ensures.keeps_ports []).goes.lock)

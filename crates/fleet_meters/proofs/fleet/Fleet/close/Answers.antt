@@ -1,4 +1,4 @@
-use Rattle.std.proofs.Common.{rules, sym, ◌∙◌}
+use Rattle.std.proofs.Common.{sym}
 use Rattle.fleet_meters.proofs.Fleets.{release_facts}
 use Rattle.fleet_meters.proofs.fleet.Fleet.close.Goals as goal
 

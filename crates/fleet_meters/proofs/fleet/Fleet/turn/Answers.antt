@@ -1,4 +1,4 @@
-use Rattle.std.proofs.Common.{rules, sym, subst, ◌∙◌, arith, ◌<◌, ℕ, length}
+use Rattle.std.proofs.Common.{sym, subst, arith, length}
 use Rattle.std.specs.Option.{IsSome}
 use Rattle.std.proofs.lemmas.Bool.{false≢true}
 use Rattle.fleet_meters.proofs.Fleets.{run_facts}

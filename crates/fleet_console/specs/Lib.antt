@@ -1,0 +1,4 @@
+-- What the contracts of the console of a fleet refer to.
+pub mod Commands
+pub mod Running
+pub mod Slices

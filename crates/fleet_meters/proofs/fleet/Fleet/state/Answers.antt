@@ -1,0 +1,17 @@
+use Rattle.std.proofs.Common.{rules, arith}
+use Rattle.fleet_meters.proofs.Seats.{state_in}
+use Rattle.fleet_meters.proofs.fleet.Fleet.state.Goals as goal
+
+pub returns-in_default : goal.returns-in_default
+returns-in_default g c = rw (← c.self.view_is) (λ place same.
+    let least = c.in_default.ensures.none place same in
+    omega (arith, least, c.len.ensures))
+
+pub returns-in-Ok : goal.returns-in-Ok
+returns-in-Ok g c = rw (← c.self.view_is) (
+  c.in-Some.at,
+  c.in-Some.ensures.place.0,
+  state_in c.self.inside.terms c.self.inside.places.items c.in-Some.at c.index.result.now
+      c.in-Ok.state (omega (arith, c.in-Some.ensures.place.1, c.len.ensures)) (search rules)
+      c.in-Ok.ensures,
+)

@@ -1,0 +1,4 @@
+pub mod AddedStates
+pub mod AnswerLemmas
+pub mod AnswerStates
+pub mod ReadLemmas

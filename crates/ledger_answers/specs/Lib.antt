@@ -1,0 +1,3 @@
+-- What the contracts of a file of answers refer to.
+pub mod Answers
+pub mod Schema

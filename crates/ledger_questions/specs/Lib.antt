@@ -1,0 +1,3 @@
+-- What the contracts of the questions to meters refer to.
+pub mod Asked
+pub mod Questions

@@ -1,0 +1,26 @@
+//! The faults that the command line injects into meters.
+use clap::ArgMatches;
+use fleet_faults::{FaultPlan, FaultShares};
+use program::Fault;
+
+/// Returns which meters have which fault. Error: `Input` if a share is not valid, with a line on
+/// standard error if `--verbose` is given.
+pub(crate) fn fault_plan(rt: &HostRuntime, matches: &ArgMatches<'_>) -> Result<FaultPlan, Fault> {
+    let mut shares = FaultShares::new();
+    if let Some(words) = matches.get_strs("fault") {
+        for word in words {
+            let word = *word;
+            match shares.with_word(word.as_bytes()) {
+                Ok(with_word) => shares = with_word,
+                Err(fault) => {
+                    if matches.get_flag("verbose") {
+                        let _ = eprintln!(rt; "fault {word}: {fault}");
+                    }
+                    return Err(Fault::Input);
+                }
+            }
+        }
+    }
+    let seed = matches.get_one::<u32>("seed").unwrap_or(0);
+    Ok(FaultPlan { shares, seed })
+}

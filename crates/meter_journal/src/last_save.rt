@@ -1,0 +1,96 @@
+//! `LastSave`: how many lines of a journal are on the disk, and of which history they are.
+ghost use Rattle.std.specs.Prelude.{◌≡◌, ℕ, []};
+ghost use Rattle.atomic_table.specs.Seated.{TableId};
+ghost use Rattle.turn_lock.specs.Calls.{Watches};
+ghost use Rattle.turn_lock.specs.Shown.{IsSame};
+ghost use Rattle.shared_meter.specs.Calls.{IsLegal};
+ghost use Rattle.shared_meter.specs.Settling.{AreDurable};
+ghost use Rattle.meter_journal.specs.Saving.{IsSynced};
+
+use durable_lines::DurableFile;
+use shared_meter::Kept;
+use std::marker::{Brand, Model, PhantomData};
+use std::mem;
+use turn_lock::{Note, Port};
+
+/// The lock of the meter whose lines a journal has.
+///
+/// The handles of a journal have a type parameter with this bound, so that no handle waits for the
+/// lines of another meter. The call that begins a journal picks the lock, by
+/// [`Brand`](std::marker::Brand).
+pub trait JournalLock {
+    /// Ghost value: the lock.
+    ghost lock: { TableId };
+}
+
+/// The type argument of a call that picks the lock.
+impl JournalLock for Brand {
+    ghost lock = { record {
+      words = 0;
+      slots = 0;
+      views_name = 0;
+      atom = 0;
+      block = 0;
+      offset = 0;
+      slot_names = [];
+    } };
+}
+
+// The number of lines that the last save has put on the disk, and a note of the history whose first
+// lines they are. Contracts see the number.
+#[derive(Drop)]
+pub(crate) struct LastSave<F: DurableFile, L: JournalLock> {
+    count: u64,
+    note: Note<Kept>,
+    marker: PhantomData<(F, L)>,
+}
+
+impl<F: DurableFile, L: JournalLock> Model for LastSave<F, L> {
+    ghost Value = { ℕ };
+
+    ghost view = { λ s. s.count };
+
+    ghost invariant = { λ s. (s.note.lock ≡ L.lock)
+        × (F.acts_as_file → IsSynced F.renews F.stored s.note.seen s.count) };
+}
+
+impl<F: DurableFile, L: JournalLock> LastSave<F, L> {
+    // Returns a save of the first lines of the port's history, of this number.
+    pub(crate) fn new(port: &mut Port<Kept>, count: u64) -> LastSave<F, L>
+        requires lock { port.old.lock ≡ L.lock }
+        requires synced { F.acts_as_file → IsSynced F.renews F.stored port.old.known.seen count }
+        ensures { port.new ≡ port.old }
+    {
+        LastSave {
+            count,
+            note: port.tell(),
+            marker: PhantomData,
+        }
+    }
+
+    // Records that the first lines of the port's history, of this number, are on the disk.
+    pub(crate) fn update(&mut self, port: &mut Port<Kept>, count: u64)
+        requires lock { port.old.lock ≡ L.lock }
+        requires synced { F.acts_as_file → IsSynced F.renews F.stored port.old.known.seen count }
+        ensures { port.new ≡ port.old }
+    {
+        self.count = count;
+        self.note = port.tell();
+    }
+
+    // Shows the port the history whose lines are on the disk, and returns their number.
+    pub(crate) fn show(&mut self, port: &mut Port<Kept>) -> u64
+        requires { port.old.lock ≡ L.lock }
+        ensures same { IsSame port.old port.new }
+        ensures watches { Watches IsLegal port.old.known port.new.known }
+        ensures durable { AreDurable
+            (λ calls n. F.acts_as_file → IsSynced F.renews F.stored calls n)
+            port.new.known.seen result }
+    {
+        let own = port.tell();
+        let note = mem::replace(&mut self.note, own);
+        port.meet(note);
+        self.note = port.tell();
+        self.count
+    }
+}

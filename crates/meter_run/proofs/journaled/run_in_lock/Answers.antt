@@ -1,0 +1,28 @@
+use denote.Param.Send.{sendable}
+use Rattle.std.proofs.Crossing.{crosses}
+use Rattle.shared_meter.proofs.Sent.{kept_send}
+use Rattle.turn_lock.proofs.Sent.{note_send}
+use Rattle.meter_run.proofs.JournaledLemmas.{journaled_by}
+use Rattle.meter_run.proofs.journaled.run_in_lock.Goals as goal
+
+pub serve-port-requires-send-D : goal.serve-port-requires-send-D
+serve-port-requires-send-D g c κs within =
+    let f = c.type_bounds.send-F in
+    let k = c.type_bounds.send-K in
+    search (sendable, crosses, note_send, kept_send) depth 40 fits 100000
+
+pub returns-clause-run : goal.returns-clause-run
+returns-clause-run g c = λ recorder known.
+    let D = g.F.DurableFile in
+    let started = c.in-Some.started in
+    journaled_by D.acts_as_file D.seen D.may_leave D.moment D.left_since D.stored
+    D.renews c.args.journal.file recorder (record {
+      blocks = g.B.BlockSource.forecast c.args.sources.blocks;
+      moments = g.M.MomentSource.forecast c.args.sources.moments;
+      presses = g.U.ButtonSource.forecast c.args.sources.buttons;
+      password = c.args.terms.now.password.now;
+    }) c.serve-port.result.1 c.finish-trace.result.0 c.finish-trace.result.1
+    started.running.promise.port.value
+    started.port c.serve-port.result.0 started.running.promise.worker.value c.in-Some.ensures.file
+    c.file_is_idle.ensures (c.in-Some.ensures.starts _ known) c.serve-port.ensures.serves
+    c.serve-port.ensures.journaled c.finish-trace.ensures.finished
