@@ -8,6 +8,7 @@
 - The other functions have no body in the copy that is checked.
 - Edits of wrong/long/ are judged only with --long.
 - A round ends once its check has printed its lines.
+- An edit that was refused is judged again only if its text or its crate has changed.
 """
 import importlib.machinery
 import importlib.util
@@ -184,6 +185,23 @@ def rounds_end_at_their_lines():
     return {"a round ends once its check has its lines": found == [False, False, True]}
 
 
+def refused_ones_are_known():
+    """Checks `Refused` with an edit of the crate program that is refused, and then changed."""
+    module, found = judge(), []
+    with tempfile.TemporaryDirectory() as folder:
+        module.rt.STORE = f"{folder}/kept"
+        crate = next(it for it in module.rt.rtlib.crates_below(TOP) if it.name == "program")
+        edit = types.SimpleNamespace(crate=crate, file=f"{folder}/one.edit")
+        for text in ("new: 4", "new: 5"):
+            with open(edit.file, "w", encoding="utf-8") as file:
+                file.write(text)
+            found.append(module.Refused([crate], False).line_of(edit))
+            module.Refused(crate.below() + [crate], False).add(edit, f"refused: {text}")
+            found.append(module.Refused([crate], False).line_of(edit))
+        found.append(module.Refused([crate], True).line_of(edit))
+    return {"a refused edit is judged again only if it has changed, or with --anew": found == [None, "refused: new: 4", None, "refused: new: 5", None]}
+
+
 def judge_edits():
     """Runs bin/wrong_bodies with the edits; returns its status and its lines."""
     with tempfile.TemporaryDirectory() as folder:
@@ -193,7 +211,7 @@ def judge_edits():
             with open(file, "w", encoding="utf-8") as it:
                 it.write(f"file: src/fault.rt\nold: {old}\nnew: {new}\n")
             words += ["--with", f"program={file}"]
-        ran = subprocess.run([f"{TOP}/bin/wrong_bodies", *words, "program"], capture_output=True, text=True)
+        ran = subprocess.run([f"{TOP}/bin/wrong_bodies", "--anew", *words, "program"], capture_output=True, text=True)
     return ran.returncode, ran.stdout.rstrip("\n").split("\n")
 
 
@@ -208,6 +226,7 @@ def main():
     rows.update(edited_functions_are_kept())
     rows.update(long_ones_are_apart())
     rows.update(rounds_end_at_their_lines())
+    rows.update(refused_ones_are_known())
     for name, is_well in rows.items():
         print(f"wrong_bodies_reports: {name}: {'passed' if is_well else 'FAILED'}")
     failed = sum(not it for it in rows.values())
