@@ -1,19 +1,21 @@
 #!/usr/bin/env python3
-"""Tests `head_end run --ledger FILE`, `head_end ask` and `head_end status`. Campaigns of 300 jobs against scripted
-meters that count what they receive are killed at random times, and run again on the same ledger
-until they are whole: no meter may get a second command, each command must have its mark in the
-ledger, no outcome may be lost, and SQLite must find each ledger that a kill left whole. Also
-tested: ledgers and lists that are refused, two runs at once, meters that were down, the order of
-one meter's jobs, meters with passwords of their own, meters that are asked for their states, a full
-disk, and each failing read, write and sync. Every wait has a time limit. If the program has no option --ledger, all of it is skipped.
+"""Tests `head_end run --ledger FILE`, `head_end ask` and `head_end status`. Campaigns of 300 jobs
+against scripted meters that count what they receive are killed at random times, and run again on
+the same ledger until they are whole: no meter may get a second command, each command must have its
+mark in the ledger, no outcome may be lost, and SQLite must find each ledger that a kill left whole.
+Also tested: ledgers and lists that are refused, two runs at once, meters that were down, the order
+of one meter's jobs, meters with passwords of their own, meters that are asked for their states, a
+full disk, and each failing read, write and sync. Every wait has a time limit. If the program has no
+option --ledger, all of it is skipped.
 
 usage: tests/ledger.py [--long] [--seed N]
 
-  --long     200 campaigns that are killed instead of 20, and each read, write and sync fails
+  --long     2,000 campaigns that are killed instead of 200, and each read, write and sync fails
   --seed N   the seed of the random choices; the times are never the same twice"""
 
 import argparse
 import collections
+import concurrent.futures
 import contextlib
 import os
 import pathlib
@@ -40,7 +42,8 @@ from serving import PASSWORD, PATIENCE, Server, TOP, check, test
 HEAD_END = os.environ.get("HEAD_END") or TOP / "crates" / "head_end_cli" / "out" / "head_end_cli"
 
 JOBS = 300
-KILLED, LONG_KILLED = 20, 200  # campaigns that are killed
+KILLED, LONG_KILLED = 200, 2_000  # campaigns that are killed
+LANES = 4  # of them at the same time: they mostly wait
 MOST_RUNS = 60  # of one campaign
 LONGEST = 120  # the time limit of a run, in seconds
 SEED = 49
@@ -226,9 +229,9 @@ def a_ledger_changes_no_row(name, folder):
         check(f"{name}: and no entry", entries(ledger) == found)
 
 
-def kill_until_whole(name, folder, meters, number):
+def kill_until_whole(folder, meters, number):
     """A campaign that is killed at random times and run again until it ends. Returns its history
-    and the number of kills."""
+    and its last run."""
     choose = random.Random(f"{seed} {number}")
     campaign, ledger = campaign_of(meters, choose), folder / f"ledger{number}"
     history, longest = History(campaign), choose.choice((0.1, 0.4, 1.0))
@@ -237,23 +240,41 @@ def kill_until_whole(name, folder, meters, number):
         ran = run(ledger, campaign.text, workers, choose.uniform(0.005, longest))
         history.follow(ledger, 0 if ran else workers)
         if ran:
-            history.check_end(f"{name} {number}", ran)
-            return history
+            return history, ran
         longest *= 1.1  # so that it ends
     raise AssertionError(f"campaign {number} is not whole after {MOST_RUNS} runs")
+
+
+def kill_campaigns(folder, meters, numbers):
+    """Kills these campaigns one after the other. Returns for each its number, its history and its
+    last run, or its number, None and an error."""
+    found = []
+    for number in numbers:
+        try:
+            found.append((number, *kill_until_whole(folder, meters, number)))
+        except AssertionError as error:
+            found.append((number, None, error))
+            meters.take_counts()
+    return found
+
+
+def kill_in_lanes(folder, campaigns):
+    """Kills campaigns in lanes, each with meters of its own; returns what `kill_campaigns` does."""
+    numbers = [range(lane, campaigns + 1, LANES) for lane in range(1, LANES + 1)]
+    with contextlib.ExitStack() as stack:
+        meters = [stack.enter_context(running_meters()) for _ in numbers]
+        lanes = stack.enter_context(concurrent.futures.ThreadPoolExecutor(LANES))
+        found = lanes.map(kill_campaigns, [folder] * LANES, meters, numbers)
+        return [one for lane in found for one in lane]
 
 
 @in_folder
 def killed_campaigns_command_nobody_twice(name, folder):
     totals, campaigns = collections.Counter(), LONG_KILLED if is_long else KILLED
-    with running_meters() as meters:
-        for number in range(1, campaigns + 1):
-            try:
-                history = kill_until_whole(name, folder, meters, number)
-            except AssertionError as error:
-                check(f"{name}: campaign {number}, seed {seed}", False, error)
-                meters.take_counts()
-                continue
+    for number, history, ran in kill_in_lanes(folder, campaigns):
+        check(f"{name}: campaign {number}, seed {seed}", history, ran)
+        if history:
+            history.check_end(f"{name} {number}", ran)
             totals.update(kills=history.runs - 1, commands=sum(history.commands),
                           unknown=len(history.torn), outcomes=len(history.outcomes))
     print(f"{name}: {campaigns} campaigns of {JOBS} jobs, {totals['kills']} kills, "

@@ -21,12 +21,12 @@ import types
 
 TOP = os.path.dirname(os.path.dirname(os.path.realpath(__file__)))
 
-# Edits of the crate program, whose functions have wrong bodies in wrong/: names, old and new texts,
-# and the expected lines.
+# Edits of the crate relay_events, a small one: names, old and new texts, and the expected lines.
+READS = "Event::Get { .. } | Event::GetList { .. })"
 EDITS = {
-    "a_right_body": ("Fault::Memory | Fault::Turns => 4,", "Fault::Turns | Fault::Memory => 4,", r"NOT REFUSED"),
-    "a_body_that_cannot_be_read": ("Fault::Memory | Fault::Turns => 4,", "Fault::Memory | Fault::Turns => 4)(,", r"BAD EDIT"),
-    "a_text_that_is_not_there": ("Fault::Memory | Fault::Turns => 5,", "Fault::Memory | Fault::Turns => 4,", r"BAD EDIT"),
+    "a_right_body": (READS, "Event::GetList { .. } | Event::Get { .. })", r"NOT REFUSED"),
+    "a_body_that_cannot_be_read": (READS, f"{READS})(,", r"BAD EDIT"),
+    "a_text_that_is_not_there": ("Event::GetList { .. } | Event::Get { .. })", READS, r"BAD EDIT"),
 }
 
 BODY = "const LIMIT: u8 = 3;\n\nfn limit() -> u8 {\n    LIMIT\n}\n"
@@ -186,11 +186,11 @@ def rounds_end_at_their_lines():
 
 
 def refused_ones_are_known():
-    """Checks `Refused` with an edit of the crate program that is refused, and then changed."""
+    """Checks `Refused` with an edit of a crate that is refused, and then changed."""
     module, found = judge(), []
     with tempfile.TemporaryDirectory() as folder:
         module.rt.STORE = f"{folder}/kept"
-        crate = next(it for it in module.rt.rtlib.crates_below(TOP) if it.name == "program")
+        crate = next(it for it in module.rt.rtlib.crates_below(TOP) if it.name == "relay_events")
         edit = types.SimpleNamespace(crate=crate, file=f"{folder}/one.edit")
         for text in ("new: 4", "new: 5"):
             with open(edit.file, "w", encoding="utf-8") as file:
@@ -209,16 +209,16 @@ def judge_edits():
         for name, (old, new, _) in EDITS.items():
             file = f"{folder}/{name}.edit"
             with open(file, "w", encoding="utf-8") as it:
-                it.write(f"file: src/fault.rt\nold: {old}\nnew: {new}\n")
-            words += ["--with", f"program={file}"]
-        ran = subprocess.run([f"{TOP}/bin/wrong_bodies", "--anew", *words, "program"], capture_output=True, text=True)
+                it.write(f"file: src/event.rt\nold: {old}\nnew: {new}\n")
+            words += ["--with", f"relay_events={file}"]
+        ran = subprocess.run([f"{TOP}/bin/wrong_bodies", "--anew", *words, "relay_events"], capture_output=True, text=True)
     return ran.returncode, ran.stdout.rstrip("\n").split("\n")
 
 
 def main():
     status, lines = judge_edits()
-    own = [it for it in lines if "program/" in it and not any(name in it for name in EDITS)]
-    rows = {name: any(f"program/{name}: " in it and re.search(wanted, it) for it in lines) for name, (_, _, wanted) in EDITS.items()}
+    own = [it for it in lines if "relay_events/" in it and not any(name in it for name in EDITS)]
+    rows = {name: any(f"relay_events/{name}: " in it and re.search(wanted, it) for it in lines) for name, (_, _, wanted) in EDITS.items()}
     rows["the wrong bodies of the crate are refused"] = bool(own) and all(": refused" in it for it in own)
     rows["all are counted"] = status == 1 and lines[-1] == f"{len(own)} passed, {len(EDITS)} failed"
     rows.update(users_are_found())
