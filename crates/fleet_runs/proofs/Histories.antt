@@ -9,6 +9,7 @@ use Rattle.relay_events.specs.declared.reply.Reply.{Reply}
 use Rattle.embedded_meter.specs.MeterStates.{MeterState, Takes}
 use Rattle.fleet_meters.specs.Fleets.{FleetState, MetersStay}
 use Rattle.fleet_meters.specs.Places.{Makes, meter_in}
+use Rattle.fleet_meters.specs.Terms.{terms_at}
 use Rattle.fleet_meters.specs.declared.terms.MeterTerms.{MeterTerms}
 use Rattle.fleet_runs.specs.Calls.{FleetCall, admitted, ran, closed, missed, gave, CallsBy, Calls}
 use Rattle.fleet_runs.specs.Calls.{told_there, told_at}
@@ -101,7 +102,7 @@ history_call room place (admitted number stream (Ok key)) old new m by is =
       goes = extends_nothing m seats.after
           (seats.opens.recorder
           ∙ ap (λ (q : MeterState). q.recorder)
-          (made_there old.terms (meter_in old.places by.0) m seats.before
+          (made_there (terms_at old.terms by.0) (meter_in old.places by.0) m seats.before
           (ap (λ (p : ℕ). meter_in old.places p) e ∙ is) seats.makes));
     })
 history_call room place (admitted number stream (Err why)) old new m by is =
@@ -137,7 +138,7 @@ history_call room place (gave at event reply) old new m by is = by_number at pla
       goes = subst (λ (t : List Exchange). ExtendsHistory t m by.gives.after)
           (sym (ap (λ (b : _). if b then (event, reply) ∷ [] else []) e'))
           (subst (λ (q : MeterState). ExtendsHistory ((event, reply) ∷ []) q by.gives.after)
-          (made_there old.terms (meter_in old.places at) m by.gives.before
+          (made_there (terms_at old.terms at) (meter_in old.places at) m by.gives.before
           (ap (λ (p : ℕ). meter_in old.places p) e ∙ is) by.gives.makes)
           (extends_event by.gives.before by.gives.after event reply by.gives.takes));
     })
