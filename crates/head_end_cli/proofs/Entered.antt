@@ -1,7 +1,6 @@
 -- The lines of a ledger with their answers, and what is printed of questions.
-use Rattle.std.proofs.Common.{◌≡◌, ◌<◌, ◌++◌, ℕ, suc, List, [], ◌∷◌, map, length, take, arith}
+use Rattle.std.proofs.Common.{◌≡◌, ◌<◌, ℕ, suc, List, [], ◌∷◌, map, length, arith}
 use Rattle.std.proofs.Common.{slice_index_or, refl}
-use Rattle.std.proofs.Math.Seq.{take-append_seam}
 use Rattle.std.proofs.Common.{Result, Ok, Err, OnOk, IsOk}
 use Rattle.std.proofs.lemmas.Bool.{false≢true}
 use Rattle.ledger_reports.specs.Answers.{with_answer}
@@ -21,10 +20,6 @@ entered answers (line ∷ lines) (new ∷ news) same each =
     let rest = entered answers lines news (omega arith)
     (λ i l below. each (suc i) l (omega arith)) in
     rw (first, rest) refl
-
--- a list that was written to the front of a longer one
-pub written : {T : Type 0} (n : ℕ) (xs ys : List T) → n ≡ length xs → take n (xs ++ ys) ≡ xs
-written n xs ys is = rw is (take-append_seam xs ys)
 
 -- what holds if a result is Ok may be replaced by what follows from it
 pub on_ok : {T F A B : Type 0} (result : Result T F) → (A → B) → OnOk result A → OnOk result B

@@ -1,6 +1,6 @@
 //! The command `head_end ask`: asks the meters of a ledger that gave no valid answer for their
 //! states.
-ghost use Rattle.std.specs.Prelude.{◌≡◌, string_bytes, IfOk, OnOk};
+ghost use Rattle.std.specs.Prelude.{IfOk, OnOk};
 ghost use Rattle.sqlite.specs.WalFiles.{image_at};
 ghost use Rattle.clap.specs.Matches.{found_of};
 ghost use Rattle.head_end_cli.specs.Asking.{PrintsAnswers, PrintsAsked};
@@ -8,18 +8,17 @@ ghost use Rattle.head_end_commands.specs.Options.{AreLimits, AreWorkers};
 ghost use Rattle.head_end_commands.specs.Passwords.{HasPasswords};
 ghost use Rattle.ledger_file_runs.specs.Asked.{AreQuestions};
 
-use crate::ledgered::LedgeredCampaign;
-use crate::progress::{CampaignProgress, ProgressWatch};
-use crate::status::{load_answers, read_fault};
+use crate::faults::report_open_fault;
+use crate::ledgered::watched;
+use crate::progress::ProgressWatch;
+use crate::status::load_answers;
 use clap::ArgMatches;
 use head_end::{Connector, Jobs};
-use head_end_commands::plan_jobs;
-use ledger_campaigns::LedgeredPlan;
+use head_end_commands::{CampaignPlan, plan_jobs};
 use ledger_file_runs::{AskedLedger, ask_with_ledger, read_questions};
 use program::{Fault, print_text};
 use sqlite::{FileFrom, Start};
 use sqlite_disk::Disk;
-use sqlite_ledger::LedgerOpenFault;
 use std::io::Write;
 use std::thread::Threads;
 
@@ -41,27 +40,12 @@ fn load_questions(rt: &HostRuntime, path: &str) -> Result<Jobs, Fault>
                 Err(fault)
             }
         },
-        Err(fault) => {
-            let _ = eprintln!(rt; "ledger: {fault}");
-            Err(read_fault(fault))
-        }
+        Err(fault) => Err(report_open_fault(rt, "ledger", fault, Fault::Read)),
     }
 }
 
-// Returns the program's fault if answers are not recorded, after a line on standard error.
-fn record_fault(rt: &HostRuntime, fault: LedgerOpenFault) -> Fault {
-    let _ = eprintln!(rt; "answers: {fault}");
-    match fault {
-        LedgerOpenFault::NotALedger | LedgerOpenFault::OtherList | LedgerOpenFault::Answers => {
-            Fault::Input
-        }
-        LedgerOpenFault::Busy | LedgerOpenFault::File => Fault::Write,
-        LedgerOpenFault::Memory => Fault::Memory,
-    }
-}
-
-// Prints the report of the questions, also if their answers are not recorded. Errors: those of
-// `record_fault`, or else `Write`.
+// Prints the report of the questions. If their answers are not recorded, also writes a line on
+// standard error. Errors: `Input` if the file of answers is something else; `Write`; `Memory`.
 fn print_answers<W: Write>(
     rt: &HostRuntime,
     asked: AskedLedger,
@@ -71,9 +55,10 @@ fn print_answers<W: Write>(
 {
     let AskedLedger { text, recorded } = asked;
     let printed = print_text(output, text.as_slice());
+    drop(text);
     match recorded {
         Ok(()) => printed,
-        Err(fault) => Err(record_fault(rt, fault)),
+        Err(fault) => Err(report_open_fault(rt, "answers", fault, Fault::Write)),
     }
 }
 
@@ -84,56 +69,38 @@ pub(crate) fn plan_asking(
     rt: &HostRuntime,
     matches: &ArgMatches<'_>,
     path: &str,
-) -> Result<LedgeredCampaign, Fault>
-    ensures questions { IfOk result (λ plan. AreQuestions plan.campaign.jobs) }
-    ensures limits { IfOk result (λ plan. AreLimits (found_of matches.now) plan.campaign.limits) }
-    ensures workers { IfOk result (λ plan. AreWorkers (found_of matches.now)
-        plan.campaign.workers) }
-    ensures passwords { IfOk result (λ plan. HasPasswords (found_of matches.now)
-        plan.campaign.jobs plan.campaign.passwords) }
-    ensures path { IfOk result (λ plan. string_bytes plan.path ≡ path.now) }
+) -> Result<CampaignPlan, Fault>
+    ensures questions { IfOk result (λ plan. AreQuestions plan.jobs) }
+    ensures limits { IfOk result (λ plan. AreLimits (found_of matches.now) plan.limits) }
+    ensures workers { IfOk result (λ plan. AreWorkers (found_of matches.now) plan.workers) }
+    ensures passwords { IfOk result (λ plan. HasPasswords (found_of matches.now) plan.jobs
+        plan.passwords) }
 {
-    let jobs = load_questions(rt, path)?;
-    let campaign = plan_jobs(rt, matches, jobs)?;
-    match String::from_str(rt.alloc(), path) {
-        Ok(path) => Ok(LedgeredCampaign { campaign, path }),
-        Err(_) => {
-            drop(campaign);
-            Err(Fault::Memory)
-        }
+    match load_questions(rt, path) {
+        Ok(jobs) => plan_jobs(rt, matches, jobs),
+        Err(fault) => Err(fault),
     }
 }
 
-// Asks the meters of the jobs of a plan for their states, records the answers next to its ledger,
-// where `S` stands for what that file holds, and then prints the report. If the answers are not
-// recorded, writes a line on standard error and prints the report as well. Errors: `Memory`;
+// Asks the meters of the jobs of a plan for their states, records the answers next to the ledger at
+// a path, where `S` stands for what that file holds, and then prints the report. If the answers are
+// not recorded, writes a line on standard error and prints the report as well. Errors: `Memory`;
 // `Input` if the file of answers is something else; `Write`.
 pub(crate) fn ask<S: Start, R: Threads + Sync, C: Connector, W: Write>(
     rt: &HostRuntime,
     threads: &R,
     connector: &C,
-    plan: &LedgeredCampaign,
+    plan: &CampaignPlan,
+    path: &str,
     start: S,
     output: &mut W,
 ) -> Result<(), Fault>
     ensures { OnOk result (PrintsAnswers ⟦<FileFrom<S> as Disk>⟧ (image_at S.Start)
-        (C.tells connector.now) plan.now.campaign.workers plan.now.campaign.jobs
-        plan.now.campaign.passwords (W.contents output.old) (W.contents output.new)) }
+        (C.tells connector.now) plan.now.workers plan.now.jobs plan.now.passwords
+        (W.contents output.old) (W.contents output.new)) }
 {
-    let campaign = &plan.campaign;
-    let progress = CampaignProgress::new(rt, campaign.jobs.len());
-    let watch = ProgressWatch {
-        rt,
-        progress: &progress,
-        is_shown: campaign.is_shown,
-    };
-    let asking = LedgeredPlan {
-        jobs: &campaign.jobs,
-        passwords: campaign.passwords.as_slice(),
-        workers: campaign.workers,
-        watcher: &watch,
-    };
-    match ask_with_ledger(rt, threads, &asking, plan.path.as_str(), start, connector) {
+    let watch = ProgressWatch::new(rt, plan);
+    match ask_with_ledger(rt, threads, &watched(plan, &watch), path, start, connector) {
         Ok(asked) => print_answers(rt, asked, output),
         Err(_) => Err(Fault::Memory),
     }

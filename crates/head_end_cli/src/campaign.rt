@@ -2,7 +2,7 @@
 ghost use Rattle.std.specs.Prelude.{OnOk};
 ghost use Rattle.head_end_cli.specs.Printed.{PrintsReport};
 
-use crate::progress::{CampaignProgress, ProgressWatch};
+use crate::progress::ProgressWatch;
 use head_end::{Connector, places_for, report_jobs};
 use head_end_commands::CampaignPlan;
 use program::{Fault, print_text};
@@ -21,12 +21,7 @@ pub(crate) fn run<R: Threads + Sync, C: Connector, W: Write>(
         (PrintsReport (C.tells connector.now) plan.now.workers plan.now.jobs plan.now.passwords
         (W.contents output.old) (W.contents output.new)) }
 {
-    let progress = CampaignProgress::new(rt, plan.jobs.len());
-    let watch = ProgressWatch {
-        rt,
-        progress: &progress,
-        is_shown: plan.is_shown,
-    };
+    let watch = ProgressWatch::new(rt, plan);
     let places = places_for(rt.alloc(), connector, plan.jobs.len(), plan.workers);
     let mut places = places.map_err(|_| Fault::Memory)?;
     let report = report_jobs(

@@ -1,98 +1,58 @@
 //! The command `head_end run --ledger FILE`: a campaign that is resumed by its ledger.
-ghost use Rattle.std.specs.Prelude.{◌≡◌, string_bytes, IfOk, OnOk};
+ghost use Rattle.std.specs.Prelude.{◌≡◌, OnOk};
 ghost use Rattle.std.specs.Io.KnownBytes.{Appends};
 ghost use Rattle.sqlite.specs.WalFiles.{image_at};
-ghost use Rattle.clap.specs.Matches.{found_of};
 ghost use Rattle.head_end_cli.specs.Ledgered.{PrintsRun, PrintsTexts};
-ghost use Rattle.head_end_commands.specs.Options.{AreLimits, AreWorkers};
-ghost use Rattle.head_end_commands.specs.Passwords.{HasPasswords};
 
-use crate::progress::{CampaignProgress, ProgressWatch};
-use clap::ArgMatches;
-use head_end::Connector;
-use head_end_commands::{CampaignPlan, plan_campaign};
+use crate::faults::report_open_fault;
+use crate::progress::ProgressWatch;
+use head_end::{Connector, Watcher};
+use head_end_commands::CampaignPlan;
 use ledger_campaigns::LedgeredPlan;
 use ledger_file_runs::{LedgerReport, run_with_ledger};
 use ledger_runs::LedgerTexts;
 use program::{Fault, print_text};
 use sqlite::{FileFrom, Start};
 use sqlite_disk::Disk;
-use sqlite_ledger::LedgerOpenFault;
 use std::io::Write;
 use std::sync::Wait;
 use std::thread::Threads;
 
-// A campaign whose jobs and options are all valid, and the path of its ledger.
-#[derive(Drop)]
-pub(crate) struct LedgeredCampaign {
-    // The jobs and the options.
-    pub(crate) campaign: CampaignPlan,
-    // The path of the file that holds the ledger.
-    pub(crate) path: String,
-}
-
-// Validates the options and reads the jobs on standard input, and then the passwords of the jobs.
-// If `--verbose` is given, a line on standard error describes the fault.
-pub(crate) fn plan_ledgered(
-    rt: &HostRuntime,
-    matches: &ArgMatches<'_>,
-    path: &str,
-) -> Result<LedgeredCampaign, Fault>
-    ensures limits { IfOk result (λ plan. AreLimits (found_of matches.now) plan.campaign.limits) }
-    ensures workers { IfOk result (λ plan. AreWorkers (found_of matches.now)
-        plan.campaign.workers) }
-    ensures passwords { IfOk result (λ plan. HasPasswords (found_of matches.now)
-        plan.campaign.jobs plan.campaign.passwords) }
-    ensures path { IfOk result (λ plan. string_bytes plan.path ≡ path.now) }
+// Returns the plan with a watcher of its jobs.
+pub(crate) fn watched<'a, W: Watcher>(plan: &'a CampaignPlan, watcher: &'a W) -> LedgeredPlan<'a, W>
+    ensures jobs { result.jobs.now ≡ plan.now.jobs }
+    ensures passwords { result.passwords.now ≡ plan.now.passwords }
+    ensures workers { result.workers ≡ plan.now.workers }
 {
-    let Ok(path) = String::from_str(rt.alloc(), path) else {
-        return Err(Fault::Memory);
-    };
-    match plan_campaign(rt, matches) {
-        Ok(campaign) => Ok(LedgeredCampaign { campaign, path }),
-        Err(fault) => {
-            drop(path);
-            Err(fault)
-        }
+    LedgeredPlan {
+        jobs: &plan.jobs,
+        passwords: plan.passwords.as_slice(),
+        workers: plan.workers,
+        watcher,
     }
 }
 
-// Runs the jobs with permits of the ledger, where `S` stands for what the file holds, and prints
-// the report. Writes a line on standard error for each job whose outcome is unknown, and if the
-// ledger cannot be opened. Errors: `Input` for the ledger of another list, `Write` if the ledger
-// failed, `Memory`.
+// Runs the jobs with permits of the ledger at a path, where `S` stands for what the file holds, and
+// prints the report. Writes a line on standard error for each job whose outcome is unknown, and if
+// the ledger cannot be opened. Errors: `Input` for the ledger of another list, `Write` if the
+// ledger failed, `Memory`.
 pub(crate) fn run_on_ledger<S: Start + Send, R: Threads + Wait + Sync, C: Connector, W: Write>(
     rt: &HostRuntime,
     threads: &R,
     connector: &C,
-    plan: &LedgeredCampaign,
+    plan: &CampaignPlan,
+    path: &str,
     start: S,
     output: &mut W,
 ) -> Result<(), Fault>
     ensures { OnOk result (PrintsRun ⟦<FileFrom<S> as Disk>⟧ (image_at S.Start)
-        (C.tells connector.now) plan.now.campaign.jobs plan.now.campaign.passwords
-        (W.contents output.old)
+        (C.tells connector.now) plan.now.jobs plan.now.passwords (W.contents output.old)
         (W.contents output.new)) }
 {
-    let campaign = &plan.campaign;
-    let progress = CampaignProgress::new(rt, campaign.jobs.len());
-    let watch = ProgressWatch {
-        rt,
-        progress: &progress,
-        is_shown: campaign.is_shown,
-    };
-    let ledgered = LedgeredPlan {
-        jobs: &campaign.jobs,
-        passwords: campaign.passwords.as_slice(),
-        workers: campaign.workers,
-        watcher: &watch,
-    };
-    match run_with_ledger(rt, threads, &ledgered, plan.path.as_str(), start, connector) {
+    let watch = ProgressWatch::new(rt, plan);
+    match run_with_ledger(rt, threads, &watched(plan, &watch), path, start, connector) {
         Ok(report) => print_report(rt, report, output),
-        Err(fault) => {
-            let _ = eprintln!(rt; "ledger: {fault}");
-            Err(open_fault(fault))
-        }
+        Err(fault) => Err(report_open_fault(rt, "ledger", fault, Fault::Write)),
     }
 }
 
@@ -121,17 +81,10 @@ fn print_report<W: Write>(
 fn print_texts<W: Write>(rt: &HostRuntime, texts: LedgerTexts, output: &mut W) -> Result<(), Fault>
     ensures { OnOk result (Appends (W.contents output.old) (W.contents output.new) texts.text) }
 {
-    let _ = print_text(&mut rt.stderr(), texts.notes.as_slice());
-    print_text(output, texts.text.as_slice())
-}
-
-// Returns the program's fault if a ledger is not opened.
-fn open_fault(fault: LedgerOpenFault) -> Fault {
-    match fault {
-        LedgerOpenFault::NotALedger | LedgerOpenFault::OtherList | LedgerOpenFault::Answers => {
-            Fault::Input
-        }
-        LedgerOpenFault::Busy | LedgerOpenFault::File => Fault::Write,
-        LedgerOpenFault::Memory => Fault::Memory,
-    }
+    let LedgerTexts { text, notes } = texts;
+    let _ = print_text(&mut rt.stderr(), notes.as_slice());
+    drop(notes);
+    let printed = print_text(output, text.as_slice());
+    drop(text);
+    printed
 }

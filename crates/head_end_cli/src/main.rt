@@ -9,107 +9,120 @@
 
 mod asking;
 mod campaign;
+mod faults;
 mod ledgered;
 mod progress;
 mod status;
 
 use crate::asking::{ask, plan_asking};
-use crate::ledgered::{LedgeredCampaign, plan_ledgered, run_on_ledger};
+use crate::campaign::run;
+use crate::ledgered::run_on_ledger;
 use crate::status::print_status;
 use clap::ArgMatches;
 use head_end::TcpConnector;
-use head_end_commands::{CampaignPlan, PASSWORD_VARIABLE, check, command_line, plan_campaign};
+use head_end_commands::{PASSWORD_VARIABLE, check, command_line, plan_campaign};
 use program::{Fault, exit_code, has_option, print_help_or_missing_password, read_arguments};
 use sqlite::Unknown;
 use std::env;
 use std::env::VarError;
+use std::net::{Net, TcpStream};
 use std::process::ExitCode;
+use std::sync::Wait;
+use std::thread::Threads;
+use std::time::Clock;
 
-// The next step after the command line is read.
-#[derive(Drop)]
-enum HeadEndCommand {
-    // Nothing more to do; exit with this status.
-    Ended(u8),
-    // Run a campaign.
-    Campaign(CampaignPlan),
-    // Run a campaign on its ledger.
-    Ledgered(LedgeredCampaign),
-    // Ask the meters of a ledger that gave no valid answer.
-    Asking(LedgeredCampaign),
+// Runs the campaign of `run`, on its ledger if the option `--ledger` names one.
+fn run_campaign<
+    R: Net<Stream = TcpStream> + Threads + Wait + Clock + Copy + Send + Sync + Drop + 'static,
+>(rt: &HostRuntime, handle: &R, matches: &ArgMatches<'_>) -> Result<(), Fault> {
+    let plan = plan_campaign(rt, matches)?;
+    let connector = TcpConnector::new(*handle, plan.limits);
+    let output = &mut rt.stdout();
+    let done = match matches.get_str("ledger") {
+        Some(path) => run_on_ledger(rt, handle, &connector, &plan, path, Unknown, output),
+        None => run(rt, handle, &connector, &plan, output),
+    };
+    drop(plan);
+    done
 }
 
-// Prepares the campaign of `run`, on its ledger if the option `--ledger` names one.
-fn begin_run(rt: &HostRuntime, matches: &ArgMatches<'_>) -> Result<HeadEndCommand, Fault> {
-    match matches.get_str("ledger") {
-        Some(path) => Ok(HeadEndCommand::Ledgered(plan_ledgered(rt, matches, path)?)),
-        None => Ok(HeadEndCommand::Campaign(plan_campaign(rt, matches)?)),
-    }
+// Asks the questions of `ask`.
+fn ask_questions<
+    R: Net<Stream = TcpStream> + Threads + Wait + Clock + Copy + Send + Sync + Drop + 'static,
+>(rt: &HostRuntime, handle: &R, matches: &ArgMatches<'_>) -> Result<(), Fault> {
+    let path = matches.get_str("ledger").unwrap_or("");
+    let plan = plan_asking(rt, matches, path)?;
+    let connector = TcpConnector::new(*handle, plan.limits);
+    let done = ask(
+        rt,
+        handle,
+        &connector,
+        &plan,
+        path,
+        Unknown,
+        &mut rt.stdout(),
+    );
+    drop(plan);
+    done
 }
 
-// Runs `check` or `status`, or prepares the campaign of `run` or the questions of `ask`.
-fn begin_command(rt: &HostRuntime, matches: &ArgMatches<'_>) -> Result<HeadEndCommand, Fault> {
+// Runs a command.
+fn run_command<
+    R: Net<Stream = TcpStream> + Threads + Wait + Clock + Copy + Send + Sync + Drop + 'static,
+>(rt: &HostRuntime, handle: &R, matches: &ArgMatches<'_>) -> Result<(), Fault> {
     match matches.subcommand() {
-        Some(("check", matches)) => {
-            check(
-                rt,
-                rt.stdin(),
-                matches.get_flag("verbose"),
-                &mut rt.stdout(),
-            )?;
-            Ok(HeadEndCommand::Ended(0))
-        }
-        Some(("run", matches)) => begin_run(rt, matches),
-        Some(("ask", matches)) => {
-            let path = matches.get_str("ledger").unwrap_or("");
-            Ok(HeadEndCommand::Asking(plan_asking(rt, matches, path)?))
-        }
-        Some(("status", matches)) => {
-            print_status(rt, matches, &mut rt.stdout())?;
-            Ok(HeadEndCommand::Ended(0))
-        }
+        Some(("check", matches)) => check(
+            rt,
+            rt.stdin(),
+            matches.get_flag("verbose"),
+            &mut rt.stdout(),
+        ),
+        Some(("run", matches)) => run_campaign(rt, handle, matches),
+        Some(("ask", matches)) => ask_questions(rt, handle, matches),
+        Some(("status", matches)) => print_status(rt, matches, &mut rt.stdout()),
         _ => Err(Fault::Input),
     }
 }
 
-// Reads the command line and runs its command, except that a campaign is only prepared. The exit
-// status is 2 if the command line is not valid.
-fn begin(rt: &HostRuntime) -> Result<HeadEndCommand, Fault> {
-    let alloc = rt.alloc();
-    let words = read_arguments(rt)?;
+// Returns whether the password of `run` and of `ask` is in the environment or in a file that the
+// command line names.
+fn has_password(rt: &HostRuntime, words: &[String]) -> bool {
+    has_option(words, "--password-file")
+        || has_option(words, "--passwords")
+        || !matches!(env::var(rt, PASSWORD_VARIABLE), Err(VarError::NotPresent))
+}
+
+// Runs the command of a command line. Returns the exit status, which is 2 if the command line is
+// not valid.
+fn run_words<
+    R: Net<Stream = TcpStream> + Threads + Wait + Clock + Copy + Send + Sync + Drop + 'static,
+>(rt: &HostRuntime, handle: &R, words: &[String]) -> Result<u8, Fault> {
     // (clap's `required_unless_present` would print the options of the usage in another order)
-    let has_password = has_option(words.as_slice(), "--password-file")
-        || has_option(words.as_slice(), "--passwords")
-        || !matches!(env::var(rt, PASSWORD_VARIABLE), Err(VarError::NotPresent));
-    let command = command_line(alloc, has_password).map_err(|_| Fault::Memory)?;
-    match command.try_get_matches_from(words.as_slice()) {
-        Ok(matches) => begin_command(rt, &matches),
+    let Ok(command) = command_line(rt.alloc(), has_password(rt, words)) else {
+        return Err(Fault::Memory);
+    };
+    match command.try_get_matches_from(words) {
+        Ok(matches) => {
+            let done = run_command(rt, handle, &matches);
+            drop(matches);
+            done.map(|_| 0)
+        }
         Err(error) => {
-            let status = print_help_or_missing_password(rt, &error)?;
-            Ok(HeadEndCommand::Ended(status))
+            let status = print_help_or_missing_password(rt, &error);
+            drop(error);
+            status
         }
     }
 }
 
 fn main(rt: HostRuntime) -> ExitCode {
-    match begin(&rt) {
-        Ok(HeadEndCommand::Ended(status)) => ExitCode::from(status),
-        Ok(HeadEndCommand::Campaign(plan)) => {
-            let connector = TcpConnector::new(rt, plan.limits);
-            let done = campaign::run(&rt, &rt, &connector, &plan, &mut rt.stdout()).map(|_| 0);
-            exit_code(&rt, done)
+    let done = match read_arguments(&rt) {
+        Ok(words) => {
+            let done = run_words(&rt, &rt, words.as_slice());
+            drop(words);
+            done
         }
-        Ok(HeadEndCommand::Ledgered(plan)) => {
-            let connector = TcpConnector::new(rt, plan.campaign.limits);
-            let output = &mut rt.stdout();
-            let done = run_on_ledger(&rt, &rt, &connector, &plan, Unknown, output);
-            exit_code(&rt, done.map(|_| 0))
-        }
-        Ok(HeadEndCommand::Asking(plan)) => {
-            let connector = TcpConnector::new(rt, plan.campaign.limits);
-            let output = &mut rt.stdout();
-            let done = ask(&rt, &rt, &connector, &plan, Unknown, output);
-            exit_code(&rt, done.map(|_| 0))
-        }
-        Err(fault) => exit_code(&rt, Err(fault)),
-    }
+        Err(fault) => Err(fault),
+    };
+    exit_code(&rt, done)
 }

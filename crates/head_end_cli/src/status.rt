@@ -4,12 +4,12 @@ ghost use Rattle.clap.specs.Matches.{found_of};
 ghost use Rattle.head_end_cli.specs.Ledgered.{HaveAnswers, PrintsStatus};
 ghost use Rattle.ledger_reports.specs.Answers.{with_answer};
 
+use crate::faults::report_open_fault;
 use clap::ArgMatches;
 use ledger_files::{read_answers_of, read_ledger};
 use ledger_records::{LedgerFormat, ledger_text};
 use ledger_reports::{LedgerLine, StateAnswer, enter_answers};
 use program::{Fault, print_text};
-use sqlite_ledger::LedgerOpenFault;
 use std::io::Write;
 
 // Prints the ledger that the option `--ledger` names, with the answers in the file next to it, in
@@ -55,10 +55,7 @@ fn load_lines(rt: &HostRuntime, path: &str) -> Result<Vec<LedgerLine>, Fault>
                 Err(fault)
             }
         },
-        Err(fault) => {
-            let _ = eprintln!(rt; "ledger: {fault}");
-            Err(read_fault(fault))
-        }
+        Err(fault) => Err(report_open_fault(rt, "ledger", fault, Fault::Read)),
     }
 }
 
@@ -77,20 +74,6 @@ fn enter(lines: Vec<LedgerLine>, answers: &[StateAnswer]) -> Vec<LedgerLine>
 pub(crate) fn load_answers(rt: &HostRuntime, path: &str) -> Result<Vec<StateAnswer>, Fault> {
     match read_answers_of(rt, path) {
         Ok(answers) => Ok(answers),
-        Err(fault) => {
-            let _ = eprintln!(rt; "answers: {fault}");
-            Err(read_fault(fault))
-        }
-    }
-}
-
-// Returns the program's fault if a ledger, or the file of answers next to it, is not read.
-pub(crate) fn read_fault(fault: LedgerOpenFault) -> Fault {
-    match fault {
-        LedgerOpenFault::NotALedger | LedgerOpenFault::OtherList | LedgerOpenFault::Answers => {
-            Fault::Input
-        }
-        LedgerOpenFault::Busy | LedgerOpenFault::File => Fault::Read,
-        LedgerOpenFault::Memory => Fault::Memory,
+        Err(fault) => Err(report_open_fault(rt, "answers", fault, Fault::Read)),
     }
 }
