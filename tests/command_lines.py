@@ -299,6 +299,10 @@ CASES = [
      b"device: must be 1 to 16 bytes\n" + FAULT_INPUT, 2),
     ("that a server cannot resume", "meter_server_cli", SERVE + ["--verbose", "--resume", "--listen", "nowhere"], b"button\n", b"",
      b"standard input: line 1: not a line of a trace (trace_player --verbose says why)\n" + FAULT_INPUT, 2),
+    *[(f"that a server cannot resume: a head that is wrong in line {number}", "meter_server_cli", SERVE + ["--verbose", "--resume", "--listen", "nowhere"], text, b"",
+       b"standard input: line %d: not a line of a trace (trace_player --verbose says why)\n" % number + FAULT_INPUT, 2)
+      for text, number in ((b"", 1), (b"RELAYTRACE 1", 1), (b"RELAYTRACE 1\nbutton\n", 2), (TRACE[:300], 22),
+                           (b"RELAYTRACE 1\ndevice 52454C415931\nstate 1\nmode 7\nvalue 0\n", 4))],
     ("the wrong line of a trace to resume from", "meter_server_cli", SERVE + ["--verbose", "--resume", "--listen", "nowhere"],
      TRACE.replace(b"mode 0", b"mode 7"), b"",
      b"standard input: line 4: not a line of a trace (trace_player --verbose says why)\n" + FAULT_INPUT, 2),

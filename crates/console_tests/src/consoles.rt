@@ -1,13 +1,10 @@
-//! What no contract states: with enough memory there is a result.
+//! What no contract states: with enough memory there is a result. tests/serving.py has a console
+//! next to clients, and a meter that resumes from a trace at the head of its input.
 ghost use Rattle.std.specs.Prelude.{◌≡◌, [], Some};
 ghost use Rattle.server_io.specs.Ends.{ConsoleEnds};
-ghost use Rattle.relay_core.specs.Opening.{IsFitOpening};
 
-use counted_io::Monitored;
 use meter_server::{BlockSource, ButtonSource, MomentSource};
-use relay_core::{Event, Reply};
-use relay_recorder::{Recorder, Trace};
-use server_commands::{PlanFault, read_head};
+use relay_events::Event;
 use server_io::{
     Console, ConsoleEnd, ConsoleObserver, ConsoleSources, EventSink, LineBuffer, Reading,
     console_event, run_console, start,
@@ -17,36 +14,6 @@ use std::io;
 use std::io::{BufReader, ErrorKind, Read};
 use std::sync::Wait;
 use std::test::Fail;
-use trace_player::resume_recorder;
-
-// A remote disconnection, samples and a moment; and one more line after them.
-const TRACE: &[u8] = b"RELAYTRACE 1
-device 52454C415931
-state 1
-mode 0
-value 0
-now -
-normal 4294967295
-emergency 4294967295
-minover 0
-minunder 0
-profile 0 FFFFFFFFFFFFFFFFFF8000FF 0
-groups
-actions 0 0
-over 0 0
-under 0 0
-scripts 0100
-schedule 0 0 5 0100
-schedule 1 0 5 0100
-schedule 2 0 5 0100
-schedule 3 0 5 0100
-events 4
-set 1 70 000060030AFF 4 0 1601
-execute 1 70 000060030AFF 1 0F00
-samples 10 20
-moment 5
-moment 4
-";
 
 /// Returns the letter of an event.
 fn letter(event: &Event) -> char {
@@ -71,7 +38,7 @@ fn brought(alloc: Global, line: &[u8]) -> Result<char, AllocError> {
 }
 
 /// A line, and the letter of its event.
-const LINES: [(&[u8], char); 7] = [
+static LINES: [(&[u8], char); 7] = [
     (b"button", 'b'),
     (b"moment 5", 'm'),
     (b"samples 1 2", 's'),
@@ -146,8 +113,23 @@ fn hand_on<R: Wait + Eprint + Copy>(
     run_console(alloc, &mut input, buffer, sink, &errors, true)
 }
 
+/// Returns whether the events of a text have these letters, and no line is lost.
+fn hands_on<R: Wait + Eprint + Copy + Drop>(
+    rt: R,
+    alloc: Global,
+    text: &[u8],
+    letters: &str,
+) -> Result<bool, AllocError> {
+    let buffer = LineBuffer::new(alloc)?;
+    let mut sink = Listing::new(rt, alloc);
+    let end = hand_on(alloc, text, buffer, &mut sink);
+    let is_so = sink.has(letters) && !end.has_failed() && end.lost() == 0;
+    drop(sink);
+    Ok(is_so)
+}
+
 /// A text, and the letters of the events that are passed on.
-const TEXTS: [(&[u8], &str); 5] = [
+static TEXTS: [(&[u8], &str); 5] = [
     (b"button\nsamples 1 2\nmoment 5\npairs 1 2\n", "bsms"),
     (b"get 16 70 000060030AFF 3 0\nbuton\n\nbutton\n", "b"),
     (b"moment 5\r\nsamples\nbutton \nbutton\n", "sb"),
@@ -158,12 +140,15 @@ const TEXTS: [(&[u8], &str); 5] = [
 #[test]
 fn a_console_hands_on_the_events_of_its_lines(rt: HostRuntime) -> Result<(), Fail> {
     for (text, letters) in &TEXTS {
-        let mut sink = Listing::new(rt, rt.alloc());
-        let end = hand_on(rt.alloc(), text, LineBuffer::new(rt.alloc())?, &mut sink);
-        assert!(rt; sink.has(letters), "{letters}");
-        assert!(rt; !end.has_failed() && end.lost() == 0);
+        assert!(rt; hands_on(rt, rt.alloc(), text, letters)?, "{letters}");
     }
     Ok(())
+}
+
+/// Adds a line that begins with `count` bytes before a word, and one of a moment.
+fn add_long_line(text: &mut Vec<u8>, count: usize) -> Result<(), AllocError> {
+    text.resize(count, b'x')?;
+    text.extend_from_slice(b"button\nmoment 5\n")
 }
 
 /// Returns whether a line with this many bytes before its end is skipped as a whole, and the line
@@ -174,11 +159,11 @@ fn is_skipped<R: Wait + Eprint + Copy + Drop>(
     count: usize,
 ) -> Result<bool, AllocError> {
     let mut text = Vec::new(alloc);
-    text.resize(count, b'x')?;
-    text.extend_from_slice(b"button\nmoment 5\n")?;
-    let mut sink = Listing::new(rt, alloc);
-    let end = hand_on(alloc, text.as_slice(), LineBuffer::new(alloc)?, &mut sink);
-    Ok(sink.has("m") && !end.has_failed())
+    let added = add_long_line(&mut text, count);
+    let is_so = hands_on(rt, alloc, text.as_slice(), "m");
+    drop(text);
+    added?;
+    is_so
 }
 
 #[test]
@@ -217,12 +202,14 @@ fn a_failed_read_ends_the_console(rt: HostRuntime) -> Result<(), Fail> {
         rest: b"button\nmoment 5\nbut",
         is_interrupted: false,
     };
+    let buffer = LineBuffer::new(rt.alloc())?;
     let mut input = BufReader::new(rt.alloc(), failing)?;
     let mut sink = Listing::new(rt, rt.alloc());
-    let buffer = LineBuffer::new(rt.alloc())?;
     let end = run_console(rt.alloc(), &mut input, buffer, &mut sink, &rt, false);
-    assert!(rt; sink.has("bm"));
-    assert!(rt; end.has_failed() && end.lost() == 0);
+    drop(input);
+    let is_so = sink.has("bm");
+    drop(sink);
+    assert!(rt; is_so && end.has_failed() && end.lost() == 0);
     Ok(())
 }
 
@@ -242,15 +229,23 @@ fn are_right<R: Wait + Drop + Send>(sources: ConsoleSources<R>) -> bool {
         mut presses,
     } = sources;
     let block = match blocks.next_block() {
-        Some(block) => block.values() == [10, 20].as_slice(),
+        Some(block) => {
+            let is_so = block.values() == [10, 20].as_slice();
+            drop(block);
+            is_so
+        }
         None => false,
     };
-    block
+    let is_so = block
         && blocks.next_block().is_none()
         && moments.next_moment() == Some(5)
         && moments.next_moment().is_none()
         && presses.pressed()
-        && !presses.pressed()
+        && !presses.pressed();
+    drop(blocks);
+    drop(moments);
+    drop(presses);
+    is_so
 }
 
 #[test]
@@ -263,113 +258,9 @@ fn each_worker_gets_its_own_events(rt: HostRuntime) -> Result<(), Fail> {
         is_verbose: false,
         ended: Silent,
     };
-    let thread = start(&rt, rt.alloc(), reading).ok_or("no thread")?;
-    assert!(rt; are_right(sources));
-    let end = thread.join(&rt);
-    assert!(rt; !end.has_failed() && end.lost() == 0);
-    Ok(())
-}
-
-/// The number of events that a meter keeps, and the last moment that its reply to an earlier one
-/// gives.
-#[derive(Clone, Copy, Drop)]
-struct Seen {
-    kept: u16,
-    last: u32,
-}
-
-/// Returns the last moment that a reply to an earlier one gives, or 0 for any other reply.
-fn last(reply: &Reply) -> u32 {
-    match reply {
-        Reply::Stale { last } => *last,
-        _ => 0,
-    }
-}
-
-/// Applies the moment 4 to a meter.
-fn told_of_4(alloc: Global, recorder: &mut Recorder) -> Result<Seen, AllocError> {
-    let kept = recorder.count();
-    let reply = recorder.apply(alloc, Event::Moment(4))?;
-    let last = last(&reply);
-    drop(reply);
-    Ok(Seen { kept, last })
-}
-
-/// Applies the moment 4 to a meter that resumes from a trace.
-fn resume_from(alloc: Global, trace: &Trace) -> Result<Seen, AllocError>
-    requires { IsFitOpening trace.now.opening }
-{
-    let mut recorder = resume_recorder(alloc, trace, 1)?;
-    let seen = told_of_4(alloc, &mut recorder);
-    drop(recorder);
-    seen
-}
-
-/// An input in memory, of the type of the console's.
-type Input<'a> = BufReader<Monitored<&'a [u8]>>;
-
-/// Returns the input of these bytes.
-fn input_of(alloc: Global, bytes: &[u8]) -> io::Result<Input<'_>> {
-    BufReader::new(alloc, Monitored::new(bytes))
-}
-
-/// Applies the moment 4 to a meter that resumes from the trace at the head of an input.
-fn resume_at_head(alloc: Global, input: &mut Input) -> Result<Seen, PlanFault> {
-    let trace = read_head(alloc, input)?;
-    let seen = resume_from(alloc, &trace);
-    drop(trace);
-    match seen {
-        Ok(seen) => Ok(seen),
-        Err(_) => Err(PlanFault::Memory),
-    }
-}
-
-#[test]
-fn a_meter_goes_on_from_a_trace(rt: HostRuntime) -> Result<(), Fail> {
-    let mut input = input_of(rt.alloc(), TRACE)?;
-    let seen = resume_at_head(rt.alloc(), &mut input).map_err(|_| "no meter")?;
-    assert!(rt; input.buffer() == b"moment 4\n".as_slice());
-    assert!(rt; seen.kept == 0 && seen.last == 5);
-    Ok(())
-}
-
-#[test]
-fn the_first_wrong_line_of_a_head_is_found(rt: HostRuntime) -> Result<(), Fail> {
-    for (bytes, number) in [
-        (b"".as_slice(), 1),
-        (b"button\n", 1),
-        (b"RELAYTRACE 1", 1),
-        (b"RELAYTRACE 1\nbutton\n", 2),
-        (&TRACE[..300], 22),
-        (
-            b"RELAYTRACE 1\ndevice 52454C415931\nstate 1\nmode 7\nvalue 0\n",
-            4,
-        ),
-    ] {
-        let mut input = input_of(rt.alloc(), bytes)?;
-        assert!(rt;
-            matches!(
-            resume_at_head(rt.alloc(), &mut input),
-            Err(PlanFault::Line(found)) if found == number
-        )
-        );
-    }
-    Ok(())
-}
-
-#[test]
-fn a_journal_is_no_trace_to_resume_from(rt: HostRuntime) -> Result<(), Fail> {
-    // (the number of its events, `4`, is the byte 297 of the trace)
-    let mut text = Vec::new(rt.alloc());
-    text.extend_from_slice(&TRACE[..297])?;
-    text.extend_from_slice(b"-")?;
-    text.extend_from_slice(&TRACE[298..])?;
-    let mut input = input_of(rt.alloc(), text.as_slice())?;
-    assert!(rt;
-        matches!(
-            resume_at_head(rt.alloc(), &mut input),
-            Err(PlanFault::Journal)
-        )
-    );
+    let started = start(&rt, rt.alloc(), reading);
+    let are_right = are_right(sources);
+    let end = started.ok_or("no thread")?.join(&rt);
+    assert!(rt; are_right && !end.has_failed() && end.lost() == 0);
     Ok(())
 }

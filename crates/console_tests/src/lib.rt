@@ -1,5 +1,4 @@
-//! Tests of `server_io` and `server_commands`: the lines of a console, and the trace at the head of
-//! an input, from which a meter resumes.
+//! Tests of `server_io`: the lines of a console.
 //!
 //! Tests are in a crate of their own because a check of tests proves their whole crate again.
 #![tactic(auto)]

@@ -73,7 +73,7 @@ const SAMPLES: &[Sample] = &[
 ];
 
 /// The jobs as comma-separated values. Their dates are those of Python's `datetime`.
-const CSV: &[u8] = b"name,address,verb,outcome,number,sent,begun_at,ended_at,seconds,state,asked_at
+static CSV: &[u8] = b"name,address,verb,outcome,number,sent,begun_at,ended_at,seconds,state,asked_at
 m1,h:1,disconnect,done,0,yes,2000-02-28T23:59:59Z,2000-02-29T12:34:56Z,45297,,
 \"<b>,\"\"&\",h:1,disconnect,refused,2,yes,2026-11-28T09:00:05Z,2026-11-28T09:00:05Z,0,,
 m3,h:1,reconnect,rejected,13,no,2026-11-28T09:00:05Z,2026-11-28T09:00:04Z,,,
@@ -83,7 +83,7 @@ m6,h:1,state,unknown,,maybe,1970-01-01T00:00:00Z,2106-02-07T06:28:15Z,4294967295
 ";
 
 /// The jobs as JSON.
-const JSON: &[u8] = b"{\"address\":\"h:1\",\"asked_at\":null,\
+static JSON: &[u8] = b"{\"address\":\"h:1\",\"asked_at\":null,\
 \"begun_at\":\"2000-02-28T23:59:59Z\",\"ended_at\":\"2000-02-29T12:34:56Z\",\
 \"name\":\"m1\",\"number\":0,\"outcome\":\"done\",\"seconds\":45297,\"sent\":\"yes\",\
 \"state\":null,\"verb\":\"disconnect\"}
@@ -109,7 +109,7 @@ const JSON: &[u8] = b"{\"address\":\"h:1\",\"asked_at\":null,\
 ";
 
 /// The state of the jobs.
-const STATE: &[u8] = b"jobs 6\ndone 1\nrefused 1\nrejected 1\nunknown 2\nnot sent 1\n\
+static STATE: &[u8] = b"jobs 6\ndone 1\nrefused 1\nrejected 1\nunknown 2\nnot sent 1\n\
 m4 h:1 reconnect sent, no answer; state 1\nm6 h:1 state sent, no answer; state 2\n";
 
 /// A job that was not begun.
@@ -123,7 +123,7 @@ const NOT_BEGUN: Sample = (
 );
 
 /// The names of the columns, and this job in both formats.
-const ONE_JOB: &[u8] =
+static ONE_JOB: &[u8] =
     b"name,address,verb,outcome,number,sent,begun_at,ended_at,seconds,state,asked_at
 m5,h:1,state,not sent,,no,,,,,
 {\"address\":\"h:1\",\"asked_at\":null,\"begun_at\":null,\"ended_at\":null,\

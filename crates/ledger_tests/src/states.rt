@@ -37,11 +37,11 @@ const LINES: &[(&[u8], &[u8], Verb, LedgerEntry)] = &[
 ];
 
 /// The state that `head_end status` prints for the six jobs.
-const STATE: &[u8] = b"jobs 6\ndone 1\nrefused 1\nrejected 1\nunknown 2\nnot sent 1\n\
+static STATE: &[u8] = b"jobs 6\ndone 1\nrefused 1\nrejected 1\nunknown 2\nnot sent 1\n\
 m4 h:4 reconnect sent, no answer\nm5 h:5 state sent, no answer\n";
 
 /// The state after the meters of the two jobs that need a second look were asked.
-const ASKED_STATE: &[u8] = b"jobs 6\ndone 1\nrefused 1\nrejected 1\nunknown 2\nnot sent 1\n\
+static ASKED_STATE: &[u8] = b"jobs 6\ndone 1\nrefused 1\nrejected 1\nunknown 2\nnot sent 1\n\
 m4 h:4 reconnect sent, no answer; state 2\nm5 h:5 state sent, no answer; state 2\n";
 
 /// The state 2, ready for reconnection, that all meters reported.

@@ -5,7 +5,7 @@ use std::alloc::{AllocError, Global};
 use trace_records::{Record, write_csv, write_csv_head, write_json};
 
 // Event 8 of the worked trace of docs/TRACE.md, with another moment.
-const RECORD: &[u8] = b"number,reply,state,supply,moment,time,event
+static RECORD: &[u8] = b"number,reply,state,supply,moment,time,event
 8,ran 0,1,on,830961000,2026-05-01T14:30:00,moment 830961000
 {\"event\":\"moment 830961000\",\"moment\":830961000,\"number\":8,\"reply\":\"ran 0\",\"state\":1,\
 \"supply\":\"on\",\"time\":\"2026-05-01T14:30:00\"}

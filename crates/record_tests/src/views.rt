@@ -4,7 +4,7 @@ use std::alloc::Global;
 use trace_views::{TraceFormat, TraceView, play_view};
 
 // The worked trace of docs/TRACE.md, with nine events.
-const TRACE: &[u8] = b"RELAYTRACE 1
+static TRACE: &[u8] = b"RELAYTRACE 1
 device 52454C415931
 state 1
 mode 0
@@ -38,7 +38,7 @@ moment 4
 
 // The events of `TRACE` as comma-separated values. The clock has no moment before event 8, which
 // sets it to 5; event 9 is a moment before that one, and changes nothing.
-const CSV: &[u8] = b"number,reply,state,supply,moment,time
+static CSV: &[u8] = b"number,reply,state,supply,moment,time
 1,code 0,1,on,,
 2,code 0,0,off,,
 3,code 2,0,off,,
@@ -51,7 +51,7 @@ const CSV: &[u8] = b"number,reply,state,supply,moment,time
 ";
 
 // Events 7 and 8 of `TRACE` as JSON, with their lines in the trace.
-const JSON: &[u8] = b"{\"event\":\"samples 10 20\",\"moment\":null,\"number\":7,\
+static JSON: &[u8] = b"{\"event\":\"samples 10 20\",\"moment\":null,\"number\":7,\
 \"reply\":\"sampled 0 1\",\"state\":1,\"supply\":\"on\",\"time\":null}
 {\"event\":\"moment 5\",\"moment\":5,\"number\":8,\
 \"reply\":\"ran 0\",\"state\":1,\"supply\":\"on\",\"time\":\"2000-01-01T00:00:05\"}

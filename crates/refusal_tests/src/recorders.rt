@@ -13,7 +13,7 @@ use trace_player::write_trace;
 use trace_words::Version;
 
 /// Script 3 is written: mode 0, followed by a disconnection.
-const WRITE_TABLE: &[u8] =
+static WRITE_TABLE: &[u8] =
     b"set 1 9 00000A006AFF 2 0 010102021200030102020516011200460906000060030AFF0F041600020516021200460906000060030AFF0F010F00";
 
 /// Returns the event of a line of a trace.

@@ -14,7 +14,7 @@ use std::process::Abort;
 use std::test::Fail;
 
 /// The public client's AARQ, and its GETs of control_state and of the object list.
-const ASKED: &str =
+static ASKED: &str =
     "000100100001001F601DA109060760857405080101BE10040E01000000065F1F0400007E1F04B0000100100001000D\
         C001C10046000060030AFF0300000100100001000DC001C1000F0000280000FF0200";
 

@@ -8,7 +8,7 @@ use trace_player::{PlayFault, play};
 
 /// A trace of version 1: a switch that is disconnected and reconnected remotely, with a press of
 /// the button in between, a read, samples and moments.
-const TRACE: &[u8] = b"RELAYTRACE 1
+static TRACE: &[u8] = b"RELAYTRACE 1
 device 52454C415931
 state 1
 mode 0
@@ -41,7 +41,7 @@ moment 4
 ";
 
 /// The output of the player for `TRACE`.
-const OUTPUT: &[u8] = b"1: code 0; state 1; supply on
+static OUTPUT: &[u8] = b"1: code 0; state 1; supply on
 2: code 0; state 0; supply off
 3: code 2; state 0; supply off
 4: code 0; state 2; supply off

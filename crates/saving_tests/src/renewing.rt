@@ -40,7 +40,8 @@ fn make_renewed_file(alloc: Global) -> Result<RenewedFile<MemoryPlace>, FileFaul
 fn a_save_renews_a_journal_that_has_grown(rt: HostRuntime) -> Result<(), Fail> {
     let alloc = rt.alloc();
     let mut file = make_renewed_file(alloc)?;
-    let Some(mut port) = asked_port(&rt, alloc)? else {
+    let Ok(Some(mut port)) = asked_port(&rt, alloc) else {
+        drop(file);
         return Ok(());
     };
     let saved = save(&rt, alloc, &mut port, &mut file, 0, Vec::new(alloc));

@@ -8,11 +8,12 @@ use std::test::Fail;
 #[test]
 fn a_save_appends_the_lines_of_three_events(rt: HostRuntime) -> Result<(), Fail> {
     let alloc = rt.alloc();
-    let Some(mut port) = asked_port(&rt, alloc)? else {
-        return Ok(());
-    };
     let mut file = first_file(alloc)?;
     recover(alloc, &mut file)?;
+    let Ok(Some(mut port)) = asked_port(&rt, alloc) else {
+        drop(file);
+        return Ok(());
+    };
     let saved = save(&rt, alloc, &mut port, &mut file, 0, Vec::new(alloc));
     drop(port);
     assert!(rt; saved?.count == 3);

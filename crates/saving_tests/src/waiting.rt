@@ -87,6 +87,7 @@ fn waits_after<L: JournalLock + Send + Sync, W: Wait>(
     };
     let Ok(other) = progress.share() else {
         drop(port);
+        drop(progress);
         return None;
     };
     let has_none = progress.wait(rt, &mut port, 0);
@@ -108,15 +109,24 @@ fn waits_after<L: JournalLock + Send + Sync, W: Wait>(
     Some(waits)
 }
 
+/// Waits for the lines of a meter that replied to three events, as [`waits_after`] does.
+fn waits_asked<W: Wait>(rt: &W, alloc: Global, file: MemoryFile) -> Option<Waits>
+    requires { let D = ⟦<MemoryFile as DurableFile>⟧
+        in IsSettled D.seen D.may_leave D.stored file }
+{
+    let Ok(Some(port)) = asked_port(rt, alloc) else {
+        drop(file);
+        return None;
+    };
+    waits_after::<Brand, W>(rt, alloc, file, port)
+}
+
 #[test]
 fn a_wait_returns_true_for_saved_lines(rt: HostRuntime) -> Result<(), Fail> {
     let alloc = rt.alloc();
-    let Some(port) = asked_port(&rt, alloc)? else {
-        return Ok(());
-    };
     let mut file = first_file(alloc)?;
     recover(alloc, &mut file)?;
-    let Some(waits) = waits_after::<Brand, _>(&rt, alloc, file, port) else {
+    let Some(waits) = waits_asked(&rt, alloc, file) else {
         return Ok(());
     };
     assert!(rt; waits.end == Some(Ok(())));
@@ -129,12 +139,9 @@ fn a_wait_returns_true_for_saved_lines(rt: HostRuntime) -> Result<(), Fail> {
 #[test]
 fn a_wait_returns_false_if_the_sync_fails(rt: HostRuntime) -> Result<(), Fail> {
     let alloc = rt.alloc();
-    let Some(port) = asked_port(&rt, alloc)? else {
-        return Ok(());
-    };
     let mut file = MemoryFile::failing_after(alloc, FIRST.to_vec(alloc)?, 2);
     recover(alloc, &mut file)?;
-    let Some(waits) = waits_after::<Brand, _>(&rt, alloc, file, port) else {
+    let Some(waits) = waits_asked(&rt, alloc, file) else {
         return Ok(());
     };
     assert!(rt; waits.end == Some(Err(CallFault::Journal)));

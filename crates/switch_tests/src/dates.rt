@@ -125,7 +125,7 @@ fn is_plain(date: [u8; 5]) -> Result<bool, PatternFault> {
 }
 
 // Dates, each with whether its year, month and day are all plain numbers.
-const PLAIN: [([u8; 5], bool); 7] = [
+static PLAIN: [([u8; 5], bool); 7] = [
     ([0x07, 0xEC, 3, 25, 7], true),
     ([0x07, 0xEC, 3, 25, 0xFF], true),
     ([0xFF, 0xFF, 3, 25, 7], false),

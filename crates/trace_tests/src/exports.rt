@@ -14,7 +14,7 @@ use trace_words::Version;
 
 // Script 1 writes a threshold of 9,000 watts. It runs after 4 seconds over the threshold of 5,000,
 // and the null script after 5 seconds under it. Three samples follow.
-const LIMITED: &[u8] =
+static LIMITED: &[u8] =
     b"set 1 9 00000A006AFF 2 0 0101020212000101010205160112004709060000110000FF0F040600002328
 set 1 71 0000110000FF 11 0 02020202090600000A006AFF1200010202090600000A006AFF120000
 set 1 71 0000110000FF 4 0 0600001388
@@ -24,12 +24,12 @@ samples 6000 6000 6000
 ";
 
 // A write of the threshold and a read of it.
-const THRESHOLD: &[u8] = b"set 1 71 0000110000FF 4 0 0600001B58
+static THRESHOLD: &[u8] = b"set 1 71 0000110000FF 4 0 0600001B58
 get 1 71 0000110000FF 4 0
 ";
 
 // A write of mode 1, a remote disconnection, and a press of the button, which is refused.
-const CUT: &[u8] = b"set 1 70 000060030AFF 4 0 1601
+static CUT: &[u8] = b"set 1 70 000060030AFF 4 0 1601
 execute 1 70 000060030AFF 1 0F00
 button
 ";

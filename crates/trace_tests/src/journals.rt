@@ -9,7 +9,7 @@ use trace_words::TraceLines;
 
 // Texts that begin with the line of the number of events, the number that is read, and the text
 // that is left.
-const COUNTS: &[(&[u8], u64, &[u8])] = &[
+static COUNTS: &[(&[u8], u64, &[u8])] = &[
     (b"events 2\nbutton\n", 2, b"button\n"),
     (b"events -\n", 0, b""),
     (b"events -\nbutton\n", 1, b"button\n"),
@@ -22,7 +22,7 @@ const COUNTS: &[(&[u8], u64, &[u8])] = &[
 ];
 
 // Lines that are no number of events.
-const REFUSED: &[&[u8]] = &[
+static REFUSED: &[&[u8]] = &[
     b"events -",
     b"events --\n",
     b"events - \n",
@@ -34,7 +34,7 @@ const REFUSED: &[&[u8]] = &[
 ];
 
 // The lines of the trace's events.
-const EVENTS: &[u8] = b"events -\n\
+static EVENTS: &[u8] = b"events -\n\
     set 1 70 000060030AFF 4 0 1601\n\
     execute 1 70 000060030AFF 1 0F00\n\
     button\n\
@@ -47,7 +47,7 @@ const EVENTS: &[u8] = b"events -\n\
 
 // What follows the journal of the trace, and the number of events that are then read, or the number
 // of the line that is wrong.
-const GROWN: &[(&[u8], Result<usize, u64>)] = &[
+static GROWN: &[(&[u8], Result<usize, u64>)] = &[
     (b"", Ok(9)),
     (b"button\n", Ok(10)),
     (b"button\nmom", Ok(10)),

@@ -9,7 +9,7 @@ use trace_player::{PlayFault, TraceFault, play, read_trace, write_trace};
 
 // A switch that is cut and reconnected remotely, the button pressed between, a read, samples and
 // moments.
-pub(crate) const TRACE: &[u8] = b"RELAYTRACE 1
+pub(crate) static TRACE: &[u8] = b"RELAYTRACE 1
 device 52454C415931
 state 1
 mode 0
@@ -42,7 +42,7 @@ moment 4
 ";
 
 // The output of the player for `TRACE`.
-const OUTPUT: &[u8] = b"1: code 0; state 1; supply on
+static OUTPUT: &[u8] = b"1: code 0; state 1; supply on
 2: code 0; state 0; supply off
 3: code 2; state 0; supply off
 4: code 0; state 2; supply off
@@ -54,7 +54,7 @@ const OUTPUT: &[u8] = b"1: code 0; state 1; supply on
 ";
 
 // The meter of `TRACE`, one sample before its run over 5,000 watts is long enough.
-const LONG_RUN: &[u8] = b"RELAYTRACE 1
+static LONG_RUN: &[u8] = b"RELAYTRACE 1
 device 52454C415931
 state 1
 mode 0
@@ -80,7 +80,7 @@ samples 5001 5001
 
 // A meter in mode 5 whose export limiter executes script 1, which cuts the supply, at ten samples
 // over 5,000 watts.
-const PAIRS: &[u8] = b"RELAYTRACE 2
+static PAIRS: &[u8] = b"RELAYTRACE 2
 device 52454C415931
 state 1
 mode 5
@@ -117,7 +117,7 @@ pairs 0 5001
 ";
 
 // The output of the player for `PAIRS`.
-const PAIRS_OUTPUT: &[u8] = b"1: sampled 0 1 1 0; state 2; supply off
+static PAIRS_OUTPUT: &[u8] = b"1: sampled 0 1 1 0; state 2; supply off
 2: code 0; state 1; supply on
 3: sampled 0 1 0 0; state 1; supply on
 ";
@@ -262,12 +262,12 @@ fn is_so_with(alloc: Global, text: &[u8], at: u64, other: &[u8], asked: Asked) -
     added.is_ok() && is_so
 }
 
-// A text, the number of one of its lines, the line that replaces it, and the line at which the
-// trace is then refused.
-type Wrong = (&'static [u8], u64, &'static [u8], u64);
+// The number of a line, the line that replaces it, and the line at which the trace is then refused.
+type Wrong = (u64, &'static [u8], u64);
 
-fn are_wrong(alloc: Global, rows: &[Wrong]) -> bool {
-    for (text, at, other, line) in rows {
+// Returns whether a text is refused as each row says.
+fn are_wrong(alloc: Global, text: &[u8], rows: &[Wrong]) -> bool {
+    for (at, other, line) in rows {
         if !is_so_with(alloc, text, *at, other, Asked::WrongAt(*line)) {
             return false;
         }
@@ -398,27 +398,27 @@ fn a_line_that_is_missing_is_told(rt: HostRuntime) {
 }
 
 // Lines with a wrong number of events, each with the line of the fault.
-const EVENT_COUNTS: &[Wrong] = &[
-    (TRACE, 21, b"events 8", 30),
-    (TRACE, 21, b"events 10", 31),
-    (TRACE, 21, b"events 65537", 21),
+static EVENT_COUNTS: &[Wrong] = &[
+    (21, b"events 8", 30),
+    (21, b"events 10", 31),
+    (21, b"events 65537", 21),
 ];
 
 #[test]
 fn another_number_of_events_is_told(rt: HostRuntime) {
-    assert!(rt; are_wrong(rt.alloc(), EVENT_COUNTS));
+    assert!(rt; are_wrong(rt.alloc(), TRACE, EVENT_COUNTS));
 }
 
 // Lines that replace those of a trace, each with the line of the fault.
-const OTHER_LINES: &[Wrong] = &[
-    (TRACE, 24, b"press", 24),
-    (TRACE, 28, b"pairs 0 5001", 28),
-    (PAIRS, 1, b"RELAYTRACE 1", 16),
-];
+static OTHER_LINES: &[Wrong] = &[(24, b"press", 24), (28, b"pairs 0 5001", 28)];
+
+// Another version, in which the lines of `PAIRS` are not allowed.
+static OTHER_VERSION: &[Wrong] = &[(1, b"RELAYTRACE 1", 16)];
 
 #[test]
 fn other_lines_are_told(rt: HostRuntime) {
-    assert!(rt; are_wrong(rt.alloc(), OTHER_LINES));
+    assert!(rt; are_wrong(rt.alloc(), TRACE, OTHER_LINES));
+    assert!(rt; are_wrong(rt.alloc(), PAIRS, OTHER_VERSION));
 }
 
 #[test]

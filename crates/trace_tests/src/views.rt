@@ -6,7 +6,7 @@ use trace_player::{PlayFault, TraceFault, read_trace};
 use trace_views::{TraceFormat, TraceView, play_front, play_view, read_front, view_trace};
 
 // The output of the player for `TRACE` of plays.rt, with the event at the end of each line.
-const WITH_EVENTS: &[u8] = b"1: code 0; state 1; supply on; event set 1 70 000060030AFF 4 0 1601
+static WITH_EVENTS: &[u8] = b"1: code 0; state 1; supply on; event set 1 70 000060030AFF 4 0 1601
 2: code 0; state 0; supply off; event execute 1 70 000060030AFF 1 0F00
 3: code 2; state 0; supply off; event button
 4: code 0; state 2; supply off; event execute 1 70 000060030AFF 2 -

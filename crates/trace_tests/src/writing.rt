@@ -10,7 +10,7 @@ use trace_openings::write_opening;
 use wire_bytes::Listed;
 
 // The lines of a new meter with the name RELAY1.
-pub(crate) const NEW: &[u8] = b"RELAYTRACE 2\n\
+pub(crate) static NEW: &[u8] = b"RELAYTRACE 2\n\
     device 52454C415931\n\
     state 1\n\
     mode 0\n\
@@ -42,7 +42,7 @@ pub(crate) const NEW: &[u8] = b"RELAYTRACE 2\n\
     schedule 3 0 5 0100\n";
 
 // The lines of a meter with settings of its own.
-const BUSY: &[u8] = b"RELAYTRACE 2\n\
+static BUSY: &[u8] = b"RELAYTRACE 2\n\
     device 52454C415931\n\
     state 2\n\
     mode 5\n\

@@ -5,7 +5,7 @@ use disconnect_control::{ControlMode, ControlState};
 use limiter_core::Count;
 
 /// Mode 5, limiters with thresholds, and a group id of the export limiter.
-const SETTINGS: &[(Place, &[u8])] = &[
+static SETTINGS: &[(Place, &[u8])] = &[
     (MODE, &[0x16, 5]),
     ((71, IMPORT_LIMITER, 4), b"\x06\x00\x00\x13\x88"),
     ((71, IMPORT_LIMITER, 6), b"\x06\x00\x00\x00\x01"),

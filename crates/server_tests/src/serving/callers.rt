@@ -60,8 +60,8 @@ impl ClientResults {
 #[derive(Drop)]
 pub(super) struct Caller {
     pub(super) line: Arc<ClientResults, Global>,
-    pub(super) asks: Vec<u8>,
-    pub(super) answers: Vec<u8>,
+    pub(super) asks: &'static [u8],
+    pub(super) answers: &'static [u8],
     pub(super) waits_at: usize,
     pub(super) other: Arc<ClientResults, Global>,
     pub(super) other_sent: u64,
@@ -71,7 +71,7 @@ pub(super) struct Caller {
 #[derive(Drop)]
 pub(super) struct ClientInput {
     line: Arc<ClientResults, Global>,
-    bytes: Vec<u8>,
+    bytes: &'static [u8],
     at: usize,
     waits_at: usize,
     other: Arc<ClientResults, Global>,
@@ -87,7 +87,7 @@ impl Read for ClientInput {
         if self.at < self.waits_at {
             end = end.min(self.waits_at);
         }
-        let Some(rest) = self.bytes.as_slice().get(self.at..end) else {
+        let Some(rest) = self.bytes.get(self.at..end) else {
             return Ok(0);
         };
         let count = rest.len().min(buffer.len());
@@ -100,7 +100,7 @@ impl Read for ClientInput {
 /// The responses that a client expects. Its line is closed when this is dropped.
 pub(super) struct ExpectedResponses {
     line: Arc<ClientResults, Global>,
-    expected: Vec<u8>,
+    expected: &'static [u8],
     at: usize,
 }
 
@@ -118,7 +118,7 @@ impl Drop for ExpectedResponses {
 impl Write for ExpectedResponses {
     fn write(&mut self, bytes: &[u8]) -> io::Result<usize> {
         let end = self.at.saturating_add(bytes.len());
-        match self.expected.as_slice().get(self.at..end) {
+        match self.expected.get(self.at..end) {
             Some(expected) if expected == bytes => {
                 self.line
                     .sent
@@ -170,15 +170,10 @@ impl Caller {
     }
 }
 
-/// Returns its clients, the last one first, and then fails. Before it returns the only one left, it
-/// waits until its line has received `sent` bytes. First come clients whose streams cannot be set
-/// up.
+/// Returns its clients, the last one first, and then fails.
 #[derive(Drop)]
 pub(super) struct CallerListener {
-    pub(super) without_stream: u64,
     pub(super) callers: Vec<Caller>,
-    pub(super) line: Arc<ClientResults, Global>,
-    pub(super) sent: u64,
 }
 
 impl Listener for CallerListener {
@@ -187,13 +182,6 @@ impl Listener for CallerListener {
     type Output = ExpectedResponses;
 
     fn accept(&mut self) -> Result<Option<(ClientInput, ExpectedResponses)>, ListenFault> {
-        if self.without_stream > 0 {
-            self.without_stream -= 1;
-            return Ok(None);
-        }
-        if self.callers.len() == 1 {
-            self.line.wait_for(&self.line, self.sent);
-        }
         let caller = self.callers.pop().ok_or(ListenFault)?;
         Ok(caller.call())
     }

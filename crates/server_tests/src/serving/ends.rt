@@ -1,5 +1,5 @@
 //! The end of a session that its output receives.
-use super::{NOTHING, serve, served_counts};
+use super::{serve, served_counts};
 use meter_server::{ListenFault, Listener, Observer, ServeFault, SessionEnd};
 use std::alloc::Global;
 use std::io;
@@ -65,11 +65,15 @@ impl Ends {
         }
     }
 
-    fn number(&self, client: usize) -> u8 {
-        match self.numbers.get(client) {
-            Some(number) => number.load(Ordering::SeqCst),
-            None => 0,
-        }
+    /// Returns the numbers, by client.
+    fn all(&self) -> [u8; CLIENTS] {
+        [
+            self.numbers[0].load(Ordering::SeqCst),
+            self.numbers[1].load(Ordering::SeqCst),
+            self.numbers[2].load(Ordering::SeqCst),
+            self.numbers[3].load(Ordering::SeqCst),
+            self.numbers[4].load(Ordering::SeqCst),
+        ]
     }
 }
 
@@ -149,11 +153,12 @@ fn an_observer_receives_the_end_of_its_session(rt: HostRuntime) -> Result<(), Fa
         ends: Arc::try_clone(&ends)?,
         next: 0,
     };
-    let (served, _) = serve(&rt, alloc, &mut queue, NOTHING, 5)?;
-    assert!(rt; served == served_counts(5, 0));
+    let came = serve(&rt, alloc, &mut queue, 5);
+    let numbers = ends.all();
+    drop(queue);
+    drop(ends);
     // Closed, cut, another version, too long, and the fault of a read.
-    for (client, number) in [1, 2, 3, 4, 11].iter().enumerate() {
-        assert!(rt; ends.number(client) == *number, "client {client}");
-    }
+    let (served, _) = came?;
+    assert!(rt; served == served_counts(5, 0) && numbers == [1, 2, 3, 4, 11]);
     Ok(())
 }

@@ -1,12 +1,11 @@
 //! The lines of a journal: each event that may change the meter is noted while its lock is held, in
 //! the order of the calls, and is taken once.
-ghost use Rattle.std.specs.Prelude.{◌≡◌, ◌<◌, ◌≤◌, [], IfOk};
-ghost use Rattle.shared_meter.specs.Calls.{Stands};
+ghost use Rattle.std.specs.Prelude.{◌<◌, ◌≤◌};
 
-use cosem_axdr::{Data, Octets};
+use crate::ports::{lock_over, new_recorder};
+use cosem_axdr::Data;
 use cosem_names::{AttrRef, ClassId, Level, Obis};
 use relay_events::Event;
-use relay_recorder::Recorder;
 use shared_meter::{Finding, Kept, PendingLines, Question};
 use std::alloc::{AllocError, Global};
 use std::sync::Wait;
@@ -36,34 +35,6 @@ fn write_mode() -> Event {
         attr: MODE,
         selected: false,
         value: Data::Enum(1),
-    }
-}
-
-/// Returns a new meter, which keeps 16 events.
-fn new_recorder(alloc: Global) -> Result<Recorder, AllocError>
-    ensures { IfOk result (λ recorder. recorder.events ≡ []) }
-{
-    let device = Octets::from_slice(alloc, b"RELAY1")?;
-    let recorder = Recorder::new(alloc, &device, 16);
-    drop(device);
-    recorder
-}
-
-/// Returns a lock over a meter, and its first port.
-fn lock_over(
-    alloc: Global,
-    kept: Kept,
-    bound: u64,
-) -> Result<(Shared<Kept>, Port<Kept>), AllocError>
-    requires bound { (0 < bound) × (bound ≤ 1000) }
-    requires empty { Stands kept [] }
-{
-    match Shared::new(alloc, kept, bound) {
-        Ok(made) => Ok(made),
-        Err((error, kept)) => {
-            drop(kept);
-            Err(error)
-        }
     }
 }
 
@@ -146,9 +117,7 @@ fn changing_events_are_noted_and_taken_once(rt: HostRuntime) -> Result<(), Fail>
         && are_next_lines(&rt, alloc, &mut port, 3, b"", 3);
     drop(port);
     drop(shared);
-    assert!(rt; none && are_replies);
-    assert!(rt; two);
-    assert!(rt; third);
+    assert!(rt; none && are_replies && two && third);
     Ok(())
 }
 
@@ -162,8 +131,7 @@ fn lines_are_not_taken_from_another_place(rt: HostRuntime) -> Result<(), Fail> {
     let again = take(&rt, alloc, &mut port, 0).is_none();
     drop(port);
     drop(shared);
-    assert!(rt; is_reply && other);
-    assert!(rt; still && again);
+    assert!(rt; is_reply && other && still && again);
     Ok(())
 }
 

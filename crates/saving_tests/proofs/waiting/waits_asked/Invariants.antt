@@ -1,5 +1,5 @@
 -- The lock of the meter.
-use Rattle.saving_tests.proofs.waiting.a_wait_returns_true_for_saved_lines.Given as goal
+use Rattle.saving_tests.proofs.waiting.waits_asked.Given as goal
 
 abbrev pub ghosts-waits_after : goal.ghosts-waits_after
 ghosts-waits_after g a = record { lock = a.port.lock }

@@ -1,7 +1,8 @@
-//! Sessions of clients with a meter, frame by frame.
+//! Sessions of clients with a meter, frame by frame. tests/sessions.py plays many more.
 ghost use Rattle.std.specs.Prelude.{◌≡◌, true};
 ghost use Rattle.session_core.specs.Remaining.{is_asking};
 
+use crate::requests::new_core;
 use cosem_axdr::Octets;
 use relay_core::{Event, OpeningFault, RelayCore, Reply};
 use session_core::{Next, Session, SessionEnd};
@@ -139,14 +140,6 @@ fn new_session(alloc: Global) -> Result<Session, AllocError> {
     session
 }
 
-// Returns a new meter with the device name `RELAY1`.
-fn new_core(alloc: Global) -> Result<RelayCore, AllocError> {
-    let device = Octets::from_slice(alloc, b"RELAY1")?;
-    let core = RelayCore::new(alloc, &device);
-    drop(device);
-    core
-}
-
 /// Returns how a new session with a meter ends, for an input in pieces of this size, and appends
 /// what it sends.
 fn run_with(
@@ -213,13 +206,10 @@ fn add_hex(alloc: Global, bytes: &mut Octets, text: &str) -> Result<(), AllocErr
     }
 }
 
-/// Frames of a client, each with its answer.
-type Frames = &'static [(&'static str, &'static str)];
-
 // Appends the requests to the input, and their answers to the expected output.
 fn add_frames(
     alloc: Global,
-    frames: Frames,
+    frames: &[(&str, &str)],
     input: &mut Octets,
     expected: &mut Octets,
 ) -> Result<(), AllocError> {
@@ -231,7 +221,11 @@ fn add_frames(
 }
 
 /// Returns whether these frames have these answers and this end, in one piece and byte by byte.
-fn are_answered(alloc: Global, frames: Frames, end: SessionEnd) -> Result<bool, AllocError> {
+fn are_answered(
+    alloc: Global,
+    frames: &[(&str, &str)],
+    end: SessionEnd,
+) -> Result<bool, AllocError> {
     let mut input = Octets::new(alloc);
     let mut expected = Octets::new(alloc);
     let added = add_frames(alloc, frames, &mut input, &mut expected);
@@ -243,7 +237,7 @@ fn are_answered(alloc: Global, frames: Frames, end: SessionEnd) -> Result<bool, 
 }
 
 // A public client reads control_state.
-const STATE_READ: Frames = &[
+static STATE_READ: [(&str, &str); 3] = [
     PUBLIC,
     (
         "000100100001000DC001C10046000060030AFF0300",
@@ -259,284 +253,10 @@ const STATE_READ: Frames = &[
 fn a_public_client_reads_the_state(rt: HostRuntime) {
     assert!(rt;
         matches!(
-            are_answered(rt.alloc(), STATE_READ, SessionEnd::Closed),
+            are_answered(rt.alloc(), &STATE_READ, SessionEnd::Closed),
             Ok(true)
         )
     );
-}
-
-// A GET before an association, and its exception response.
-const NO_ASSOCIATION: Frames = &[(
-    "000100100001000DC001C10046000060030AFF0300",
-    "0001000100100003D80101",
-)];
-
-#[test]
-fn no_call_is_allowed_before_an_association(rt: HostRuntime) {
-    assert!(rt;
-        matches!(
-            are_answered(rt.alloc(), NO_ASSOCIATION, SessionEnd::Closed),
-            Ok(true)
-        )
-    );
-}
-
-// Frames of another client and to another port, between those of the public client.
-const OTHER_CLIENT: Frames = &[
-    PUBLIC,
-    (
-        "000100010001000DC001C10046000060030AFF0300",
-        "0001000100010003D80101",
-    ),
-    ("0001001000020001C0", ""),
-    ("0001001000010001CA", "0001000100100003D80202"),
-    ("0001001000010000", "0001000100100003D80202"),
-    (
-        "000100100001000DC001C10046000060030AFF0300",
-        "0001000100100006C401C1001601",
-    ),
-];
-
-#[test]
-fn another_client_and_another_port_are_not_heard(rt: HostRuntime) {
-    assert!(rt;
-        matches!(
-            are_answered(rt.alloc(), OTHER_CLIENT, SessionEnd::Closed),
-            Ok(true)
-        )
-    );
-}
-
-/// Requests from the ports 65534 and 32768.
-const HIGH_PORTS: Frames = &[
-    (
-        "0001FFFE0001000DC001C10046000060030AFF0300",
-        "00010001FFFE0003D80101",
-    ),
-    ("0001800000010001CA", "0001000180000003D80202"),
-];
-
-#[test]
-fn answers_go_to_ports_above_32767(rt: HostRuntime) {
-    assert!(rt;
-        matches!(
-            are_answered(rt.alloc(), HIGH_PORTS, SessionEnd::Closed),
-            Ok(true)
-        )
-    );
-}
-
-/// Appends a public client's AARQ of 537 bytes. Its calling AP title is an OCTET STRING of 496
-/// bytes.
-fn add_long_opening(alloc: Global, input: &mut Octets) -> Result<(), AllocError> {
-    add_hex(
-        alloc,
-        input,
-        "000100100001021960820215A109060760857405080101A68201F4048201F0",
-    )?;
-    input.extend_from_slice(&[0; 496])?;
-    add_hex(alloc, input, "BE10040E01000000065F1F0400007E1F04B0")
-}
-
-/// Returns whether a long AARQ has the usual AARE, and a read of the state after it is answered.
-fn is_long_opening_answered(alloc: Global) -> Result<bool, AllocError> {
-    let mut input = Octets::new(alloc);
-    let mut expected = Octets::new(alloc);
-    let opened = add_long_opening(alloc, &mut input);
-    let asked = add_hex(alloc, &mut input, STATE_READ[1].0);
-    let answered = add_hex(alloc, &mut expected, PUBLIC.1);
-    let read = add_hex(alloc, &mut expected, STATE_READ[1].1);
-    let is_so = is_answered_so(
-        alloc,
-        input.as_slice(),
-        expected.as_slice(),
-        SessionEnd::Closed,
-    );
-    drop(input);
-    drop(expected);
-    opened?;
-    asked?;
-    answered?;
-    read?;
-    is_so
-}
-
-#[test]
-fn an_opening_of_537_bytes_is_answered(rt: HostRuntime) {
-    assert!(rt; matches!(is_long_opening_answered(rt.alloc()), Ok(true)));
-}
-
-// AARQs of the management client with a wrong password and without one, and their AAREs.
-const WRONG_PASSWORD: Frames = &[
-    (
-        "00010001000100386036A1090607608574050801018A0207808B0760857405080201AC0A800831323334353637\
-            39BE10040E01000000065F1F0400001C190400",
-        "00010001000100196117A109060760857405080101A203020101A305A10302010D",
-    ),
-    (
-        "000100010001001F601DA109060760857405080101BE10040E01000000065F1F0400007E1F04B0",
-        "00010001000100196117A109060760857405080101A203020101A305A10302010E",
-    ),
-];
-
-#[test]
-fn a_wrong_password_is_refused(rt: HostRuntime) {
-    assert!(rt;
-        matches!(
-            are_answered(rt.alloc(), WRONG_PASSWORD, SessionEnd::Closed),
-            Ok(true)
-        )
-    );
-}
-
-// A management client releases its association and then sends a GET.
-const RELEASED: Frames = &[
-    MANAGEMENT,
-    ("00010001000100056203800100", "00010001000100056303800100"),
-    (
-        "000100010001000DC001C10046000060030AFF0300",
-        "0001000100010003D80101",
-    ),
-];
-
-#[test]
-fn a_release_ends_the_association(rt: HostRuntime) {
-    assert!(rt;
-        matches!(
-            are_answered(rt.alloc(), RELEASED, SessionEnd::Closed),
-            Ok(true)
-        )
-    );
-}
-
-// A GET of a list from a client without the conformance bit for lists.
-const LIST_WITHOUT_BIT: Frames = &[
-    MANAGEMENT,
-    ("0001000100010004C003C100", "0001000100010003D80202"),
-];
-
-#[test]
-fn a_list_wants_its_bit(rt: HostRuntime) {
-    assert!(rt;
-        matches!(
-            are_answered(rt.alloc(), LIST_WITHOUT_BIT, SessionEnd::Closed),
-            Ok(true)
-        )
-    );
-}
-
-// A SET, an ACTION in blocks, a GET, and the last block once more.
-const ACTION_BLOCKS: Frames = &[
-    MANAGEMENT,
-    (
-        "000100010001000FC101C10046000060030AFF04001601",
-        "0001000100010004C501C100",
-    ),
-    (
-        "0001000100010013C304C10046000060030AFF010000000001010F",
-        "0001000100010007C704C100000001",
-    ),
-    (
-        "000100010001000AC306C101000000020100",
-        "0001000100010005C701C10000",
-    ),
-    (
-        "000100010001000DC001C10046000060030AFF0300",
-        "0001000100010006C401C1001600",
-    ),
-    (
-        "000100010001000AC306C101000000020100",
-        "0001000100010005C701C11000",
-    ),
-];
-
-#[test]
-fn an_action_comes_in_blocks(rt: HostRuntime) {
-    assert!(rt;
-        matches!(
-            are_answered(rt.alloc(), ACTION_BLOCKS, SessionEnd::Closed),
-            Ok(true)
-        )
-    );
-}
-
-// A SET in blocks.
-const SET_BLOCKS: Frames = &[
-    MANAGEMENT,
-    (
-        "0001000100010014C102C10046000060030AFF040000000000010116",
-        "0001000100010007C502C100000001",
-    ),
-    (
-        "000100010001000AC103C101000000020105",
-        "0001000100010008C503C10000000002",
-    ),
-    (
-        "000100010001000DC001C10046000060030AFF0400",
-        "0001000100010006C401C1001605",
-    ),
-    (
-        "000100010001000AC103C101000000030105",
-        "0001000100010008C503C11200000003",
-    ),
-];
-
-#[test]
-fn a_set_comes_in_blocks(rt: HostRuntime) {
-    assert!(rt;
-        matches!(
-            are_answered(rt.alloc(), SET_BLOCKS, SessionEnd::Closed),
-            Ok(true)
-        )
-    );
-}
-
-// A GET of object_list from a client with a PDU of 64 bytes and without block transfer.
-const LONG_LIST: Frames = &[
-    (
-        "000100100001001F601DA109060760857405080101BE10040E01000000065F1F04000000100040",
-        "000100010010002B6129A109060760857405080101A203020100A305A103020100BE10040E0800065F1F040000\
-            001004000007",
-    ),
-    (
-        "000100100001000DC001C1000F0000280000FF0200",
-        "0001000100100005C401C101FA",
-    ),
-    ("0001001000010007C002C100000001", "0001000100100003D80202"),
-];
-
-#[test]
-fn a_long_list_is_refused_without_block_transfer(rt: HostRuntime) {
-    assert!(rt;
-        matches!(
-            are_answered(rt.alloc(), LONG_LIST, SessionEnd::Closed),
-            Ok(true)
-        )
-    );
-}
-
-/// Inputs without an answer, and their ends.
-const UNANSWERED: &[(Frames, SessionEnd)] = &[
-    (&[("", "")], SessionEnd::Closed),
-    (&[("0002001000010000", "")], SessionEnd::BadVersion),
-    (&[("0001001000010401", "")], SessionEnd::TooLong),
-    (&[("000100100001001F601DA109", "")], SessionEnd::Cut),
-    (&[("00", "")], SessionEnd::Cut),
-];
-
-// Returns whether the session of each row is answered and ends as expected.
-fn all_end(alloc: Global, rows: &[(Frames, SessionEnd)]) -> Result<bool, AllocError> {
-    for (frames, end) in rows {
-        if !are_answered(alloc, frames, *end)? {
-            return Ok(false);
-        }
-    }
-    Ok(true)
-}
-
-#[test]
-fn wrong_headers_and_cuts_end_the_session(rt: HostRuntime) {
-    assert!(rt; matches!(all_end(rt.alloc(), UNANSWERED), Ok(true)));
 }
 
 /// Returns whether a session waits for input, and `is_idle` returned true before.
@@ -744,9 +464,17 @@ fn requests_of_management_take_the_short_way(rt: HostRuntime) {
     }
 }
 
+// Returns whether ends have the numbers 1 to 4, and faults of an opening 1 and 2.
+fn are_numbered() -> bool {
+    u8::from(SessionEnd::Closed) == 1
+        && u8::from(SessionEnd::Cut) == 2
+        && u8::from(SessionEnd::BadVersion) == 3
+        && u8::from(SessionEnd::TooLong) == 4
+        && u8::from(OpeningFault::Unfit) == 1
+        && u8::from(OpeningFault::Memory) == 2
+}
+
 #[test]
 fn ends_and_faults_have_numbers(rt: HostRuntime) {
-    assert!(rt; u8::from(SessionEnd::Closed) == 1 && u8::from(SessionEnd::Cut) == 2);
-    assert!(rt; u8::from(SessionEnd::BadVersion) == 3 && u8::from(SessionEnd::TooLong) == 4);
-    assert!(rt; u8::from(OpeningFault::Unfit) == 1 && u8::from(OpeningFault::Memory) == 2);
+    assert!(rt; are_numbered());
 }

@@ -1,5 +1,0 @@
--- The lock of the meter.
-use Rattle.saving_tests.proofs.waiting.a_wait_returns_false_if_the_sync_fails.Given as goal
-
-abbrev pub ghosts-waits_after : goal.ghosts-waits_after
-ghosts-waits_after g a = record { lock = a.port.lock }
