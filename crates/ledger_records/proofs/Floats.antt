@@ -34,18 +34,18 @@ last_are_whole line =
     let state = member (codes "state") (number_or_null (answer_state line.answer)) verb in
     let sent = member (codes "sent") (string (sent_word (standing_of line.entry))) state in
     member_is_whole (codes "seconds") (number_or_null (seconds_taken line.times)) sent
-        (number_is_whole (seconds_taken line.times))
-        (member_is_whole (codes "state") (number_or_null (answer_state line.answer)) verb
-            (number_is_whole (answer_state line.answer)) refl)
+    (number_is_whole (seconds_taken line.times))
+    (member_is_whole (codes "state") (number_or_null (answer_state line.answer)) verb
+    (number_is_whole (answer_state line.answer)) refl)
 
 -- the members whose keys are from `name` on
 outcome_are_whole : (line : LedgerLine) → members_have_float (outcome_members line) ≡ false
 unfolding outcome_members
 outcome_are_whole line =
     let outcome = member (codes "outcome") (string (outcome_word (standing_of line.entry)))
-        (last_members line) in
+    (last_members line) in
     member_is_whole (codes "number") (number_or_null (outcome_number line.entry)) outcome
-        (number_is_whole (outcome_number line.entry)) (last_are_whole line)
+    (number_is_whole (outcome_number line.entry)) (last_are_whole line)
 
 -- all members
 job_are_whole : (line : LedgerLine) → members_have_float (job_members line) ≡ false
@@ -54,11 +54,11 @@ job_are_whole line =
     let ended = member (codes "ended_at") (time_or_null line.times.ended) (outcome_members line) in
     let begun = member (codes "begun_at") (time_or_null line.times.begun) ended in
     member_is_whole (codes "asked_at") (time_or_null (answer_time line.answer)) begun
-        (time_is_whole (answer_time line.answer))
-        (member_is_whole (codes "begun_at") (time_or_null line.times.begun) ended
-            (time_is_whole line.times.begun)
-            (member_is_whole (codes "ended_at") (time_or_null line.times.ended)
-                (outcome_members line) (time_is_whole line.times.ended) (outcome_are_whole line)))
+    (time_is_whole (answer_time line.answer))
+    (member_is_whole (codes "begun_at") (time_or_null line.times.begun) ended
+    (time_is_whole line.times.begun)
+    (member_is_whole (codes "ended_at") (time_or_null line.times.ended)
+    (outcome_members line) (time_is_whole line.times.ended) (outcome_are_whole line)))
 
 -- the text of an object with these members, which is known if it has no float
 pub text_is : (value : Data) (found : Members) (line : LedgerLine) (text : List ℕ)
@@ -68,4 +68,4 @@ pub text_is : (value : Data) (found : Members) (line : LedgerLine) (text : List 
 text_is value found line text value_is found_are gives =
     let is_record = value_is ∙ ap object found_are in
     subst (λ (it : Data). text ≡ compact_text it) is_record
-        (gives (subst (λ (it : Data). has_float it ≡ false) (sym is_record) (job_are_whole line)))
+    (gives (subst (λ (it : Data). has_float it ≡ false) (sym is_record) (job_are_whole line)))
