@@ -18,7 +18,7 @@ use std::test::Fail;
 use std::thread::Threads;
 
 // The expected report of the five jobs.
-const REPORT: &[u8] = b"m1 done 0\nm2 rejected 13\nm3 unknown\nm4 refused 2\nm5 unknown\n";
+static REPORT: &[u8] = b"m1 done 0\nm2 rejected 13\nm3 unknown\nm4 refused 2\nm5 unknown\n";
 
 /// The four meters, and a name at whose address there is none.
 pub(crate) const FIVE: &[&[u8]] = &[b"m1", b"m2", b"m3", b"m4", b"m5"];
@@ -169,7 +169,7 @@ fn row_of(alloc: Global, name: &[u8]) -> Result<Row, AllocError> {
 }
 
 // The four meters, each with the outcome of its job.
-const ROWS: &[(&[u8], Outcome)] = &[
+static ROWS: &[(&[u8], Outcome)] = &[
     (b"m1", Outcome::Done(0)),
     (b"m2", Outcome::Rejected(13)),
     (b"m3", Outcome::Unknown),

@@ -188,7 +188,7 @@ fn follows_steps(alloc: Global, verb: Verb, steps: &[Step]) -> Result<bool, Allo
 }
 
 // A disconnection: which texts the client sends, and when it has none.
-const EACH_TEXT: &[Step] = &[
+static EACH_TEXT: &[Step] = &[
     Step::Gives(&AARQ),
     Step::GivesNone,
     Step::Comes(1, &ACCEPTING),
@@ -217,7 +217,7 @@ fn each_text_is_given_once(rt: HostRuntime) {
 type Asked = (Verb, &'static [u8], &'static [u8], Outcome);
 
 // Each verb with its request, a response, and the outcome of that response.
-const EACH_VERB: &[Asked] = &[
+static EACH_VERB: &[Asked] = &[
     (
         Verb::Disconnect,
         &DISCONNECT,
@@ -270,7 +270,7 @@ fn each_verb_has_its_request(rt: HostRuntime) {
 }
 
 // An association that the meter rejects with diagnostic 13.
-const REJECTION: &[Step] = &[
+static REJECTION: &[Step] = &[
     Step::Gives(&AARQ),
     Step::Comes(1, &REFUSING),
     Step::GivesNone,
@@ -278,7 +278,7 @@ const REJECTION: &[Step] = &[
 ];
 
 // An association without the conformance bit of GET.
-const NO_GET: &[Step] = &[
+static NO_GET: &[Step] = &[
     Step::Comes(1, &WITHOUT_GET),
     Step::Tells(Some(Outcome::Rejected(0))),
 ];
@@ -295,7 +295,7 @@ fn a_rejection_has_no_request(rt: HostRuntime) {
 }
 
 // Payloads from port 16, before and after one from port 1.
-const OTHER_PORTS: &[Step] = &[
+static OTHER_PORTS: &[Step] = &[
     Step::Comes(16, &REFUSING),
     Step::Comes(1, &ACCEPTING),
     Step::Comes(16, &DONE),
@@ -315,7 +315,7 @@ fn frames_of_other_ports_are_skipped(rt: HostRuntime) {
 }
 
 // Two responses that arrive byte by byte.
-const BYTE_BY_BYTE: &[Step] = &[
+static BYTE_BY_BYTE: &[Step] = &[
     Step::EachByte(&OPENED),
     Step::EachByte(&REFUSED),
     Step::Tells(Some(Outcome::Refused(2))),
@@ -332,7 +332,7 @@ fn answers_come_in_any_cut(rt: HostRuntime) {
 }
 
 // A response whose header has version 2.
-const WRONG_HEADER: &[Step] = &[
+static WRONG_HEADER: &[Step] = &[
     Step::Comes(1, &ACCEPTING),
     Step::Bytes(&[0x00, 0x02, 0x00, 0x01, 0x00, 0x01, 0x00, 0x00]),
     Step::Tells(Some(Outcome::Unknown)),

@@ -64,7 +64,7 @@ fn fault_of(alloc: Global, text: &[u8]) -> Option<JobsFault> {
 }
 
 // Texts of jobs that are rejected, each with the number of its first wrong line.
-const WRONG: &[(&[u8], u32)] = &[
+static WRONG: &[(&[u8], u32)] = &[
     (b"m1 127.0.0.1:4059 close", 1),
     (b"m1  127.0.0.1:4059 state", 1),
     (b"m1 127.0.0.1:4059 state ", 1),
