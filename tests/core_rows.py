@@ -374,19 +374,26 @@ def twins():
     yield "a block is its samples one by one, with longer durations", is_one_by_one(BUSY_LATE)
 
 
-def main():
+def report(script, results):
+    """Prints the name of each result that is wrong, and counts them. Returns the exit status. The
+    results are asked for only if there is a player."""
     if not PLAYER.exists():
         print(f"{PLAYER} is missing: run bin/build or bin/test")
         print("0 passed, 1 failed")
         return 1
     passed, failed = 0, 0
-    for name, is_so in (*tables(), *openings(), *twins()):
+    for name, is_so in results:
         passed, failed = passed + is_so, failed + (not is_so)
         if not is_so:
-            print(f"FAILED core_rows: {name}")
+            print(f"FAILED {script}: {name}")
     print(f"{passed} passed, {failed} failed")
     return 1 if failed else 0
 
 
+def results():
+    """The name of each table, and whether it was played as expected."""
+    yield from (*tables(), *openings(), *twins())
+
+
 if __name__ == "__main__":
-    sys.exit(main())
+    sys.exit(report("core_rows", results()))

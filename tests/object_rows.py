@@ -12,8 +12,8 @@ import sys
 sys.dont_write_bytecode = True  # importing the modules of tests/ leaves no files
 
 from core_rows import (DISCONNECT, EXPORT_LIMITER, IMPORT_ACTIONS, IMPORT_LIMITER, IMPORT_MIN_OVER, IMPORT_MIN_UNDER,
-                       IMPORT_NORMAL, MODE, NEW_METER, PLAYER, PROFILE, SCHEDULE_SCRIPT, SCHEDULE_TIMES, SCHEDULE_TYPE,
-                       SCRIPT_1, SCRIPTS, TABLE, call, expected_lines, limit, long_number, mode, moment, play, read, scripts,
+                       IMPORT_NORMAL, MODE, NEW_METER, PROFILE, SCHEDULE_SCRIPT, SCHEDULE_TIMES, SCHEDULE_TYPE,
+                       SCRIPT_1, SCRIPTS, TABLE, call, expected_lines, limit, long_number, mode, moment, play, read, report, scripts,
                        values, with_state, write)
 
 # The results of a write: success, type-unmatched and other-reason.
@@ -238,21 +238,13 @@ TABLES = {
 }
 
 
-def main():
-    if not PLAYER.exists():
-        print(f"{PLAYER} is missing: run bin/build or bin/test")
-        print("0 passed, 1 failed")
-        return 1
-    passed, failed = 0, 0
+def results():
+    """The name of each table, with what was played if that is not what is expected."""
     for name, rows in TABLES.items():
         found = play(NEW_METER, [row[0] for row in rows])
         is_so = found == (0, expected_lines(rows), "")
-        passed, failed = passed + is_so, failed + (not is_so)
-        if not is_so:
-            print(f"FAILED object_rows: {name}: {found}")
-    print(f"{passed} passed, {failed} failed")
-    return 1 if failed else 0
+        yield (name if is_so else f"{name}: {found}"), is_so
 
 
 if __name__ == "__main__":
-    sys.exit(main())
+    sys.exit(report("object_rows", results()))
