@@ -26,8 +26,8 @@ sys.dont_write_bytecode = True  # importing the modules of tests/ leaves no file
 
 import serving
 from one_node_slurm import LONG_PATIENCE, Slurm, missing_commands
-from scripted_meters import AARQ, CROWD, HOLDING, RELEASE, REQUESTS, SCRIPTS, Crowd, ScriptedMeter, Unheard, answers_slowly, answers_the_release, does_it, \
-    loopback_address
+from scripted_meters import AARQ, CROWD, HOLDING, RELEASE, REQUESTS, SCRIPTS, Crowd, ScriptedMeter, Unheard, answer_to, answers_slowly, \
+    answers_the_release, does_it, loopback_address
 from serving import (MODE, PASSWORD, PATIENCE, PLAYER, SERVER, TOP, Client, Server, check,
                      play_trace, process_text, test, wait_until)
 
@@ -322,6 +322,27 @@ def jobs_of_a_meter_run_in_order(name):
             requests = [talk.frames[1] for talk in meter.wait_for_talks(len(verbs))]
             check(f"{name}, workers {workers}: order", requests == [REQUESTS[verb] for verb in verbs], requests)
             meter.stop()
+
+
+def jobs_run_in_parallel(name):
+    """Each of two meters answers only once the other has received its request."""
+    asked = [threading.Event(), threading.Event()]
+
+    def script_of(own, other):
+        def waits_for_the_other(talk):
+            request = talk.open()
+            own.set()
+            if other.wait(PATIENCE):
+                talk.send(answer_to(request))
+
+        return waits_for_the_other
+
+    meters = [ScriptedMeter(script_of(*asked)), ScriptedMeter(script_of(*reversed(asked)))]
+    jobs = "".join(f"m{number} 127.0.0.1:{meter.port} disconnect\n" for number, meter in enumerate(meters))
+    made = run_head_end(jobs, "--workers", "2", *LIMITS)
+    check(name, made == (0, "m0 done 0\nm1 done 0\n", ""), made)
+    for meter in meters:
+        meter.stop()
 
 
 def no_connection_is_reset(name):
@@ -915,7 +936,7 @@ def main():
     _, most = resource.getrlimit(resource.RLIMIT_NOFILE)
     resource.setrlimit(resource.RLIMIT_NOFILE, (most, most))
     for function in (campaigns_among_running_meters, a_meter_is_reached_by_its_name, a_file_has_the_password, each_meter_has_its_password,
-                     jobs_of_a_meter_run_in_order, no_connection_is_reset, progress_is_reported):
+                     jobs_of_a_meter_run_in_order, jobs_run_in_parallel, no_connection_is_reset, progress_is_reported):
         test(function)
 
     def campaigns_of_many_jobs(name):

@@ -512,6 +512,8 @@ CASES = [
      b"\nm1 127.0.0.1:4059 reconnect\n\nm2 127.0.0.1:4060 state", b"jobs 2\n", b"", 0),
     ("another verb", "head_end_cli", ["check"], b"m1 127.0.0.1:4059 close\n", b"", FAULT_INPUT, 2),
     ("two blanks in a job", "head_end_cli", ["check"], b"m1  127.0.0.1:4059 state\n", b"", FAULT_INPUT, 2),
+    ("a blank at the end of a job", "head_end_cli", ["check"], b"m1 127.0.0.1:4059 state \n", b"", FAULT_INPUT, 2),
+    ("a tab in a job", "head_end_cli", ["check"], b"m1 127.0.0.1:4059\tstate\n", b"", FAULT_INPUT, 2),
     ("a name of 33 bytes", "head_end_cli", ["check"], b"n" * 33 + b" 127.0.0.1:4059 state\n", b"", FAULT_INPUT, 2),
     ("1,000 jobs", "head_end_cli", ["check"], b"m 127.0.0.1:4059 state\n" * 1000, b"jobs 1000\n", None, 0),
     ("1,001 jobs", "head_end_cli", ["check"], b"m 127.0.0.1:4059 state\n" * 1001, b"", FAULT_INPUT, 2),

@@ -37,10 +37,16 @@ AARQ = bytes.fromhex("00010001000100386036A1090607608574050801018A0207808B076085
 AARE = bytes.fromhex("000100010001002B6129A109060760857405080101A203020100A305A103020100BE10040E0800065F1F0400001C1904000007")
 DISCONNECT = bytes.fromhex("000100010001000FC301C10046000060030AFF01010F00")
 DONE = bytes.fromhex("0001000100010005C701C10000")
+# The AARE that rejects a wrong password (authentication-failure, 13), and the answer to a method in
+# control mode 0 (temporary-failure, 2).
+REJECTED = bytes.fromhex("00010001000100196117A109060760857405080101A203020101A305A10302010D")
+REFUSED = bytes.fromhex("0001000100010005C701C10200")
 STATE = bytes.fromhex("000100010001000DC001C10046000060030AFF0300")
 RECONNECT = bytes.fromhex("000100010001000FC301C10046000060030AFF02010F00")
 DISCONNECTED, CONNECTED, READY = (
     bytes.fromhex(f"0001000100010006C401C10016{state}") for state in ("00", "01", "02"))
+SET_MODE_1 = bytes.fromhex("000100010001000FC101C10046000060030AFF04001601")
+SET_DONE = bytes.fromhex("0001000100010004C501C100")
 WRONG_VERSION = bytes.fromhex("0002000100010000")
 # GET of the object list (class 15), which is answered in blocks; and blocks that follow none.
 OBJECTS = bytes.fromhex("000100010001000DC001C1000F0000280000FF0200")
@@ -50,7 +56,9 @@ ATTACKS = 40  # of each kind
 DELAY = 2  # the time by which a slow meter answers late, in seconds
 ROUNDING = 0.01  # the fleet counts whole milliseconds
 SILENCE = 8  # the time after which a client takes a meter for silent, in seconds
-JOBS = 2_000  # of the campaign over meters with faults
+# What a campaign reports of meters with these faults; the others are unknown.
+ROWS = {None: "done 0", "slow": "done 0", "wrong-password": "rejected 13", "refuses": "refused 2"}
+JOBS = 20_000  # of the campaign over meters with faults
 
 # The trace of a meter in mode 1 that was disconnected (docs/TRACE.md).
 OPENING = """RELAYTRACE 1
@@ -167,6 +175,15 @@ def receive(client, count):
             break
         text += piece
     return text
+
+
+def aarq_with(password):
+    """The AARQ of the management client with this password, in its frame."""
+    before, after = AARQ[8:].split(b"\xac\x0a\x80\x08" + PASSWORD.encode())
+    field = bytes([0xAC, len(password) + 2, 0x80, len(password)]) + password
+    body = before[2:] + field + after
+    apdu = bytes([0x60, len(body)]) + body
+    return AARQ[:6] + len(apdu).to_bytes(2, "big") + apdu
 
 
 def ask(client, request, answer):
@@ -673,6 +690,12 @@ def with_faults(seed, shares, **words):
     return Fleet("--mode", "1", *options, "--seed", str(seed), **words)
 
 
+def receive_frame(client):
+    """The next frame that a client receives, or what the meter sends of it (IEC 62056-4-7)."""
+    header = receive(client, 8)
+    return header + receive(client, int.from_bytes(header[6:8], "big") if len(header) == 8 else 0)
+
+
 def fault_seen(fleet, meter):
     """The fault that a client sees at a meter, whose answers are all right and late, or None."""
     with fleet.connect(meter) as client:
@@ -680,12 +703,16 @@ def fault_seen(fleet, meter):
         try:
             begun = time.monotonic()
             client.sendall(AARQ)
-            opening = receive(client, len(AARE))
+            opening = receive_frame(client)
+            if opening == REJECTED:
+                return "wrong-password"
             client.sendall(DISCONNECT)
-            answer = receive(client, len(DONE))
+            answer = receive_frame(client)
             are_late = time.monotonic() - begun >= 2 * DELAY - ROUNDING
             if (opening, answer) == (AARE, DONE):
                 return "slow" if are_late else None
+            if (opening, answer) == (AARE, REFUSED):
+                return "refuses"
             if (opening, answer) == (AARE, DONE[:len(DONE) // 2]) and is_closed(client):
                 return "vanishes"
         except TimeoutError:
@@ -704,12 +731,14 @@ def faults_seen(fleet):
 def state_after(fault):
     """The control state of a meter with this fault after a client asked to disconnect it, if the
     client waited for each answer."""
-    return "connected" if fault in ("silent", "closes") else "disconnected"
+    unchanged = ("silent", "closes", "wrong-password", "refuses")
+    return "connected" if fault in unchanged else "disconnected"
 
 
 def faults_are_drawn():
     """Each client sees the fault that the seed and the shares give its meter, and no other."""
-    shares = (("silent", 10), ("slow", 15), ("vanishes", 20), ("closes", 25))
+    shares = (("silent", 10), ("slow", 15), ("vanishes", 20), ("closes", 15),
+              ("wrong-password", 10), ("refuses", 15))
     for seed, given in ((0, shares), (7, shares), (4_294_967_295, shares[::2])):
         with with_faults(seed, given) as fleet:
             wanted = [fault_of(seed, meter, given) for meter in range(1, METERS + 1)]
@@ -726,6 +755,8 @@ def faults_are_whole():
     for name, words in (("silent", ("--fault", "silent=100")),
                         ("vanishes", ("--fault", "vanishes=30", "--fault", "vanishes=100")),
                         ("closes", ("--fault", "closes=100", "--fault", "slow=0")),
+                        ("wrong-password", ("--fault", "wrong-password=100")),
+                        ("refuses", ("--fault", "refuses=100", "--seed", "9")),
                         (None, ("--fault", "silent=0", "--fault", "closes=0", "--seed", "3"))):
         with Fleet("--mode", "1", *words) as fleet:
             check(f"all meters: {name}", faults_seen(fleet) == METERS * [name])
@@ -760,9 +791,54 @@ def slow_meters_answer_late():
         check("a fleet of slow meters waits", cpu_seconds(fleet.process.pid) - used < 0.5)
 
 
+def passwords_are_other_ones():
+    """A meter with another password opens an association for that alone: its first byte is 0, or 1
+    instead of 0."""
+    fleets = ((PASSWORD, "02345678"), ("0", "1"), ("é" * 16, b"0\xa9" + "é".encode() * 15))
+    for password, other in fleets:
+        other = other if isinstance(other, bytes) else other.encode()
+        with Fleet("--mode", "1", "--fault", "wrong-password=100",
+                   password=("--password", password)) as fleet:
+            for given, answer in ((password.encode(), REJECTED), (other, AARE)):
+                with fleet.connect(3) as client:
+                    is_so = ask(client, aarq_with(given), answer)
+                    check(f"{given} at a meter with another password than {password}", is_so)
+
+
+def meters_that_refuse_may_be_set():
+    """A meter that refuses is in control mode 0: in another mode it can be switched, also by its
+    button, and a meter without the fault has the mode of the command line."""
+    with with_faults(0, [("refuses", 100)]) as fleet:
+        check("it refuses, and is connected already",
+              talk(fleet, 4, (DISCONNECT, REFUSED), (STATE, CONNECTED), (RECONNECT, DONE)))
+        check("its button does nothing", fleet.answers("4 button") == ["1"])
+        check("it is connected", fleet.answers("4 state") == ["4 connected"])
+        check("all are connected", fleet.answers("count connected") == [str(METERS)])
+        check("it is set to mode 1, and switched",
+              talk(fleet, 4, (SET_MODE_1, SET_DONE), (DISCONNECT, DONE), (STATE, DISCONNECTED)))
+
+
+def meters_with_faults_resume():
+    """A meter with another password resumes too; one that refuses is an error."""
+    with tempfile.TemporaryDirectory() as folder:
+        path = pathlib.Path(folder, "trace")
+        path.write_text(TRACE)
+        words = ("--resume", str(path), "--fault", "wrong-password=100")
+        with Fleet(*words) as fleet, fleet.connect(2) as client:
+            check("a meter with another password resumes", fleet.answers("2 state")
+                  == ["2 disconnected"] and ask(client, AARQ, REJECTED))
+        ran = subprocess.run([str(FLEET), "serve", "--meters", "3", "--password", PASSWORD,
+                              "--port", "0", "--verbose", "--resume", str(path), "--fault",
+                              "refuses=1"], capture_output=True, text=True, timeout=PATIENCE,
+                             check=False)
+        wanted = "fault refuses: must not be combined with --resume\nfault: input\n"
+        check("meters that resume can't refuse", (ran.returncode, ran.stderr) == (2, wanted))
+
+
 def wrong_faults_are_refused():
     for words, line in (
-            (["mute=5"], "fault mute=5: expected silent, slow, vanishes or closes"),
+            (["mute=5"], "fault mute=5: expected silent, slow, vanishes, closes, wrong-password "
+                         "or refuses"),
             (["silent"], "fault silent: expected NAME=PERCENT with 0 to 100 percent"),
             (["slow=101"], "fault slow=101: expected NAME=PERCENT with 0 to 100 percent"),
             (["silent=60", "slow=41"],
@@ -779,20 +855,22 @@ def wrong_faults_are_refused():
 
 def campaigns_report_faults():
     """The rows of a campaign over meters with faults: those that are silent, vanish or close are
-    unknown, and all others done. The console finds which meters were switched."""
-    seed, shares = 11, (("silent", 1), ("slow", 2), ("vanishes", 3), ("closes", 4))
+    unknown, those with another password reject, those in mode 0 refuse, and all others are done.
+    The console finds which meters were switched."""
+    seed, shares = 11, (("silent", 1), ("slow", 1), ("vanishes", 3), ("closes", 4),
+                        ("wrong-password", 5), ("refuses", 6))
     faults = [fault_of(seed, meter, shares) for meter in range(1, JOBS + 1)]
     with tempfile.TemporaryDirectory() as folder, \
             with_faults(seed, shares, meters=JOBS) as fleet:
         path = pathlib.Path(folder, "jobs")
         path.write_text("".join(f"m{meter} {address_of(meter)}:{fleet.port} disconnect\n"
                                 for meter in range(1, JOBS + 1)))
-        words = ["--program", str(HEAD_END), "--jobs", "4", "--workers", "16", "--timeout", "20"]
+        # (20 parts, of which each talks to 16 meters at once: silent meters wait for their limit)
+        words = ["--program", str(HEAD_END), "--jobs", "20", "--workers", "16", "--timeout", "15"]
         ran = subprocess.run([str(CAMPAIGN), *words, str(path)], stdin=subprocess.DEVNULL,
                              capture_output=True, text=True, timeout=6 * PATIENCE, check=False,
                              env=environment(PASSWORD) | {"PARALLEL_HOME": folder})
-        rows = [f"m{meter} {'done 0' if fault in (None, 'slow') else 'unknown'}"
-                for meter, fault in enumerate(faults, 1)]
+        rows = [f"m{meter} {ROWS.get(fault, 'unknown')}" for meter, fault in enumerate(faults, 1)]
         check("a campaign reports the faults", ran.stdout.splitlines() == rows)
         states = [f"{meter} {state_after(fault)}" for meter, fault in enumerate(faults, 1)]
         check("the console finds what was switched", fleet.answers("all state", JOBS) == states)
@@ -825,6 +903,9 @@ def main():
     faults_are_whole()
     silent_meters_act()
     slow_meters_answer_late()
+    passwords_are_other_ones()
+    meters_that_refuse_may_be_set()
+    meters_with_faults_resume()
     if os.path.exists(HEAD_END) and shutil.which("parallel"):
         campaigns_report_faults()
     else:

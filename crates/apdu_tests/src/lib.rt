@@ -1,6 +1,6 @@
 //! Tests of `xdlms_apdu`: reads and writes texts of the standard. Also tests the cursor of
 //! `wire_bytes`, and the numbers of the faults of `cosem_axdr`, `acse_ber`, `xdlms_apdu`,
-//! `wrapper_frame` and `xdlms_blocks`.
+//! `wrapper_frame` and `xdlms_blocks`; and how `session_log` reads answers.
 //!
 //! The tests have a crate of their own because a check of tests also proves the rest of their
 //! crate.
@@ -14,3 +14,5 @@ mod apdu_reading;
 mod numbers;
 #[cfg(test)]
 mod reader;
+#[cfg(test)]
+mod session_logs;

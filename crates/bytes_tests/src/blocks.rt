@@ -1,5 +1,5 @@
-//! Block transfers: long texts cut into blocks and joined again, wrong block numbers, the limit of
-//! 8,192 bytes, and running out of memory.
+//! Block transfers: long texts cut into blocks and joined again, wrong block numbers, and the limit
+//! of 8,192 bytes.
 use std::alloc::{AllocError, Global};
 use std::process::Abort;
 use std::test::Fail;
@@ -125,20 +125,14 @@ fn join(rt: &impl Abort, alloc: Global, rows: &[Joining<'_>]) -> Result<(), Bloc
 }
 
 /// Returns whether a block is the expected one, and adding it returns the expected text, or none.
-/// If `is_patient`, adds it again if out of memory.
 fn passes(
     joined: &mut JoinBlocks,
     piece: Piece,
     (last, number, len): Block,
     text: Option<&[u8]>,
-    is_patient: bool,
 ) -> Result<bool, BlockFault> {
     let same = piece.last == last && piece.number == number && piece.raw.len() == len;
-    let joining = ((last, number, piece.raw.as_slice()), Ok(text));
-    let added = match joins(joined, &joining) {
-        Err(BlockFault::Memory) if is_patient => joins(joined, &joining),
-        first => first,
-    };
+    let added = joins(joined, &((last, number, piece.raw.as_slice()), Ok(text)));
     drop(piece);
     Ok(added? && same)
 }
@@ -160,7 +154,7 @@ fn check_13_blocks(
         };
         let block = (number == 13, number, len);
         let piece = sent.next(alloc, before)?;
-        let is_so = passes(joined, piece, block, whole, false)?;
+        let is_so = passes(joined, piece, block, whole)?;
         assert!(*rt; is_so, "at block {number}");
     }
     send_all(rt, alloc, sent, &[(13, Err(BlockFault::NoTransfer))])?;
@@ -263,62 +257,38 @@ fn another_number_ends_the_joining(rt: HostRuntime) -> Result<(), Fail> {
     Ok(())
 }
 
-// The longest value that blocks can join: 8,192 bytes.
-const LONGEST: [u8; 8192] = [0xAB; 8192];
+/// Returns whether these 8,192 bytes are joined from two blocks.
+fn joins_longest(joined: &mut JoinBlocks, longest: &[u8]) -> Result<bool, BlockFault> {
+    let (first, second) = longest.split_at(8_000.min(longest.len()));
+    let is_first = joins(joined, &((false, 1, first), Ok(None)))?;
+    Ok(is_first && joins(joined, &((true, 2, second), Ok(Some(longest))))?)
+}
 
-/// A byte added to 8,192 bytes.
-static LONGER: [Joining<'static>; 3] = [
-    ((false, 1, &LONGEST), Ok(None)),
-    ((true, 2, &[0xAB]), Err(BlockFault::TooLong)),
-    ((true, 2, &[]), Err(BlockFault::NoTransfer)),
-];
+/// Returns whether a byte after these 8,192 bytes ends the transfer.
+fn refuses_longer(joined: &mut JoinBlocks, longest: &[u8]) -> Result<bool, BlockFault> {
+    let (first, _) = longest.split_at(1.min(longest.len()));
+    let is_first = joins(joined, &((false, 1, longest), Ok(None)))?;
+    let is_refused = joins(joined, &((true, 2, first), Err(BlockFault::TooLong)))?;
+    let is_over = joins(joined, &((true, 2, &[]), Err(BlockFault::NoTransfer)))?;
+    Ok(is_first && is_refused && is_over)
+}
+
+/// Returns whether 8,192 bytes are joined, and not 8,193.
+fn joins_up_to(alloc: Global, longest: &[u8]) -> Result<bool, BlockFault> {
+    let mut joined = JoinBlocks::new(alloc);
+    let are_joined = joins_longest(&mut joined, longest);
+    drop(joined);
+    let mut joined = JoinBlocks::new(alloc);
+    let is_refused = refuses_longer(&mut joined, longest);
+    drop(joined);
+    Ok(are_joined? && is_refused?)
+}
 
 #[test]
 fn no_more_than_8192_bytes_are_joined(rt: HostRuntime) -> Result<(), Fail> {
-    let two: [Joining<'_>; 2] = [
-        ((false, 1, &LONGEST[..8000]), Ok(None)),
-        ((true, 2, &LONGEST[8000..]), Ok(Some(&LONGEST))),
-    ];
-    join(&rt, rt.alloc(), &two)?;
-    join(&rt, rt.alloc(), &LONGER)?;
+    let longest = [0xAB; 8192];
+    assert!(rt; joins_up_to(rt.alloc(), &longest)?);
     Ok(())
-}
-
-/// Returns the block after a number; requests it again if out of memory.
-fn next_again(alloc: Global, sent: &mut GetBlocks, after: u32) -> Result<Piece, BlockFault> {
-    match sent.next(alloc, after) {
-        Err(BlockFault::Memory) => sent.next(alloc, after),
-        first => first,
-    }
-}
-
-// Sends and joins a text of two blocks, and repeats each call that is out of memory.
-fn check_repeated(
-    rt: &impl Abort,
-    alloc: Global,
-    sent: &mut GetBlocks,
-    joined: &mut JoinBlocks,
-) -> Result<(), Fail> {
-    let text: [u8; 104] = count_up();
-    let piece = next_again(alloc, sent, 0)?;
-    let is_first_so = passes(joined, piece, (false, 1, 52), None, true)?;
-    let piece = next_again(alloc, sent, 1)?;
-    let is_second_so = passes(joined, piece, (true, 2, 52), Some(&text), true)?;
-    assert!(*rt; is_first_so && is_second_so);
-    Ok(())
-}
-
-#[test]
-fn a_call_that_found_no_memory_can_be_repeated(rt: HostRuntime) -> Result<(), Fail> {
-    let mut sent = match sending_104(rt.alloc()) {
-        Err(_) => sending_104(rt.alloc())?,
-        Ok(sent) => sent,
-    };
-    let mut joined = JoinBlocks::new(rt.alloc());
-    let checked = check_repeated(&rt, rt.alloc(), &mut sent, &mut joined);
-    drop(sent);
-    drop(joined);
-    checked
 }
 
 /// Returns a block transfer of a text of 8,192 bytes in blocks of 52.

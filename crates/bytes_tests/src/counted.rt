@@ -170,20 +170,19 @@ fn count_read(alloc: Global, bytes: &[u8]) -> Result<usize, InputFault> {
     Ok(count)
 }
 
-#[test]
-fn bytes_are_read_to_their_end(rt: HostRuntime) -> Result<(), Fail> {
-    assert!(rt; reads_five(rt.alloc())?);
+// Returns whether an input is read to its end, has a byte too many, or ends with a failed read.
+fn are_inputs_read(alloc: Global) -> Result<bool, InputFault> {
     let many = [7; 40_000];
-    assert!(rt; count_read(rt.alloc(), &many)? == 40_000);
+    Ok(
+        reads_five(alloc)?
+            && count_read(alloc, &many)? == 40_000
+            && read_five(alloc, 4).err() == Some(InputFault::TooLong)
+            && read_failing(alloc).err() == Some(InputFault::Read),
+    )
+}
+
+#[test]
+fn an_input_is_read_to_its_end_or_its_fault(rt: HostRuntime) -> Result<(), Fail> {
+    assert!(rt; are_inputs_read(rt.alloc())?);
     Ok(())
-}
-
-#[test]
-fn a_byte_too_many_is_told(rt: HostRuntime) {
-    assert!(rt; matches!(read_five(rt.alloc(), 4), Err(InputFault::TooLong)));
-}
-
-#[test]
-fn a_read_that_fails_ends_the_input(rt: HostRuntime) {
-    assert!(rt; matches!(read_failing(rt.alloc()), Err(InputFault::Read)));
 }

@@ -24,26 +24,21 @@ fn is_shown(alloc: Global, fault: Fault, word: &str) -> Result<bool, AllocError>
 }
 
 #[test]
-fn a_fault_is_shown_as_its_word(rt: HostRuntime) -> Result<(), Fail> {
-    for (fault, word, _) in &FAULTS {
-        assert!(rt; is_shown(rt.alloc(), *fault, word)?, "{word}");
+fn a_fault_has_its_word_and_its_status(rt: HostRuntime) -> Result<(), Fail> {
+    for (fault, word, status) in &FAULTS {
+        let is_shown = is_shown(rt.alloc(), *fault, word)?;
+        assert!(rt; is_shown && fault.status() == *status, "{word}");
     }
     Ok(())
 }
 
 #[test]
-fn a_fault_has_its_status(rt: HostRuntime) {
-    for (fault, word, status) in &FAULTS {
-        assert!(rt; fault.status() == *status, "{word}");
-    }
-}
-
-#[test]
 fn a_program_ends_with_its_status(rt: HostRuntime) {
-    assert!(rt; exit_code(&rt, Ok(0)) == ExitCode::from(0));
-    assert!(rt; exit_code(&rt, Ok(2)) == ExitCode::from(2));
-    assert!(rt; exit_code(&rt, Err(Fault::Input)) == ExitCode::from(2));
-    assert!(rt; exit_code(&rt, Err(Fault::Turns)) == ExitCode::from(4));
+    let is_so = exit_code(&rt, Ok(0)) == ExitCode::from(0)
+        && exit_code(&rt, Ok(2)) == ExitCode::from(2)
+        && exit_code(&rt, Err(Fault::Input)) == ExitCode::from(2)
+        && exit_code(&rt, Err(Fault::Turns)) == ExitCode::from(4);
+    assert!(rt; is_so);
 }
 
 #[test]
@@ -51,25 +46,36 @@ fn a_command_line_has_words(rt: HostRuntime) {
     assert!(rt; matches!(read_arguments(&rt), Ok(words) if !words.is_empty()));
 }
 
-#[test]
-fn a_text_is_printed_whole(rt: HostRuntime) -> Result<(), Fail> {
-    let mut output = Vec::new(rt.alloc());
-    output.extend_from_slice(b"jobs 1\n")?;
-    assert!(rt; print_text(&mut output, b"jobs 2\n").is_ok());
-    assert!(rt; output.as_slice() == b"jobs 1\njobs 2\n".as_slice());
-    Ok(())
+// Returns whether a text is appended to an output as a whole.
+fn is_printed(alloc: Global) -> Result<bool, AllocError> {
+    let mut output = Vec::from_slice(alloc, b"jobs 1\n")?;
+    let printed = print_text(&mut output, b"jobs 2\n");
+    let is_so = printed.is_ok() && output.as_slice() == b"jobs 1\njobs 2\n".as_slice();
+    drop(output);
+    Ok(is_so)
+}
+
+// Returns whether a text that does not fit an output is a fault.
+fn is_refused() -> bool {
+    let mut room = [0; 6];
+    let mut output = room.as_mut_slice();
+    print_text(&mut output, b"jobs 2\n") == Err(Fault::Write)
 }
 
 #[test]
-fn a_text_that_is_not_written_is_a_fault(rt: HostRuntime) {
-    let mut room = [0; 6];
-    let mut output = room.as_mut_slice();
-    assert!(rt; print_text(&mut output, b"jobs 2\n") == Err(Fault::Write));
+fn a_text_is_printed_whole_or_is_a_fault(rt: HostRuntime) -> Result<(), Fail> {
+    assert!(rt; is_printed(rt.alloc())? && is_refused());
+    Ok(())
+}
+
+// Returns whether the first of two faults is returned.
+fn is_first() -> bool {
+    first_fault(Ok(()), Ok(())) == Ok(())
+        && first_fault(Ok(()), Err(Fault::Write)) == Err(Fault::Write)
+        && first_fault(Err(Fault::Memory), Err(Fault::Write)) == Err(Fault::Memory)
 }
 
 #[test]
 fn the_first_fault_is_the_one(rt: HostRuntime) {
-    assert!(rt; first_fault(Ok(()), Ok(())) == Ok(()));
-    assert!(rt; first_fault(Ok(()), Err(Fault::Write)) == Err(Fault::Write));
-    assert!(rt; first_fault(Err(Fault::Memory), Err(Fault::Write)) == Err(Fault::Memory));
+    assert!(rt; is_first());
 }

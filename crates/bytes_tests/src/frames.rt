@@ -1,5 +1,4 @@
-//! Wrapper frames (IEC 62056-4-7) cut at every byte, wrong headers, every length of payload, and
-//! running out of memory.
+//! Wrapper frames (IEC 62056-4-7) cut at every byte, wrong headers, and every length of payload.
 use std::alloc::Global;
 use std::process::Abort;
 use std::test::Fail;
@@ -209,7 +208,7 @@ fn is_wrong(alloc: Global, header: [u8; 8], fault: WrapperFault) -> Result<bool,
 }
 
 // Headers that are rejected, each with its fault.
-const WRONG: [([u8; 8], WrapperFault); 5] = [
+static WRONG: [([u8; 8], WrapperFault); 5] = [
     (
         [0x00, 0x02, 0x00, 0x10, 0x00, 0x01, 0x00, 0x00],
         WrapperFault::Version,
@@ -234,8 +233,8 @@ const WRONG: [([u8; 8], WrapperFault); 5] = [
 
 #[test]
 fn a_wrong_header_is_answered_for_good(rt: HostRuntime) -> Result<(), Fail> {
-    for (header, fault) in WRONG {
-        assert!(rt; is_wrong(rt.alloc(), header, fault)?, "{header:?}");
+    for (header, fault) in &WRONG {
+        assert!(rt; is_wrong(rt.alloc(), *header, *fault)?, "{header:?}");
     }
     Ok(())
 }
@@ -327,44 +326,10 @@ fn a_frame_has_the_written_text(rt: HostRuntime) -> Result<(), Fail> {
     let written = [
         0x00, 0x01, 0x00, 0x01, 0x00, 0x10, 0x00, 0x06, 0xC4, 0x01, 0xC1, 0x00, 0x16, 0x01,
     ];
-    assert!(rt; is_written(rt.alloc(), (1, 16), &payload, &written)?);
+    let is_so = is_written(rt.alloc(), (1, 16), &payload, &written)?;
     let empty = [0x00, 0x01, 0x12, 0x34, 0xFE, 0xDC, 0x00, 0x00];
-    assert!(rt; is_written(rt.alloc(), (0x1234, 0xFEDC), &[], &empty)?);
+    assert!(rt; is_so && is_written(rt.alloc(), (0x1234, 0xFEDC), &[], &empty)?);
     Ok(())
-}
-
-/// Feeds the stream; feeds it again if out of memory.
-fn feed_again(rt: &impl Abort, deframer: &mut Deframer) -> Result<(), Fail> {
-    if deframer.feed(&STREAM) == Err(WrapperFault::Memory) {
-        assert!(rt; deframer.is_empty());
-        deframer.feed(&STREAM)?;
-    }
-    Ok(())
-}
-
-/// Takes the first frame; tries again if out of memory.
-fn take_again(deframer: &mut Deframer, alloc: Global) -> Result<Option<Frame>, WrapperFault> {
-    match deframer.take(alloc) {
-        Err(WrapperFault::Memory) => deframer.take(alloc),
-        first => first,
-    }
-}
-
-// Feeds the stream and takes its two frames, and repeats each call that is out of memory.
-fn check_repeated(rt: &impl Abort, alloc: Global, deframer: &mut Deframer) -> Result<(), Fail> {
-    feed_again(rt, deframer)?;
-    let is_first_so = is_of(take_again(deframer, alloc), &ASSOCIATION)?;
-    let is_second_so = is_of(take_again(deframer, alloc), &GET)?;
-    assert!(rt; is_first_so && is_second_so && deframer.is_empty());
-    Ok(())
-}
-
-#[test]
-fn a_call_that_found_no_memory_can_be_repeated(rt: HostRuntime) -> Result<(), Fail> {
-    let mut deframer = Deframer::new(rt.alloc());
-    let checked = check_repeated(&rt, rt.alloc(), &mut deframer);
-    drop(deframer);
-    checked
 }
 
 /// Returns whether the text of a payload is 8 bytes longer, and the payload is taken from it.

@@ -7,6 +7,20 @@ use std::io;
 use std::io::{BufReader, ErrorKind, Read};
 use std::test::Fail;
 
+// Returns the lengths of two lines and of the rest of an input.
+fn read_three(
+    input: &mut BufReader<Monitored<&[u8]>>,
+    text: &mut Vec<u8>,
+    limit: usize,
+) -> Result<[usize; 3], InputFault>
+    requires { limit < 2 ^ 32 }
+{
+    let first = read_line_within(input, text, limit)?;
+    let second = read_line_within(input, text, limit)?;
+    let third = read_line_within(input, text, limit)?;
+    Ok([first, second, third])
+}
+
 // Returns the lengths of two lines and of the rest, read from `ab`, a line end and `c`.
 fn lengths(alloc: Global, limit: usize) -> Result<[usize; 3], InputFault>
     requires { limit < 2 ^ 32 }
@@ -16,25 +30,25 @@ fn lengths(alloc: Global, limit: usize) -> Result<[usize; 3], InputFault>
         return Err(InputFault::Memory);
     };
     let mut text = Vec::new(alloc);
-    let first = read_line_within(&mut input, &mut text, limit)?;
-    let second = read_line_within(&mut input, &mut text, limit)?;
-    let third = read_line_within(&mut input, &mut text, limit)?;
-    Ok([first, second, third])
+    let lengths = read_three(&mut input, &mut text, limit);
+    drop(input);
+    drop(text);
+    lengths
 }
 
-#[test]
-fn lines_are_read_one_by_one(rt: HostRuntime) {
-    assert!(rt; lengths(rt.alloc(), 4) == Ok([3, 1, 0]));
-}
-
-#[test]
-fn a_line_over_the_limit_is_too_long(rt: HostRuntime) {
+// Returns whether lines are read one by one, and a line over the limit is too long.
+fn are_lines(alloc: Global) -> bool {
     for limit in 0..4 {
-        assert!(rt;
-            lengths(rt.alloc(), limit) == Err(InputFault::TooLong),
-            "{limit}"
-        );
+        if lengths(alloc, limit) != Err(InputFault::TooLong) {
+            return false;
+        }
     }
+    lengths(alloc, 4) == Ok([3, 1, 0])
+}
+
+#[test]
+fn lines_are_read_up_to_their_limit(rt: HostRuntime) {
+    assert!(rt; are_lines(rt.alloc()));
 }
 
 /// A stream whose reads fail.
@@ -54,7 +68,10 @@ fn read_failing(alloc: Global) -> (Result<usize, InputFault>, bool) {
     };
     let mut text = Vec::new(alloc);
     let read = read_line_within(&mut input, &mut text, 4);
-    (read, input.get_ref().has_failed())
+    let has_failed = input.get_ref().has_failed();
+    drop(input);
+    drop(text);
+    (read, has_failed)
 }
 
 #[test]

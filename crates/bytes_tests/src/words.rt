@@ -1,28 +1,25 @@
 //! Tests of words, lines and texts, and of their values.
 use std::alloc::{AllocError, Global};
-use std::process::Abort;
 use std::test::Fail;
 use text_lines::{
     TextLines, Words, add_hex, add_number, add_word, end_line, read_hex, read_hex_array,
     read_number, split_line, write_hex, write_number,
 };
 
-// Returns a copy of the bytes of a word, or `None`.
-fn hex_of(alloc: Global, word: &[u8]) -> Result<Option<Vec<u8>>, AllocError> {
-    Ok(read_hex(alloc, word)?.map(|bytes| bytes.into_vec()))
-}
-
-// Returns whether a word is read as these bytes.
-fn is_hex_of(alloc: Global, word: &[u8], bytes: &[u8]) -> Result<bool, AllocError> {
-    match hex_of(alloc, word)? {
-        Some(read) => Ok(read.as_slice() == bytes),
-        None => Ok(false),
+// Returns whether a word is read as these bytes, or is no bytes.
+fn is_read_as(alloc: Global, word: &[u8], expected: Option<&[u8]>) -> Result<bool, AllocError> {
+    match (read_hex(alloc, word)?, expected) {
+        (Some(read), Some(bytes)) => {
+            let is_so = read.as_slice() == bytes;
+            drop(read);
+            Ok(is_so)
+        }
+        (Some(read), None) => {
+            drop(read);
+            Ok(false)
+        }
+        (None, expected) => Ok(expected.is_none()),
     }
-}
-
-// Returns whether a word is not read as bytes.
-fn is_no_hex(alloc: Global, word: &[u8]) -> Result<bool, AllocError> {
-    Ok(hex_of(alloc, word)?.is_none())
 }
 
 // Adds the words of a line, with a bar before each.
@@ -82,31 +79,14 @@ fn add_some_lines(alloc: Global, out: &mut Vec<u8>) -> Result<(), AllocError> {
     write_hex(alloc, out, &[0x0F, 0xA0])
 }
 
-// A word, the largest number allowed, and the expected result of reading it.
-type Number = (&'static [u8], u64, Option<u64>);
-
-// Reads the words of all rows, and checks each number.
-fn read_all(rt: &impl Abort, numbers: &[Number]) {
-    for (word, limit, number) in numbers {
-        assert!(*rt; read_number(word, *limit) == *number, "of {word:?}");
-    }
-}
-
-// Words that are numbers in decimal, without a sign and without leading zeros.
-static NUMBERS: [Number; 4] = [
+// Words, each with the largest number allowed, and the expected result of reading it. Numbers are
+// in decimal, without a sign and without leading zeros.
+static NUMBERS: [(&[u8], u64, Option<u64>); 16] = [
     (b"0", 0, Some(0)),
     (b"5", u64::MAX, Some(5)),
     (b"4294967295", 4_294_967_295, Some(4_294_967_295)),
     (b"18446744073709551615", u64::MAX, Some(u64::MAX)),
-];
-
-#[test]
-fn numbers_are_read(rt: HostRuntime) {
-    read_all(&rt, &NUMBERS);
-}
-
-// Words that are not numbers: too large, with leading zeros or a sign, empty, or not only digits.
-static NO_NUMBERS: [Number; 9] = [
+    // Words that are too large, have leading zeros or a sign, are empty, or have other characters.
     (b"18446744073709551616", u64::MAX, None),
     (b"99999999999999999999999999", u64::MAX, None),
     (b"007", u64::MAX, None),
@@ -116,25 +96,21 @@ static NO_NUMBERS: [Number; 9] = [
     (b"", u64::MAX, None),
     (b"5a", u64::MAX, None),
     (b"\xC3\xA9", u64::MAX, None),
-];
-
-#[test]
-fn other_words_are_no_numbers(rt: HostRuntime) {
-    read_all(&rt, &NO_NUMBERS);
-}
-
-// Words with the greatest number that may be read: a greater one is no number.
-static LIMITS: [Number; 3] = [
+    // A number greater than the largest allowed is no number.
     (b"255", 255, Some(255)),
     (b"256", 255, None),
     (b"4294967296", 4_294_967_295, None),
 ];
 
 #[test]
-fn numbers_have_limits(rt: HostRuntime) {
-    read_all(&rt, &LIMITS);
+fn numbers_are_read(rt: HostRuntime) {
+    for (word, limit, number) in &NUMBERS {
+        assert!(rt; read_number(word, *limit) == *number, "of {word:?}");
+    }
 }
 
+// Words that are no logical names: empty, too short, too long, in lower case, or with other
+// characters.
 static NO_NAMES: [&[u8]; 7] = [
     b"",
     b"000060030AF",
@@ -145,37 +121,37 @@ static NO_NAMES: [&[u8]; 7] = [
     b" 00060030AFF",
 ];
 
-// The logical name of the disconnect control (IEC 62056-6-2) is 0.0.96.3.10.255.
+// Returns whether hexadecimal words are read as arrays. The logical name of the disconnect control
+// (IEC 62056-6-2) is 0.0.96.3.10.255.
+fn are_arrays() -> bool {
+    read_hex_array::<6>(b"000060030AFF") == Some([0, 0, 96, 3, 10, 255])
+        && read_hex_array::<2>(b"0FA0") == Some([0x0F, 0xA0])
+}
+
 #[test]
 fn hexadecimal_arrays_are_read(rt: HostRuntime) {
-    assert!(rt; read_hex_array::<6>(b"000060030AFF") == Some([0, 0, 96, 3, 10, 255]));
-    assert!(rt; read_hex_array::<2>(b"0FA0") == Some([0x0F, 0xA0]));
+    assert!(rt; are_arrays());
     for word in &NO_NAMES {
         assert!(rt; read_hex_array::<6>(word).is_none(), "of {word:?}");
     }
 }
 
-#[test]
-fn bytes_are_read(rt: HostRuntime) -> Result<(), Fail> {
-    let alloc = rt.alloc();
-    assert!(rt; is_hex_of(alloc, b"52454C415931", b"RELAY1")?);
-    assert!(rt; is_hex_of(alloc, b"0F00", &[15, 0])?);
-    Ok(())
-}
-
-// Words that are not bytes in hexadecimal, each with the reason.
-static NO_BYTES: [(&[u8], &str); 5] = [
-    (b"52454c", "lower case"),
-    (b"524", "an odd number of digits"),
-    (b"5G", "no digit"),
-    (b"-", "a dash"),
-    (b"", "no digits"),
+// Words, each with the bytes that it is in hexadecimal. Words in lower case, with an odd number of
+// digits, no digit, a dash, or no digits, are no bytes.
+static BYTES: [(&[u8], Option<&[u8]>); 7] = [
+    (b"52454C415931", Some(b"RELAY1")),
+    (b"0F00", Some(&[15, 0])),
+    (b"52454c", None),
+    (b"524", None),
+    (b"5G", None),
+    (b"-", None),
+    (b"", None),
 ];
 
 #[test]
-fn other_words_are_no_bytes(rt: HostRuntime) -> Result<(), Fail> {
-    for (word, what) in &NO_BYTES {
-        assert!(rt; is_no_hex(rt.alloc(), word)?, "{what}");
+fn bytes_are_read(rt: HostRuntime) -> Result<(), Fail> {
+    for (word, bytes) in &BYTES {
+        assert!(rt; is_read_as(rt.alloc(), word, *bytes)?, "of {word:?}");
     }
     Ok(())
 }
@@ -205,14 +181,6 @@ static LINES: [(&[u8], &[u8]); 3] = [
     (b"", b"*"),
 ];
 
-#[test]
-fn lines_are_read(rt: HostRuntime) -> Result<(), Fail> {
-    for (text, barred) in &LINES {
-        assert!(rt; has_lines(rt.alloc(), text, barred)?, "{text:?}");
-    }
-    Ok(())
-}
-
 // Lines, each with its words after a bar; one blank separates two words.
 static WORDS: [(&[u8], &[u8]); 4] = [
     (b"get 16 70", b"|get|16|70"),
@@ -222,7 +190,10 @@ static WORDS: [(&[u8], &[u8]); 4] = [
 ];
 
 #[test]
-fn words_are_read(rt: HostRuntime) -> Result<(), Fail> {
+fn lines_and_their_words_are_read(rt: HostRuntime) -> Result<(), Fail> {
+    for (text, barred) in &LINES {
+        assert!(rt; has_lines(rt.alloc(), text, barred)?, "{text:?}");
+    }
     for (line, barred) in &WORDS {
         assert!(rt; has_words(rt.alloc(), line, barred)?, "{line:?}");
     }

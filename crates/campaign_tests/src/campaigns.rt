@@ -1,5 +1,5 @@
-//! Campaigns over scripted connections: the same report for several numbers of workers, lines in
-//! the order of the jobs, and calls of the watcher.
+//! Campaigns over scripted connections: lines in the order of the jobs, and calls of the watcher.
+//! tests/campaigns.py has many more meters over TCP, and several numbers of workers.
 ghost use Rattle.std.specs.Prelude.{◌≤◌, length, IfOk};
 ghost use Rattle.acse_ber.specs.Password.{IsPassword};
 ghost use Rattle.head_end.specs.Rows.{AreLines};
@@ -21,7 +21,7 @@ use std::thread::Threads;
 const REPORT: &[u8] = b"m1 done 0\nm2 rejected 13\nm3 unknown\nm4 refused 2\nm5 unknown\n";
 
 /// The four meters, and a name at whose address there is none.
-pub(crate) const FIVE: &[&[u8]] = &[b"m1", b"m2", b"m3", b"m4", b"m5"];
+const FIVE: &[&[u8]] = &[b"m1", b"m2", b"m3", b"m4", b"m5"];
 
 /// Returns whether this is the text of a report.
 fn is_report(alloc: Global, lines: &Report, text: &[u8]) -> Result<bool, AllocError> {
@@ -32,7 +32,7 @@ fn is_report(alloc: Global, lines: &Report, text: &[u8]) -> Result<bool, AllocEr
 }
 
 /// Returns the lines of jobs at meters, on places that are made for them.
-pub(crate) fn lines_at<R: Threads + Sync, C: Connector>(
+fn lines_at<R: Threads + Sync, C: Connector>(
     rt: &R,
     alloc: Global,
     jobs: &Jobs,
@@ -69,55 +69,6 @@ fn lines_of<R: Threads + Sync>(
     lines
 }
 
-/// Returns whether this is the report of the jobs.
-fn is_told<R: Threads + Sync>(
-    rt: &R,
-    alloc: Global,
-    jobs: &Jobs,
-    workers: u8,
-    piece: usize,
-    text: &[u8],
-) -> Result<bool, AllocError>
-    requires non_zero { 1 ≤ workers }
-    requires within_max { workers ≤ 16 }
-{
-    let lines = lines_of(rt, alloc, jobs, workers, piece)?;
-    let same = is_report(alloc, &lines, text);
-    drop(lines);
-    same
-}
-
-/// Returns whether this is the report of the jobs, for several numbers of workers and lengths of
-/// pieces.
-fn are_told<R: Threads + Sync>(
-    rt: &R,
-    alloc: Global,
-    jobs: &Jobs,
-    text: &[u8],
-) -> Result<bool, AllocError> {
-    Ok(
-        is_told(rt, alloc, jobs, 1, 1, text)?
-            && is_told(rt, alloc, jobs, 2, 7, text)?
-            && is_told(rt, alloc, jobs, 16, 1_024, text)?,
-    )
-}
-
-/// Returns whether the report of the five jobs is the expected one.
-fn five_are_told<R: Threads + Sync>(rt: &R, alloc: Global) -> Result<bool, AllocError> {
-    let jobs = jobs_named(alloc, FIVE)?;
-    let told = are_told(rt, alloc, &jobs, REPORT);
-    drop(jobs);
-    told
-}
-
-/// Returns whether the report of no jobs is empty.
-fn none_is_told<R: Threads + Sync>(rt: &R, alloc: Global) -> Result<bool, AllocError> {
-    let none = jobs_named(alloc, &[])?;
-    let told = is_told(rt, alloc, &none, 4, 1_024, b"");
-    drop(none);
-    told
-}
-
 /// Returns whether a report of five lines is the same once its lines were taken out and put back.
 fn is_put_back(alloc: Global, report: Report) -> Result<bool, AllocError> {
     let has_five = report.len() == 5 && !report.is_empty();
@@ -143,13 +94,6 @@ fn a_report_has_a_line_for_each_job(rt: HostRuntime) {
     assert!(rt; matches!(five_are_put_back(&rt, rt.alloc()), Ok(true)));
 }
 
-#[test]
-fn rows_stand_in_the_order_of_the_jobs(rt: HostRuntime) {
-    let alloc = rt.alloc();
-    assert!(rt; matches!(five_are_told(&rt, alloc), Ok(true)));
-    assert!(rt; matches!(none_is_told(&rt, alloc), Ok(true)));
-}
-
 /// Returns the row of a job, with the password 12345678.
 fn row_with<C: Connector>(alloc: Global, job: &Job, meters: &C) -> Result<Row, AllocError> {
     let password = password(alloc)?;
@@ -160,36 +104,13 @@ fn row_with<C: Connector>(alloc: Global, job: &Job, meters: &C) -> Result<Row, A
     Ok(row)
 }
 
-/// Returns the row of a disconnect job at one of the four meters.
-fn row_of(alloc: Global, name: &[u8]) -> Result<Row, AllocError> {
-    let job = job(alloc, name, name)?;
-    let row = row_with(alloc, &job, &Meters { piece: 9 });
-    drop(job);
-    row
-}
-
 // The four meters, each with the outcome of its job.
-const ROWS: &[(&[u8], Outcome)] = &[
+static ROWS: [(&[u8], Outcome); 4] = [
     (b"m1", Outcome::Done(0)),
     (b"m2", Outcome::Rejected(13)),
     (b"m3", Outcome::Unknown),
     (b"m4", Outcome::Refused(2)),
 ];
-
-// Returns whether each job has its expected outcome.
-fn are_rows(alloc: Global, rows: &[(&[u8], Outcome)]) -> Result<bool, AllocError> {
-    for (name, outcome) in rows {
-        if row_of(alloc, name)? != Row::Came(*outcome) {
-            return Ok(false);
-        }
-    }
-    Ok(true)
-}
-
-#[test]
-fn each_job_has_its_row(rt: HostRuntime) {
-    assert!(rt; matches!(are_rows(rt.alloc(), ROWS), Ok(true)));
-}
 
 /// Returns the row of a job at a meter that lists these bytes.
 fn row_everywhere(alloc: Global, bytes: &'static [u8]) -> Result<Row, AllocError>
@@ -204,8 +125,9 @@ fn row_everywhere(alloc: Global, bytes: &'static [u8]) -> Result<Row, AllocError
 #[test]
 fn a_meter_that_tells_is_asked(rt: HostRuntime) -> Result<(), Fail> {
     let alloc = rt.alloc();
-    assert!(rt; row_everywhere(alloc, &DONE)? == Row::Came(Outcome::Done(0)));
-    assert!(rt; row_everywhere(alloc, &REJECTED)? == Row::Came(Outcome::Rejected(13)));
+    let is_done = row_everywhere(alloc, &DONE)? == Row::Came(Outcome::Done(0));
+    let rejected = row_everywhere(alloc, &REJECTED)?;
+    assert!(rt; is_done && rejected == Row::Came(Outcome::Rejected(13)));
     reports_stand_end_to_end();
     jobs_may_be_cut();
     Ok(())
@@ -234,7 +156,7 @@ fn digit_of(name: &[u8]) -> u64 {
 
 /// Returns the row of a job: that of its meter, or unknown if there is no meter.
 fn row_named(name: &[u8]) -> Row {
-    for (other, outcome) in ROWS {
+    for (other, outcome) in &ROWS {
         if name == *other {
             return Row::Came(*outcome);
         }
@@ -313,7 +235,7 @@ fn a_watcher_is_told_of_each_job(rt: HostRuntime) -> Result<(), Fail> {
     let tally = Tally {
         told: AtomicU64::new(0),
     };
-    assert!(rt; watched_count(&rt, rt.alloc(), &tally)? == 5);
-    assert!(rt; tally.told.load(Ordering::SeqCst) == 0x1_1111);
+    let count = watched_count(&rt, rt.alloc(), &tally)?;
+    assert!(rt; count == 5 && tally.told.load(Ordering::SeqCst) == 0x1_1111);
     Ok(())
 }

@@ -187,165 +187,151 @@ fn follows_steps(alloc: Global, verb: Verb, steps: &[Step]) -> Result<bool, Allo
     taken
 }
 
-// A disconnection: which texts the client sends, and when it has none.
-const EACH_TEXT: &[Step] = &[
-    Step::Gives(&AARQ),
-    Step::GivesNone,
-    Step::Comes(1, &ACCEPTING),
-    Step::Gives(&DISCONNECT),
-    Step::GivesNone,
-    Step::Tells(None),
-    Step::Comes(1, &DONE),
-    Step::Gives(&RELEASE),
-    Step::GivesNone,
-    Step::Tells(Some(Outcome::Done(0))),
-    Step::Ends,
-    Step::Tells(Some(Outcome::Done(0))),
-];
+/// What a talk shows, the verb of its client, and its steps.
+type Talk = (&'static str, Verb, &'static [Step]);
 
-#[test]
-fn each_text_is_given_once(rt: HostRuntime) {
-    assert!(rt;
-        matches!(
-            follows_steps(rt.alloc(), Verb::Disconnect, EACH_TEXT),
-            Ok(true)
-        )
-    );
-}
-
-/// A verb, its request, a response, and what the response means.
-type Asked = (Verb, &'static [u8], &'static [u8], Outcome);
-
-// Each verb with its request, a response, and the outcome of that response.
-const EACH_VERB: &[Asked] = &[
+static TALKS: [Talk; 12] = [
     (
+        "each text is given once",
         Verb::Disconnect,
-        &DISCONNECT,
-        &[0xC7, 0x01, 0xC1, 0x02, 0x00],
-        Outcome::Refused(2),
+        &[
+            Step::Gives(&AARQ),
+            Step::GivesNone,
+            Step::Comes(1, &ACCEPTING),
+            Step::Gives(&DISCONNECT),
+            Step::GivesNone,
+            Step::Tells(None),
+            Step::Comes(1, &DONE),
+            Step::Gives(&RELEASE),
+            Step::GivesNone,
+            Step::Tells(Some(Outcome::Done(0))),
+            Step::Ends,
+            Step::Tells(Some(Outcome::Done(0))),
+        ],
     ),
-    (Verb::Reconnect, &RECONNECT, &DONE, Outcome::Done(0)),
-    (Verb::ReadState, &READ_STATE, &STATE_2, Outcome::Done(2)),
     (
-        Verb::ReadState,
-        &READ_STATE,
-        &[0xC4, 0x01, 0xC1, 0x00, 0x16, 0x03],
-        Outcome::Unknown,
+        "a disconnection is refused",
+        Verb::Disconnect,
+        &[
+            Step::Comes(1, &ACCEPTING),
+            Step::Comes(1, &[0xC7, 0x01, 0xC1, 0x02, 0x00]),
+            Step::Gives(&AARQ),
+            Step::Gives(&DISCONNECT),
+            Step::Tells(Some(Outcome::Refused(2))),
+        ],
     ),
     (
-        Verb::ReadState,
-        &READ_STATE,
-        &[0xC4, 0x01, 0xC1, 0x01, 0x03],
-        Outcome::Refused(3),
+        "a reconnection is done",
+        Verb::Reconnect,
+        &[
+            Step::Comes(1, &ACCEPTING),
+            Step::Comes(1, &DONE),
+            Step::Gives(&AARQ),
+            Step::Gives(&RECONNECT),
+            Step::Tells(Some(Outcome::Done(0))),
+        ],
     ),
-    (Verb::Disconnect, &DISCONNECT, &STATE_2, Outcome::Unknown),
+    (
+        "the state is read",
+        Verb::ReadState,
+        &[
+            Step::Comes(1, &ACCEPTING),
+            Step::Comes(1, &STATE_2),
+            Step::Gives(&AARQ),
+            Step::Gives(&READ_STATE),
+            Step::Tells(Some(Outcome::Done(2))),
+        ],
+    ),
+    (
+        "3 is no state",
+        Verb::ReadState,
+        &[
+            Step::Comes(1, &ACCEPTING),
+            Step::Comes(1, &[0xC4, 0x01, 0xC1, 0x00, 0x16, 0x03]),
+            Step::Gives(&AARQ),
+            Step::Gives(&READ_STATE),
+            Step::Tells(Some(Outcome::Unknown)),
+        ],
+    ),
+    (
+        "a read is refused",
+        Verb::ReadState,
+        &[
+            Step::Comes(1, &ACCEPTING),
+            Step::Comes(1, &[0xC4, 0x01, 0xC1, 0x01, 0x03]),
+            Step::Gives(&AARQ),
+            Step::Gives(&READ_STATE),
+            Step::Tells(Some(Outcome::Refused(3))),
+        ],
+    ),
+    (
+        "the response to another request",
+        Verb::Disconnect,
+        &[
+            Step::Comes(1, &ACCEPTING),
+            Step::Comes(1, &STATE_2),
+            Step::Gives(&AARQ),
+            Step::Gives(&DISCONNECT),
+            Step::Tells(Some(Outcome::Unknown)),
+        ],
+    ),
+    (
+        "a rejection with diagnostic 13 has no request",
+        Verb::Disconnect,
+        &[
+            Step::Gives(&AARQ),
+            Step::Comes(1, &REFUSING),
+            Step::GivesNone,
+            Step::Tells(Some(Outcome::Rejected(13))),
+        ],
+    ),
+    (
+        "an association without the conformance bit of GET",
+        Verb::ReadState,
+        &[
+            Step::Comes(1, &WITHOUT_GET),
+            Step::Tells(Some(Outcome::Rejected(0))),
+        ],
+    ),
+    // Payloads from port 16, before and after one from port 1.
+    (
+        "frames of other ports are skipped",
+        Verb::Disconnect,
+        &[
+            Step::Comes(16, &REFUSING),
+            Step::Comes(1, &ACCEPTING),
+            Step::Comes(16, &DONE),
+            Step::Tells(None),
+            Step::Ends,
+            Step::Tells(Some(Outcome::Unknown)),
+        ],
+    ),
+    (
+        "two responses arrive byte by byte",
+        Verb::Disconnect,
+        &[
+            Step::EachByte(&OPENED),
+            Step::EachByte(&REFUSED),
+            Step::Tells(Some(Outcome::Refused(2))),
+        ],
+    ),
+    (
+        "a header of version 2 ends all",
+        Verb::Disconnect,
+        &[
+            Step::Comes(1, &ACCEPTING),
+            Step::Bytes(&[0x00, 0x02, 0x00, 0x01, 0x00, 0x01, 0x00, 0x00]),
+            Step::Tells(Some(Outcome::Unknown)),
+        ],
+    ),
 ];
 
-/// Returns whether this is the request of a verb, and this outcome the meaning of a response.
-fn is_asked(alloc: Global, asked: &Asked) -> Result<bool, AllocError> {
-    let (verb, request, answer, outcome) = *asked;
-    let steps = [
-        Step::Comes(1, &ACCEPTING),
-        Step::Comes(1, answer),
-        Step::Gives(&AARQ),
-        Step::Gives(request),
-        Step::Tells(Some(outcome)),
-    ];
-    follows_steps(alloc, verb, steps.as_slice())
-}
-
-// Returns whether the client of each row sends its expected messages.
-fn are_asked(alloc: Global, rows: &[Asked]) -> Result<bool, AllocError> {
-    for row in rows {
-        if !is_asked(alloc, row)? {
-            return Ok(false);
-        }
+#[test]
+fn each_talk_follows_its_steps(rt: HostRuntime) -> Result<(), Fail> {
+    for (what, verb, steps) in &TALKS {
+        assert!(rt; follows_steps(rt.alloc(), *verb, steps)?, "{what}");
     }
-    Ok(true)
-}
-
-#[test]
-fn each_verb_has_its_request(rt: HostRuntime) {
-    assert!(rt; matches!(are_asked(rt.alloc(), EACH_VERB), Ok(true)));
-}
-
-// An association that the meter rejects with diagnostic 13.
-const REJECTION: &[Step] = &[
-    Step::Gives(&AARQ),
-    Step::Comes(1, &REFUSING),
-    Step::GivesNone,
-    Step::Tells(Some(Outcome::Rejected(13))),
-];
-
-// An association without the conformance bit of GET.
-const NO_GET: &[Step] = &[
-    Step::Comes(1, &WITHOUT_GET),
-    Step::Tells(Some(Outcome::Rejected(0))),
-];
-
-#[test]
-fn a_rejection_has_no_request(rt: HostRuntime) {
-    assert!(rt;
-        matches!(
-            follows_steps(rt.alloc(), Verb::Disconnect, REJECTION),
-            Ok(true)
-        )
-    );
-    assert!(rt; matches!(follows_steps(rt.alloc(), Verb::ReadState, NO_GET), Ok(true)));
-}
-
-// Payloads from port 16, before and after one from port 1.
-const OTHER_PORTS: &[Step] = &[
-    Step::Comes(16, &REFUSING),
-    Step::Comes(1, &ACCEPTING),
-    Step::Comes(16, &DONE),
-    Step::Tells(None),
-    Step::Ends,
-    Step::Tells(Some(Outcome::Unknown)),
-];
-
-#[test]
-fn frames_of_other_ports_are_skipped(rt: HostRuntime) {
-    assert!(rt;
-        matches!(
-            follows_steps(rt.alloc(), Verb::Disconnect, OTHER_PORTS),
-            Ok(true)
-        )
-    );
-}
-
-// Two responses that arrive byte by byte.
-const BYTE_BY_BYTE: &[Step] = &[
-    Step::EachByte(&OPENED),
-    Step::EachByte(&REFUSED),
-    Step::Tells(Some(Outcome::Refused(2))),
-];
-
-#[test]
-fn answers_come_in_any_cut(rt: HostRuntime) {
-    assert!(rt;
-        matches!(
-            follows_steps(rt.alloc(), Verb::Disconnect, BYTE_BY_BYTE),
-            Ok(true)
-        )
-    );
-}
-
-// A response whose header has version 2.
-const WRONG_HEADER: &[Step] = &[
-    Step::Comes(1, &ACCEPTING),
-    Step::Bytes(&[0x00, 0x02, 0x00, 0x01, 0x00, 0x01, 0x00, 0x00]),
-    Step::Tells(Some(Outcome::Unknown)),
-];
-
-#[test]
-fn a_wrong_header_ends_all(rt: HostRuntime) {
-    assert!(rt;
-        matches!(
-            follows_steps(rt.alloc(), Verb::Disconnect, WRONG_HEADER),
-            Ok(true)
-        )
-    );
+    Ok(())
 }
 
 /// Returns whether `Debug` shows only the verb of a client and whether its connection has ended,

@@ -45,13 +45,6 @@ fn count_of(alloc: Global, text: &[u8]) -> Option<usize> {
     }
 }
 
-#[test]
-fn jobs_are_read(rt: HostRuntime) {
-    let text = b"m1 127.0.0.1:4059 disconnect\n\nm2 127.0.0.1:4060 state";
-    assert!(rt; reads_both(rt.alloc(), text));
-    assert!(rt; count_of(rt.alloc(), b"") == Some(0));
-}
-
 /// Returns why a text is not a list of jobs.
 fn fault_of(alloc: Global, text: &[u8]) -> Option<JobsFault> {
     match read_jobs(alloc, text) {
@@ -64,7 +57,7 @@ fn fault_of(alloc: Global, text: &[u8]) -> Option<JobsFault> {
 }
 
 // Texts of jobs that are rejected, each with the number of its first wrong line.
-const WRONG: &[(&[u8], u32)] = &[
+static WRONG: [(&[u8], u32); 6] = [
     (b"m1 127.0.0.1:4059 close", 1),
     (b"m1  127.0.0.1:4059 state", 1),
     (b"m1 127.0.0.1:4059 state ", 1),
@@ -84,8 +77,10 @@ fn are_wrong(alloc: Global, texts: &[(&[u8], u32)]) -> bool {
 }
 
 #[test]
-fn the_first_wrong_line_is_told(rt: HostRuntime) {
-    assert!(rt; are_wrong(rt.alloc(), WRONG));
+fn jobs_are_read_or_their_first_wrong_line_is_told(rt: HostRuntime) {
+    let text = b"m1 127.0.0.1:4059 disconnect\n\nm2 127.0.0.1:4060 state";
+    let are_read = reads_both(rt.alloc(), text) && count_of(rt.alloc(), b"") == Some(0);
+    assert!(rt; are_read && are_wrong(rt.alloc(), &WRONG));
 }
 
 /// Appends a thousand jobs, one more, and a wrong line after them, and returns whether each step
@@ -135,9 +130,12 @@ fn jobs_are_a_list(rt: HostRuntime) -> Result<(), Fail> {
         rt.alloc(),
         b"m1 127.0.0.1:4059 disconnect\nm2 127.0.0.1:4060 state\n",
     )?;
-    assert!(rt; are_listed(jobs));
+    let are_listed = are_listed(jobs);
     let none: Listed<Job> = Listed::new(rt.alloc());
-    assert!(rt; Jobs::try_from(none)?.is_empty());
+    let none = Jobs::try_from(none)?;
+    let is_empty = none.is_empty();
+    drop(none);
+    assert!(rt; are_listed && is_empty);
     Ok(())
 }
 
@@ -152,13 +150,12 @@ fn count_of_a_long_text(alloc: Global) -> Result<Option<usize>, AllocError> {
 #[test]
 fn there_are_limits(rt: HostRuntime) -> Result<(), Fail> {
     let alloc = rt.alloc();
-    assert!(rt; a_thousand_are_read(alloc)?);
-    assert!(rt; count_of_a_long_text(alloc)? == Some(0));
+    assert!(rt; a_thousand_are_read(alloc)? && count_of_a_long_text(alloc)? == Some(0));
     Ok(())
 }
 
 #[test]
 fn faults_of_jobs_have_numbers(rt: HostRuntime) {
-    assert!(rt; u8::from(JobsFault::Line(7)) == 1 && u8::from(JobsFault::TooMany) == 2);
-    assert!(rt; u8::from(JobsFault::Memory) == 3);
+    let are_numbers = u8::from(JobsFault::Line(7)) == 1 && u8::from(JobsFault::TooMany) == 2;
+    assert!(rt; are_numbers && u8::from(JobsFault::Memory) == 3);
 }

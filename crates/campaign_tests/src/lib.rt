@@ -1,5 +1,6 @@
 //! Tests of `client_core` and `head_end`: the client's side of a connection, jobs, and campaigns
-//! over scripted connections and over loopback.
+//! over scripted connections. tests/campaigns.py plays campaigns over TCP with the proved
+//! executable, which costs no proof.
 //!
 //! The tests have a crate of their own, because checking tests proves their whole crate again.
 #![tactic(auto)]
@@ -9,11 +10,7 @@ mod campaigns;
 #[cfg(test)]
 mod clients;
 #[cfg(test)]
-mod counting;
-#[cfg(test)]
 mod jobs_texts;
-#[cfg(test)]
-mod loopback;
 #[cfg(test)]
 mod meters;
 #[cfg(test)]
@@ -24,5 +21,3 @@ mod recording;
 mod rounds;
 #[cfg(test)]
 mod scripts;
-#[cfg(test)]
-mod side_by_side;

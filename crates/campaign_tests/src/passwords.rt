@@ -44,33 +44,38 @@ fn fault_of(alloc: Global, text: &[u8]) -> Option<PasswordsFault> {
     have_both(alloc, text, None, b"", b"").err()
 }
 
-#[test]
-fn each_job_has_the_password_of_its_name(rt: HostRuntime) -> Result<(), Fail> {
-    let alloc = rt.alloc();
+/// Returns whether each job has the password of its name, or the common one.
+fn have_their_own(alloc: Global) -> Result<bool, PasswordsFault> {
     let all = b"m2 22222222\n\nm9 9\nm1 1\nm1 later\n";
-    assert!(rt; have_both(alloc, all, None, b"1", b"22222222")?);
-    assert!(rt;
-        have_both(
-            alloc,
-            b"m2 22222222",
-            Some(b"12345678"),
-            b"12345678",
-            b"22222222"
-        )?
-    );
-    assert!(rt; have_both(alloc, b"", Some(b"12345678"), b"12345678", b"12345678")?);
-    Ok(())
+    let one = b"m2 22222222";
+    let common = b"12345678";
+    let are_own = have_both(alloc, all, None, b"1", b"22222222")?;
+    let is_one = have_both(alloc, one, Some(common), common, b"22222222")?;
+    Ok(are_own && is_one && have_both(alloc, b"", Some(common), common, common)?)
 }
 
 #[test]
+fn each_job_has_the_password_of_its_name(rt: HostRuntime) -> Result<(), Fail> {
+    assert!(rt; have_their_own(rt.alloc())?);
+    Ok(())
+}
+
+/// Passwords, and why the jobs m1 and m2 have none of them. The longest password has 32 bytes.
+static FAULTS: [(&[u8], Option<PasswordsFault>); 6] = [
+    (b"m1 1\nm2  2\n", Some(PasswordsFault::Line(2))),
+    (b"m1\n", Some(PasswordsFault::Line(1))),
+    (b"m1 1\n\nm2 2\r", Some(PasswordsFault::Line(3))),
+    (b"m1 1\nm3 3\n", Some(PasswordsFault::Job(1))),
+    (b"m2 1\nm1 0123456789abcdef0123456789abcdef", None),
+    (
+        b"m2 1\nm1 0123456789abcdef0123456789abcdef0",
+        Some(PasswordsFault::Line(2)),
+    ),
+];
+
+#[test]
 fn a_wrong_line_and_a_job_without_a_password_are_found(rt: HostRuntime) {
-    let alloc = rt.alloc();
-    assert!(rt; fault_of(alloc, b"m1 1\nm2  2\n") == Some(PasswordsFault::Line(2)));
-    assert!(rt; fault_of(alloc, b"m1\n") == Some(PasswordsFault::Line(1)));
-    assert!(rt; fault_of(alloc, b"m1 1\n\nm2 2\r") == Some(PasswordsFault::Line(3)));
-    assert!(rt; fault_of(alloc, b"m1 1\nm3 3\n") == Some(PasswordsFault::Job(1)));
-    let most = b"m2 1\nm1 0123456789abcdef0123456789abcdef";
-    assert!(rt; fault_of(alloc, most) == None);
-    let longer = b"m2 1\nm1 0123456789abcdef0123456789abcdef0";
-    assert!(rt; fault_of(alloc, longer) == Some(PasswordsFault::Line(2)));
+    for (text, fault) in &FAULTS {
+        assert!(rt; fault_of(rt.alloc(), text) == *fault, "in {text:?}");
+    }
 }

@@ -23,16 +23,11 @@ fn have_rounds(
 #[test]
 fn a_round_has_one_job_of_each_meter(rt: HostRuntime) -> Result<(), Fail> {
     let alloc = rt.alloc();
-    assert!(rt; have_rounds(alloc, &[], &[], 0)?);
-    assert!(rt; have_rounds(alloc, &[b"a", b"b", b"c"], &[0, 0, 0], 1)?);
-    assert!(rt;
-        have_rounds(
-            alloc,
-            &[b"a", b"b", b"a", b"c", b"b", b"a"],
-            &[0, 0, 1, 0, 1, 2],
-            3
-        )?
-    );
+    let six: [&[u8]; 6] = [b"a", b"b", b"a", b"c", b"b", b"a"];
+    let are_none = have_rounds(alloc, &[], &[], 0)?;
+    let are_one = have_rounds(alloc, &[b"a", b"b", b"c"], &[0, 0, 0], 1)?;
+    let are_three = have_rounds(alloc, &six, &[0, 0, 1, 0, 1, 2], 3)?;
+    assert!(rt; are_none && are_one && are_three);
     jobs_of_a_meter_run_in_order();
     Ok(())
 }

@@ -46,7 +46,7 @@ impl Connector for Meters {
 }
 
 // Returns the bytes that the meter with this address sends, if there is such a meter.
-pub(crate) fn bytes_of(address: &[u8]) -> Option<&'static [u8]> {
+fn bytes_of(address: &[u8]) -> Option<&'static [u8]> {
     if address == b"m1".as_slice() {
         Some(&DONE)
     } else if address == b"m2".as_slice() {

@@ -1,17 +1,17 @@
 //! What no contract states: with enough memory there is a result.
 ghost use Rattle.std.specs.Prelude.{◌≡◌, [], Some};
-ghost use Rattle.server_io.specs.Ends.{ConsoleEnds};
+ghost use Rattle.meter_console.specs.Ends.{ConsoleEnds};
 ghost use Rattle.relay_core.specs.Opening.{IsFitOpening};
 
 use counted_io::Monitored;
+use meter_console::{
+    Console, ConsoleEnd, ConsoleObserver, ConsoleSources, EventSink, LineBuffer, Reading,
+    console_event, run_console, start,
+};
 use meter_server::{BlockSource, ButtonSource, MomentSource};
 use relay_core::{Event, Reply};
 use relay_recorder::{Recorder, Trace};
 use server_commands::{PlanFault, read_head};
-use server_io::{
-    Console, ConsoleEnd, ConsoleObserver, ConsoleSources, EventSink, LineBuffer, Reading,
-    console_event, run_console, start,
-};
 use std::alloc::{AllocError, Global};
 use std::io;
 use std::io::{BufReader, ErrorKind, Read};

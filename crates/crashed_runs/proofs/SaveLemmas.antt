@@ -95,14 +95,15 @@ module _ {F : Type 0} (moment : F → ℕ) (left_since : F → ℕ → List ℕ 
 
   -- a crash after saves leaves the lines that the file held before them
   pub crash_leaves : {seen : F → List ℕ} {may_leave : F → List ℕ → Type 0}
-      {stored : List ℕ → Type 0} (saves : ℕ) (old new : Stand F) (c : List ℕ)
+      {identity : F → ℕ} {stored : ℕ → List ℕ → Type 0} (saves : ℕ) (old new : Stand F) (c : List ℕ)
       → ((c : List ℕ) → left_since old.file (moment old.file) c → may_leave old.file c)
-      → IsSettled seen may_leave stored old.file
+      → IsSettled seen may_leave identity stored old.file
       → IsSaved Renews first old.count old.calls (seen old.file)
       → AreSaves moment left_since Renews first saves old new
       → left_since new.file (moment old.file) c
       → StartsWith new.calls old.calls × IsSavedFrom Renews old.count first new.calls c
-  crash_leaves {seen} {may_leave} {stored} saves old new c only_now settled saved are crash =
+  crash_leaves {seen} {may_leave} {identity} {stored} saves old new c only_now settled saved are
+      crash =
       let stays = stays_after saves old new are (stays_still old (may_leave old.file)
       (seen old.file) only_now settled.durable saved) in
       (stays.longer, stays.leaves.each c crash)

@@ -60,16 +60,17 @@ pub fn crashed_run_is_resumed()
 pub fn answered_calls_are_resumed<F: DurableFile>()
     ensures { (file : F) (recorder : Recording) (given : Given)
         (served : Result Served ServeFault) (journal : Result (Unit {0}) Fault) (text : List ℕ)
-        → (run : IsJournaledRun F.acts_as_file F.seen F.may_leave F.moment F.left_since F.stored
+        → (run : IsJournaledRun F.acts_as_file F.identity F.seen F.may_leave F.moment F.left_since
+        F.stored
         IsRenewedAs file recorder given served journal text)
         → (acts : F.acts_as_file) → (left : List ℕ)
         → (crash : F.left_since (run.kept acts).0 (F.moment file) left)
-        → HasAnsweredLines run.journaled ((run.kept acts).1.each left crash).0
+        → HasAnsweredLines run.journaled ((run.kept acts).2.each left crash).0
         → (device : List ℕ) (trace : Trace) (after : Recording)
         → IsText (F.seen file) → IsJournal (F.seen file) → trace_of (F.seen file) ≡ Ok trace
         → AreTraced (changing (run_events run.run.calls))
         → (resumed : Continues device left after)
-        → ContinuesAnswers run.journaled ((run.kept acts).1.each left crash).0 (world_of trace)
+        → ContinuesAnswers run.journaled ((run.kept acts).2.each left crash).0 (world_of trace)
         (world_of resumed.trace) }
 {}
 
@@ -86,7 +87,7 @@ pub fn saved_calls_are_resumed<F: DurableFile>()
         (old new : Stand F) (after : Recording)
         → IsText began → IsJournal began → trace_of began ≡ Ok trace
         → AreTraced (changing (run_events new.calls))
-        → IsSettled F.seen F.may_leave F.stored old.file
+        → IsSettled F.seen F.may_leave F.identity F.stored old.file
         → IsSaved IsRenewedAs (lines_in began) old.count old.calls (F.seen old.file)
         → StartsWith old.calls answered → length (lines_of_calls answered) ≤ old.count
         → AreSaves F.moment F.left_since IsRenewedAs (lines_in began) saves old new
@@ -119,7 +120,7 @@ fn save_as_one_of_the_saves<F: DurableFile, W: Wait>(
     taken: u64,
     room: Vec<u8>,
 ) -> Result<Saved, JournalFault>
-    requires { F.acts_as_file → IsSettled F.seen F.may_leave F.stored file.old }
+    requires { F.acts_as_file → IsSettled F.seen F.may_leave F.identity F.stored file.old }
     ensures { F.acts_as_file → (first : List (List ℕ))
         → IsSaved F.renews first taken port.old.known.seen (F.seen file.old)
         → IsSave F.moment F.left_since F.renews first

@@ -6,7 +6,8 @@ use Rattle.durable_lines.proofs.Moments.{begin, then_call}
 use Rattle.durable_lines.proofs.TornLemmas.{torn_append, none_added}
 
 module _ {F : Type 0} (seen : F → List ℕ) (may_leave : F → List ℕ → Type 0)
-    (stored : List ℕ → Type 0) (moment : F → ℕ) (left_since : F → ℕ → List ℕ → Type 0) (old : F)
+    (identity : F → ℕ) (stored : ℕ → List ℕ → Type 0) (moment : F → ℕ)
+    (left_since : F → ℕ → List ℕ → Type 0) (old : F)
     (text : List ℕ) where
   -- the lines that a crash may leave
   abbrev pub FrontLines : List ℕ → Type 0
@@ -20,7 +21,7 @@ module _ {F : Type 0} (seen : F → List ℕ) (may_leave : F → List ℕ → Ty
   abbrev pub Leaves : F → Type 0
   Leaves now = LeavesOnly moment left_since old now FrontLines
 
-  pub append_leaves : (appended : F) → IsSettled seen may_leave stored old
+  pub append_leaves : (appended : F) → IsSettled seen may_leave identity stored old
       → Follows (TornAppend text) (may_leave old) (may_leave appended)
       → (c : List ℕ) → may_leave appended c → FrontLines c
   append_leaves appended settled crash c now =
@@ -28,7 +29,7 @@ module _ {F : Type 0} (seen : F → List ℕ) (may_leave : F → List ℕ → Ty
       torn_append (seen old) text c settled.text
       (subst (λ d. TornAppend text d c) (settled.durable from.0 from.1) from.2)
 
-  pub after_append : (appended : F) → IsSettled seen may_leave stored old
+  pub after_append : (appended : F) → IsSettled seen may_leave identity stored old
       → ((c : List ℕ) → left_since old (moment old) c → may_leave old c) → Runs old appended
       → Follows (TornAppend text) (may_leave old) (may_leave appended) → Leaves appended
   after_append appended settled only_now time crash =

@@ -31,10 +31,10 @@ IsText bytes = bytes ≡ text_of (lines_in bytes)
 abbrev pub IsBetween : List (List ℕ) → List (List ℕ) → List (List ℕ) → Type 0
 IsBetween old added lines = (k : ℕ) × (k ≤ length added) × (lines ≡ old ++ take k added)
 
--- whether a file consists of whole lines, all of them on the disk: a sync returned while it had
--- these bytes
+-- whether a file consists of whole lines, all of them on the disk: a sync of this file returned
+-- while it had these bytes
 pub record IsSettled {F : Type 0} (seen : F → List ℕ) (may_leave : F → List ℕ → Type 0)
-    (stored : List ℕ → Type 0) (file : F) : Type 0 where
+    (identity : F → ℕ) (stored : ℕ → List ℕ → Type 0) (file : F) : Type 0 where
   pub text : IsText (seen file)
   pub durable : HasOneOutcome (seen file) (may_leave file)
-  pub kept : stored (seen file)
+  pub kept : stored (identity file) (seen file)

@@ -16,10 +16,10 @@ use crate::fault::FileFault;
 /// After an error some of the lines may be in the file: it must be recovered before the next
 /// append.
 pub fn append_lines<F: DurableFile>(file: &mut F, text: &[u8]) -> Result<(), FileFault>
-    requires settled { F.acts_as_file → IsSettled F.seen F.may_leave F.stored file.old }
+    requires settled { F.acts_as_file → IsSettled F.seen F.may_leave F.identity F.stored file.old }
     requires text { IsText text.now }
     ensures settled { OnOk result (F.acts_as_file
-        → IsSettled F.seen F.may_leave F.stored file.new) }
+        → IsSettled F.seen F.may_leave F.identity F.stored file.new) }
     ensures appended { OnOk result (F.acts_as_file
         → F.seen file.new ≡ F.seen file.old ++ text.now) }
     ensures lines { OnOk result (F.acts_as_file
@@ -27,6 +27,7 @@ pub fn append_lines<F: DurableFile>(file: &mut F, text: &[u8]) -> Result<(), Fil
     // A crash at any moment of the call leaves the old lines and a front of the new ones.
     ensures any_moment { F.acts_as_file → LeavesOnly F.moment F.left_since file.old file.new
         (λ c. IsBetween (lines_in (F.seen file.old)) (lines_in text.now) (lines_in c)) }
+    ensures identity { F.identity file.new ≡ F.identity file.old }
     ensures failed { IsErrOf result FileFault.Failed → F.has_failed file.new }
     ensures remains_failed { F.has_failed file.old → F.has_failed file.new }
 {
@@ -43,10 +44,10 @@ pub fn append_lines<F: DurableFile>(file: &mut F, text: &[u8]) -> Result<(), Fil
 ///
 /// After an error nothing more may be appended: some of the lines may be in the file.
 pub fn append_and_renew<F: DurableFile>(file: &mut F, text: &[u8]) -> Result<(), FileFault>
-    requires settled { F.acts_as_file → IsSettled F.seen F.may_leave F.stored file.old }
+    requires settled { F.acts_as_file → IsSettled F.seen F.may_leave F.identity F.stored file.old }
     requires text { IsText text.now }
     ensures settled { OnOk result (F.acts_as_file
-        → IsSettled F.seen F.may_leave F.stored file.new) }
+        → IsSettled F.seen F.may_leave F.identity F.stored file.new) }
     ensures lines { OnOk result (F.acts_as_file → (first lines : List (List ℕ))
         → Holds F.renews first lines (F.seen file.old)
         → Holds F.renews first (lines ++ lines_in text.now) (F.seen file.new)) }
@@ -56,6 +57,7 @@ pub fn append_and_renew<F: DurableFile>(file: &mut F, text: &[u8]) -> Result<(),
         → LeavesOnly F.moment F.left_since file.old file.new
         (λ c. (k : ℕ) × (k ≤ length (lines_in text.now))
         × Holds F.renews first (lines ++ take k (lines_in text.now)) c) }
+    ensures identity { F.identity file.new ≡ F.identity file.old }
     ensures failed { IsErrOf result FileFault.Failed → F.has_failed file.new }
     ensures remains_failed { F.has_failed file.old → F.has_failed file.new }
 {

@@ -21,6 +21,10 @@ pub trait DurableFile: Drop {
     // only then. No contract can promise it of a file of the operating system.
     ghost acts_as_file: { Type 0 };
 
+    // Ghost value: which file it is, a number that no call changes. A file that is replaced under
+    // its name keeps the number.
+    ghost identity: { Self → ℕ };
+
     // Ghost value: the bytes that a read returns.
     ghost seen: { Self → List ℕ };
 
@@ -33,9 +37,9 @@ pub trait DurableFile: Drop {
     // Ghost predicate: what a crash at this moment, or at any since an earlier one, may have left.
     ghost left_since: { Self → ℕ → List ℕ → Type 0 };
 
-    // Ghost predicate: a sync of a file of this type has returned while it had these bytes. Generic
-    // code gets it only from `sync`; once known, it holds for good.
-    ghost stored: { List ℕ → Type 0 };
+    // Ghost predicate: a sync of the file with this number has returned while it had these bytes.
+    // Generic code gets it only from `sync`; once known, it holds for good.
+    ghost stored: { ℕ → List ℕ → Type 0 };
 
     // Ghost relation: the second bytes renew the first. They tell in another way what the first do.
     // A file that is never renewed keeps the default.
@@ -52,6 +56,7 @@ pub trait DurableFile: Drop {
         ensures crash { Narrows (may_leave self.old) (may_leave self.new) }
         ensures time { Elapses (moment self.old) (moment self.new) (left_since self.old)
             (left_since self.new) (may_leave self.new) }
+        ensures identity { identity self.new ≡ identity self.old }
         ensures failed { IsErrOf result FileFault.Failed ↔ has_failed self.new }
         ensures remains_failed { has_failed self.old → has_failed self.new };
 
@@ -61,6 +66,7 @@ pub trait DurableFile: Drop {
         ensures crash { Follows (TornAppend bytes.now) (may_leave self.old) (may_leave self.new) }
         ensures time { Elapses (moment self.old) (moment self.new) (left_since self.old)
             (left_since self.new) (may_leave self.new) }
+        ensures identity { identity self.new ≡ identity self.old }
         ensures failed { IsErrOf result FileFault.Failed ↔ has_failed self.new }
         ensures remains_failed { has_failed self.old → has_failed self.new };
 
@@ -71,6 +77,7 @@ pub trait DurableFile: Drop {
         ensures crash { Follows (TornCut len) (may_leave self.old) (may_leave self.new) }
         ensures time { Elapses (moment self.old) (moment self.new) (left_since self.old)
             (left_since self.new) (may_leave self.new) }
+        ensures identity { identity self.new ≡ identity self.old }
         ensures failed { IsErrOf result FileFault.Failed ↔ has_failed self.new }
         ensures remains_failed { has_failed self.old → has_failed self.new };
 
@@ -78,10 +85,11 @@ pub trait DurableFile: Drop {
     fn sync(&mut self) -> Result<(), FileFault>
         ensures unchanged { OnOk result (seen self.new ≡ seen self.old) }
         ensures durable { OnOk result (HasOneOutcome (seen self.old) (may_leave self.new)) }
-        ensures stored { OnOk result (acts_as_file → stored (seen self.old)) }
+        ensures stored { OnOk result (acts_as_file → stored (identity self.new) (seen self.old)) }
         ensures crash { Narrows (may_leave self.old) (may_leave self.new) }
         ensures time { Elapses (moment self.old) (moment self.new) (left_since self.old)
             (left_since self.new) (may_leave self.new) }
+        ensures identity { identity self.new ≡ identity self.old }
         ensures failed { IsErrOf result FileFault.Failed ↔ has_failed self.new }
         ensures remains_failed { has_failed self.old → has_failed self.new };
 
@@ -91,13 +99,15 @@ pub trait DurableFile: Drop {
     ///
     /// After an error nothing more may be appended.
     fn renew(&mut self) -> Result<(), FileFault>
-        requires settled { acts_as_file → IsSettled seen may_leave stored self.old }
-        ensures settled { OnOk result (acts_as_file → IsSettled seen may_leave stored self.new) }
+        requires settled { acts_as_file → IsSettled seen may_leave identity stored self.old }
+        ensures settled { OnOk result
+            (acts_as_file → IsSettled seen may_leave identity stored self.new) }
         ensures renewed { OnOk result
             (acts_as_file → IsSameOrRenewed renews (seen self.old) (seen self.new)) }
         // A crash at any moment of the call leaves the old file or the new one.
         ensures any_moment { acts_as_file → LeavesOnly moment left_since self.old self.new
             (IsSameOrRenewed renews (seen self.old)) }
+        ensures identity { identity self.new ≡ identity self.old }
         ensures failed { IsErrOf result FileFault.Failed → has_failed self.new }
         ensures remains_failed { has_failed self.old → has_failed self.new }
     {

@@ -139,6 +139,8 @@ fn replace(
 impl DurableFile for MemoryFile {
     ghost acts_as_file = { ⊤ };
 
+    ghost identity = { λ _. 0 };
+
     ghost seen = { bytes_of };
 
     ghost may_leave = { λ m c. IsLeft m.state c };
@@ -147,7 +149,7 @@ impl DurableFile for MemoryFile {
 
     ghost left_since = { LeftSince };
 
-    ghost stored = { λ _. ⊤ };
+    ghost stored = { λ _ _. ⊤ };
 
     ghost has_failed = { HasFailed };
 

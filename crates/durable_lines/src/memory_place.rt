@@ -186,6 +186,8 @@ fn change(
 impl DurableFile for MemoryPlace {
     ghost acts_as_file = { ⊤ };
 
+    ghost identity = { λ _. 0 };
+
     ghost seen = { λ p. seen_of (name_of p) };
 
     ghost may_leave = { λ p c. MayBeLeft p.state c };
@@ -194,7 +196,7 @@ impl DurableFile for MemoryPlace {
 
     ghost left_since = { LeftSince };
 
-    ghost stored = { λ _. ⊤ };
+    ghost stored = { λ _ _. ⊤ };
 
     ghost has_failed = { λ _. ⊥ };
 
@@ -232,8 +234,6 @@ impl Place for MemoryPlace {
     ghost named = { λ p c. IsLeft (name_of p) c };
 
     ghost drafts_act = { λ acts. acts };
-
-    ghost stores = { λ bytes stored. stored };
 
     fn create_draft(&mut self) -> Result<MemoryFile, FileFault> {
         Ok(MemoryFile::new(self.alloc, Vec::new(self.alloc)))

@@ -24,6 +24,7 @@ pub trait Place: DurableFile {
         ensures crash { Narrows (Self.may_leave self.old) (Self.may_leave self.new) }
         ensures time { Elapses (Self.moment self.old) (Self.moment self.new)
             (Self.left_since self.old) (Self.left_since self.new) (Self.may_leave self.new) }
+        ensures identity { Self.identity self.new ≡ Self.identity self.old }
         ensures failed { IsErrOf result FileFault.Failed ↔ Self.has_failed self.new }
         ensures remains_failed { Self.has_failed self.old → Self.has_failed self.new };
 
@@ -32,10 +33,15 @@ pub trait Place: DurableFile {
     fn rename(&mut self, draft: Self::Draft) -> Result<(), FileFault>
         ensures seen { OnOk result (Self.seen self.new ≡ Self.Draft.seen draft) }
         ensures renamed { OnOk result (Narrows (Self.Draft.may_leave draft) (named self.new)) }
+        // A sync of the draft counts for the name.
+        ensures stored { OnOk result ((bytes : List ℕ)
+            → Self.Draft.stored (Self.Draft.identity draft) bytes
+            → Self.stored (Self.identity self.new) bytes) }
         ensures crash { (c : List ℕ) → Self.may_leave self.new c
             → Self.may_leave self.old c ⊎ Self.Draft.may_leave draft c }
         ensures time { Elapses (Self.moment self.old) (Self.moment self.new)
             (Self.left_since self.old) (Self.left_since self.new) (Self.may_leave self.new) }
+        ensures identity { Self.identity self.new ≡ Self.identity self.old }
         ensures failed { IsErrOf result FileFault.Failed ↔ Self.has_failed self.new }
         ensures remains_failed { Self.has_failed self.old → Self.has_failed self.new };
 
@@ -46,12 +52,10 @@ pub trait Place: DurableFile {
         ensures crash { Narrows (Self.may_leave self.old) (Self.may_leave self.new) }
         ensures time { Elapses (Self.moment self.old) (Self.moment self.new)
             (Self.left_since self.old) (Self.left_since self.new) (Self.may_leave self.new) }
+        ensures identity { Self.identity self.new ≡ Self.identity self.old }
         ensures failed { IsErrOf result FileFault.Failed ↔ Self.has_failed self.new }
         ensures remains_failed { Self.has_failed self.old → Self.has_failed self.new };
 
     // Ghost law: if the name acts as the crash model says, so do its drafts.
     ghost drafts_act: { Self.acts_as_file → Self.Draft.acts_as_file };
-
-    // Ghost law: a sync of a draft counts for the file under the name.
-    ghost stores: { (bytes : List ℕ) → Self.Draft.stored bytes → Self.stored bytes };
 }

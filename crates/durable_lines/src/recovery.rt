@@ -32,10 +32,11 @@ pub fn recover<F: DurableFile>(alloc: Global, file: &mut F) -> Result<Recovered,
     ensures same { OnOk result (F.acts_as_file
         → lines_in (F.seen file.new) ≡ lines_in (F.seen file.old)) }
     ensures settled { OnOk result (F.acts_as_file
-        → IsSettled F.seen F.may_leave F.stored file.new) }
+        → IsSettled F.seen F.may_leave F.identity F.stored file.new) }
     // A crash at any moment of the call leaves the same lines, or what it could have left before.
     ensures any_moment { F.acts_as_file → LeavesOnly F.moment F.left_since file.old file.new
         (λ c. F.may_leave file.old c ⊎ (lines_in c ≡ lines_in (F.seen file.old))) }
+    ensures identity { F.identity file.new ≡ F.identity file.old }
     ensures failed { IsErrOf result FileFault.Failed → F.has_failed file.new }
     ensures remains_failed { F.has_failed file.old → F.has_failed file.new }
 {

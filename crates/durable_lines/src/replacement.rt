@@ -17,11 +17,12 @@ pub fn replace<P: Place>(place: &mut P, bytes: &[u8]) -> Result<(), FileFault>
     ensures replaced { OnOk result (P.acts_as_file
         → HasOneOutcome bytes.now (P.may_leave place.new)) }
     ensures settled { OnOk result (P.acts_as_file → IsText bytes.now
-        → IsSettled P.seen P.may_leave P.stored place.new) }
+        → IsSettled P.seen P.may_leave P.identity P.stored place.new) }
     // A crash at any moment of the call leaves what could be left before, or the new bytes.
     ensures any_moment { P.acts_as_file
         → LeavesOnly P.moment P.left_since place.old place.new
         (λ c. P.may_leave place.old c ⊎ (c ≡ bytes.now)) }
+    ensures identity { P.identity place.new ≡ P.identity place.old }
     ensures remains_failed { P.has_failed place.old → P.has_failed place.new }
 {
     let mut draft = place.create_draft()?;

@@ -107,6 +107,8 @@ fn append_within(file: &mut File, limit: usize, bytes: &[u8]) -> Result<(), File
 impl DurableFile for StoredFile {
     ghost acts_as_file = { ⊥ };
 
+    ghost identity = { λ _. 0 };
+
     ghost seen = { λ _. [] };
 
     ghost may_leave = { λ _ _. ⊥ };
@@ -115,7 +117,7 @@ impl DurableFile for StoredFile {
 
     ghost left_since = { λ _ _ _. ⊥ };
 
-    ghost stored = { λ _. ⊥ };
+    ghost stored = { λ _ _. ⊥ };
 
     ghost has_failed = { HasFailed };
 

@@ -126,6 +126,8 @@ fn sync_both(
 impl<R: Files<File = File> + Drop> DurableFile for StoredPlace<R> {
     ghost acts_as_file = { ⊥ };
 
+    ghost identity = { λ _. 0 };
+
     ghost seen = { λ _. [] };
 
     ghost may_leave = { λ _ _. ⊥ };
@@ -134,7 +136,7 @@ impl<R: Files<File = File> + Drop> DurableFile for StoredPlace<R> {
 
     ghost left_since = { λ _ _ _. ⊥ };
 
-    ghost stored = { λ _. ⊥ };
+    ghost stored = { λ _ _. ⊥ };
 
     ghost has_failed = { HasFailed };
 
@@ -191,8 +193,6 @@ impl<R: Files<File = File> + Drop> Place for StoredPlace<R> {
     ghost named = { λ _ _. ⊥ };
 
     ghost drafts_act = { λ acts. acts };
-
-    ghost stores = { λ bytes stored. stored };
 
     fn create_draft(&mut self) -> Result<StoredFile, FileFault> {
         if self.has_failed {

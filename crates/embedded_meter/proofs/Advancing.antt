@@ -11,7 +11,7 @@ use Rattle.embedded_meter.specs.Dialogues.{Dialogue, asks_ahead, sends_ahead}
 use Rattle.embedded_meter.specs.Progress.{Advances}
 use Rattle.embedded_meter.specs.Working.{SameAhead, HasFrameDue, weight}
 use Rattle.embedded_meter.specs.declared.pending.Pending.{Pending}
-use Rattle.embedded_meter.specs.declared.pending.Pending.TheVariants.{Asked, Answered, Due}
+use Rattle.embedded_meter.specs.declared.pending.Pending.TheVariants.{Nothing, Asked, Answered, Due}
 
 map_both : {A B : Type 0} (f : A → B) (xs ys : List A) → map f (xs ++ ys) ≡ map f xs ++ map f ys
 map_both f [] ys = refl
@@ -72,6 +72,20 @@ advances_asked s event reply r r' continues capacity = record {
   told = (event, reply) ∷ [];
   histories = continues.histories;
   capacity = capacity;
+  asks = λ more. refl;
+  sends = λ more later. refl;
+  ends = λ more. refl;
+}
+
+-- the pending frame was returned
+pub advances_framed : (s : Session) (frame : List ℕ) (r : Recording)
+    → Advances (record { session = s; pending = Due frame }) r (frame ∷ [])
+    (record { session = s; pending = Nothing }) r
+advances_framed s frame r = record {
+  told = [];
+  histories = λ history origin stands. subst (λ (h : List Exchange). StandsForHistory r h origin)
+      (sym (append-nil history)) stands;
+  capacity = refl;
   asks = λ more. refl;
   sends = λ more later. refl;
   ends = λ more. refl;

@@ -1,18 +1,20 @@
--- A short request of a session, up to the frame with its answer.
-use Rattle.std.proofs.Common.{◌≡◌, ℕ, List, [], refl, sym, ◌∙◌, ap, subst}
+-- The short way of `next`: a session that only waits, and a short request up to its frame.
+use Rattle.std.proofs.Common.{◌≡◌, ℕ, List, [], ◌∷◌, refl, sym, ◌∙◌, ap, subst, Result, Ok, Err, IsErrAnd}
 use Rattle.relay_events.specs.declared.event.Event.{Event}
 use Rattle.relay_events.specs.declared.reply.Reply.{Reply}
 use Rattle.relay_recorder.specs.Histories.{Continues}
 use Rattle.relay_recorder.specs.Recording.{Recording}
-use Rattle.session_core.specs.Progress.{AsksShort}
+use Rattle.session_core.specs.Progress.{AsksShort, IsQuiet}
 use Rattle.session_core.specs.Progress as session
 use Rattle.session_core.specs.declared.session.Session.{Session}
 use Rattle.embedded_meter.specs.Dialogues.{Dialogue}
-use Rattle.embedded_meter.specs.Progress.{Advances}
-use Rattle.embedded_meter.specs.Working.{SameAhead}
+use Rattle.embedded_meter.specs.Progress.{Advances, IsIdle, GivesNext, GivesNextBy}
+use Rattle.embedded_meter.specs.Working.{SameAhead, PlacesFrame}
+use Rattle.embedded_meter.specs.declared.given.Given.{Given}
+use Rattle.embedded_meter.specs.declared.given.Given.TheVariants as given
 use Rattle.embedded_meter.specs.declared.pending.Pending.{Pending}
 use Rattle.embedded_meter.specs.declared.pending.Pending.TheVariants.{Nothing, Asked, Answered, Due}
-use Rattle.embedded_meter.proofs.Advancing.{advances_same, advances_on, advances_asked}
+use Rattle.embedded_meter.proofs.Advancing.{advances_same, advances_on, advances_asked, advances_framed}
 
 -- a dialogue in which nothing is pending
 nothing_pending : (s : Session) (u : Pending) (old : Dialogue)
@@ -77,3 +79,40 @@ framed_short old s asked answered u event reply frame r r' is nothing asks conti
     advances_on _ _ _ r r' r' []
     (replied_short old s asked u event reply r r' is nothing asks continues capacity)
     (advances_same _ _ r' (framed_ahead asked answered reply frame answers))
+
+-- the frame was returned, or is pending
+pub placed_short : (old : Dialogue) (s : Session) (u : Pending) (frame : List ℕ) (r r' : Recording)
+    (buffer buffer' : List ℕ) (g : Given)
+    → Advances old r [] (record { session = s; pending = Due frame }) r'
+    → PlacesFrame frame buffer g u buffer'
+    → GivesNext old r buffer g (record { session = s; pending = u }) r' buffer'
+placed_short old s u frame r r' buffer buffer' (given.Frame count) far places = record {
+  frame = frame;
+  advances = subst (λ (v : Pending). Advances old r (frame ∷ [])
+      (record { session = s; pending = v }) r') (sym places.0)
+      (advances_on _ _ _ r r' r' (frame ∷ []) far (advances_framed s frame r'));
+  counted = places.1;
+  written = places.2;
+}
+placed_short old s u frame r r' buffer buffer' (given.NoRoom count) far places = (
+  subst (λ (v : Pending). Advances old r [] (record { session = s; pending = v }) r')
+      (sym places.0) far,
+  record { frame = frame; due = places.0; counted = places.1; longer = places.2 },
+  places.3,
+)
+placed_short old s u frame r r' buffer buffer' given.Wait far places = absurd places
+placed_short old s u frame r r' buffer buffer' (given.End end) far places = absurd places
+
+-- nothing is to be asked or sent
+pub idle_by : (old : Dialogue) (s : Session) (u : Pending)
+    → record { session = s; pending = u } ≡ old → u ≡ Nothing → IsQuiet s → IsIdle old
+idle_by old s u is nothing quiet =
+    subst IsIdle is (subst (λ (v : Pending). IsIdle (record { session = s; pending = v }))
+    (sym nothing) (record { asks = quiet.asks; sends = quiet.sends }))
+
+-- `next` ran out of memory
+pub stopped_short : {E : Type 0} (old new : Dialogue) (r r' : Recording) (buffer buffer' : List ℕ)
+    (result : Result Given E) (P : E → Type 0) → IsErrAnd result P
+    → Advances old r [] new r' × (buffer' ≡ buffer) → GivesNextBy old r buffer result new r' buffer'
+stopped_short old new r r' buffer buffer' (Ok _) P is far = absurd is
+stopped_short old new r r' buffer buffer' (Err error) P is far = far

@@ -3,13 +3,14 @@
 --     IsAsked, IsAnswered, HasFrameDue     an event, a reply or a frame is pending
 --     weight                         the amount of work that is left
 --     HasNoStepLeft                  the state in which no step is left
-use Rattle.std.specs.Prelude.{◌≡◌, ◌+◌, ◌<◌, ◌++◌, ℕ, Bool, true, false, List, [], length, drop, Option, Some, None, Result, Ok, Err}
+--     GivesShortBy                   a short request, from its bytes to the frame with its answer
+use Rattle.std.specs.Prelude.{◌≡◌, ◌+◌, ◌<◌, ◌++◌, ℕ, List, [], length, drop, Option, Some, None, Result, Ok, Err}
 use Rattle.relay_events.specs.declared.event.Event.{Event}
 use Rattle.relay_events.specs.declared.reply.Reply.{Reply}
 use Rattle.relay_recorder.specs.Recording.{Recording}
 use Rattle.session_core.specs.Remaining.{load_of}
 use Rattle.embedded_meter.specs.Dialogues.{Dialogue, asks_ahead, sends_ahead, ends_ahead}
-use Rattle.embedded_meter.specs.Progress.{Advances, IsIdle, IsOver, KeepsFrame}
+use Rattle.embedded_meter.specs.Progress.{Advances, GivesNext, IsIdle, IsOver, KeepsFrame}
 use Rattle.embedded_meter.specs.declared.connection.NextNeed.{NextNeed}
 use Rattle.embedded_meter.specs.declared.connection.NextNeed.TheVariants as rest
 use Rattle.embedded_meter.specs.declared.given.Given.{Given}
@@ -62,12 +63,15 @@ AsksBy old (Ok None) new = SameAhead old new × (weight new < weight old)
 AsksBy old (Ok (Some rest)) new = SameAhead old new × HasNoStepLeft rest new
 AsksBy old (Err error) new = SameAhead old new
 
--- whether a short request was served up to its frame, for `true`, or there is none
-abbrev pub ServesBy : {E : Type 0} → Dialogue → Recording → Result Bool E → Dialogue → Recording
-    → Type 0
-ServesBy old r (Ok true) new r' = Advances old r [] new r' × HasFrameDue new
-ServesBy old r (Ok false) new r' = (new ≡ old) × (r' ≡ r)
-ServesBy old r (Err error) new r' = Advances old r [] new r'
+-- whether a short request was served, and the frame with its answer returned; `None` if there is
+-- none, and nothing has changed
+abbrev pub GivesShortBy : {E : Type 0} → Dialogue → Recording → List ℕ → Result (Option Given) E
+    → Dialogue → Recording → List ℕ → Type 0
+GivesShortBy old r buffer (Ok None) new r' buffer' = (new ≡ old) × (r' ≡ r) × (buffer' ≡ buffer)
+GivesShortBy old r buffer (Ok (Some given)) new r' buffer' =
+    GivesNext old r buffer given new r' buffer'
+GivesShortBy old r buffer (Err error) new r' buffer' = Advances old r [] new r'
+    × (buffer' ≡ buffer)
 
 -- whether the meter applied the pending event, or was out of memory and is unchanged
 abbrev pub AppliesBy : {E : Type 0} → Dialogue → Recording → Result Unit E → Dialogue → Recording
@@ -93,6 +97,16 @@ abbrev pub SettlesBy : {E : Type 0} → Dialogue → Recording → Result NextNe
     → Type 0
 SettlesBy old r (Ok rest) new r' = Advances old r [] new r' × HasNoStepLeft rest new
 SettlesBy old r (Err error) new r' = Advances old r [] new r'
+
+-- whether a frame was copied to the buffer, and no item is pending; or the frame is pending
+-- because the buffer is too short
+abbrev pub PlacesFrame : List ℕ → List ℕ → Given → Pending → List ℕ → Type 0
+PlacesFrame frame buffer (given.Frame count) pending buffer' = (pending ≡ Nothing)
+    × (count ≡ length frame) × (buffer' ≡ frame ++ drop count buffer)
+PlacesFrame frame buffer (given.NoRoom count) pending buffer' = (pending ≡ Due frame)
+    × (count ≡ length frame) × (length buffer < count) × (buffer' ≡ buffer)
+PlacesFrame frame buffer given.Wait pending buffer' = ⊥
+PlacesFrame frame buffer (given.End end) pending buffer' = ⊥
 
 -- whether the pending frame, of `count` bytes, was copied to the buffer and is not pending any more
 pub record TakesFrame (old : Dialogue) (buffer : List ℕ) (count : ℕ) (new : Dialogue)

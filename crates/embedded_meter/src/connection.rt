@@ -1,13 +1,18 @@
 //! A client's session at a meter without threads. If out of memory, what is pending stays pending.
-ghost use Rattle.std.specs.Prelude.{◌≡◌, IfOk, OnOk, OnErr};
+ghost use Rattle.std.specs.Prelude.{◌≡◌, true, false, IfOk, OnOk, OnErr};
 ghost use Rattle.acse_ber.specs.Password.{IsPassword};
-ghost use Rattle.embedded_meter.specs.declared.pending.Pending.TheVariants.{Nothing};
+ghost use Rattle.session_core.specs.Calls.{short_event};
+ghost use Rattle.embedded_meter.specs.Dialogues.{awaits_reply};
+ghost use Rattle.embedded_meter.specs.Working.{PlacesFrame};
+ghost use Rattle.embedded_meter.specs.declared.pending.Pending.TheVariants.{Nothing, Asked, Answered, Due};
 
 use crate::given::Given;
 use crate::pending::Pending;
 use cosem_axdr::Octets;
+use cosem_names::Level;
+use relay_events::Reply;
 use relay_recorder::Recorder;
-use session_core::{Next, Session, SessionEnd};
+use session_core::{Next, Session, SessionEnd, ShortRequest};
 use std::alloc::{AllocError, Global};
 use std::marker::Model;
 use std::mem::replace;
@@ -37,6 +42,48 @@ fn put(pending: &mut Pending, next: Pending)
     *pending = next;
 }
 
+// Makes the event of a short request pending.
+#[inline(never)]
+fn put_asked(pending: &mut Pending, level: Level, request: ShortRequest)
+    ensures { pending.new ≡ Asked (short_event level request) }
+{
+    *pending = Pending::Asked(request.event(level));
+}
+
+// Makes a reply pending.
+#[inline(never)]
+fn put_answered(pending: &mut Pending, reply: Reply)
+    ensures { pending.new ≡ Answered reply }
+{
+    *pending = Pending::Answered(reply);
+}
+
+// Makes a frame pending.
+#[inline(never)]
+fn put_due(pending: &mut Pending, frame: Octets)
+    ensures { pending.new ≡ Due frame }
+{
+    *pending = Pending::Due(frame);
+}
+
+// Copies a frame to the buffer, and returns its length. If the buffer is too short, the frame
+// becomes pending, and the result is the length that it needs.
+#[inline(always)]
+fn give_frame(pending: &mut Pending, frame: Octets, buffer: &mut [u8]) -> Given
+    requires { pending.now ≡ Nothing }
+    ensures gives { PlacesFrame frame buffer.old result pending.new buffer.new }
+    ensures no_reply_awaited { awaits_reply pending.new ≡ false }
+{
+    let count = frame.len();
+    if buffer.len() < count {
+        put_due(pending, frame);
+        return Given::NoRoom(count);
+    }
+    buffer[..count].copy_from_slice(frame.as_slice());
+    drop(frame);
+    Given::Frame(count)
+}
+
 impl Model for ClientSession {
     ghost use Rattle.std.specs.Coded.{codes};
     ghost use Rattle.session_core.specs.contracts.session.Session as session_row;
@@ -53,8 +100,8 @@ impl Model for ClientSession {
 }
 
 impl ClientSession {
-    ghost use Rattle.embedded_meter.specs.Progress.{Owes, Feeds, Finishes, GivesNextBy};
-    ghost use Rattle.embedded_meter.specs.Working.{AsksBy, ServesBy, WorksBy, SettlesBy, AppliesBy, AnswersBy, IsAsked, IsAnswered, HasFrameDue, GivesDue};
+    ghost use Rattle.embedded_meter.specs.Progress.{Owes, Feeds, Finishes, IsIdle, GivesNextBy};
+    ghost use Rattle.embedded_meter.specs.Working.{AsksBy, GivesShortBy, WorksBy, SettlesBy, AppliesBy, AnswersBy, IsAsked, IsAnswered, HasFrameDue, GivesDue};
 
     // Returns a new session that has received no byte. `password`, 1 to 32 bytes, is that of the
     // management client.
@@ -86,7 +133,96 @@ impl ClientSession {
 
     // Applies the requests of the session to the meter, up to the next frame, copies the frame to
     // the buffer, and returns what the caller must do.
+    #[inline(always)]
     pub(crate) fn next(
+        &mut self,
+        alloc: Global,
+        recorder: &mut Recorder,
+        buffer: &mut [u8],
+    ) -> Result<Given, AllocError>
+        ensures { GivesNextBy self.old recorder.old buffer.old result self.new recorder.new
+            buffer.new }
+    {
+        if self.is_idle() {
+            return Ok(Given::Wait);
+        }
+        self.serve(alloc, recorder, buffer)
+    }
+
+    // Returns whether no item is pending, and the session needs more input.
+    #[inline(always)]
+    fn is_idle(&self) -> bool
+        ensures { result ≡ true → IsIdle self.now }
+    {
+        match &self.pending {
+            Pending::Nothing => self.session.is_idle(),
+            Pending::Asked(_) | Pending::Answered(_) | Pending::Due(_) => false,
+        }
+    }
+
+    // Does what `next` does, if the session is not idle. A short request at the front is served at
+    // once. The function is not inlined, so that a call of `next` that only waits stays small.
+    #[inline(never)]
+    fn serve(
+        &mut self,
+        alloc: Global,
+        recorder: &mut Recorder,
+        buffer: &mut [u8],
+    ) -> Result<Given, AllocError>
+        ensures { GivesNextBy self.old recorder.old buffer.old result self.new recorder.new
+            buffer.new }
+    {
+        match &self.pending {
+            Pending::Nothing => match self.give_short(alloc, recorder, buffer)? {
+                Some(given) => Ok(given),
+                None => self.settle_and_give(alloc, recorder, buffer),
+            },
+            Pending::Asked(_) | Pending::Answered(_) | Pending::Due(_) => {
+                self.settle_and_give(alloc, recorder, buffer)
+            }
+        }
+    }
+
+    // Serves a short request at the front, and copies the frame with its answer to the buffer.
+    // Returns `None` if there is none; nothing has changed then. On an error the event or the reply
+    // stays pending.
+    #[inline(always)]
+    fn give_short(
+        &mut self,
+        alloc: Global,
+        recorder: &mut Recorder,
+        buffer: &mut [u8],
+    ) -> Result<Option<Given>, AllocError>
+        requires { self.now.pending ≡ Nothing }
+        ensures { GivesShortBy self.old recorder.old buffer.old result self.new recorder.new
+            buffer.new }
+    {
+        let Some((level, request)) = self.session.next_short() else {
+            return Ok(None);
+        };
+        let reply = match recorder.apply(alloc, request.event(level)) {
+            Ok(reply) => reply,
+            Err(fault) => {
+                put_asked(&mut self.pending, level, request);
+                return Err(fault);
+            }
+        };
+        match self.session.answer_short(alloc, &reply) {
+            Ok(frame) => {
+                drop(reply);
+                Ok(Some(give_frame(&mut self.pending, frame, buffer)))
+            }
+            Err(fault) => {
+                put_answered(&mut self.pending, reply);
+                Err(fault)
+            }
+        }
+    }
+
+    // Applies the requests of the session to the meter, up to the next frame, and copies the frame
+    // to the buffer.
+    #[inline(never)]
+    fn settle_and_give(
         &mut self,
         alloc: Global,
         recorder: &mut Recorder,
@@ -123,12 +259,7 @@ impl ClientSession {
         ensures { WorksBy self.old recorder.old result self.new recorder.new }
     {
         match &self.pending {
-            Pending::Nothing => {
-                if self.serve_short(alloc, recorder)? {
-                    return Ok(Some(NextNeed::Due));
-                }
-                self.ask(alloc)
-            }
+            Pending::Nothing => self.ask(alloc),
             Pending::Asked(_) => {
                 self.apply(alloc, recorder)?;
                 Ok(None)
@@ -138,35 +269,6 @@ impl ClientSession {
                 Ok(None)
             }
             Pending::Due(_) => Ok(Some(NextNeed::Due)),
-        }
-    }
-
-    // Serves a short request at the front, up to the frame with its answer. Returns false if there
-    // is none; nothing has changed then. On an error the event or the reply stays pending.
-    fn serve_short(&mut self, alloc: Global, recorder: &mut Recorder) -> Result<bool, AllocError>
-        requires { self.now.pending ≡ Nothing }
-        ensures { ServesBy self.old recorder.old result self.new recorder.new }
-    {
-        let Some((level, request)) = self.session.next_short() else {
-            return Ok(false);
-        };
-        let reply = match recorder.apply(alloc, request.event(level)) {
-            Ok(reply) => reply,
-            Err(fault) => {
-                put(&mut self.pending, Pending::Asked(request.event(level)));
-                return Err(fault);
-            }
-        };
-        match self.session.answer_short(alloc, &reply) {
-            Ok(frame) => {
-                drop(reply);
-                put(&mut self.pending, Pending::Due(frame));
-                Ok(true)
-            }
-            Err(fault) => {
-                put(&mut self.pending, Pending::Answered(reply));
-                Err(fault)
-            }
         }
     }
 
@@ -227,15 +329,9 @@ impl ClientSession {
         requires { HasFrameDue self.now }
         ensures { GivesDue self.old buffer.old result self.new buffer.new }
     {
-        let Pending::Due(frame) = &self.pending else {
+        let Pending::Due(frame) = replace(&mut self.pending, Pending::Nothing) else {
             unreachable!()
         };
-        let count = frame.len();
-        if buffer.len() < count {
-            return Given::NoRoom(count);
-        }
-        buffer[..count].copy_from_slice(frame.as_slice());
-        put(&mut self.pending, Pending::Nothing);
-        Given::Frame(count)
+        give_frame(&mut self.pending, frame, buffer)
     }
 }

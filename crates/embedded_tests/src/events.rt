@@ -1,13 +1,12 @@
 //! Samples and moments of a meter that continues from a trace, and the trace that it exports
 //! itself.
-use crate::meters::{Standing, resume_meter, standing};
+use crate::meters::{resume_meter, standing};
 use embedded_meter::{Fired, MeterFault, SupplyMeter, Tick, TraceFault};
 use std::alloc::{AllocError, Global};
-use std::process::Abort;
 use std::test::Fail;
 
 /// A switch that was disconnected and reconnected remotely, in mode 1.
-const RESTORED: &[u8] = b"RELAYTRACE 1
+static RESTORED: &[u8] = b"RELAYTRACE 1
 device 52454C415931
 state 1
 mode 0
@@ -36,7 +35,7 @@ button
 ";
 
 /// The end of the trace of a meter that continued from there with two samples and two moments.
-const OWN_EVENTS: &[u8] = b"
+static OWN_EVENTS: &[u8] = b"
 events 3
 samples 10 20
 moment 5
@@ -45,7 +44,7 @@ moment 4
 
 /// A meter in mode 5 whose export limiter executed script 1, which disconnects the supply, after
 /// ten samples over 5,000 watts; then the button restored the supply.
-const EXPORTING: &[u8] = b"RELAYTRACE 2
+static EXPORTING: &[u8] = b"RELAYTRACE 2
 device 52454C415931
 state 1
 mode 5
@@ -80,92 +79,70 @@ pairs 0 5001 0 5001 0 5001 0 5001 0 5001 0 5001 0 5001 0 5001 0 5001 0 5001
 button
 ";
 
-/// Applies samples and moments, and checks the results.
-fn take(rt: &impl Abort, alloc: Global, meter: &mut SupplyMeter) -> Result<(), Fail> {
-    assert!(rt; standing(meter) == (1, 1, true) && meter.last_moment() == None);
-    let fired = meter.sample(alloc, &[10, 20])?;
-    let under = Fired {
-        over: 0,
-        under: 1,
-        export_over: 0,
-        export_under: 0,
-    };
-    assert!(rt; fired == under);
+// No limiter has fired, except that the import limiter has fired once under its threshold.
+const UNDER: Fired = Fired {
+    over: 0,
+    under: 1,
+    export_over: 0,
+    export_under: 0,
+};
+
+/// Applies samples and moments, and returns whether the results are right.
+fn takes(alloc: Global, meter: &mut SupplyMeter) -> bool {
+    let is_resumed = standing(meter) == (1, 1, true) && meter.last_moment() == None;
+    let fired = meter.sample(alloc, &[10, 20]);
     let ran = meter.tick(alloc, 5);
     let stale = meter.tick(alloc, 4);
-    assert!(rt; ran == Tick::Ran(0) && stale == Tick::Stale(5) && meter.last_moment() == Some(5));
+    let are_moments = ran == Tick::Ran(0) && stale == Tick::Stale(5);
+    let is_last = meter.last_moment() == Some(5);
     let too_many = meter.sample(alloc, &[0; 257]);
-    assert!(rt; too_many == Err(MeterFault::TooManySamples));
-    Ok(())
+    let are_samples = fired == Ok(UNDER) && too_many == Err(MeterFault::TooManySamples);
+    is_resumed && are_moments && is_last && are_samples
 }
 
-/// Returns whether the meter's trace ends with those samples and moments.
+/// Returns whether a meter that continues from a trace has the state and the last moment of the
+/// other.
+fn resumes(alloc: Global, trace: &[u8]) -> bool {
+    match resume_meter(alloc, trace) {
+        Ok(other) => {
+            let is_so = standing(&other) == (1, 1, true) && other.last_moment() == Some(5);
+            drop(other);
+            is_so
+        }
+        Err(_) => false,
+    }
+}
+
+/// Returns whether the meter's trace ends with those samples and moments, and another meter
+/// continues from it.
 fn is_told(alloc: Global, meter: &SupplyMeter) -> Result<bool, AllocError> {
     let text = meter.export(alloc)?;
-    let is_so = text.as_slice().ends_with(OWN_EVENTS);
+    let is_so = text.as_slice().ends_with(OWN_EVENTS) && resumes(alloc, text.as_slice());
     drop(text);
     Ok(is_so)
 }
 
-/// Returns the state and the last moment of a meter that continues from the trace of another.
-fn standing_after(
-    rt: &impl Abort,
-    alloc: Global,
-    meter: &SupplyMeter,
-) -> Result<(Standing, Option<u32>), TraceFault> {
-    let text = meter.export(alloc)?;
-    let other = resume_meter(rt, alloc, text.as_slice());
-    drop(text);
-    let other = other?;
-    let seen = (standing(&other), other.last_moment());
-    drop(other);
-    Ok(seen)
-}
-
-/// Applies the samples and moments, and checks the meter's trace and a meter that continues from
-/// it.
-fn take_and_tell(rt: &impl Abort, alloc: Global, meter: &mut SupplyMeter) -> Result<(), Fail> {
-    take(rt, alloc, meter)?;
-    assert!(rt; is_told(alloc, meter)?);
-    let seen = standing_after(rt, alloc, meter)?;
-    assert!(rt; seen == ((1, 1, true), Some(5)));
-    Ok(())
-}
-
 #[test]
 fn a_meter_goes_on_from_its_trace(rt: HostRuntime) -> Result<(), Fail> {
-    let mut meter = resume_meter(&rt, rt.alloc(), RESTORED)?;
-    let done = take_and_tell(&rt, rt.alloc(), &mut meter);
+    let mut meter = resume_meter(rt.alloc(), RESTORED)?;
+    let takes = takes(rt.alloc(), &mut meter);
+    let is_told = is_told(rt.alloc(), &meter);
     drop(meter);
-    done
-}
-
-/// Applies a pair whose exported power is over its threshold, and pairs of unequal numbers.
-fn take_pairs(rt: &impl Abort, alloc: Global, meter: &mut SupplyMeter) -> Result<(), Fail> {
-    let fired = meter.sample_pairs(alloc, &[0], &[5001])?;
-    let under = Fired {
-        over: 0,
-        under: 1,
-        export_over: 0,
-        export_under: 0,
-    };
-    assert!(rt; fired == under && standing(meter) == (1, 5, true));
-    let uneven = meter.sample_pairs(alloc, &[0], &[]);
-    assert!(rt; uneven == Err(MeterFault::Uneven));
+    assert!(rt; takes && is_told?);
     Ok(())
 }
 
-#[test]
-fn pairs_reach_both_limiters(rt: HostRuntime) -> Result<(), Fail> {
-    let mut meter = resume_meter(&rt, rt.alloc(), EXPORTING)?;
-    let done = take_pairs(&rt, rt.alloc(), &mut meter);
-    drop(meter);
-    done
+/// Applies a pair whose exported power is over its threshold, and pairs of unequal numbers. Returns
+/// whether the results are right.
+fn takes_pairs(alloc: Global, meter: &mut SupplyMeter) -> bool {
+    let fired = meter.sample_pairs(alloc, &[0], &[5001]);
+    let is_fired = fired == Ok(UNDER) && standing(meter) == (1, 5, true);
+    is_fired && meter.sample_pairs(alloc, &[0], &[]) == Err(MeterFault::Uneven)
 }
 
 /// Returns the fault of a text, or `None` if it is a trace.
-fn fault_of(rt: &impl Abort, alloc: Global, text: &[u8]) -> Option<TraceFault> {
-    match resume_meter(rt, alloc, text) {
+fn fault_of(alloc: Global, text: &[u8]) -> Option<TraceFault> {
+    match resume_meter(alloc, text) {
         Ok(meter) => {
             drop(meter);
             None
@@ -175,8 +152,11 @@ fn fault_of(rt: &impl Abort, alloc: Global, text: &[u8]) -> Option<TraceFault> {
 }
 
 #[test]
-fn a_wrong_text_is_told(rt: HostRuntime) -> Result<(), Fail> {
-    let fault = fault_of(&rt, rt.alloc(), b"RELAYTRACE 3\n");
-    assert!(rt; fault == Some(TraceFault::Line(1)));
+fn pairs_reach_both_limiters_and_a_wrong_text_is_told(rt: HostRuntime) -> Result<(), Fail> {
+    let mut meter = resume_meter(rt.alloc(), EXPORTING)?;
+    let takes_pairs = takes_pairs(rt.alloc(), &mut meter);
+    drop(meter);
+    let fault = fault_of(rt.alloc(), b"RELAYTRACE 3\n");
+    assert!(rt; takes_pairs && fault == Some(TraceFault::Line(1)));
     Ok(())
 }

@@ -1,3 +1,5 @@
 pub mod Cuts
 pub mod Givings
 pub mod Showings
+pub mod Stepping
+pub mod Slicing

@@ -1,11 +1,12 @@
 -- The lines of control states, one after the other.
-use Rattle.std.proofs.Common.{◌≡◌, ◌<◌, ◌≤◌, ◌+◌, ◌-◌, ℕ, List, [], ◌∷◌, ◌++◌, refl, sym, ◌∙◌, ap}
-use Rattle.std.proofs.Common.{subst, arith, length, min, inl, inr, ◌⊎◌, Ok, slice_index_or}
+use Rattle.std.proofs.Common.{◌≡◌, ◌≤◌, ◌+◌, ◌-◌, ℕ, List, [], ◌∷◌, ◌++◌, refl, sym, ◌∙◌, ap}
+use Rattle.std.proofs.Common.{subst, arith, length, min, ◌⊎◌, Ok}
 use Rattle.std.proofs.Common.{append_assoc, append-nil}
 use Rattle.std.proofs.lemmas.List.{length-append}
 use Rattle.disconnect_control.specs.declared.state.ControlState.{ControlState}
 use Rattle.fleet_meters.specs.Fleets.{FleetState, StateBy}
 use Rattle.fleet_meters.specs.Places.{HasState, meter_in}
+use Rattle.fleet_meters.specs.Terms.{terms_at}
 use Rattle.fleet_meters.proofs.Counting.{each_on}
 use Rattle.fleet_console.specs.Running.{HaveStatesFrom, ShowsOneBy, StatesBy, states_text}
 use Rattle.fleet_console.specs.Running.{state_line}
@@ -44,16 +45,17 @@ shows_none f first text = record {
 -- the line of one more meter was appended
 pub shows_on : (f : FleetState) (first count place : ℕ) (text text' text'' : List ℕ)
     (state : ControlState) → ShowsFrom f first count text text' → place ≡ first - 1 + count
-    → HasState f.terms (meter_in f.places place) state
+    → HasState (terms_at f.terms place) (meter_in f.places place) state
     → text'' ≡ text' ++ state_line (first + count) state
     → ShowsFrom f first (count + 1) text text''
 shows_on f first count place text text' text'' state shows same has grown = record {
   states = shows.states ++ state ∷ [];
   counted = omega (arith, length-append shows.states (state ∷ []), shows.counted);
   have = record {
-    each = each_on (λ i s. HasState f.terms (meter_in f.places (first - 1 + i)) s) shows.states
-        state shows.have.each
-        (subst (λ (p : ℕ). HasState f.terms (meter_in f.places p) state)
+    each = each_on (λ i s. HasState (terms_at f.terms (first - 1 + i))
+        (meter_in f.places (first - 1 + i)) s)
+        shows.states state shows.have.each
+        (subst (λ (p : ℕ). HasState (terms_at f.terms p) (meter_in f.places p) state)
         (same ∙ ap (λ (n : ℕ). first - 1 + n) (sym shows.counted)) has);
   };
   grown = grown

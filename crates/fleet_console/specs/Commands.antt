@@ -12,7 +12,7 @@ use Rattle.disconnect_control.specs.declared.state.ControlState.{ControlState}
 use Rattle.disconnect_control.specs.declared.state.ControlState.TheVariants.{Disconnected, Connected}
 use Rattle.disconnect_control.specs.declared.state.ControlState.TheVariants.{ReadyForReconnection}
 use Rattle.relay_events.specs.declared.event.Event.{Event}
-use Rattle.server_io.specs.Console.{LineEvent}
+use Rattle.meter_console.specs.Console.{LineEvent}
 use Rattle.text_lines.specs.Numbers.{number_of}
 use Rattle.fleet_console.specs.declared.command.Command.{Command}
 use Rattle.fleet_console.specs.declared.command.Command.TheVariants.{Give, State, Trace, Count}

@@ -2,3 +2,4 @@
 pub mod Commands
 pub mod Running
 pub mod Slices
+pub mod Steps

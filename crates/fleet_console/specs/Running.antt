@@ -10,6 +10,7 @@ use Rattle.relay_events.specs.declared.event.Event.{Event}
 use Rattle.relay_events.specs.declared.reply.Reply.{Reply}
 use Rattle.fleet_meters.specs.Fleets.{FleetState, Applies, TraceBy, Counts}
 use Rattle.fleet_meters.specs.Places.{HasState, meter_in}
+use Rattle.fleet_meters.specs.Terms.{terms_at}
 use Rattle.fleet_meters.specs.declared.place.AccessFault.{AccessFault}
 use Rattle.fleet_meters.specs.declared.place.AccessFault.TheVariants.{NoMeter, Memory}
 use Rattle.fleet_runs.specs.Calls.{FleetCall, gave, Calls}
@@ -65,14 +66,15 @@ states_text number (state ∷ states) = state_line number state ++ states_text (
 -- whether the line of the control state of a meter was appended to a text
 abbrev pub ShowsOneBy : FleetState → ℕ → List ℕ → Result Unit AccessFault → List ℕ → Type 0
 ShowsOneBy f number text (Ok done) text' = (place : ℕ) × (state : ControlState)
-    × (number ≡ place + 1) × HasState f.terms (meter_in f.places place) state
+    × (number ≡ place + 1) × HasState (terms_at f.terms place) (meter_in f.places place) state
     × (text' ≡ text ++ state_line number state)
 ShowsOneBy f number text (Err fault) text' = ⊤
 
 -- whether these are the control states of meters of a fleet, from a place on
 pub record HaveStatesFrom (f : FleetState) (place : ℕ) (states : List ControlState) : Type 0 where
   pub each : (i : ℕ) (other : ControlState) → i < length states
-      → HasState f.terms (meter_in f.places (place + i)) (slice_index_or states i other)
+      → HasState (terms_at f.terms (place + i)) (meter_in f.places (place + i))
+      (slice_index_or states i other)
 
 -- whether the lines of the control states of a range were appended to a text; or the fleet has none
 -- of the meters

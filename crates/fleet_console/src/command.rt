@@ -8,8 +8,8 @@ use crate::meters::{Meters, read_meters};
 use crate::words::{control_state, split_at};
 use cosem_axdr::Octets;
 use disconnect_control::ControlState;
+use meter_console::console_event;
 use relay_events::Event;
-use server_io::console_event;
 use std::alloc::Global;
 
 /// What a line of the console asks for.

@@ -1,5 +1,8 @@
 //! `FleetConsole`: the lines of an input, and their answers.
+ghost use Rattle.std.specs.Prelude.{◌≡◌, ◌≢◌, IfSome, None, Ok, is_ok};
 ghost use Rattle.fleet_runs.specs.Calls.{GivesEvents};
+ghost use Rattle.fleet_console.specs.Slices.{has_more};
+ghost use Rattle.fleet_console.specs.Steps.{CarriesOut, IsDone, IsRead, StepsBy};
 
 use crate::command::{Command, read_command};
 use crate::running::run_command;
@@ -9,6 +12,7 @@ use fleet_meters::{AccessFault, Fleet};
 use std::alloc::Global;
 use std::fs::{File, Files};
 use std::io::{ErrorKind, Read, Write};
+use std::marker::Model;
 use std::{io, str};
 
 // The maximum number of bytes of a line, without the byte 0A that ends it.
@@ -59,14 +63,12 @@ impl<O: Write + Drop, R: Eprint + Files<File = File> + Drop> Outlet<O, R> {
 
     // Writes the answer of a command for a slice of its meters, in a fleet of this many meters. If
     // meters were given an event, it is written after the last slice: the number of all of them.
-    fn write_answer(
-        &mut self,
-        sliced: &SlicedCommand,
-        total: usize,
-        text: &[u8],
-    ) -> io::Result<()> {
+    fn write_answer(&mut self, sliced: &SlicedCommand, total: usize, text: &[u8]) -> io::Result<()>
+        ensures { IsDone (Ok tt) sliced.now.command (has_more sliced.now.rest total)
+            (is_ok result) }
+    {
         match &sliced.command {
-            Command::Give(_, _) if !sliced.is_last(total) => Ok(()),
+            Command::Give(_, _) if sliced.has_more(total) => Ok(()),
             Command::Give(_, _) if !sliced.is_first() => {
                 let reached = sliced.reached(total);
                 writeln!(self.output, "{reached}")
@@ -81,13 +83,15 @@ impl<O: Write + Drop, R: Eprint + Files<File = File> + Drop> Outlet<O, R> {
 
     // Carries out a command for a slice of its meters, and writes the answer. Returns whether that
     // succeeded.
+    #[tactic(auto, using(crate::proofs::Stepping::carried, crate::proofs::Stepping::refused_all))]
     fn carry_out<S: Stream + Drop>(
         &mut self,
         alloc: Global,
         fleet: &mut Fleet<S>,
         sliced: &SlicedCommand,
     ) -> bool
-        ensures { GivesEvents fleet.old fleet.new }
+        ensures carries { CarriesOut sliced.now fleet.old result fleet.new }
+        ensures gives { GivesEvents fleet.old fleet.new }
     {
         let mut text = Vec::new(alloc);
         match run_command(alloc, fleet, &sliced.command, &mut text) {
@@ -113,7 +117,9 @@ impl<O: Write + Drop, R: Eprint + Files<File = File> + Drop> Outlet<O, R> {
         number: u64,
         line: &[u8],
         is_long: bool,
-    ) -> Option<SlicedCommand> {
+    ) -> Option<SlicedCommand>
+        ensures { IfSome result IsRead }
+    {
         if is_long {
             self.report(number, "a line of more than 8,192 bytes");
             return None;
@@ -147,9 +153,23 @@ pub struct FleetConsole<I, O, R> {
     command: Option<SlicedCommand>,
 }
 
+impl<I, O, R> Model for FleetConsole<I, O, R> {
+    ghost use Rattle.std.specs.Coded.{codes};
+    ghost use Rattle.fleet_console.specs.Steps.{ConsoleState};
+    ghost use Rattle.fleet_console.specs.contracts.slices.SlicedCommand as sliced_row;
+
+    ghost Value = { ConsoleState };
+
+    ghost coded = { Prim.hlevel (codes, sliced_row.the_row.coded) };
+
+    ghost view = { λ c. record { command = c.command } };
+}
+
 impl<I: Read + Drop, O: Write + Drop, R: Eprint + Files<File = File> + Drop> FleetConsole<I, O, R> {
     /// Returns a console that has read nothing.
-    pub fn new(alloc: Global, input: I, output: O, rt: R) -> FleetConsole<I, O, R> {
+    pub fn new(alloc: Global, input: I, output: O, rt: R) -> FleetConsole<I, O, R>
+        ensures { result.command ≡ None }
+    {
         FleetConsole {
             input,
             outlet: Outlet { output, rt },
@@ -163,14 +183,18 @@ impl<I: Read + Drop, O: Write + Drop, R: Eprint + Files<File = File> + Drop> Fle
     }
 
     // Appends a byte to the line.
-    fn push(&mut self, byte: u8) {
+    fn push(&mut self, byte: u8)
+        ensures { self.new.command ≡ self.old.command }
+    {
         if self.line.len() >= MAX_LINE || self.line.push(byte).is_err() {
             self.is_long = true;
         }
     }
 
     // Reads the line, which has ended.
-    fn end_line(&mut self, alloc: Global) {
+    fn end_line(&mut self, alloc: Global)
+        ensures { IfSome self.new.command IsRead }
+    {
         self.lines = self.lines.saturating_add(1);
         let line = self.line.as_slice();
         self.command = self.outlet.read_line(alloc, self.lines, line, self.is_long);
@@ -179,7 +203,10 @@ impl<I: Read + Drop, O: Write + Drop, R: Eprint + Files<File = File> + Drop> Fle
     }
 
     // Takes the next byte that was read.
-    fn take_byte(&mut self, alloc: Global, byte: u8) {
+    fn take_byte(&mut self, alloc: Global, byte: u8)
+        requires { IfSome self.now.command IsRead }
+        ensures { IfSome self.new.command IsRead }
+    {
         if byte == b'\n' {
             self.end_line(alloc);
         } else {
@@ -188,7 +215,10 @@ impl<I: Read + Drop, O: Write + Drop, R: Eprint + Files<File = File> + Drop> Fle
     }
 
     // Takes bytes that were read, up to the end of a line that is a command.
-    fn take_line(&mut self, alloc: Global) {
+    fn take_line(&mut self, alloc: Global)
+        requires { IfSome self.now.command IsRead }
+        ensures { IfSome self.new.command IsRead }
+    {
         'bytes: for at in self.taken..self.chunk.len() {
             let byte = match self.chunk.get(at) {
                 Some(byte) if self.command.is_none() => *byte,
@@ -200,15 +230,17 @@ impl<I: Read + Drop, O: Write + Drop, R: Eprint + Files<File = File> + Drop> Fle
     }
 
     // Carries out the command for the next slice of its meters.
-    #[tactic(auto, using(fleet_runs::proofs::Steps::gives_nothing))]
+    #[tactic(auto, using(fleet_runs::proofs::Steps::gives_nothing, crate::proofs::Stepping::slice_goes_on, crate::proofs::Stepping::slice_stops))]
     fn run_slice<S: Stream + Drop>(&mut self, alloc: Global, fleet: &mut Fleet<S>)
-        ensures { GivesEvents fleet.old fleet.new }
+        requires { self.now.command ≢ None }
+        ensures steps { StepsBy self.old.command fleet.old self.new.command fleet.new }
+        ensures gives { GivesEvents fleet.old fleet.new }
     {
         let Some(mut sliced) = self.command.take() else {
             return;
         };
         let is_done = self.outlet.carry_out(alloc, fleet, &sliced);
-        if is_done && !sliced.is_last(fleet.meters()) {
+        if is_done && sliced.has_more(fleet.meters()) {
             sliced.advance();
             self.command = Some(sliced);
         } else {
@@ -222,7 +254,9 @@ impl<I: Read + Drop, O: Write + Drop, R: Eprint + Files<File = File> + Drop> Fle
     }
 
     // Reads the input once.
-    fn read(&mut self) -> ConsoleInput {
+    fn read(&mut self) -> ConsoleInput
+        ensures { self.new.command ≡ self.old.command }
+    {
         let mut chunk = [0; CHUNK_BYTES];
         self.chunk.clear();
         self.taken = 0;
@@ -249,9 +283,10 @@ impl<I: Read + Drop, O: Write + Drop, R: Eprint + Files<File = File> + Drop> Fle
     /// line; or reads the input once. What follows the last byte 0A of the input is not a line. A
     /// line that is wrong, or of more than 8,192 bytes with the byte 0A that ends it, is reported
     /// with its number, counted from 1, and changes nothing.
-    #[tactic(auto, using(fleet_runs::proofs::Steps::gives_nothing))]
+    #[tactic(auto, using(fleet_runs::proofs::Steps::gives_nothing, crate::proofs::Stepping::reads_line))]
     pub fn run<S: Stream + Drop>(&mut self, alloc: Global, fleet: &mut Fleet<S>) -> ConsoleInput
-        ensures { GivesEvents fleet.old fleet.new }
+        ensures steps { StepsBy self.old.command fleet.old self.new.command fleet.new }
+        ensures gives { GivesEvents fleet.old fleet.new }
     {
         if self.command.is_some() {
             self.run_slice(alloc, fleet);

@@ -8,6 +8,7 @@
 mod command;
 mod console;
 mod fault;
+mod law;
 mod meters;
 mod running;
 mod slices;
@@ -16,5 +17,6 @@ mod words;
 pub use command::{Command, read_command};
 pub use console::{ConsoleInput, FleetConsole};
 pub use fault::ConsoleFault;
+pub use law::slices_give_all;
 pub use meters::{MAX_METER, Meters};
 pub use running::run_command;

@@ -1,9 +1,11 @@
 //! `SlicedCommand`: a command that is carried out for some of its meters at a time.
 ghost use Rattle.std.specs.Prelude.{◌≡◌};
-ghost use Rattle.fleet_console.specs.Slices.{first_slice, after_slice};
+ghost use Rattle.fleet_console.specs.Slices.{first_slice, after_slice, has_more};
+ghost use Rattle.fleet_console.specs.Slices.{underway_at_start, underway_after};
 
 use crate::command::Command;
 use crate::meters::Meters;
+use std::marker::Model;
 
 // The maximum number of meters of a slice. To make 1,000 new meters takes some 25 ms.
 const MAX_SLICE: u32 = 1_000;
@@ -39,9 +41,33 @@ pub(crate) struct SlicedCommand {
     first: u32,
 }
 
+impl Model for SlicedCommand {
+    ghost use Rattle.std.specs.Coded.{codes};
+    ghost use Rattle.fleet_console.specs.Slices.{Underway};
+    ghost use Rattle.fleet_console.specs.contracts.command.Command as command_row;
+    ghost use Rattle.fleet_console.specs.contracts.meters.Meters as meters_row;
+
+    ghost Value = { Underway };
+
+    ghost coded = { Prim.hlevel (
+      codes,
+      command_row.the_row.coded,
+      meters_row.the_row.coded,
+    ) };
+
+    ghost view = { λ s. record {
+      line = s.line;
+      command = s.command;
+      rest = s.rest;
+      first = s.first;
+    } };
+}
+
 impl SlicedCommand {
     /// Returns the command of a line. Its first slice is next.
-    pub(crate) fn new(line: u64, command: Command) -> SlicedCommand {
+    pub(crate) fn new(line: u64, command: Command) -> SlicedCommand
+        ensures { result ≡ underway_at_start line command }
+    {
         let (command, rest, first) = match command {
             Command::Give(meters, event) => {
                 let (slice, rest) = cut(meters);
@@ -62,11 +88,13 @@ impl SlicedCommand {
         }
     }
 
-    /// Returns whether the slice is the last one in a fleet of this many meters.
-    pub(crate) fn is_last(&self, total: usize) -> bool {
+    /// Returns whether a fleet of this many meters has one of the meters after the slice.
+    pub(crate) fn has_more(&self, total: usize) -> bool
+        ensures { result ≡ has_more self.now.rest total }
+    {
         match self.rest {
-            Some(rest) => rest.first as usize > total,
-            None => true,
+            Some(rest) => rest.first as usize <= total,
+            None => false,
         }
     }
 
@@ -93,7 +121,9 @@ impl SlicedCommand {
     }
 
     /// Makes the slice after this one the next one.
-    pub(crate) fn advance(&mut self) {
+    pub(crate) fn advance(&mut self)
+        ensures { self.new ≡ underway_after self.old self.old.rest }
+    {
         let Some(meters) = self.rest else {
             return;
         };

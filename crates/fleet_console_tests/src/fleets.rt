@@ -2,8 +2,9 @@
 ghost use Rattle.std.specs.Prelude.{None, if◌then◌else◌};
 
 use cosem_axdr::Octets;
+use fleet_faults::{FaultPlan, FaultShares};
 use fleet_links::{Received, Sent, Stream};
-use fleet_meters::{Fleet, MeterTerms};
+use fleet_meters::{Fleet, FleetTerms, MeterTerms};
 use std::alloc::{AllocError, Global};
 
 /// The trace of a new meter in mode 1.
@@ -55,14 +56,19 @@ impl Stream for Silence {
     }
 }
 
-/// Returns a fleet of three meters with the password 12345678.
+/// Returns a fleet of three meters without faults, with the password 12345678.
 pub(crate) fn new_fleet(alloc: Global) -> Result<Fleet<Silence>, AllocError> {
     let trace = Octets::from_slice(alloc, TRACE)?;
     let password = Octets::from_slice(alloc, b"12345678")?;
-    let terms = MeterTerms {
+    let refusing = Octets::new(alloc);
+    let common = MeterTerms {
         trace,
         password,
         kept_events: 4,
     };
-    Fleet::new(alloc, terms, 3)
+    let plan = FaultPlan {
+        shares: FaultShares::new(),
+        seed: 0,
+    };
+    Fleet::new(alloc, FleetTerms::new(alloc, common, refusing, plan)?, 3)
 }

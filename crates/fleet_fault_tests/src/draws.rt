@@ -42,6 +42,28 @@ fn a_fault_is_drawn(rt: HostRuntime) -> Result<(), Fail> {
 }
 
 #[test]
+fn faults_of_terms_follow_those_of_streams(rt: HostRuntime) -> Result<(), Fail> {
+    for (seed, number, draw) in DRAWS {
+        let shares = FaultShares::new()
+            .with_word(b"closes=11")?
+            .with_word(b"wrong-password=50")?
+            .with_word(b"refuses=20")?;
+        let plan = FaultPlan { shares, seed };
+        let fault = if draw < 11 {
+            Some(InjectedFault::Closes)
+        } else if draw < 61 {
+            Some(InjectedFault::WrongPassword)
+        } else if draw < 81 {
+            Some(InjectedFault::Refuses)
+        } else {
+            None
+        };
+        assert!(rt; plan.fault_of(number) == fault);
+    }
+    Ok(())
+}
+
+#[test]
 fn an_address_has_the_fault_of_its_meter(rt: HostRuntime) -> Result<(), Fail> {
     let shares = FaultShares::new().with_word(b"vanishes=11")?;
     let plan = FaultPlan { shares, seed: 0 };
@@ -64,17 +86,33 @@ fn words_give_shares(rt: HostRuntime) -> Result<(), Fail> {
     assert!(rt; shares.share(InjectedFault::Vanishes) == 0);
     assert!(rt; shares.share(InjectedFault::Closes) == 75);
     assert!(rt; shares.with_word(b"vanishes=1") == Err(ShareFault::Total));
+    assert!(rt; shares.with_word(b"wrong-password=1") == Err(ShareFault::Total));
+    assert!(rt; shares.with_word(b"refuses=1") == Err(ShareFault::Total));
     let shares = shares.with_word(b"closes=7")?;
     assert!(rt; shares.share(InjectedFault::Closes) == 7);
     assert!(rt; shares.with_word(b"silent=73")?.share(InjectedFault::Silent) == 73);
     assert!(rt; shares.with_word(b"silent=74") == Err(ShareFault::Total));
+    let shares = shares
+        .with_word(b"wrong-password=30")?
+        .with_word(b"refuses=38")?;
+    assert!(rt; shares.share(InjectedFault::WrongPassword) == 30);
+    assert!(rt; shares.share(InjectedFault::Refuses) == 38);
+    assert!(rt; shares.with_word(b"closes=8") == Err(ShareFault::Total));
     Ok(())
 }
 
 #[test]
 fn other_words_are_refused(rt: HostRuntime) -> Result<(), Fail> {
     let shares = FaultShares::new();
-    for word in ["", "=5", "mute=5", "Silent=5", " silent=5", "5"] {
+    for word in [
+        "",
+        "=5",
+        "mute=5",
+        "Silent=5",
+        " silent=5",
+        "5",
+        "wrong_password=5",
+    ] {
         assert!(rt; shares.with_word(word.as_bytes()) == Err(ShareFault::Name));
     }
     for word in [

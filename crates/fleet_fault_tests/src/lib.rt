@@ -1,5 +1,5 @@
 //! Tests of `fleet_faults`: draws, words of the command line, streams with each fault, and events
-//! that are held back.
+//! that are held back. Also tests `fleet_timers`.
 //!
 //! Tests are in a crate of their own because a check of tests proves their whole crate again.
 #![tactic(auto)]
@@ -10,3 +10,5 @@ mod delays;
 mod draws;
 #[cfg(test)]
 mod streams;
+#[cfg(test)]
+mod timers;

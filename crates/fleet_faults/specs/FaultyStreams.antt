@@ -24,6 +24,8 @@ course_of (Some fault.Silent) = Drops
 course_of (Some fault.Slow) = Passes
 course_of (Some fault.Vanishes) = SendsFirst
 course_of (Some fault.Closes) = Ends 0
+course_of (Some fault.WrongPassword) = Passes
+course_of (Some fault.Refuses) = Passes
 
 -- the bytes of a write that are passed on
 abbrev pub passed_on : FaultCourse → List ℕ → List ℕ

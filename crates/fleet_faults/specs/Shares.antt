@@ -12,6 +12,7 @@ use Rattle.std.specs.Str.{bytes_eq}
 use Rattle.text_lines.specs.Numbers.{number_of}
 use Rattle.fleet_faults.specs.declared.fault.InjectedFault.{InjectedFault}
 use Rattle.fleet_faults.specs.declared.fault.InjectedFault.TheVariants.{Silent, Slow, Vanishes, Closes}
+use Rattle.fleet_faults.specs.declared.fault.InjectedFault.TheVariants.{WrongPassword, Refuses}
 use Rattle.fleet_faults.specs.declared.shares.ShareFault.{ShareFault}
 use Rattle.fleet_faults.specs.declared.shares.ShareFault.TheVariants as fault
 
@@ -21,10 +22,19 @@ pub record Shares : Type 0 where
   pub slow : ℕ
   pub vanishes : ℕ
   pub closes : ℕ
+  pub wrong_password : ℕ
+  pub refuses : ℕ
 
 -- no meter has a fault
 abbrev pub no_shares : Shares
-no_shares = record { silent = 0; slow = 0; vanishes = 0; closes = 0 }
+no_shares = record {
+  silent = 0;
+  slow = 0;
+  vanishes = 0;
+  closes = 0;
+  wrong_password = 0;
+  refuses = 0;
+}
 
 -- the share of a fault
 abbrev pub share_of : Shares → InjectedFault → ℕ
@@ -32,10 +42,13 @@ share_of shares Silent = shares.silent
 share_of shares Slow = shares.slow
 share_of shares Vanishes = shares.vanishes
 share_of shares Closes = shares.closes
+share_of shares WrongPassword = shares.wrong_password
+share_of shares Refuses = shares.refuses
 
 -- all shares together
 abbrev pub total : Shares → ℕ
 total shares = shares.silent + shares.slow + shares.vanishes + shares.closes
+    + shares.wrong_password + shares.refuses
 
 -- the shares with another share of this fault
 abbrev pub with_share : Shares → InjectedFault → ℕ → Shares
@@ -43,6 +56,8 @@ with_share shares Silent percent = record shares { silent = percent }
 with_share shares Slow percent = record shares { slow = percent }
 with_share shares Vanishes percent = record shares { vanishes = percent }
 with_share shares Closes percent = record shares { closes = percent }
+with_share shares WrongPassword percent = record shares { wrong_password = percent }
+with_share shares Refuses percent = record shares { refuses = percent }
 
 -- the fault that a name means
 unfoldable pub fault_named : List ℕ → Option InjectedFault
@@ -50,7 +65,9 @@ fault_named name =
     if bytes_eq name (codes "silent") then Some Silent else
     if bytes_eq name (codes "slow") then Some Slow else
     if bytes_eq name (codes "vanishes") then Some Vanishes else
-    if bytes_eq name (codes "closes") then Some Closes else None
+    if bytes_eq name (codes "closes") then Some Closes else
+    if bytes_eq name (codes "wrong-password") then Some WrongPassword else
+    if bytes_eq name (codes "refuses") then Some Refuses else None
 
 -- the byte between a name and its percentage
 abbrev pub equals_sign : ℕ

@@ -47,6 +47,8 @@ fn fault_drawn(shares: FaultShares, draw: u64) -> Option<InjectedFault>
     let slow = silent + u64::from(shares.share(InjectedFault::Slow));
     let vanishes = slow + u64::from(shares.share(InjectedFault::Vanishes));
     let closes = vanishes + u64::from(shares.share(InjectedFault::Closes));
+    let wrong_password = closes + u64::from(shares.share(InjectedFault::WrongPassword));
+    let refuses = wrong_password + u64::from(shares.share(InjectedFault::Refuses));
     if draw < silent {
         Some(InjectedFault::Silent)
     } else if draw < slow {
@@ -55,6 +57,10 @@ fn fault_drawn(shares: FaultShares, draw: u64) -> Option<InjectedFault>
         Some(InjectedFault::Vanishes)
     } else if draw < closes {
         Some(InjectedFault::Closes)
+    } else if draw < wrong_password {
+        Some(InjectedFault::WrongPassword)
+    } else if draw < refuses {
+        Some(InjectedFault::Refuses)
     } else {
         None
     }

@@ -18,7 +18,7 @@ const ALL: u8 = 100;
 #[derive(Clone, Copy, Debug, PartialEq, Eq, Error)]
 pub enum ShareFault {
     /// The bytes before the first `=` are not the name of a fault.
-    #[error("expected silent, slow, vanishes or closes")]
+    #[error("expected silent, slow, vanishes, closes, wrong-password or refuses")]
     Name,
     /// The bytes after the first `=` are not a number of 0 to 100.
     #[error("expected NAME=PERCENT with 0 to 100 percent")]
@@ -36,6 +36,8 @@ pub struct FaultShares {
     slow: u8,
     vanishes: u8,
     closes: u8,
+    wrong_password: u8,
+    refuses: u8,
 }
 
 impl Model for FaultShares {
@@ -49,15 +51,20 @@ impl Model for FaultShares {
       slow = s.slow;
       vanishes = s.vanishes;
       closes = s.closes;
+      wrong_password = s.wrong_password;
+      refuses = s.refuses;
     } };
 
-    ghost invariant = { λ s. s.silent + s.slow + s.vanishes + s.closes ≤ 100 };
+    ghost invariant = { λ s. s.silent + s.slow + s.vanishes + s.closes + s.wrong_password
+        + s.refuses ≤ 100 };
 
     ghost inverse = { λ s. record {
       silent = s.silent;
       slow = s.slow;
       vanishes = s.vanishes;
       closes = s.closes;
+      wrong_password = s.wrong_password;
+      refuses = s.refuses;
     } };
 }
 
@@ -95,6 +102,8 @@ impl FaultShares {
             slow: 0,
             vanishes: 0,
             closes: 0,
+            wrong_password: 0,
+            refuses: 0,
         }
     }
 
@@ -108,16 +117,27 @@ impl FaultShares {
             InjectedFault::Slow => self.slow,
             InjectedFault::Vanishes => self.vanishes,
             InjectedFault::Closes => self.closes,
+            InjectedFault::WrongPassword => self.wrong_password,
+            InjectedFault::Refuses => self.refuses,
         }
+    }
+
+    // Returns all shares together, in percent.
+    fn total(self) -> u8
+        ensures value { result ≡ total self }
+        ensures within { result ≤ 100 }
+    {
+        self.silent + self.slow + self.vanishes + self.closes + self.wrong_password + self.refuses
     }
 
     // Returns the shares with another share of this fault. Fails if they are more than 100 percent
     // together.
+    #[tactic(auto, using(crate::proofs::Drawing::share_within))]
     fn with_share(self, fault: InjectedFault, percent: u8) -> Result<FaultShares, ShareFault>
         requires { percent ≤ 100 }
         ensures { result ≡ at_most_all (with_share self fault percent) }
     {
-        let others = self.silent + self.slow + self.vanishes + self.closes - self.share(fault);
+        let others = self.total() - self.share(fault);
         if others + percent > ALL {
             return Err(ShareFault::Total);
         }
@@ -136,6 +156,14 @@ impl FaultShares {
             },
             InjectedFault::Closes => FaultShares {
                 closes: percent,
+                ..self
+            },
+            InjectedFault::WrongPassword => FaultShares {
+                wrong_password: percent,
+                ..self
+            },
+            InjectedFault::Refuses => FaultShares {
+                refuses: percent,
                 ..self
             },
         })

@@ -50,13 +50,17 @@ fn first_bytes(bytes: &[u8], left: usize) -> &[u8]
 
 impl<S: Stream + Drop> FaultyStream<S> {
     /// Returns a stream to the client of a meter that has this fault, or none. `Slow` has no effect
-    /// here: see `Delays`.
+    /// here: see `Delays`. Nor have `WrongPassword` and `Refuses`, which are faults of the meter
+    /// itself.
     pub fn new(stream: S, fault: Option<InjectedFault>) -> FaultyStream<S>
         ensures stream { result.stream ≡ stream }
         ensures course { result.course ≡ course_of fault }
     {
         let course = match fault {
-            None | Some(InjectedFault::Slow) => FaultCourse::Passes,
+            None => FaultCourse::Passes,
+            Some(InjectedFault::Slow | InjectedFault::WrongPassword | InjectedFault::Refuses) => {
+                FaultCourse::Passes
+            }
             Some(InjectedFault::Silent) => FaultCourse::Drops,
             Some(InjectedFault::Vanishes) => FaultCourse::SendsFirst,
             Some(InjectedFault::Closes) => FaultCourse::Ends(0),

@@ -19,7 +19,8 @@ use Rattle.fleet_meters.specs.declared.place.AccessFault.TheVariants as access
 use Rattle.fleet_meters.specs.declared.place.Refusal.{Refusal}
 use Rattle.fleet_meters.specs.declared.place.Refusal.TheVariants.{NoMeter, Full}
 use Rattle.fleet_meters.specs.declared.place.Refusal.TheVariants as refusal
-use Rattle.fleet_meters.specs.declared.terms.MeterTerms.{MeterTerms}
+use Rattle.fleet_meters.specs.Terms.{terms_at}
+use Rattle.fleet_meters.specs.declared.terms.FleetTerms.{FleetTerms}
 use Rattle.fleet_meters.proofs.Seats.{seats_others, seats_free, seats_open, frees_others, turns_others, turns_open, turns_in, places_set, within_places, gives_sessions}
 
 -- either two sessions are the same, or they differ in the meter or in the number
@@ -211,17 +212,18 @@ free_apart f place number fleet free key d at e e' =
 pub admits_isolated : (f f' : FleetState) (key place number : ℕ) → IsFleet f
     → ((other : ℕ) → other ≢ key → get f'.clients other ≡ get f.clients other)
     → PlacesStay f.places place f'.places
-    → Seats f.terms (meter_in f.places place) number (meter_in f'.places place)
+    → Seats (terms_at f.terms place) (meter_in f.places place) number (meter_in f'.places place)
     → Isolated f key f'
 admits_isolated f f' key place number fleet clients stay seats = record {
   clients = clients;
   sessions = λ other d far at.
       session_stays f.places f'.places place number stay
-      (λ n. seats_others f.terms (meter_in f.places place) (meter_in f'.places place) number n
-      seats)
+      (λ n. seats_others (terms_at f.terms place) (meter_in f.places place)
+      (meter_in f'.places place) number n seats)
       d.place d.number
       (free_apart f place number fleet
-      (seats_free f.terms (meter_in f.places place) (meter_in f'.places place) number seats)
+      (seats_free (terms_at f.terms place) (meter_in f.places place) (meter_in f'.places place)
+      number seats)
       other d at);
 }
 
@@ -230,7 +232,7 @@ pub admits_keeps : (f f' : FleetState) (key place number : ℕ) (stream : Stream
     ≡ Some (record { place = place; number = number; stream = stream; pending = [] })
     → ((other : ℕ) → other ≢ key → get f'.clients other ≡ get f.clients other)
     → PlacesStay f.places place f'.places
-    → Seats f.terms (meter_in f.places place) number (meter_in f'.places place)
+    → Seats (terms_at f.terms place) (meter_in f.places place) number (meter_in f'.places place)
     → IsFleet f'
 admits_keeps f f' key place number stream fleet at clients stay seats = record {
   is_open = open_at;
@@ -244,7 +246,8 @@ admits_keeps f f' key place number stream fleet at clients stay seats = record {
     isolated = admits_isolated f f' key place number fleet clients stay seats
 
     free : session_in f.places place number ≡ None
-    free = seats_free f.terms (meter_in f.places place) (meter_in f'.places place) number seats
+    free = seats_free (terms_at f.terms place) (meter_in f.places place) (meter_in f'.places place)
+        number seats
 
     at_key : (other : ℕ) (d : ClientState) → get f'.clients other ≡ Some d → other ≡ key
         → d ≡ new_client place number stream
@@ -257,7 +260,8 @@ admits_keeps f f' key place number stream fleet at clients stay seats = record {
     open_at other d at_d = elim (ℕ_discrete other key) [
       | yes e ↦ subst (λ (x : ClientState). session_in f'.places x.place x.number ≢ None)
           (sym (at_key other d at_d e))
-          (seats_open f.terms (meter_in f.places place) (meter_in f'.places place) number seats)
+          (seats_open (terms_at f.terms place) (meter_in f.places place)
+          (meter_in f'.places place) number seats)
       | no far ↦ others_open f f' key fleet isolated other d far at_d
     ]
 
@@ -311,7 +315,7 @@ at_within (x ∷ xs) (suc i) a e =
     omega (arith, rest)
 
 -- a turn of the connection with a key, whose meter is at a place
-pub run_facts : (room : ℕ) (terms : MeterTerms) (places : List (Option MeterState))
+pub run_facts : (room : ℕ) (terms : FleetTerms) (places : List (Option MeterState))
     (clients : Slab ClientState) (key at : ℕ) (c c' : ClientState) (x y : Option MeterState)
     (turn : Turn)
     → IsFleet (record { terms = terms; places = places; clients = clients })
@@ -374,7 +378,7 @@ run_facts room terms places clients key at c c' x y turn fleet is same shows tur
         (turns_in room places at x y c c' turn within shows turns)
 
 -- the end of the connection with a key, whose meter is at a place
-pub release_facts : (terms : MeterTerms) (places places' : List (Option MeterState))
+pub release_facts : (terms : FleetTerms) (places places' : List (Option MeterState))
     (clients clients' : Slab ClientState) (key at number : ℕ) (c : ClientState)
     → IsFleet (record { terms = terms; places = places; clients = clients })
     → get clients key ≡ Some c → at ≡ c.place → number ≡ c.number
@@ -412,12 +416,12 @@ release_facts terms places places' clients clients' key at number c fleet is sam
         (subst (λ (p : ℕ). Frees (meter_in places p) number (meter_in places' p)) same frees)
 
 -- an admission under a key, to the meter at a place
-pub admit_facts : (terms : MeterTerms) (places places' : List (Option MeterState))
+pub admit_facts : (terms : FleetTerms) (places places' : List (Option MeterState))
     (clients room clients' : Slab ClientState) (key place number : ℕ) (stream : StreamState)
     (c : ClientState)
     → IsFleet (record { terms = terms; places = places; clients = clients })
     → room ≡ record clients { capacity = room.capacity }
-    → Seats terms (meter_in places place) number (meter_in places' place)
+    → Seats (terms_at terms place) (meter_in places place) number (meter_in places' place)
     → PlacesStay places place places' → get room key ≡ None
     → Updates room clients' key (Some c) → c ≡ new_client place number stream
     → IsFleet (record { terms = terms; places = places'; clients = clients' })
@@ -475,10 +479,10 @@ same_values s s' kept key = ap (λ (t : Slab ClientState). get t key) kept
 -- ---- an event
 
 -- the meter at a place was given an event
-pub give_facts : (terms : MeterTerms) (places places' : List (Option MeterState))
+pub give_facts : (terms : FleetTerms) (places places' : List (Option MeterState))
     (clients : Slab ClientState) (place : ℕ) (event : Event) (reply : Reply)
     → IsFleet (record { terms = terms; places = places; clients = clients })
-    → Gives terms (meter_in places place) event reply (meter_in places' place)
+    → Gives (terms_at terms place) (meter_in places place) event reply (meter_in places' place)
     → PlacesStay places place places'
     → IsFleet (record { terms = terms; places = places'; clients = clients })
     × Applies (record { terms = terms; places = places; clients = clients }) place event reply
@@ -505,13 +509,13 @@ give_facts terms places places' clients place event reply fleet gives stay = (
     sessions : (p n : ℕ) → session_in places' p n ≡ session_in places p n
     sessions p n = elim (ℕ_discrete p place) [
       | yes e ↦ subst (λ (q : ℕ). session_in places' q n ≡ session_in places q n) (sym e)
-          (gives_sessions terms (meter_in places place) (meter_in places' place) event reply n
-          gives)
+          (gives_sessions (terms_at terms place) (meter_in places place) (meter_in places' place)
+          event reply n gives)
       | no far ↦ ap (λ (m : Option MeterState). session_of m n) (stay.places p far)
     ]
 
 -- the result of giving an event to the meter with a number
-pub give_by : (terms : MeterTerms) (places places' : List (Option MeterState))
+pub give_by : (terms : FleetTerms) (places places' : List (Option MeterState))
     (clients : Slab ClientState) (number : ℕ) (event : Event) (result : Result Reply AccessFault)
     → IsFleet (record { terms = terms; places = places; clients = clients })
     → GivesIn terms places number event result places'

@@ -1,3 +1,4 @@
 pub mod Seats
 pub mod Fleets
+pub mod Passwords
 pub mod Counting

@@ -1,5 +1,5 @@
 -- The sessions of one meter of a fleet.
-use Rattle.std.proofs.Common.{◌≡◌, ◌≢◌, ◌<◌, ℕ, zero, suc, List, [], ◌∷◌, Option, Some, None, Result, Ok, Err, refl, sym, ◌∙◌, ap, subst, arith, length, slice_index_or, slice_set}
+use Rattle.std.proofs.Common.{◌≡◌, ◌≢◌, ◌<◌, ◌+◌, ℕ, zero, suc, List, [], ◌∷◌, Option, Some, None, Result, Ok, Err, refl, sym, ◌∙◌, ap, subst, arith, length, slice_index_or, slice_set}
 use Rattle.std.proofs.lemmas.List.{get_or_default, get_or-set_same, get_or-set_other, length-set}
 use Rattle.std.proofs.lemmas.Option.{none-some}
 use Rattle.disconnect_control.specs.declared.state.ControlState.{ControlState}
@@ -21,6 +21,8 @@ use Rattle.fleet_meters.specs.Places.{Seats, SeatsBy, OpensFirst, IsFull, Frees,
 use Rattle.fleet_meters.specs.declared.place.Refusal.{Refusal}
 use Rattle.fleet_meters.specs.declared.place.Refusal.TheVariants.{NoMeter, Full}
 use Rattle.fleet_meters.specs.declared.place.Refusal.TheVariants as refusal
+use Rattle.fleet_meters.specs.Terms.{terms_of, terms_at}
+use Rattle.fleet_meters.specs.declared.terms.FleetTerms.{FleetTerms}
 use Rattle.fleet_meters.specs.declared.terms.MeterTerms.{MeterTerms}
 
 -- a session that is open is not missing
@@ -226,27 +228,38 @@ seats_by terms o m m' (Err Full) is opens = (
 )
 seats_by terms o m m' (Err refusal.Memory) is opens = ap Some opens ∙ sym is
 
-pub seats_in : (terms : MeterTerms) (places : List (Option MeterState)) (at : ℕ)
-    (x y : Option MeterState) (number : ℕ) → at < length places
-    → x ≡ slice_index_or places at x → Seats terms x number y
-    → Seats terms (meter_in places at) number (meter_in (slice_set places at y) at)
-seats_in terms places at x y number within is seats =
-    subst (λ (o : Option MeterState).
-    Seats terms o number (meter_in (slice_set places at y) at))
-    (sym (meter_is places at x within is))
-    (subst (λ (o : Option MeterState). Seats terms x number o)
-    (sym (meter_set places at y within)) seats)
+-- the terms of the meter with a number are those at its place
+terms_there : (terms : FleetTerms) (t : MeterTerms) (number at : ℕ) → t ≡ terms_of terms number
+    → number ≡ at + 1 → t ≡ terms_at terms at
+terms_there terms t number at same there = same ∙ ap (λ (n : ℕ). terms_of terms n) there
 
-pub gives_in : (terms : MeterTerms) (places : List (Option MeterState)) (at : ℕ)
-    (x y : Option MeterState) (event : Event) (reply : Reply) → at < length places
-    → x ≡ slice_index_or places at x → Gives terms x event reply y
-    → Gives terms (meter_in places at) event reply (meter_in (slice_set places at y) at)
-gives_in terms places at x y event reply within is gives =
+pub seats_in : (terms : FleetTerms) (t : MeterTerms) (places : List (Option MeterState))
+    (number at : ℕ) (x y : Option MeterState) (session : ℕ) → t ≡ terms_of terms number
+    → number ≡ at + 1 → at < length places → x ≡ slice_index_or places at x → Seats t x session y
+    → Seats (terms_at terms at) (meter_in places at) session (meter_in (slice_set places at y) at)
+seats_in terms t places number at x y session same there within is seats =
     subst (λ (o : Option MeterState).
-    Gives terms o event reply (meter_in (slice_set places at y) at))
+    Seats (terms_at terms at) o session (meter_in (slice_set places at y) at))
     (sym (meter_is places at x within is))
-    (subst (λ (o : Option MeterState). Gives terms x event reply o)
-    (sym (meter_set places at y within)) gives)
+    (subst (λ (o : Option MeterState). Seats (terms_at terms at) x session o)
+    (sym (meter_set places at y within))
+    (subst (λ (m : MeterTerms). Seats m x session y) (terms_there terms t number at same there)
+    seats))
+
+pub gives_in : (terms : FleetTerms) (t : MeterTerms) (places : List (Option MeterState))
+    (number at : ℕ) (x y : Option MeterState) (event : Event) (reply : Reply)
+    → t ≡ terms_of terms number → number ≡ at + 1 → at < length places
+    → x ≡ slice_index_or places at x → Gives t x event reply y
+    → Gives (terms_at terms at) (meter_in places at) event reply
+    (meter_in (slice_set places at y) at)
+gives_in terms t places number at x y event reply same there within is gives =
+    subst (λ (o : Option MeterState).
+    Gives (terms_at terms at) o event reply (meter_in (slice_set places at y) at))
+    (sym (meter_is places at x within is))
+    (subst (λ (o : Option MeterState). Gives (terms_at terms at) x event reply o)
+    (sym (meter_set places at y within))
+    (subst (λ (m : MeterTerms). Gives m x event reply y) (terms_there terms t number at same there)
+    gives))
 
 pub turns_in : (room : ℕ) (places : List (Option MeterState)) (at : ℕ)
     (x y : Option MeterState) (c c' : ClientState) (turn : Turn) → at < length places
@@ -284,18 +297,20 @@ open_at_place places at place number x same is is_open none =
     (meter_is places at x (within_places places at number there) is) ∙ none)
 
 -- the answers about a meter are those about its place
-pub state_in : (terms : MeterTerms) (places : List (Option MeterState)) (at : ℕ)
-    (x : Option MeterState) (state : ControlState) → at < length places
-    → x ≡ slice_index_or places at x → HasState terms x state
-    → HasState terms (meter_in places at) state
-state_in terms places at x state within is has =
-    subst (λ (o : Option MeterState). HasState terms o state) (sym (meter_is places at x within is))
-    has
+pub state_in : (terms : FleetTerms) (t : MeterTerms) (places : List (Option MeterState))
+    (number at : ℕ) (x : Option MeterState) (state : ControlState) → t ≡ terms_of terms number
+    → number ≡ at + 1 → at < length places → x ≡ slice_index_or places at x → HasState t x state
+    → HasState (terms_at terms at) (meter_in places at) state
+state_in terms t places number at x state same there within is has =
+    subst (λ (o : Option MeterState). HasState (terms_at terms at) o state)
+    (sym (meter_is places at x within is))
+    (subst (λ (m : MeterTerms). HasState m x state) (terms_there terms t number at same there) has)
 
-pub trace_in : (terms : MeterTerms) (places : List (Option MeterState)) (at : ℕ)
-    (x : Option MeterState) (text : List ℕ) → at < length places
-    → x ≡ slice_index_or places at x → HasTrace terms x text
-    → HasTrace terms (meter_in places at) text
-trace_in terms places at x text within is has =
-    subst (λ (o : Option MeterState). HasTrace terms o text) (sym (meter_is places at x within is))
-    has
+pub trace_in : (terms : FleetTerms) (t : MeterTerms) (places : List (Option MeterState))
+    (number at : ℕ) (x : Option MeterState) (text : List ℕ) → t ≡ terms_of terms number
+    → number ≡ at + 1 → at < length places → x ≡ slice_index_or places at x → HasTrace t x text
+    → HasTrace (terms_at terms at) (meter_in places at) text
+trace_in terms t places number at x text same there within is has =
+    subst (λ (o : Option MeterState). HasTrace (terms_at terms at) o text)
+    (sym (meter_is places at x within is))
+    (subst (λ (m : MeterTerms). HasTrace m x text) (terms_there terms t number at same there) has)

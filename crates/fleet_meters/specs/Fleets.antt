@@ -24,11 +24,12 @@ use Rattle.fleet_meters.specs.declared.place.AccessFault.{AccessFault}
 use Rattle.fleet_meters.specs.declared.place.AccessFault.TheVariants as access
 use Rattle.fleet_meters.specs.declared.place.Refusal.{Refusal}
 use Rattle.fleet_meters.specs.declared.place.Refusal.TheVariants.{NoMeter, Full, Memory}
-use Rattle.fleet_meters.specs.declared.terms.MeterTerms.{MeterTerms}
+use Rattle.fleet_meters.specs.Terms.{terms_at}
+use Rattle.fleet_meters.specs.declared.terms.FleetTerms.{FleetTerms}
 
--- a fleet: what its meters have in common, the meter at each place, and the connections
+-- a fleet: what its meters are made of, the meter at each place, and the connections
 pub record FleetState : Type 0 where
-  pub terms : MeterTerms
+  pub terms : FleetTerms
   pub places : List (Option MeterState)
   pub clients : Slab ClientState
 
@@ -42,7 +43,7 @@ pub record IsFleet (f : FleetState) : Type 0 where
 
 -- whether a fleet with these terms and this number of places is new: no meter is made, and there
 -- are no connections
-pub record IsNewFleet (terms : MeterTerms) (count : ℕ) (f : FleetState) : Type 0 where
+pub record IsNewFleet (terms : FleetTerms) (count : ℕ) (f : FleetState) : Type 0 where
   pub terms_are : f.terms ≡ terms
   pub counted : length f.places ≡ count
   pub unmade : (place : ℕ) → meter_in f.places place ≡ None
@@ -54,8 +55,7 @@ pub record Isolated (old : FleetState) (key : ℕ) (new : FleetState) : Type 0 w
   pub sessions : (other : ℕ) (c : ClientState) → other ≢ key → get old.clients other ≡ Some c
       → session_in new.places c.place c.number ≡ session_in old.places c.place c.number
 
--- whether the meters at the other places, the number of places and what the meters have in common
--- are unchanged
+-- whether the meters at the other places, the number of places and the terms are unchanged
 pub record MetersStay (old : FleetState) (place : ℕ) (new : FleetState) : Type 0 where
   pub places : (other : ℕ) → other ≢ place → meter_in new.places other ≡ meter_in old.places other
   pub count : length new.places ≡ length old.places
@@ -68,7 +68,8 @@ pub record Admits (old : FleetState) (place : ℕ) (stream : StreamState) (key :
   pub vacant : get old.clients key ≡ None
   pub client : get new.clients key
       ≡ Some (record { place = place; number = number; stream = stream; pending = [] })
-  pub seats : Seats old.terms (meter_in old.places place) number (meter_in new.places place)
+  pub seats : Seats (terms_at old.terms place) (meter_in old.places place) number
+      (meter_in new.places place)
   pub isolated : Isolated old key new
   pub stay : MetersStay old place new
 
@@ -130,7 +131,8 @@ pub record Releases (old : FleetState) (key : ℕ) (stream : StreamState) (new :
 -- the other meters are unchanged
 pub record Applies (old : FleetState) (place : ℕ) (event : Event) (reply : Reply)
     (new : FleetState) : Type 0 where
-  pub gives : Gives old.terms (meter_in old.places place) event reply (meter_in new.places place)
+  pub gives : Gives (terms_at old.terms place) (meter_in old.places place) event reply
+      (meter_in new.places place)
   pub clients : new.clients ≡ old.clients
   pub sessions : (other number : ℕ)
       → session_in new.places other number ≡ session_in old.places other number
@@ -152,30 +154,31 @@ GivesBy old number event (Err access.Memory) new = new ≡ old
 -- answer
 abbrev pub StateBy : FleetState → ℕ → Result ControlState AccessFault → Type 0
 StateBy f number (Ok state) = (place : ℕ) × (number ≡ place + 1)
-    × HasState f.terms (meter_in f.places place) state
+    × HasState (terms_at f.terms place) (meter_in f.places place) state
 StateBy f number (Err access.NoMeter) = IsNoMeter f number
 StateBy f number (Err access.Memory) = ⊤
 
 -- whether a question for the trace of the meter with this number, counted from 1, had this answer
 abbrev pub TraceBy : FleetState → ℕ → Result (List ℕ) AccessFault → Type 0
 TraceBy f number (Ok text) = (place : ℕ) × (number ≡ place + 1)
-    × HasTrace f.terms (meter_in f.places place) text
+    × HasTrace (terms_at f.terms place) (meter_in f.places place) text
 TraceBy f number (Err access.NoMeter) = IsNoMeter f number
 TraceBy f number (Err access.Memory) = ⊤
 
 -- whether these are the control states of the meters at these places, in order
-pub record HaveStates (terms : MeterTerms) (places : List (Option MeterState))
+pub record HaveStates (terms : FleetTerms) (places : List (Option MeterState))
     (states : List ControlState) : Type 0 where
   pub counted : length states ≡ length places
   pub each : (place : ℕ) (other : ControlState) → place < length places
-      → HasState terms (meter_in places place) (slice_index_or states place other)
+      → HasState (terms_at terms place) (meter_in places place)
+      (slice_index_or states place other)
 
 -- the number of these control states that are this one
 abbrev pub count_of : ControlState → List ControlState → ℕ
 count_of state states = count_by (λ other. is_state other state) states
 
 -- whether this is the number of the meters at these places that are in a control state
-abbrev pub CountsIn : MeterTerms → List (Option MeterState) → ControlState → ℕ → Type 0
+abbrev pub CountsIn : FleetTerms → List (Option MeterState) → ControlState → ℕ → Type 0
 CountsIn terms places state count = (states : List ControlState) × HaveStates terms places states
     × (count ≡ count_of state states)
 

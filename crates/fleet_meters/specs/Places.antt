@@ -22,6 +22,8 @@ use Rattle.fleet_meters.specs.declared.place.AccessFault.{AccessFault}
 use Rattle.fleet_meters.specs.declared.place.AccessFault.TheVariants as access
 use Rattle.fleet_meters.specs.declared.place.Refusal.{Refusal}
 use Rattle.fleet_meters.specs.declared.place.Refusal.TheVariants.{NoMeter, Full, Memory}
+use Rattle.fleet_meters.specs.Terms.{terms_at}
+use Rattle.fleet_meters.specs.declared.terms.FleetTerms.{FleetTerms}
 use Rattle.fleet_meters.specs.declared.terms.MeterTerms.{MeterTerms}
 
 -- the meter at a place; `None` if it has not been made
@@ -96,10 +98,11 @@ pub record PlacesStay (old : List (Option MeterState)) (place : ℕ) (new : List
 
 -- whether the meter with this number, counted from 1, which was asked for a session, had this
 -- result: its place and the number of the session, or a refusal
-abbrev pub SeatsIn : MeterTerms → List (Option MeterState) → ℕ → Result (ℕ × ℕ) Refusal
+abbrev pub SeatsIn : FleetTerms → List (Option MeterState) → ℕ → Result (ℕ × ℕ) Refusal
     → List (Option MeterState) → Type 0
 SeatsIn terms old number (Ok seat) new = (number ≡ seat.0 + 1)
-    × Seats terms (meter_in old seat.0) seat.1 (meter_in new seat.0) × PlacesStay old seat.0 new
+    × Seats (terms_at terms seat.0) (meter_in old seat.0) seat.1 (meter_in new seat.0)
+    × PlacesStay old seat.0 new
 SeatsIn terms old number (Err NoMeter) new = ((place : ℕ) → number ≡ place + 1
     → length old ≤ place) × (new ≡ old)
 SeatsIn terms old number (Err Full) new = ((place : ℕ) → number ≡ place + 1
@@ -118,10 +121,11 @@ pub record Gives (terms : MeterTerms) (old : Option MeterState) (event : Event) 
 
 -- whether the meter with this number, counted from 1, which was given an event, had this result: a
 -- reply, or a fault that left all meters unchanged
-abbrev pub GivesIn : MeterTerms → List (Option MeterState) → ℕ → Event → Result Reply AccessFault
+abbrev pub GivesIn : FleetTerms → List (Option MeterState) → ℕ → Event → Result Reply AccessFault
     → List (Option MeterState) → Type 0
 GivesIn terms old number event (Ok reply) new = (place : ℕ) × (number ≡ place + 1)
-    × Gives terms (meter_in old place) event reply (meter_in new place) × PlacesStay old place new
+    × Gives (terms_at terms place) (meter_in old place) event reply (meter_in new place)
+    × PlacesStay old place new
 GivesIn terms old number event (Err access.NoMeter) new = ((place : ℕ) → number ≡ place + 1
     → length old ≤ place) × (new ≡ old)
 GivesIn terms old number event (Err access.Memory) new = new ≡ old

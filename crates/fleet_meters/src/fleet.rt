@@ -1,14 +1,12 @@
 //! `Fleet`: meters, and the connections of their clients.
 ghost use Rattle.std.specs.Prelude.{◌≡◌, ◌≢◌, ◌<◌, ◌≤◌, ◌+◌, ℕ, None, IfOk, IfErr, IfSome, IfNone, length, All};
 ghost use Rattle.slab.specs.Slab.{get};
-ghost use Rattle.fleet_meters.specs.Places.{SeatsIn, GivesIn, Frees, PlacesStay, HasState, meter_in, session_in};
-ghost use Rattle.disconnect_control.specs.Transitions.{is_state};
-ghost use Rattle.fleet_meters.specs.Fleets.{CountsIn};
-ghost use Rattle.fleet_meters.specs.declared.terms.MeterTerms.{MeterTerms};
+ghost use Rattle.fleet_meters.specs.Places.{SeatsIn, GivesIn, Frees, PlacesStay, meter_in, session_in};
 
 use crate::client::FleetClient;
-use crate::place::{AccessFault, MeterPlace, Refusal, first_state};
-use crate::terms::MeterTerms;
+use crate::place::{AccessFault, MeterPlace, Refusal};
+use crate::states::{count_places, first_states};
+use crate::terms::FleetTerms;
 use cosem_axdr::Octets;
 use disconnect_control::ControlState;
 use fleet_links::{Stream, Turn};
@@ -20,7 +18,7 @@ use std::marker::Model;
 /// Meters, numbered from 1, and the connections of their clients, each under a key.
 #[derive(Drop)]
 pub struct Fleet<S: Stream + Drop> {
-    terms: MeterTerms,
+    terms: FleetTerms,
     places: Vec<MeterPlace>,
     clients: Slab<FleetClient<S>>,
 }
@@ -30,7 +28,7 @@ impl<S: Stream + Drop> Model for Fleet<S> {
     ghost use Rattle.slab.specs.Slab.{slab_code};
     ghost use Rattle.fleet_meters.specs.Fleets.{FleetState, IsFleet};
     ghost use Rattle.fleet_meters.specs.contracts.place.MeterPlace as place_row;
-    ghost use Rattle.fleet_meters.specs.contracts.terms.MeterTerms as terms_row;
+    ghost use Rattle.fleet_meters.specs.contracts.terms.FleetTerms as terms_row;
 
     ghost Value = { FleetState };
 
@@ -67,7 +65,7 @@ fn new_places(alloc: Global, count: usize) -> Result<Vec<MeterPlace>, AllocError
 // the session.
 fn seat(
     alloc: Global,
-    terms: &MeterTerms,
+    terms: &FleetTerms,
     places: &mut Vec<MeterPlace>,
     number: usize,
 ) -> Result<(usize, u8), Refusal>
@@ -79,7 +77,7 @@ fn seat(
     let Some(place) = places.get_mut(at) else {
         return Err(Refusal::NoMeter);
     };
-    match place.open(alloc, terms) {
+    match place.open(alloc, terms.of_meter(number)) {
         Ok(session) => Ok((at, session)),
         Err(refusal) => Err(refusal),
     }
@@ -100,7 +98,7 @@ fn release(places: &mut Vec<MeterPlace>, at: usize, session: u8)
 // Gives an event to the meter with this number. Returns the reply.
 fn give(
     alloc: Global,
-    terms: &MeterTerms,
+    terms: &FleetTerms,
     places: &mut Vec<MeterPlace>,
     number: usize,
     event: Event,
@@ -115,7 +113,7 @@ fn give(
         drop(event);
         return Err(AccessFault::NoMeter);
     };
-    match place.give(alloc, terms, event) {
+    match place.give(alloc, terms.of_meter(number), event) {
         Ok(reply) => Ok(reply),
         Err(_) => Err(AccessFault::Memory),
     }
@@ -132,28 +130,6 @@ fn place_of(number: usize, count: usize) -> Option<usize>
     }
 }
 
-// Returns the number of places whose meters are in a control state, where a new meter is in the
-// state `first`.
-fn count_places(places: &[MeterPlace], first: ControlState, state: ControlState) -> usize
-    ensures { (terms : MeterTerms) → HasState terms None first
-        → CountsIn terms places.now state result }
-{
-    let mut count = 0;
-    'places: for place in places {
-        if is_state(place.state_or(first), state) {
-            count += 1;
-        }
-    }
-    count
-}
-
-// Returns whether two control states are the same.
-fn is_state(one: ControlState, other: ControlState) -> bool
-    ensures { result ≡ is_state one other }
-{
-    one == other
-}
-
 impl<S: Stream + Drop> Fleet<S> {
     ghost use Rattle.fleet_meters.specs.Fleets.{IsNewFleet, AdmitsBy, RunsBy, Releases};
     ghost use Rattle.fleet_meters.specs.Fleets.{GivesBy, StateBy, TraceBy, Counts};
@@ -161,7 +137,7 @@ impl<S: Stream + Drop> Fleet<S> {
 
     /// Returns a fleet of `count` meters without connections. A meter is made when its first client
     /// connects.
-    pub fn new(alloc: Global, terms: MeterTerms, count: usize) -> Result<Fleet<S>, AllocError>
+    pub fn new(alloc: Global, terms: FleetTerms, count: usize) -> Result<Fleet<S>, AllocError>
         ensures { IfOk result (IsNewFleet terms count) }
     {
         match new_places(alloc, count) {
@@ -267,7 +243,7 @@ impl<S: Stream + Drop> Fleet<S> {
         let Some(at) = place_of(number, self.places.len()) else {
             return Err(AccessFault::NoMeter);
         };
-        match self.places[at].state(alloc, &self.terms) {
+        match self.places[at].state(alloc, self.terms.of_meter(number)) {
             Ok(state) => Ok(state),
             Err(_) => Err(AccessFault::Memory),
         }
@@ -281,7 +257,7 @@ impl<S: Stream + Drop> Fleet<S> {
         let Some(at) = place_of(number, self.places.len()) else {
             return Err(AccessFault::NoMeter);
         };
-        match self.places[at].trace(alloc, &self.terms) {
+        match self.places[at].trace(alloc, self.terms.of_meter(number)) {
             Ok(text) => Ok(text),
             Err(_) => Err(AccessFault::Memory),
         }
@@ -292,7 +268,7 @@ impl<S: Stream + Drop> Fleet<S> {
     pub fn count(&self, alloc: Global, state: ControlState) -> Result<usize, AllocError>
         ensures { IfOk result (Counts self.now state) }
     {
-        let first = first_state(alloc, &self.terms)?;
-        Ok(count_places(self.places.as_slice(), first, state))
+        let firsts = first_states(alloc, &self.terms)?;
+        Ok(count_places(self.places.as_slice(), &self.terms, firsts, state))
     }
 }

@@ -7,9 +7,10 @@
 mod client;
 mod fleet;
 mod place;
+mod states;
 mod terms;
 
 pub use client::FleetClient;
 pub use fleet::Fleet;
 pub use place::{AccessFault, Refusal};
-pub use terms::MeterTerms;
+pub use terms::{FleetTerms, MeterTerms};

@@ -1,30 +1,52 @@
-//! `MeterTerms`: what the meters of a fleet have in common.
-ghost use Rattle.std.specs.Prelude.{◌≡◌, ◌≤◌, IfOk, IfErr};
+//! `MeterTerms`: what a meter is made of; `FleetTerms`: what each meter of a fleet is made of.
+ghost use Rattle.std.specs.Prelude.{◌≡◌, ◌≢◌, ◌≤◌, IfOk, IfErr};
 ghost use Rattle.acse_ber.specs.Password.{IsPassword};
-ghost use Rattle.fleet_meters.specs.Terms.{IsTrace};
-ghost use Rattle.trace_player.specs.Traces.{trace_of};
-ghost use Rattle.trace_words.specs.declared.fault.TraceFault.TheVariants.{Memory};
-ghost use Rattle.wire_bytes.specs.Outcome.{Fails};
+ghost use Rattle.fleet_meters.specs.Passwords.{other_byte, other_password};
 
 use cosem_axdr::Octets;
-use std::alloc::Global;
+use fleet_faults::{FaultPlan, InjectedFault};
+use std::alloc::{AllocError, Global};
 use trace_player::{TraceFault, read_trace};
 
-/// What each new meter of a fleet is made of: the trace that it continues from, the password of its
+/// What a new meter of a fleet is made of: the trace that it continues from, the password of its
 /// management client, 1 to 32 bytes, and the number of events that it keeps, 1 to 1,024.
 #[derive(Drop)]
 pub struct MeterTerms {
-    /// The text of the trace that each meter continues from.
+    /// The text of the trace that the meter continues from.
     pub trace: Octets,
     /// The password of the management client, 1 to 32 bytes.
     pub password: Octets,
-    /// The number of events that a meter keeps, 1 to 1,024.
+    /// The number of events that the meter keeps, 1 to 1,024.
     pub kept_events: u16,
     ghost guarded: { IsPassword password },
     ghost keeps: { (1 ≤ kept_events) × (kept_events ≤ 1024) },
 }
 
+// Returns the digit 0, or the digit 1 instead of the digit 0.
+fn other_byte(byte: u8) -> u8
+    ensures { result ≡ other_byte byte }
+{
+    if byte == b'0' { b'1' } else { b'0' }
+}
+
+// Returns a password with another first byte: the digit 0, or 1 if the password begins with 0.
+fn other_password(alloc: Global, password: &Octets) -> Result<Octets, AllocError>
+    ensures { IfOk result (λ other. other ≡ other_password password.now) }
+{
+    let mut other = Octets::new(alloc);
+    if let Some((first, rest)) = password.as_slice().split_first() {
+        other.push(other_byte(*first))?;
+        other.extend_from_slice(rest)?;
+    }
+    Ok(other)
+}
+
 impl MeterTerms {
+    ghost use Rattle.fleet_meters.specs.Terms.{IsTrace};
+    ghost use Rattle.trace_player.specs.Traces.{trace_of};
+    ghost use Rattle.trace_words.specs.declared.fault.TraceFault.TheVariants.{Memory};
+    ghost use Rattle.wire_bytes.specs.Outcome.{Fails};
+
     /// Returns the terms of meters that each continue from the end of the trace in `trace`.
     /// Errors: the fault of a text that is not a trace, or `Memory`.
     pub fn from_trace(
@@ -54,6 +76,123 @@ impl MeterTerms {
                 drop(password);
                 Err(fault)
             }
+        }
+    }
+
+    // Returns the terms of a meter that has another password, whose first byte differs.
+    #[tactic(auto, using(crate::proofs::Passwords::other_guarded))]
+    fn with_other_password(&self, alloc: Global) -> Result<MeterTerms, AllocError>
+        ensures { IfOk result (λ terms. (terms.trace ≡ self.now.trace)
+            × (terms.password ≡ other_password self.now.password)
+            × (terms.kept_events ≡ self.now.kept_events)) }
+    {
+        let count = self.kept_events;
+        let trace = self.trace.try_clone(alloc)?;
+        match other_password(alloc, &self.password) {
+            Ok(password) => Ok(MeterTerms {
+                trace,
+                password,
+                kept_events: count,
+            }),
+            Err(error) => {
+                drop(trace);
+                Err(error)
+            }
+        }
+    }
+
+    // Returns the terms of a meter that continues from another trace.
+    fn with_trace(&self, alloc: Global, trace: Octets) -> Result<MeterTerms, AllocError>
+        ensures { IfOk result (λ terms. (terms.trace ≡ trace)
+            × (terms.password ≡ self.now.password)
+            × (terms.kept_events ≡ self.now.kept_events)) }
+    {
+        let count = self.kept_events;
+        match self.password.try_clone(alloc) {
+            Ok(password) => Ok(MeterTerms {
+                trace,
+                password,
+                kept_events: count,
+            }),
+            Err(error) => {
+                drop(trace);
+                Err(error)
+            }
+        }
+    }
+}
+
+/// What each meter of a fleet is made of, which depends on its fault.
+#[derive(Drop)]
+pub struct FleetTerms {
+    /// The terms of a meter with neither of the two faults below.
+    pub common: MeterTerms,
+    /// The terms of a meter with the fault `WrongPassword`: the first byte of its password differs
+    /// from that of the common one.
+    pub wrong_password: MeterTerms,
+    /// The terms of a meter with the fault `Refuses`: it continues from another trace.
+    pub refuses: MeterTerms,
+    /// The fault of each meter.
+    pub plan: FaultPlan,
+    ghost differs: { wrong_password.password ≡ other_password common.password },
+    ghost continues: { wrong_password.trace ≡ common.trace },
+    ghost guarded: { refuses.password ≡ common.password },
+    ghost keep: { (wrong_password.kept_events ≡ common.kept_events)
+        × (refuses.kept_events ≡ common.kept_events) },
+}
+
+impl FleetTerms {
+    ghost use Rattle.fleet_meters.specs.Terms.{terms_of};
+
+    /// Returns the terms of the meters of a fleet: the common ones, and those of meters with the
+    /// faults `WrongPassword` and `Refuses`. The latter continue from the trace `refusing`, whose
+    /// control mode must be 0. Fails if out of memory.
+    #[tactic(auto, using(crate::proofs::Passwords::other_differs))]
+    pub fn new(
+        alloc: Global,
+        common: MeterTerms,
+        refusing: Octets,
+        plan: FaultPlan,
+    ) -> Result<FleetTerms, AllocError>
+        ensures terms { IfOk result (λ terms. (terms.common ≡ common)
+            × (terms.refuses.trace ≡ refusing) × (terms.plan ≡ plan)) }
+        ensures differs { IfOk result (λ terms.
+            terms.wrong_password.password ≢ common.password) }
+    {
+        let wrong_password = match common.with_other_password(alloc) {
+            Ok(terms) => terms,
+            Err(error) => {
+                drop(common);
+                drop(refusing);
+                return Err(error);
+            }
+        };
+        match common.with_trace(alloc, refusing) {
+            Ok(refuses) => Ok(FleetTerms {
+                common,
+                wrong_password,
+                refuses,
+                plan,
+            }),
+            Err(error) => {
+                drop(common);
+                drop(wrong_password);
+                Err(error)
+            }
+        }
+    }
+
+    /// Returns the terms of the meter with this number, counted from 1: those of its fault.
+    #[tactic(auto, unfolding(crate::specs::Terms::terms_of))]
+    pub fn of_meter(&self, number: usize) -> &MeterTerms
+        ensures { result.now ≡ terms_of self.now number }
+    {
+        match self.plan.fault_of(number) {
+            Some(InjectedFault::WrongPassword) => &self.wrong_password,
+            Some(InjectedFault::Refuses) => &self.refuses,
+            Some(InjectedFault::Silent | InjectedFault::Slow) => &self.common,
+            Some(InjectedFault::Vanishes | InjectedFault::Closes) => &self.common,
+            None => &self.common,
         }
     }
 }

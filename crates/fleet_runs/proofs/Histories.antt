@@ -9,6 +9,7 @@ use Rattle.relay_events.specs.declared.reply.Reply.{Reply}
 use Rattle.embedded_meter.specs.MeterStates.{MeterState, Takes}
 use Rattle.fleet_meters.specs.Fleets.{FleetState, MetersStay}
 use Rattle.fleet_meters.specs.Places.{Makes, meter_in}
+use Rattle.fleet_meters.specs.Terms.{terms_at}
 use Rattle.fleet_meters.specs.declared.terms.MeterTerms.{MeterTerms}
 use Rattle.fleet_runs.specs.Calls.{FleetCall, admitted, ran, closed, missed, gave, CallsBy, Calls}
 use Rattle.fleet_runs.specs.Calls.{told_there, told_at}
@@ -18,7 +19,7 @@ use Rattle.fleet_runs.proofs.Steps.{by_number, refused}
 
 -- ---- one meter
 
-extends_nothing : (m m' : MeterState) → m'.recorder ≡ m.recorder → ExtendsHistory [] m m'
+pub extends_nothing : (m m' : MeterState) → m'.recorder ≡ m.recorder → ExtendsHistory [] m m'
 extends_nothing m m' same = record {
   histories = λ history origin stands.
       subst (λ (h : List Exchange). StandsForHistory m'.recorder h origin)
@@ -27,7 +28,7 @@ extends_nothing m m' same = record {
   capacity = ap (λ (r : Recording). r.capacity) same;
 }
 
-extends_more : (m m' m'' : MeterState) (told told' : List Exchange) → ExtendsHistory told m m'
+pub extends_more : (m m' m'' : MeterState) (told told' : List Exchange) → ExtendsHistory told m m'
     → ExtendsHistory told' m' m'' → ExtendsHistory (told ++ told') m m''
 extends_more m m' m'' told told' first then_ = record {
   histories = λ history origin stands.
@@ -38,7 +39,7 @@ extends_more m m' m'' told told' first then_ = record {
 }
 
 -- the meter was given an event
-extends_event : (m m' : MeterState) (event : Event) (reply : Reply) → Takes m event reply m'
+pub extends_event : (m m' : MeterState) (event : Event) (reply : Reply) → Takes m event reply m'
     → ExtendsHistory ((event, reply) ∷ []) m m'
 extends_event m m' event reply takes = record {
   histories = λ history origin stands. takes.continues.histories history origin stands;
@@ -48,7 +49,7 @@ extends_event m m' event reply takes = record {
 -- ---- the meter at a place
 
 -- the meter at a place is there after a call, and its history is extended
-record ExtendsAt (told : List Exchange) (m : MeterState) (new : FleetState) (place : ℕ) : Type 0
+pub record ExtendsAt (told : List Exchange) (m : MeterState) (new : FleetState) (place : ℕ) : Type 0
   where
     pub meter : MeterState
     pub is : meter_in new.places place ≡ Some meter
@@ -85,12 +86,12 @@ quiet_at old new at place m stay is here = by_number at place
     (λ far _. stays_at m new place (stay.places place (λ e. far (sym e)) ∙ is))
 
 -- the meter whose session is opened is the one that is there
-made_there : (terms : MeterTerms) (o : Option MeterState) (m b : MeterState) → o ≡ Some m
+pub made_there : (terms : MeterTerms) (o : Option MeterState) (m b : MeterState) → o ≡ Some m
     → Makes terms o b → b ≡ m
 made_there terms None m b is makes = absurd (none-some m is)
 made_there terms (Some n) m b is makes = makes ∙ same_Some n m is
 
-history_call : (room place : ℕ) (call : FleetCall) (old new : FleetState) (m : MeterState)
+pub history_call : (room place : ℕ) (call : FleetCall) (old new : FleetState) (m : MeterState)
     → CallsBy room old call new → meter_in old.places place ≡ Some m
     → ExtendsAt (told_there place call) m new place
 history_call room place (admitted number stream (Ok key)) old new m by is =
@@ -101,7 +102,7 @@ history_call room place (admitted number stream (Ok key)) old new m by is =
       goes = extends_nothing m seats.after
           (seats.opens.recorder
           ∙ ap (λ (q : MeterState). q.recorder)
-          (made_there old.terms (meter_in old.places by.0) m seats.before
+          (made_there (terms_at old.terms by.0) (meter_in old.places by.0) m seats.before
           (ap (λ (p : ℕ). meter_in old.places p) e ∙ is) seats.makes));
     })
 history_call room place (admitted number stream (Err why)) old new m by is =
@@ -137,7 +138,7 @@ history_call room place (gave at event reply) old new m by is = by_number at pla
       goes = subst (λ (t : List Exchange). ExtendsHistory t m by.gives.after)
           (sym (ap (λ (b : _). if b then (event, reply) ∷ [] else []) e'))
           (subst (λ (q : MeterState). ExtendsHistory ((event, reply) ∷ []) q by.gives.after)
-          (made_there old.terms (meter_in old.places at) m by.gives.before
+          (made_there (terms_at old.terms at) (meter_in old.places at) m by.gives.before
           (ap (λ (p : ℕ). meter_in old.places p) e ∙ is) by.gives.makes)
           (extends_event by.gives.before by.gives.after event reply by.gives.takes));
     })

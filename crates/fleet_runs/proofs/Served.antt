@@ -25,12 +25,15 @@ use Rattle.fleet_links.specs.declared.link.Turn.TheVariants.{Waits, Again, Over}
 use Rattle.fleet_meters.specs.Clients.{ClientState, link_of}
 use Rattle.fleet_meters.specs.Fleets.{FleetState, IsNewFleet, Isolated, Admits}
 use Rattle.fleet_meters.specs.Places.{meter_in, session_of, session_in}
+use Rattle.fleet_meters.specs.Terms.{terms_at, terms_of}
+use Rattle.fleet_meters.specs.declared.terms.FleetTerms.{FleetTerms}
 use Rattle.fleet_meters.specs.declared.terms.MeterTerms.{MeterTerms}
 use Rattle.fleet_runs.specs.Calls.{FleetCall, admitted, ran, closed, missed, gave, RunsAt}
 use Rattle.fleet_runs.specs.Calls.{CallsBy, Calls}
 use Rattle.fleet_runs.specs.Calls.{IsEnd, StaysOpen, told_in, exchanges_at}
 use Rattle.fleet_runs.specs.Law.{HaveTheirFrames, HaveTheirAnswers}
 use Rattle.fleet_runs.specs.Lives.{Remains, Lives, IsServed, HasAnswered}
+use Rattle.fleet_runs.proofs.CallLists.{waits_not_over}
 use Rattle.fleet_runs.proofs.Steps.{by_number, refused, IsGuarded, made_guarded, guarded_calls}
 use Rattle.fleet_runs.proofs.Steps.{terms_kept}
 
@@ -138,8 +141,9 @@ open_in None P never is = absurd (never refl)
 open_in (Some d) P _ is = record { dialogue = d; is = refl; does = is }
 
 -- the connection is new
-served_new : (f f' : FleetState) (place key : ℕ) (origin : StreamState) → IsGuarded f
-    → Admits f place origin key f' → IsServed f.terms.password origin [] f' key
+pub served_new : (f f' : FleetState) (place key : ℕ) (origin : StreamState) → IsGuarded f
+    → Admits f place origin key f'
+    → IsServed (terms_at f.terms place).password origin [] f' key
 served_new f f' place key origin guarded admits =
     let seats = admits.seats in
     let o = open_in (dialogue_at seats.after admits.number) (Owes seats.before.password)
@@ -158,7 +162,7 @@ served_new f f' place key origin guarded admits =
         input = [];
         given = [];
         out = [];
-        remains = remains_new f.terms.password o.dialogue
+        remains = remains_new (terms_at f.terms place).password o.dialogue
             (subst (λ (p : List ℕ). Owes p o.dialogue)
             (made_guarded f (meter_in f.places place) place seats.before guarded refl seats.makes)
             o.does);
@@ -243,7 +247,7 @@ told_nothing : (password : List ℕ) (origin : StreamState) (told : List Exchang
 told_nothing password origin told f key served =
     subst (λ (t : List Exchange). IsServed password origin t f key) (sym (append-nil told)) served
 
-served_call : (password : List ℕ) (origin : StreamState) (told : List Exchange) (room key : ℕ)
+pub served_call : (password : List ℕ) (origin : StreamState) (told : List Exchange) (room key : ℕ)
     (call : FleetCall) (f f' : FleetState) → (¬ (IsEnd key call)) → CallsBy room f call f'
     → IsServed password origin told f key
     → IsServed password origin (told ++ told_in key call) f' key
@@ -303,7 +307,7 @@ served_calls password origin told room key (call ∷ calls) f f' open_ by served
     (served_calls password origin (told ++ told_in key call) room key calls by.0 f' open_.1 by.2
     (served_call password origin told room key call f by.0 open_.0 by.1 served))
 
-guarded_new : (terms : MeterTerms) (count : ℕ) (f : FleetState) → IsNewFleet terms count f
+pub guarded_new : (terms : FleetTerms) (count : ℕ) (f : FleetState) → IsNewFleet terms count f
     → IsGuarded f
 guarded_new terms count f new = record {
   passwords = λ place m at. absurd (none-some m (sym (new.unmade place) ∙ at));
@@ -315,9 +319,14 @@ have_frames terms room key origin calls now a =
     (guarded_new terms a.count a.first a.new) a.leads in
     let same : a.before.terms ≡ terms =
     terms_kept room a.first a.before a.earlier a.leads ∙ a.new.terms_are in
-    subst (λ (t : MeterTerms). IsServed t.password origin (exchanges_at key calls) now key) same
-    (served_calls a.before.terms.password origin [] room key calls a.after now a.open_since
-    a.further (served_new a.before a.after a.admission.0 key origin guarded a.admission.2))
+    let place = a.admission.0 in
+    let its : terms_at a.before.terms place ≡ terms_of terms a.number =
+    ap (λ (t : FleetTerms). terms_at t place) same
+    ∙ ap (λ (n : ℕ). terms_of terms n) (sym a.admission.1) in
+    subst (λ (t : MeterTerms). IsServed t.password origin (exchanges_at key calls) now key) its
+    (served_calls (terms_at a.before.terms place).password origin [] room key calls a.after now
+    a.open_since a.further
+    (served_new a.before a.after place key origin guarded a.admission.2))
 
 -- ---- a connection that waits
 
@@ -353,25 +362,25 @@ if_some : {A : Type 0} (o : Option A) (P : A → Type 0) (a : A) → o ≡ Some 
 if_some None P a e is = absurd (none-some a e)
 if_some (Some b) P a e is = subst P (same_Some b a e) is
 
-waits_not_over : Waits ≢ Over Memory
-waits_not_over e = subst waiting e tt
-  where
-    waiting : Turn → Type 0
-    waiting Waits = Unit
-    waiting Again = ⊥
-    waiting (Over end) = ⊥
-
-pub have_answers : HaveTheirAnswers
-have_answers terms room key place origin calls told before now c a by is none =
+-- a connection that waited, with nothing pending, has its answers
+pub waited : (password : List ℕ) (origin : StreamState) (told applied : List Exchange)
+    (room : ℕ) (before now : FleetState) (key place : ℕ) (c : ClientState)
+    → RunsAt room before key place Waits applied now → IsServed password origin told before key
+    → get now.clients key ≡ Some c → c.pending ≡ []
+    → HasAnswered password origin (told ++ applied) c.stream
+waited password origin told applied room before now key place c by served is none =
     let turns = by.runs.turns in
-    let lives = ran_lives terms.password origin (exchanges_at key calls)
-    told room before now key place
-    Waits waits_not_over by (have_frames terms room key origin calls before a) in
+    let lives = ran_lives password origin told applied room before now key place Waits
+    waits_not_over by served in
     let same : by.runs.after ≡ c = same_Some by.runs.after c (sym by.runs.is ∙ is) in
     let idle = if_some (dialogue_at turns.after by.runs.before.number) IsIdle
     turns.turns.turns.serves.after turns.turns.turns.serves.is
     (turns.turns.turns.stops.1 (ap (λ (x : ClientState). x.pending) same ∙ none)) in
-    idle_answers terms.password origin (exchanges_at key calls ++ told) c
-    turns.turns.turns.serves.after
-    (subst (λ (x : ClientState). Lives terms.password origin (exchanges_at key calls ++ told) x
+    idle_answers password origin (told ++ applied) c turns.turns.turns.serves.after
+    (subst (λ (x : ClientState). Lives password origin (told ++ applied) x
     turns.turns.turns.serves.after) same lives) idle none
+
+pub have_answers : HaveTheirAnswers
+have_answers terms room key place origin calls told before now c a by is none =
+    waited (terms_of terms a.number).password origin (exchanges_at key calls) told room before now
+    key place c by (have_frames terms room key origin calls before a) is none

@@ -9,7 +9,8 @@ use Rattle.fleet_meters.specs.Fleets.{FleetState, AdmitsBy, Unchanged, MetersSta
 use Rattle.fleet_meters.specs.Places.{Makes, meter_in}
 use Rattle.fleet_meters.specs.declared.place.Refusal.{Refusal}
 use Rattle.fleet_meters.specs.declared.place.Refusal.TheVariants.{NoMeter, Full, Memory}
-use Rattle.fleet_meters.specs.declared.terms.MeterTerms.{MeterTerms}
+use Rattle.fleet_meters.specs.Terms.{terms_at}
+use Rattle.fleet_meters.specs.declared.terms.FleetTerms.{FleetTerms}
 use Rattle.fleet_runs.specs.Calls.{FleetCall, admitted, ran, closed, missed, gave, CallsBy, Calls}
 use Rattle.fleet_runs.specs.Calls.{AreGiven, GivesEvents}
 
@@ -30,22 +31,23 @@ refused old new number stream Memory admits = admits
 
 -- ---- the password of the meters
 
--- each meter has the password of the terms
+-- each meter has the password of its terms
 pub record IsGuarded (f : FleetState) : Type 0 where
   pub passwords : (place : ℕ) (m : MeterState) → meter_in f.places place ≡ Some m
-      → m.password ≡ f.terms.password
+      → m.password ≡ (terms_at f.terms place).password
 
 -- the meter at one place changed, and keeps the password
 guarded_on : (old new : FleetState) (place : ℕ) (m : MeterState) → IsGuarded old
     → MetersStay old place new → meter_in new.places place ≡ Some m
-    → m.password ≡ old.terms.password → IsGuarded new
+    → m.password ≡ (terms_at old.terms place).password → IsGuarded new
 guarded_on old new place m guarded stay is password = record {
   passwords = λ other n at. by_number other place
       (λ e _. ap (λ (q : MeterState). q.password)
       (same_Some n m (sym at ∙ ap (λ (p : ℕ). meter_in new.places p) e ∙ is))
-      ∙ password ∙ ap (λ (t : MeterTerms). t.password) (sym stay.terms))
+      ∙ password ∙ ap (λ (t : FleetTerms). (terms_at t place).password) (sym stay.terms)
+      ∙ ap (λ (p : ℕ). (terms_at new.terms p).password) (sym e))
       (λ far _. guarded.passwords other n (sym (stay.places other far) ∙ at)
-      ∙ ap (λ (t : MeterTerms). t.password) (sym stay.terms));
+      ∙ ap (λ (t : FleetTerms). (terms_at t other).password) (sym stay.terms));
 }
 
 guarded_same : (old new : FleetState) → IsGuarded old → new.terms ≡ old.terms
@@ -54,13 +56,13 @@ guarded_same old new guarded terms places = record {
   passwords = λ place m at.
       guarded.passwords place m
       (ap (λ (ps : List (Option MeterState)). meter_in ps place) (sym places) ∙ at)
-      ∙ ap (λ (t : MeterTerms). t.password) (sym terms);
+      ∙ ap (λ (t : FleetTerms). (terms_at t place).password) (sym terms);
 }
 
--- the meter whose session is opened has the password of the terms
+-- the meter whose session is opened has the password of its terms
 pub made_guarded : (f : FleetState) (o : Option MeterState) (place : ℕ) (m : MeterState)
-    → IsGuarded f → meter_in f.places place ≡ o → Makes f.terms o m
-    → m.password ≡ f.terms.password
+    → IsGuarded f → meter_in f.places place ≡ o → Makes (terms_at f.terms place) o m
+    → m.password ≡ (terms_at f.terms place).password
 made_guarded f None place m guarded at makes = makes.guarded
 made_guarded f (Some n) place m guarded at makes =
     ap (λ (q : MeterState). q.password) makes ∙ guarded.passwords place n at
@@ -106,7 +108,7 @@ guarded_calls room old new (call ∷ calls) guarded by =
 
 -- ---- the terms
 
-same_terms : (room : ℕ) (old new : FleetState) (call : FleetCall) → CallsBy room old call new
+pub same_terms : (room : ℕ) (old new : FleetState) (call : FleetCall) → CallsBy room old call new
     → new.terms ≡ old.terms
 same_terms room old new (admitted number stream (Ok key)) by = by.2.stay.terms
 same_terms room old new (admitted number stream (Err why)) by =
@@ -135,6 +137,15 @@ calls_on room (call ∷ calls) calls' f f' f'' first then_ = (
   first.1,
   calls_on room calls calls' first.0 f' f'' first.2 then_,
 )
+
+-- the fleet between some calls and others
+pub calls_split : (room : ℕ) (calls calls' : List FleetCall) (f f'' : FleetState)
+    → Calls room f (calls ++ calls') f''
+    → (f' : FleetState) × Calls room f calls f' × Calls room f' calls' f''
+calls_split room [] calls' f f'' by = (f, refl, by)
+calls_split room (call ∷ calls) calls' f f'' by =
+    let rest = calls_split room calls calls' by.0 f'' by.2 in
+    (rest.0, (by.0, by.1, rest.1), rest.2)
 
 -- ---- events
 

@@ -2,3 +2,4 @@
 pub mod Calls
 pub mod Law
 pub mod Lives
+pub mod Moments

@@ -4,4 +4,4 @@
 
 mod law;
 
-pub use law::{answered_connections, separate_histories};
+pub use law::{answered_connections, moments_of_fleets, separate_histories};

@@ -5,8 +5,9 @@ use crate::talk::{
     SET_MODE_1, Script,
 };
 use cosem_axdr::Octets;
+use fleet_faults::{FaultPlan, FaultShares};
 use fleet_links::{LinkEnd, Turn};
-use fleet_meters::{Fleet, MeterTerms, Refusal};
+use fleet_meters::{Fleet, FleetTerms, MeterTerms, Refusal};
 use session_core::SessionEnd;
 use std::alloc::{AllocError, Global};
 use std::process::Abort;
@@ -36,18 +37,56 @@ schedule 3 0 5 0100
 events 0
 ";
 
-/// Returns a fleet of three meters with the password 12345678.
-fn new_fleet(rt: &impl Abort, alloc: Global) -> Result<Fleet<Script>, AllocError> {
+/// Returns the terms of meters with the password 12345678. Those that refuse are in mode 0.
+pub(crate) fn new_terms(
+    rt: &impl Abort,
+    alloc: Global,
+    plan: FaultPlan,
+) -> Result<FleetTerms, AllocError> {
     let trace = Octets::from_slice(alloc, TRACE)?;
     let password = Octets::from_slice(alloc, b"12345678")?;
+    let refusing = Octets::from_slice(alloc, REFUSING)?;
     assert!(rt; password.len() == 8);
-    let terms = MeterTerms {
+    let common = MeterTerms {
         trace,
         password,
         kept_events: 4,
     };
-    Fleet::new(alloc, terms, 3)
+    FleetTerms::new(alloc, common, refusing, plan)
 }
+
+/// Returns a fleet of three meters without faults.
+fn new_fleet(rt: &impl Abort, alloc: Global) -> Result<Fleet<Script>, AllocError> {
+    let plan = FaultPlan {
+        shares: FaultShares::new(),
+        seed: 0,
+    };
+    Fleet::new(alloc, new_terms(rt, alloc, plan)?, 3)
+}
+
+/// The trace of a new meter in mode 0.
+const REFUSING: &[u8] = b"RELAYTRACE 1
+device 52454C415931
+state 1
+mode 0
+value 0
+now -
+normal 4294967295
+emergency 4294967295
+minover 0
+minunder 0
+profile 0 FFFFFFFFFFFFFFFFFF8000FF 0
+groups
+actions 0 0
+over 0 0
+under 0 0
+scripts 0100
+schedule 0 0 5 0100
+schedule 1 0 5 0100
+schedule 2 0 5 0100
+schedule 3 0 5 0100
+events 0
+";
 
 /// Runs a connection 200 times, as if its stream were ready each time. Returns the last result.
 fn give_turns(alloc: Global, fleet: &mut Fleet<Script>, key: usize) -> Option<Turn> {
@@ -64,7 +103,7 @@ fn give_turns(alloc: Global, fleet: &mut Fleet<Script>, key: usize) -> Option<Tu
 
 /// Connects to a meter, and returns the result of the turns and whether exactly these frames were
 /// answered.
-fn talk(
+pub(crate) fn talk(
     rt: &impl Abort,
     alloc: Global,
     fleet: &mut Fleet<Script>,

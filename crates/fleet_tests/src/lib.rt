@@ -7,6 +7,8 @@
 #[cfg(test)]
 mod addresses;
 #[cfg(test)]
+mod faults;
+#[cfg(test)]
 mod fleets;
 #[cfg(test)]
 mod talk;

@@ -2,7 +2,5 @@
 #![tactic(auto)]
 
 mod activity;
-#[cfg(test)]
-mod tests;
 
 pub use activity::ActivityTimes;

@@ -1,8 +1,5 @@
 //! The commands, their help and the command line of the program.
-use crate::options::{
-    connect_timeout, format, ledger, ledger_to_ask_by, ledger_to_read, password, password_file,
-    passwords, progress, timeout, verbose, workers,
-};
+use crate::options::{ASK, LEDGER_TO_READ, OptionText, RUN, VERBOSE_FINDINGS, argument, format};
 use clap::Command;
 use program::{with_argument, with_subcommand};
 use std::alloc::{AllocError, Global};
@@ -37,35 +34,19 @@ N is the diagnostic of its AARE
   NAME unknown       no valid answer came
   NAME memory        out of memory";
 
-// Adds the options that give the passwords. The option `--password` is required unless
-// `has_password`.
-fn with_passwords<'a>(
+// Adds options to a command. `has_password` says whether a password is given without the option
+// `--password`.
+fn with_options<'a>(
     alloc: Global,
-    made: Result<Command<'a>, AllocError>,
+    command: Command<'a>,
+    options: &[OptionText],
     has_password: bool,
 ) -> Result<Command<'a>, AllocError> {
-    let made = with_argument(made, password(alloc, !has_password));
-    let made = with_argument(made, password_file(alloc));
-    with_argument(made, passwords(alloc))
-}
-
-// Adds the options for the number of workers and for the time limits.
-fn with_limits<'a>(
-    alloc: Global,
-    made: Result<Command<'a>, AllocError>,
-) -> Result<Command<'a>, AllocError> {
-    let made = with_argument(made, workers(alloc));
-    let made = with_argument(made, timeout(alloc));
-    with_argument(made, connect_timeout(alloc))
-}
-
-// Adds the options for what standard error reports.
-fn with_reports<'a>(
-    alloc: Global,
-    made: Result<Command<'a>, AllocError>,
-) -> Result<Command<'a>, AllocError> {
-    let made = with_argument(made, progress(alloc));
-    with_argument(made, verbose(alloc))
+    let mut command = command;
+    for option in options {
+        command = command.arg(argument(alloc, option, has_password))?;
+    }
+    Ok(command)
 }
 
 // Returns the usage of `run`, whose option `--password` is required unless `has_password`.
@@ -79,34 +60,22 @@ fn usage_of_run(has_password: bool) -> &'static str {
 
 // Returns the command `run`. Its option `--password` is required unless `has_password`.
 fn run_command<'a>(alloc: Global, has_password: bool) -> Result<Command<'a>, AllocError> {
-    let made = Ok(
-        Command::new(alloc, "run")
-            .about(
-                "Runs the jobs on standard input and prints a report: a row for each job, in order",
-            )
-            .override_usage(usage_of_run(has_password))
-            .after_help(REPORT),
-    );
-    let made = with_passwords(alloc, made, has_password);
-    let made = with_limits(alloc, made);
-    let made = with_argument(made, ledger(alloc));
-    with_reports(alloc, made)
+    let command = Command::new(alloc, "run")
+        .about("Runs the jobs on standard input and prints a report: a row for each job, in order")
+        .override_usage(usage_of_run(has_password))
+        .after_help(REPORT);
+    with_options(alloc, command, &RUN, has_password)
 }
 
 // Returns the command `ask`. Its option `--password` is required unless `has_password`.
 fn ask_command<'a>(alloc: Global, has_password: bool) -> Result<Command<'a>, AllocError> {
-    let made = Ok(
-        Command::new(alloc, "ask")
-            .about(
-                "Asks for the states of the meters whose command may have been sent and that gave \
-                no valid answer, and stores the answers",
-            )
-            .after_help(ANSWERS),
-    );
-    let made = with_argument(made, ledger_to_ask_by(alloc));
-    let made = with_passwords(alloc, made, has_password);
-    let made = with_limits(alloc, made);
-    with_reports(alloc, made)
+    let command = Command::new(alloc, "ask")
+        .about(
+            "Asks for the states of the meters whose command may have been sent and that gave no \
+            valid answer, and stores the answers",
+        )
+        .after_help(ANSWERS);
+    with_options(alloc, command, &ASK, has_password)
 }
 
 // Returns the command `check`.
@@ -116,27 +85,25 @@ fn check_command<'a>(alloc: Global) -> Result<Command<'a>, AllocError> {
             "Counts the jobs on standard input: NAME ADDRESS VERB (disconnect, reconnect or state)",
         )
         .override_usage("head_end check [OPTIONS] < FILE")
-        .arg(verbose(alloc).help("If the list is wrong, report all findings on standard error"))
+        .arg(argument(alloc, &VERBOSE_FINDINGS, true))
 }
 
 // Returns the command `status`.
 fn status_command<'a>(alloc: Global) -> Result<Command<'a>, AllocError> {
-    let made = Ok(Command::new(alloc, "status").about(
-        "Prints the state of a ledger's campaign, and the jobs that need a second look",
-    ));
-    let made = with_argument(made, ledger_to_read(alloc));
+    let made = Command::new(alloc, "status")
+        .about("Prints the state of a ledger's campaign, and the jobs that need a second look")
+        .arg(argument(alloc, &LEDGER_TO_READ, true));
     with_argument(made, format(alloc))
 }
 
 // Returns the program without its commands.
 fn program<'a>(alloc: Global) -> Result<Command<'a>, AllocError> {
-    let program = Command::new(alloc, "head_end")
-        .bin_name("head_end")?
+    Command::new(alloc, "head_end")
         .version("0.1.0")
         .about("Runs switching campaigns over DLMS/COSEM electricity meters")
         .after_help(LIMITS_AND_STATUSES)
-        .subcommand_required(true);
-    Ok(program)
+        .subcommand_required(true)
+        .bin_name("head_end")
 }
 
 /// Returns the program with its commands. `has_password` says whether the password of `run` and of

@@ -9,7 +9,7 @@ use thiserror::Error;
 const MARK: &[u8] = b"\xEF\xBB\xBF";
 
 // What begins at a byte of a line and is not part of a job.
-#[derive(Clone, Copy, Debug, PartialEq, Eq, Error)]
+#[derive(Clone, Copy, Debug, Error)]
 enum ByteFinding {
     #[error("byte order mark (EF BB BF)")]
     Mark,

@@ -33,7 +33,7 @@ pub(crate) fn jobs_fault(fault: JobsFault) -> Fault
 // Why standard input is not a list of jobs. Its message is the line that `--verbose` writes.
 //
 // Lines, bytes and jobs are counted from 1.
-#[derive(Clone, Copy, Debug, PartialEq, Eq, Error)]
+#[derive(Clone, Copy, Debug, Error)]
 pub(crate) enum ListFault {
     #[error("byte 1048577: the list has more than 1,048,576 bytes")]
     TooLong,
@@ -48,7 +48,7 @@ pub(crate) enum ListFault {
 }
 
 // Why a line is not a job: the first of its words that is missing or wrong, or a word too many.
-#[derive(Clone, Copy, Debug, PartialEq, Eq, Error)]
+#[derive(Clone, Copy, Debug, Error)]
 pub(crate) enum LineFault {
     // The line ends before the word of this name.
     #[error("{0} is missing")]

@@ -5,6 +5,8 @@ ghost use Rattle.std.specs.List.{All};
 ghost use Rattle.std.specs.Option.{option_copied};
 ghost use Rattle.acse_ber.specs.Password.{IsPassword};
 ghost use Rattle.clap.specs.Matches.{first_value, found_of};
+ghost use Rattle.head_end.specs.JobPasswords.{HavePasswords};
+ghost use Rattle.head_end.specs.Jobs.{job_lines};
 ghost use Rattle.head_end_commands.specs.Passwords.{ArePasswords};
 
 use crate::messages::{LineFault, why_no_password};
@@ -28,7 +30,7 @@ const MAX_LENGTH: usize = 1_048_576;
 
 // Why the file of `--passwords` is not a list of passwords. Its message follows the file's path,
 // and contains no password. Lines are counted from 1.
-#[derive(Clone, Copy, Debug, PartialEq, Eq, Error)]
+#[derive(Clone, Copy, Debug, Error)]
 enum PasswordListFault {
     #[error("{0}")]
     File(PasswordFault),
@@ -52,22 +54,40 @@ impl From<PasswordListFault> for Fault {
     }
 }
 
-// Reads a file that only its owner may access.
-fn read_own_file(rt: &HostRuntime, path: &str) -> Result<Vec<u8>, PasswordListFault> {
-    let Ok(file) = File::open(rt, path) else {
-        return Err(PasswordListFault::File(PasswordFault::Read));
-    };
+// Converts the fault of a file that is not read.
+impl From<InputFault> for PasswordListFault {
+    fn from(fault: InputFault) -> PasswordListFault {
+        match fault {
+            InputFault::TooLong => PasswordListFault::TooLong,
+            InputFault::Read => PasswordListFault::File(PasswordFault::Read),
+            InputFault::Memory => PasswordListFault::File(PasswordFault::Memory),
+        }
+    }
+}
+
+// Reads an open file that only its owner may access.
+fn read_open_file(rt: &HostRuntime, file: &File) -> Result<Vec<u8>, PasswordListFault> {
     let Ok(metadata) = file.metadata() else {
         return Err(PasswordListFault::File(PasswordFault::Read));
     };
     if metadata.mode() & OTHERS != 0 {
         return Err(PasswordListFault::File(PasswordFault::Exposed));
     }
-    match read_to_end_within(rt.alloc(), &mut Counted::new(&file), MAX_LENGTH) {
+    match read_to_end_within(rt.alloc(), &mut Counted::new(file), MAX_LENGTH) {
         Ok(text) => Ok(text),
-        Err(InputFault::TooLong) => Err(PasswordListFault::TooLong),
-        Err(InputFault::Read) => Err(PasswordListFault::File(PasswordFault::Read)),
-        Err(InputFault::Memory) => Err(PasswordListFault::File(PasswordFault::Memory)),
+        Err(fault) => Err(PasswordListFault::from(fault)),
+    }
+}
+
+// Reads a file that only its owner may access.
+fn read_own_file(rt: &HostRuntime, path: &str) -> Result<Vec<u8>, PasswordListFault> {
+    match File::open(rt, path) {
+        Ok(file) => {
+            let text = read_open_file(rt, &file);
+            drop(file);
+            text
+        }
+        Err(_) => Err(PasswordListFault::File(PasswordFault::Read)),
     }
 }
 
@@ -143,6 +163,55 @@ fn report_job(rt: &HostRuntime, jobs: &Jobs, place: usize) {
     }
 }
 
+// Writes a line on standard error about a fault of the passwords of jobs, and returns the program's
+// fault. `text` is the list of passwords, and `path` its file.
+fn report_passwords_fault(
+    rt: &HostRuntime,
+    jobs: &Jobs,
+    path: &str,
+    text: &[u8],
+    fault: PasswordsFault,
+) -> Fault {
+    match fault {
+        PasswordsFault::Line(number) => {
+            let why = why_no_password(text, number);
+            report_list_fault(rt, path, PasswordListFault::Line(number, why))
+        }
+        PasswordsFault::Job(place) => {
+            report_job(rt, jobs, place);
+            Fault::Input
+        }
+        PasswordsFault::Memory => Fault::Memory,
+    }
+}
+
+// Returns the password of each job by a list of passwords, the text of the file at `path`, as
+// `passwords` does.
+fn passwords_in(
+    rt: &HostRuntime,
+    jobs: &Jobs,
+    path: &str,
+    text: &[u8],
+    common: Option<&[u8]>,
+) -> Result<Listed<Octets>, Fault>
+    requires { IfSome (option_copied common) IsPassword }
+    ensures passwords { IfOk result (HavePasswords (job_lines text.now)
+        (option_copied common.entry) jobs.now) }
+    ensures sized { IfOk result (λ passwords. All IsPassword passwords) }
+    ensures paired { IfOk result (λ passwords. length passwords ≡ length jobs.now) }
+{
+    match passwords_for(rt.alloc(), jobs.as_slice(), text, common) {
+        Ok(passwords) => match find_double(text) {
+            None => Ok(passwords),
+            Some(fault) => {
+                drop(passwords);
+                Err(report_list_fault(rt, path, fault))
+            }
+        },
+        Err(fault) => Err(report_passwords_fault(rt, jobs, path, text, fault)),
+    }
+}
+
 // Returns the password of each job: that of its name in the file of `--passwords`, else the common
 // one. If a job has none, or the file is not a list of passwords, writes a line on standard error.
 // Errors: `Read` if the file cannot be read; `Input` if it is not a list of passwords, or a job has
@@ -160,25 +229,8 @@ pub(crate) fn passwords(
     ensures paired { IfOk result (λ passwords. length passwords ≡ length jobs.now) }
 {
     let text = read_list(rt, matches)?;
-    let passwords = passwords_for(rt.alloc(), jobs.as_slice(), text.as_slice(), common);
     let path = matches.get_str("passwords").unwrap_or("passwords");
-    let double = find_double(text.as_slice());
-    match passwords {
-        Ok(passwords) => match double {
-            None => Ok(passwords),
-            Some(fault) => {
-                drop(passwords);
-                Err(report_list_fault(rt, path, fault))
-            }
-        },
-        Err(PasswordsFault::Line(number)) => {
-            let why = why_no_password(text.as_slice(), number);
-            Err(report_list_fault(rt, path, PasswordListFault::Line(number, why)))
-        }
-        Err(PasswordsFault::Job(place)) => {
-            report_job(rt, jobs, place);
-            Err(Fault::Input)
-        }
-        Err(PasswordsFault::Memory) => Err(Fault::Memory),
-    }
+    let passwords = passwords_in(rt, jobs, path, text.as_slice(), common);
+    drop(text);
+    passwords
 }

@@ -126,7 +126,8 @@ renewed_answers depth old new device before after renewal from_old from_new =
 -- ---- the file of a journal that is renewed
 
 module _ {F : Type 0} (seen : F → List ℕ) (may_leave : F → List ℕ → Type 0)
-    (stored : List ℕ → Type 0) (moment : F → ℕ) (left_since : F → ℕ → List ℕ → Type 0) where
+    (identity : F → ℕ) (stored : ℕ → List ℕ → Type 0) (moment : F → ℕ)
+    (left_since : F → ℕ → List ℕ → Type 0) where
   abbrev Renewed : List ℕ → List ℕ → Type 0
   Renewed = IsSameOrRenewed IsRenewedAs
 
@@ -136,7 +137,7 @@ module _ {F : Type 0} (seen : F → List ℕ) (may_leave : F → List ℕ → Ty
       (may_leave new)
 
   -- the file was read, and stays
-  pub read_leaves : (old new : F) → IsSettled seen may_leave stored old
+  pub read_leaves : (old new : F) → IsSettled seen may_leave identity stored old
       → ((c : List ℕ) → left_since old (moment old) c → may_leave old c) → IsReading old new
       → Narrows (may_leave old) (may_leave new)
       → LeavesOnly moment left_since old new (Renewed (seen old))
@@ -147,12 +148,14 @@ module _ {F : Type 0} (seen : F → List ℕ) (may_leave : F → List ℕ → Ty
       time (λ c now. inl (settled.durable c (narrows c now)))
 
   -- a file that was read is settled
-  pub read_settled : (old new : F) → IsSettled seen may_leave stored old → seen new ≡ seen old
-      → Narrows (may_leave old) (may_leave new) → IsSettled seen may_leave stored new
-  read_settled old new settled same narrows = record {
+  pub read_settled : (old new : F) → IsSettled seen may_leave identity stored old
+      → seen new ≡ seen old → Narrows (may_leave old) (may_leave new)
+      → identity new ≡ identity old → IsSettled seen may_leave identity stored new
+  read_settled old new settled same narrows one = record {
     text = subst IsText (sym same) settled.text;
     durable = λ c now. settled.durable c (narrows c now) ∙ sym same;
-    kept = subst stored (sym same) settled.kept;
+    kept = subst (λ (n : ℕ). stored n (seen new)) (sym one)
+        (subst (stored (identity old)) (sym same) settled.kept);
   }
 
   -- the bytes that replace a journal
@@ -163,7 +166,8 @@ module _ {F : Type 0} (seen : F → List ℕ) (may_leave : F → List ℕ → Ty
 
   -- the file was replaced
   pub replaced_as : (depth : ℕ) (old new : F) (text : List ℕ)
-      → IsSettled seen may_leave stored old → IsRenewalOf depth (seen old) text → IsText text
+      → IsSettled seen may_leave identity stored old → IsRenewalOf depth (seen old) text
+      → IsText text
       → seen new ≡ text → Renewed (seen old) (seen new)
   replaced_as depth old new text settled renewal is_text is =
       inr (subst (λ (bytes : List ℕ). IsRenewedAs (seen old) bytes) (sym is)
@@ -171,7 +175,7 @@ module _ {F : Type 0} (seen : F → List ℕ) (may_leave : F → List ℕ → Ty
 
   -- the file was read and then replaced
   pub replaced_leaves : (old mid new : F) (depth : ℕ) (text : List ℕ)
-      → IsSettled seen may_leave stored old
+      → IsSettled seen may_leave identity stored old
       → ((c : List ℕ) → left_since old (moment old) c → may_leave old c) → IsReading old mid
       → Narrows (may_leave old) (may_leave mid) → IsRenewalOf depth (seen old) text → IsText text
       → LeavesOnly moment left_since mid new (λ c. may_leave mid c ⊎ (c ≡ text))

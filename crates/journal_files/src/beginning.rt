@@ -1,5 +1,5 @@
 //! Begins a journal: its first text, written as a whole.
-ghost use Rattle.std.specs.Prelude.{◌⊎◌, IfOk, OnOk};
+ghost use Rattle.std.specs.Prelude.{◌≡◌, ◌⊎◌, IfOk, OnOk};
 ghost use Rattle.durable_lines.specs.CrashModel.{LeavesOnly};
 ghost use Rattle.durable_lines.specs.Lines.{IsSettled};
 ghost use Rattle.journal_files.specs.Journals.{IsBegun, IsJournalOf};
@@ -37,7 +37,8 @@ pub fn begin_journal<P: Place>(
     ensures journal { OnOk result (P.acts_as_file
         → IsBegun recorder.now (P.seen place.new) (P.may_leave place.new)) }
     ensures settled { OnOk result (P.acts_as_file
-        → IsSettled P.seen P.may_leave P.stored place.new) }
+        → IsSettled P.seen P.may_leave P.identity P.stored place.new) }
+    ensures identity { P.identity place.new ≡ P.identity place.old }
     // A crash at any moment of the call leaves what could be left before, or the new journal.
     ensures any_moment { P.acts_as_file
         → LeavesOnly P.moment P.left_since place.old place.new

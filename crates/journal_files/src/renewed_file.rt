@@ -74,6 +74,8 @@ fn record<T: Drop>(has_failed: &mut bool, call: Result<T, FileFault>) -> Result<
 impl<P: Place> DurableFile for RenewedFile<P> {
     ghost acts_as_file = { P.acts_as_file };
 
+    ghost identity = { λ file. P.identity file.place };
+
     ghost seen = { λ file. P.seen file.place };
 
     ghost may_leave = { λ file c. P.may_leave file.place c };

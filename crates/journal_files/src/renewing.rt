@@ -176,6 +176,7 @@ fn renew_text_of<F: DurableFile>(
         → IsRenewalOf depth (F.seen file.old) text) }
     ensures is_text { IfOk result IsText }
     ensures unchanged { F.seen file.new ≡ F.seen file.old }
+    ensures identity { F.identity file.new ≡ F.identity file.old }
     ensures crash { Narrows (F.may_leave file.old) (F.may_leave file.new) }
     ensures time { Elapses (F.moment file.old) (F.moment file.new) (F.left_since file.old)
         (F.left_since file.new) (F.may_leave file.new) }
@@ -203,7 +204,8 @@ pub fn renew_journal<P: Place>(alloc: Global, place: &mut P, depth: usize) -> Re
     ensures durable { OnOk result (P.acts_as_file
         → HasOneOutcome (P.seen place.new) (P.may_leave place.new)) }
     ensures settled { OnOk result (P.acts_as_file
-        → IsSettled P.seen P.may_leave P.stored place.new) }
+        → IsSettled P.seen P.may_leave P.identity P.stored place.new) }
+    ensures identity { P.identity place.new ≡ P.identity place.old }
     // A crash at any moment of the call leaves what could be left before, or the new journal.
     ensures any_moment { P.acts_as_file
         → LeavesOnly P.moment P.left_since place.old place.new
@@ -222,11 +224,12 @@ pub fn renew_long_journal<P: Place>(
     depth: usize,
     limit: usize,
 ) -> Result<(), StartFault>
-    requires { P.acts_as_file → IsSettled P.seen P.may_leave P.stored place.old }
+    requires { P.acts_as_file → IsSettled P.seen P.may_leave P.identity P.stored place.old }
     ensures renewed { OnOk result (P.acts_as_file
         → IsRenewedOver limit depth (P.seen place.old) (P.seen place.new)) }
     ensures settled { OnOk result (P.acts_as_file
-        → IsSettled P.seen P.may_leave P.stored place.new) }
+        → IsSettled P.seen P.may_leave P.identity P.stored place.new) }
+    ensures identity { P.identity place.new ≡ P.identity place.old }
     // A crash at any moment of the call leaves what could be left before, or the new journal.
     ensures any_moment { P.acts_as_file
         → LeavesOnly P.moment P.left_since place.old place.new
@@ -249,11 +252,12 @@ pub(crate) fn renew_file<P: Place>(
     place: &mut P,
     depth: usize,
 ) -> Result<(), FileFault>
-    requires { P.acts_as_file → IsSettled P.seen P.may_leave P.stored place.old }
+    requires { P.acts_as_file → IsSettled P.seen P.may_leave P.identity P.stored place.old }
     ensures settled { OnOk result (P.acts_as_file
-        → IsSettled P.seen P.may_leave P.stored place.new) }
+        → IsSettled P.seen P.may_leave P.identity P.stored place.new) }
     ensures renewed { OnOk result (P.acts_as_file
         → IsSameOrRenewed IsRenewedAs (P.seen place.old) (P.seen place.new)) }
+    ensures identity { P.identity place.new ≡ P.identity place.old }
     // A crash at any moment of the call leaves the old journal or the new one.
     ensures any_moment { P.acts_as_file → LeavesOnly P.moment P.left_since place.old place.new
         (IsSameOrRenewed IsRenewedAs (P.seen place.old)) }

@@ -66,7 +66,8 @@ pub fn resume_journal<F: DurableFile>(
     ensures seen { OnOk result (F.acts_as_file
         → F.seen file.new ≡ text_of (lines_in (F.seen file.old))) }
     ensures settled { OnOk result (F.acts_as_file
-        → IsSettled F.seen F.may_leave F.stored file.new) }
+        → IsSettled F.seen F.may_leave F.identity F.stored file.new) }
+    ensures identity { F.identity file.new ≡ F.identity file.old }
 {
     let bytes = file.read(alloc)?;
     let judged = judge_trace(alloc, bytes.as_slice(), device);

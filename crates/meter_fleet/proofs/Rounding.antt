@@ -3,7 +3,7 @@ use Rattle.std.proofs.Common.{◌≡◌, inl, inr, ℕ, Bool, ◌||◌, List, []
 use Rattle.std.proofs.Common.{Err, refl, sym, ◌∙◌, ap, subst, append-nil}
 use Rattle.std.specs.List.{flat_map}
 use Rattle.fleet_meters.specs.Fleets.{FleetState, IsNewFleet}
-use Rattle.fleet_meters.specs.declared.terms.MeterTerms.{MeterTerms}
+use Rattle.fleet_meters.specs.declared.terms.FleetTerms.{FleetTerms}
 use Rattle.fleet_runs.specs.Calls.{GivesEvents}
 use Rattle.fleet_runs.proofs.Steps.{calls_on}
 use Rattle.meter_fleet.specs.Networks.{NetworkEvent, polled, operated, Tells}
@@ -167,7 +167,7 @@ no_buffers log f = record {
   fails = inl (refl, refl);
 }
 
-pub serves_by : (terms : MeterTerms) (count : ℕ) (log log' : Option (List NetworkEvent))
+pub serves_by : (terms : FleetTerms) (count : ℕ) (log log' : Option (List NetworkEvent))
     (first final : FleetState) (fault : FleetFault) → IsNewFleet terms count first
     → ServesUntil log first fault log' final → ServesBy terms count log fault log'
 serves_by terms count log log' first final Network new serves =

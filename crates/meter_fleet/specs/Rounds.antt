@@ -16,7 +16,7 @@ use Rattle.fleet_links.specs.declared.link.LinkEnd.{LinkEnd}
 use Rattle.fleet_links.specs.declared.link.Turn.TheVariants.{Waits, Again, Over}
 use Rattle.fleet_meters.specs.Fleets.{FleetState, IsNewFleet}
 use Rattle.fleet_meters.specs.declared.place.Refusal.{Refusal}
-use Rattle.fleet_meters.specs.declared.terms.MeterTerms.{MeterTerms}
+use Rattle.fleet_meters.specs.declared.terms.FleetTerms.{FleetTerms}
 use Rattle.fleet_runs.specs.Calls.{FleetCall, admitted, ran, closed, missed, Calls, AreGiven}
 use Rattle.meter_fleet.specs.Networks.{NetworkEvent, polled, failed, operated, accepted}
 use Rattle.meter_fleet.specs.Networks.{rejected, no_client}
@@ -198,6 +198,11 @@ pub record Round : Type 0 where
   pub has_more : Bool
   pub services : List Service
 
+-- the calls of the fleet in a round, in order
+abbrev pub round_calls : Round → List FleetCall
+round_calls round = flat_map departure_calls round.departures ++ round.given
+    ++ flat_map arrival_calls round.arrivals ++ flat_map service_calls round.services
+
 -- The state of the loop between two rounds: what the network has reported, the fleet, the
 -- connections that may continue at once, and whether clients may be waiting.
 pub record LoopState : Type 0 where
@@ -223,9 +228,7 @@ pub record DoesWork (old : LoopState) (round : Round) (left : List ℕ)
   pub gives : AreGiven round.given
   pub met : AreAccepted (old.has_clients || round.has_clients) round.arrivals round.has_more
   pub served : map service_key round.services ++ left ≡ old.ready ++ round.keys
-  pub calls : Calls frame_bytes old.fleet
-      (flat_map departure_calls round.departures ++ round.given
-      ++ flat_map arrival_calls round.arrivals ++ flat_map service_calls round.services) fleet
+  pub calls : Calls frame_bytes old.fleet (round_calls round) fleet
 
 -- whether a whole round of the loop was done
 pub record DoesRound (old : LoopState) (round : Round) (new : LoopState) : Type 0 where
@@ -265,7 +268,7 @@ pub record ServesUntil (log : Option (List NetworkEvent)) (fleet : FleetState) (
   pub fails : FailsBy last fault log' fleet'
 
 -- whether a new fleet of meters with these terms was served
-pub record ServesFleet (terms : MeterTerms) (count : ℕ) (log : Option (List NetworkEvent))
+pub record ServesFleet (terms : FleetTerms) (count : ℕ) (log : Option (List NetworkEvent))
     (fault : FleetFault) (log' : Option (List NetworkEvent)) : Type 0 where
   pub first : FleetState
   pub final : FleetState
@@ -274,7 +277,7 @@ pub record ServesFleet (terms : MeterTerms) (count : ℕ) (log : Option (List Ne
 
 -- whether serving a new fleet ended with this fault; if memory ran out, it may have done so before
 -- there was a fleet
-abbrev pub ServesBy : MeterTerms → ℕ → Option (List NetworkEvent) → FleetFault
+abbrev pub ServesBy : FleetTerms → ℕ → Option (List NetworkEvent) → FleetFault
     → Option (List NetworkEvent) → Type 0
 ServesBy terms count log Network log' = ServesFleet terms count log Network log'
 ServesBy terms count log Memory log' = (log' ≡ log) ⊎ ServesFleet terms count log Memory log'

@@ -7,9 +7,11 @@
 mod clients;
 mod connections;
 mod idle;
+mod law;
 mod network;
 mod rounds;
 mod serving;
 
+pub use law::lawful_rounds;
 pub use network::{Network, NetworkFault, NextClient};
 pub use serving::{FleetFault, serve_fleet};

@@ -3,7 +3,7 @@ ghost use Rattle.meter_fleet.specs.Rounds.{ServesUntil, ServesBy};
 
 use crate::network::Network;
 use crate::rounds::Rounds;
-use fleet_meters::{Fleet, MeterTerms};
+use fleet_meters::{Fleet, FleetTerms};
 use std::alloc::Global;
 use std::sync::Wait;
 use thiserror::Error;
@@ -42,13 +42,13 @@ fn serve<R: Wait, N: Network>(
     }
 }
 
-/// Serves the clients of `count` meters until the network fails or memory runs out. The address
-/// that a client names is its meter: 127.0.0.1 is meter 1.
+/// Serves the clients of `count` meters with these terms until the network fails or memory runs
+/// out. The address that a client names is its meter: 127.0.0.1 is meter 1.
 pub fn serve_fleet<R: Wait, N: Network>(
     rt: &R,
     alloc: Global,
     network: &mut N,
-    terms: MeterTerms,
+    terms: FleetTerms,
     count: usize,
 ) -> FleetFault
     ensures { ServesBy terms count (N.log network.old) result (N.log network.new) }

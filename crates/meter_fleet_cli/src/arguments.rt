@@ -17,10 +17,12 @@ The address that a client names is its meter: 127.0.0.1 is meter 1, 127.0.1.0 is
 A connection to any other address, or to a meter that the fleet does not have, is closed at once. \
 So is the ninth connection to one meter.
 Faults, each in every connection of a meter that has it, at most 100 percent together:
-  silent     the client receives no byte; its requests are carried out
-  slow       every answer is sent 2 seconds after the last bytes of the client
-  vanishes   only half of the second frame is sent, then the connection is closed
-  closes     the connection is closed before a byte is sent
+  silent          the client receives no byte; its requests are carried out
+  slow            every answer is sent 2 seconds after the last bytes of the client
+  vanishes        only half of the second frame is sent, then the connection is closed
+  closes          the connection is closed before a byte is sent
+  wrong-password  the first byte of the meter's password is another
+  refuses         the meter starts in control mode 0; not with --resume
 Lines of standard input, where METERS is N, N-M or all:
   METERS button                 press the buttons of these meters
   METERS samples WATTS ..       at most 256 samples of imported power, ten a second

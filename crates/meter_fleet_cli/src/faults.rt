@@ -1,11 +1,11 @@
 //! The faults that the command line injects into meters.
 use clap::ArgMatches;
-use fleet_faults::{FaultPlan, FaultShares};
+use fleet_faults::{FaultPlan, FaultShares, InjectedFault};
 use program::Fault;
 
-/// Returns which meters have which fault. Error: `Input` if a share is not valid, with a line on
-/// standard error if `--verbose` is given.
-pub(crate) fn fault_plan(rt: &HostRuntime, matches: &ArgMatches<'_>) -> Result<FaultPlan, Fault> {
+// Returns the share of each fault. Error: `Input` if one is not valid, with a line on standard
+// error if `--verbose` is given.
+fn fault_shares(rt: &HostRuntime, matches: &ArgMatches<'_>) -> Result<FaultShares, Fault> {
     let mut shares = FaultShares::new();
     if let Some(words) = matches.get_strs("fault") {
         for word in words {
@@ -20,6 +20,19 @@ pub(crate) fn fault_plan(rt: &HostRuntime, matches: &ArgMatches<'_>) -> Result<F
                 }
             }
         }
+    }
+    Ok(shares)
+}
+
+/// Returns which meters have which fault. Error: `Input` if a share is not valid, or if meters that
+/// resume from a trace are to refuse, with a line on standard error if `--verbose` is given.
+pub(crate) fn fault_plan(rt: &HostRuntime, matches: &ArgMatches<'_>) -> Result<FaultPlan, Fault> {
+    let shares = fault_shares(rt, matches)?;
+    if matches.get_str("resume").is_some() && shares.share(InjectedFault::Refuses) > 0 {
+        if matches.get_flag("verbose") {
+            let _ = eprintln!(rt; "fault refuses: must not be combined with --resume");
+        }
+        return Err(Fault::Input);
     }
     let seed = matches.get_one::<u32>("seed").unwrap_or(0);
     Ok(FaultPlan { shares, seed })

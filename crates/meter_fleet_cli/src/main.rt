@@ -1,13 +1,12 @@
 //! The program `meter_fleet`: many meters in one process, each at its own loopback address.
 //!
-//! `meter_fleet` has the loop, `fleet_meters` the meters and their connections; this crate has the
-//! command line, the sockets and the exit status.
+//! `meter_fleet` has the loop, `fleet_sockets` the sockets, `fleet_meters` the meters and their
+//! connections; this crate has the command line and the exit status.
 #![tactic(auto)]
 
 mod arguments;
 mod faults;
 mod serving;
-mod sockets;
 mod terms;
 mod traces;
 

@@ -1,10 +1,10 @@
 //! The command `serve`: meters that clients reach over TCP.
 use crate::faults::fault_plan;
-use crate::sockets::{FleetSockets, TimeLimits};
-use crate::terms::meter_terms;
+use crate::terms::fleet_terms;
 use clap::ArgMatches;
 use fleet_console::FleetConsole;
 use fleet_faults::FaultPlan;
+use fleet_sockets::{FleetSockets, TimeLimits};
 use meter_fleet::{FleetFault, serve_fleet};
 use program::Fault;
 use std::io::ErrorKind;
@@ -83,7 +83,7 @@ pub(crate) fn serve<N: Net + Wait>(
 ) -> Result<u8, Fault> {
     let meters = matches.get_one::<u32>("meters").unwrap_or(1);
     let plan = fault_plan(rt, matches)?;
-    let terms = meter_terms(rt, matches)?;
+    let terms = fleet_terms(rt, matches, plan)?;
     match listen(rt, net, matches, plan) {
         Ok(mut sockets) => {
             let fault = serve_fleet(net, rt.alloc(), &mut sockets, terms, meters as usize);

@@ -1,4 +1,4 @@
-//! What all meters of a fleet have in common: the trace that they continue from, the password and
+//! What the meters of a fleet are made of: the traces that they continue from, the passwords and
 //! the number of events that a meter keeps.
 ghost use Rattle.std.specs.Prelude.{◌≤◌, IfOk};
 ghost use Rattle.acse_ber.specs.Password.{IsPassword};
@@ -8,7 +8,8 @@ use acse_ber::MAX_PASSWORD;
 use clap::ArgMatches;
 use clap::error::ErrorKind;
 use cosem_axdr::Octets;
-use fleet_meters::MeterTerms;
+use fleet_faults::FaultPlan;
+use fleet_meters::{FleetTerms, MeterTerms};
 use program::{Fault, password_line, read_password_file};
 use std::env;
 use std::env::VarError;
@@ -18,6 +19,9 @@ const PASSWORD_VARIABLE: &str = "METER_PASSWORD";
 
 // The maximum number of events that a meter keeps.
 const MAX_DEPTH: u16 = 1_024;
+
+// The control mode in which a meter refuses every remote disconnection and reconnection.
+const REFUSING_MODE: u8 = 0;
 
 // Returns the password of the environment. Errors: `Input` if there is none, with a line on
 // standard error, or if it is not UTF-8, with a line if `is_verbose`; `Memory`.
@@ -74,8 +78,8 @@ fn find_password(rt: &HostRuntime, matches: &ArgMatches<'_>) -> Result<Octets, F
     check_password(rt, text.as_str(), is_verbose)
 }
 
-// Returns the trace that all meters continue from: that of the file of `--resume`, or that of a new
-// meter.
+// Returns the trace that all meters continue from, but for those that refuse: that of the file of
+// `--resume`, or that of a new meter.
 fn first_trace(rt: &HostRuntime, matches: &ArgMatches<'_>) -> Result<Octets, Fault> {
     match matches.get_str("resume") {
         Some(path) => read_trace_file(rt, path),
@@ -94,10 +98,8 @@ fn depth(matches: &ArgMatches<'_>) -> u16
     depth.clamp(1, MAX_DEPTH)
 }
 
-/// Returns what all meters have in common. Errors: `Input` if the password is missing, is not UTF-8
-/// or is not 1 to 32 bytes; those of its file and of the file of `--resume`, with a line on
-/// standard error; `Memory`.
-pub(crate) fn meter_terms(rt: &HostRuntime, matches: &ArgMatches<'_>) -> Result<MeterTerms, Fault> {
+// Returns what all meters have in common that have no fault of their own.
+fn common_terms(rt: &HostRuntime, matches: &ArgMatches<'_>) -> Result<MeterTerms, Fault> {
     let password = find_password(rt, matches)?;
     let trace = match first_trace(rt, matches) {
         Ok(trace) => trace,
@@ -112,5 +114,27 @@ pub(crate) fn meter_terms(rt: &HostRuntime, matches: &ArgMatches<'_>) -> Result<
             let path = matches.get_str("resume").unwrap_or("");
             Err(report_wrong_trace(rt, path, fault))
         }
+    }
+}
+
+/// Returns what each meter is made of, where `plan` has its fault. Errors: `Input` if the password
+/// is missing, is not UTF-8 or is not 1 to 32 bytes; those of its file and of the file of
+/// `--resume`, with a line on standard error; `Memory`.
+pub(crate) fn fleet_terms(
+    rt: &HostRuntime,
+    matches: &ArgMatches<'_>,
+    plan: FaultPlan,
+) -> Result<FleetTerms, Fault> {
+    let common = common_terms(rt, matches)?;
+    let refusing = match trace_in_mode(rt.alloc(), REFUSING_MODE) {
+        Ok(trace) => trace,
+        Err(_) => {
+            drop(common);
+            return Err(Fault::Memory);
+        }
+    };
+    match FleetTerms::new(rt.alloc(), common, refusing, plan) {
+        Ok(terms) => Ok(terms),
+        Err(_) => Err(Fault::Memory),
     }
 }

@@ -124,7 +124,8 @@ module _ (Renews : List ℕ → List ℕ → Type 0) where
   -- ---- what a crash leaves
 
   module _ {F : Type 0} (seen : F → List ℕ) (may_leave : F → List ℕ → Type 0)
-      (stored : List ℕ → Type 0) (moment : F → ℕ) (left_since : F → ℕ → List ℕ → Type 0) where
+      (identity : F → ℕ) (stored : ℕ → List ℕ → Type 0) (moment : F → ℕ)
+      (left_since : F → ℕ → List ℕ → Type 0) where
     -- a front of the lines of a text, after those that a file holds
     abbrev pub HoldsMore : Lines → Lines → List ℕ → List ℕ → Type 0
     HoldsMore first lines text c = (k : ℕ) × (k ≤ length (lines_in text))
@@ -154,7 +155,7 @@ module _ (Renews : List ℕ → List ℕ → Type 0) where
 
     -- a file to which nothing was appended holds as many lines as before
     pub unchanged_leaves : (old : F) (first : Lines) (taken : ℕ) (p q : Calls) → StartsWith q p
-        → IsSettled seen may_leave stored old
+        → IsSettled seen may_leave identity stored old
         → ((c : List ℕ) → left_since old (moment old) c → may_leave old c)
         → IsSaved Renews first taken p (seen old)
         → LeavesOnly moment left_since old old (IsSavedFrom Renews taken first q)

@@ -1,7 +1,8 @@
 -- What a file holds of the lines of a history, also if it was renewed since.
 --     IsSaved        the lines that it had first, followed by a front of the lines of the history
 --     IsSavedFrom    these, with a front of at least a number of lines
---     IsSynced       a sync returned while a file had the first lines of a history
+--     IsFileOf       a file with a number, and the lines that it has
+--     IsSynced       a sync of a file returned while it had the first lines of a history
 --     IsStored       it did so for the history of a lock
 --     Leaves         what the worker of a journal leaves of its file
 --     Keeps          what the worker of a journal does
@@ -34,29 +35,37 @@ abbrev pub IsAllSaved : (List ℕ → List ℕ → Type 0) → List (List ℕ) �
 IsAllSaved Renews first calls file =
     IsSaved Renews first (length (lines_of_calls calls)) calls file
 
--- whether a sync returned while a file held the first n lines of the history, after lines that it
--- had before
-pub record IsSynced (Renews : List ℕ → List ℕ → Type 0) (stored : List ℕ → Type 0) (calls : Calls)
-    (n : ℕ) : Type 0 where
+-- whether this is the file with the number, and has these lines
+pub record IsFileOf {F : Type 0} (seen : F → List ℕ) (identity : F → ℕ) (number : ℕ)
+    (first : List (List ℕ)) (file : F) : Type 0 where
+  pub number_is : identity file ≡ number
+  pub lines : lines_in (seen file) ≡ first
+
+-- Whether a sync of a file returned while it held the lines that it had first, followed by the
+-- first n lines of the history. `stored` has the bytes that the file had when a sync returned.
+pub record IsSynced (Renews : List ℕ → List ℕ → Type 0) (stored : List ℕ → Type 0)
+    (first : List (List ℕ)) (calls : Calls) (n : ℕ) : Type 0 where
   pub file : List ℕ
   pub kept : stored file
-  pub first : List (List ℕ)
   pub saved : IsSaved Renews first n calls file
 
--- whether a sync returned while a file held the first n lines of a legal history
-pub record IsStored (Renews : List ℕ → List ℕ → Type 0) (stored : List ℕ → Type 0) (n : ℕ) : Type 0
-  where
-    pub origin : Opening
-    pub calls : Calls
-    pub lawful : IsLegal origin calls
-    pub synced : IsSynced Renews stored calls n
+-- whether a sync of a file returned while it held the lines that it had first, followed by the
+-- first n lines of a legal history
+pub record IsStored (Renews : List ℕ → List ℕ → Type 0) (stored : List ℕ → Type 0)
+    (first : List (List ℕ)) (n : ℕ) : Type 0 where
+  pub origin : Opening
+  pub calls : Calls
+  pub lawful : IsLegal origin calls
+  pub synced : IsSynced Renews stored first calls n
 
--- Whether a crash at any moment of the worker's run leaves a file that holds the lines that it had
--- first, followed by a front of the lines of the history. If the worker ended as it was asked to,
--- every later crash leaves all lines.
-pub record Leaves {F : Type 0} (seen : F → List ℕ) (may_leave : F → List ℕ → Type 0)
-    (moment : F → ℕ) (left_since : F → ℕ → List ℕ → Type 0) (Renews : List ℕ → List ℕ → Type 0)
+-- Whether the file is the same one after the worker's run, and a crash at any moment of the run
+-- leaves a file that holds the lines that it had first, followed by a front of the lines of the
+-- history. If the worker ended as it was asked to, every later crash leaves all lines.
+pub record Leaves {F : Type 0} (identity : F → ℕ) (seen : F → List ℕ)
+    (may_leave : F → List ℕ → Type 0) (moment : F → ℕ) (left_since : F → ℕ → List ℕ → Type 0)
+    (Renews : List ℕ → List ℕ → Type 0)
     (began ended : F) (calls : Calls) (end : Result (Unit {0}) CallFault) : Type 0 where
+  pub one_file : identity ended ≡ identity began
   pub any_moment : LeavesOnly moment left_since began ended
       (IsSavedFrom Renews 0 (lines_in (seen began)) calls)
   pub all : OnOk end
@@ -65,7 +74,7 @@ pub record Leaves {F : Type 0} (seen : F → List ℕ) (may_leave : F → List �
 -- Whether the journal's worker, whose port was p and is q, ended with this result and made no call.
 -- Its only fault is that of the journal. The file was `began`, and is left as `Leaves` states if
 -- files of its type act as the crash model has them.
-pub record Keeps {F : Type 0} (acts : Type 0) (seen : F → List ℕ)
+pub record Keeps {F : Type 0} (acts : Type 0) (identity : F → ℕ) (seen : F → List ℕ)
     (may_leave : F → List ℕ → Type 0) (moment : F → ℕ) (left_since : F → ℕ → List ℕ → Type 0)
     (Renews : List ℕ → List ℕ → Type 0) (began : F) (p q : MeterPort)
     (end : Result (Unit {0}) CallFault) : Type 0 where
@@ -73,4 +82,4 @@ pub record Keeps {F : Type 0} (acts : Type 0) (seen : F → List ℕ)
   pub watches : Watches IsLegal p.known q.known
   pub fault : IfErr end (λ fault. fault ≡ Journal)
   pub leaves : acts → (ended : F)
-      × Leaves seen may_leave moment left_since Renews began ended q.known.seen end
+      × Leaves identity seen may_leave moment left_since Renews began ended q.known.seen end

@@ -5,10 +5,10 @@ ghost use Rattle.durable_lines.specs.Lines.{lines_in, IsSettled};
 ghost use Rattle.turn_lock.specs.Calls.{Watches};
 ghost use Rattle.turn_lock.specs.Shown.{IsSame};
 ghost use Rattle.shared_meter.specs.Calls.{IsLegal};
-ghost use Rattle.meter_journal.specs.Saving.{IsAllSaved, IsSavedFrom};
+ghost use Rattle.meter_journal.specs.Saving.{IsAllSaved, IsFileOf, IsSavedFrom};
 
 use crate::fault::JournalFault;
-use crate::last_save::JournalLock;
+use crate::last_save::JournalIdentity;
 use crate::progress::JournalProgress;
 use crate::saving::{Saved, save};
 use durable_lines::DurableFile;
@@ -21,7 +21,7 @@ use turn_lock::Port;
 // stopped and a last save has found no further line. The history has no line when it begins.
 //
 // Errors: those of a save, after which some of the lines may be lost.
-pub(crate) fn keep_lines<F: DurableFile, L: JournalLock, W: Wait>(
+pub(crate) fn keep_lines<F: DurableFile, L: JournalIdentity, W: Wait>(
     rt: &W,
     alloc: Global,
     port: &mut Port<Kept>,
@@ -30,11 +30,13 @@ pub(crate) fn keep_lines<F: DurableFile, L: JournalLock, W: Wait>(
     room: Vec<u8>,
 ) -> Result<(), JournalFault>
     requires lock { port.old.lock ≡ L.lock }
-    requires settled { F.acts_as_file → IsSettled F.seen F.may_leave F.stored file.old }
+    requires file { IsFileOf F.seen F.identity L.file L.first file.old }
+    requires settled { F.acts_as_file → IsSettled F.seen F.may_leave F.identity F.stored file.old }
     ensures same { IsSame port.old port.new }
+    ensures identity { F.identity file.new ≡ F.identity file.old }
     ensures watches { Watches IsLegal port.old.known port.new.known }
     ensures settled { OnOk result (F.acts_as_file
-        → IsSettled F.seen F.may_leave F.stored file.new) }
+        → IsSettled F.seen F.may_leave F.identity F.stored file.new) }
     ensures all_saved { OnOk result (F.acts_as_file
         → IsAllSaved F.renews (lines_in (F.seen file.old)) port.new.known.seen (F.seen file.new)) }
     ensures any_moment { F.acts_as_file → LeavesOnly F.moment F.left_since file.old file.new

@@ -1,5 +1,5 @@
 //! `LastSave`: how many lines of a journal are on the disk, and of which history they are.
-ghost use Rattle.std.specs.Prelude.{◌≡◌, ℕ, []};
+ghost use Rattle.std.specs.Prelude.{◌≡◌, ℕ, List, []};
 ghost use Rattle.atomic_table.specs.Seated.{TableId};
 ghost use Rattle.turn_lock.specs.Calls.{Watches};
 ghost use Rattle.turn_lock.specs.Shown.{IsSame};
@@ -13,18 +13,24 @@ use std::marker::{Brand, Model, PhantomData};
 use std::mem;
 use turn_lock::{Note, Port};
 
-/// The lock of the meter whose lines a journal has.
+/// Which journal it is: the lock of the meter whose lines it has, and the file that has them.
 ///
 /// The handles of a journal have a type parameter with this bound, so that no handle waits for the
-/// lines of another meter. The call that begins a journal picks the lock, by
-/// [`Brand`](std::marker::Brand).
-pub trait JournalLock {
+/// lines of another meter, or for those in another file. The call that begins a journal picks the
+/// lock and the file, by [`Brand`](std::marker::Brand).
+pub trait JournalIdentity {
     /// Ghost value: the lock.
     ghost lock: { TableId };
+
+    /// Ghost value: the number of the file.
+    ghost file: { ℕ };
+
+    /// Ghost value: the lines that the file had before those of the meter.
+    ghost first: { List (List ℕ) };
 }
 
-/// The type argument of a call that picks the lock.
-impl JournalLock for Brand {
+/// The type argument of a call that picks the journal.
+impl JournalIdentity for Brand {
     ghost lock = { record {
       words = 0;
       slots = 0;
@@ -34,31 +40,36 @@ impl JournalLock for Brand {
       offset = 0;
       slot_names = [];
     } };
+
+    ghost file = { 0 };
+
+    ghost first = { [] };
 }
 
 // The number of lines that the last save has put on the disk, and a note of the history whose first
 // lines they are. Contracts see the number.
 #[derive(Drop)]
-pub(crate) struct LastSave<F: DurableFile, L: JournalLock> {
+pub(crate) struct LastSave<F: DurableFile, L: JournalIdentity> {
     count: u64,
     note: Note<Kept>,
     marker: PhantomData<(F, L)>,
 }
 
-impl<F: DurableFile, L: JournalLock> Model for LastSave<F, L> {
+impl<F: DurableFile, L: JournalIdentity> Model for LastSave<F, L> {
     ghost Value = { ℕ };
 
     ghost view = { λ s. s.count };
 
     ghost invariant = { λ s. (s.note.lock ≡ L.lock)
-        × (F.acts_as_file → IsSynced F.renews F.stored s.note.seen s.count) };
+        × (F.acts_as_file → IsSynced F.renews (F.stored L.file) L.first s.note.seen s.count) };
 }
 
-impl<F: DurableFile, L: JournalLock> LastSave<F, L> {
+impl<F: DurableFile, L: JournalIdentity> LastSave<F, L> {
     // Returns a save of the first lines of the port's history, of this number.
     pub(crate) fn new(port: &mut Port<Kept>, count: u64) -> LastSave<F, L>
         requires lock { port.old.lock ≡ L.lock }
-        requires synced { F.acts_as_file → IsSynced F.renews F.stored port.old.known.seen count }
+        requires synced { F.acts_as_file
+            → IsSynced F.renews (F.stored L.file) L.first port.old.known.seen count }
         ensures { port.new ≡ port.old }
     {
         LastSave {
@@ -71,7 +82,8 @@ impl<F: DurableFile, L: JournalLock> LastSave<F, L> {
     // Records that the first lines of the port's history, of this number, are on the disk.
     pub(crate) fn update(&mut self, port: &mut Port<Kept>, count: u64)
         requires lock { port.old.lock ≡ L.lock }
-        requires synced { F.acts_as_file → IsSynced F.renews F.stored port.old.known.seen count }
+        requires synced { F.acts_as_file
+            → IsSynced F.renews (F.stored L.file) L.first port.old.known.seen count }
         ensures { port.new ≡ port.old }
     {
         self.count = count;
@@ -84,7 +96,7 @@ impl<F: DurableFile, L: JournalLock> LastSave<F, L> {
         ensures same { IsSame port.old port.new }
         ensures watches { Watches IsLegal port.old.known port.new.known }
         ensures durable { AreDurable
-            (λ calls n. F.acts_as_file → IsSynced F.renews F.stored calls n)
+            (λ calls n. F.acts_as_file → IsSynced F.renews (F.stored L.file) L.first calls n)
             port.new.known.seen result }
     {
         let own = port.tell();

@@ -15,7 +15,7 @@ mod starting;
 mod worker;
 
 pub use fault::JournalFault;
-pub use last_save::JournalLock;
+pub use last_save::JournalIdentity;
 pub use progress::JournalProgress;
 pub use saving::{Saved, save};
 pub use starting::{JournalThread, start_journal, stop_journal};

@@ -2,14 +2,14 @@
 //! theirs.
 ghost use Rattle.std.specs.Prelude.{◌≡◌, OnOk};
 ghost use Rattle.durable_lines.specs.Lines.{IsSettled};
-ghost use Rattle.meter_journal.specs.Saving.{IsStored, IsSynced};
+ghost use Rattle.meter_journal.specs.Saving.{IsFileOf, IsStored, IsSynced};
 
-use crate::last_save::{JournalLock, LastSave};
+use crate::last_save::{JournalIdentity, LastSave};
 use durable_lines::DurableFile;
 use shared_meter::{Durability, Kept};
 use std::alloc::{AllocError, Global};
 use std::marker::PhantomData;
-use std::sync::atomic::{AtomicBool, AtomicIn, Ordering, Rule};
+use std::sync::atomic::{AtomicBool, AtomicIn, AtomicU64, Ordering, Rule};
 use std::sync::{Arc, Condvar, Mutex, Wait};
 use std::time::Duration;
 use turn_lock::Port;
@@ -25,28 +25,30 @@ const PATIENCE: u64 = 1_000;
 /// microseconds.
 const GATHERING: u64 = 200;
 
-// The rule of the number of lines on the disk: a sync of a file of this type returned while the
-// file had as many lines of a history. No value of it is made.
-struct StoredLines<F>(PhantomData<F>);
+// The rule of the number of lines on the disk: a sync of the journal's file returned while the file
+// had as many lines of a history. No value of it is made.
+struct StoredLines<F, L>(PhantomData<(F, L)>);
 
-impl<F: DurableFile> Rule for StoredLines<F> {
-    ghost invariant = { λ n. F.acts_as_file → IsStored F.renews F.stored n };
+impl<F: DurableFile, L: JournalIdentity> Rule for StoredLines<F, L> {
+    ghost invariant = { λ n. F.acts_as_file → IsStored F.renews (F.stored L.file) L.first n };
 }
 
 // What the handles of a journal share. Of the two conditions one is changed for sessions that wait
-// for lines, the other for the worker.
+// for lines, the other for the worker: by the request that brings their number to `wake_at`.
 #[derive(Drop)]
-struct ProgressState<F: DurableFile, L: JournalLock> {
-    lines: AtomicIn<StoredLines<F>>,
+struct ProgressState<F: DurableFile, L: JournalIdentity> {
+    lines: AtomicIn<StoredLines<F, L>>,
     last: Mutex<LastSave<F, L>>,
     has_ended: AtomicBool,
     has_failed: AtomicBool,
     is_stopped: AtomicBool,
+    requests: AtomicU64,
+    wake_at: AtomicU64,
     saved: Condvar,
     wanted: Condvar,
 }
 
-impl<F: DurableFile, L: JournalLock> ProgressState<F, L> {
+impl<F: DurableFile, L: JournalIdentity> ProgressState<F, L> {
     // Waits until this number of lines is on the disk, or the journal has ended.
     fn wait<W: Wait>(&self, rt: &W, lines: u64) {
         for _ in rt.forever() {
@@ -55,10 +57,29 @@ impl<F: DurableFile, L: JournalLock> ProgressState<F, L> {
             if has_ended || self.lines.load(Ordering::SeqCst) >= lines {
                 return;
             }
-            self.wanted.notify_all();
+            self.request();
             self.saved.sleep(rt, seen, Duration::from_millis(PATIENCE));
         }
         unreachable!()
+    }
+
+    // Requests a save. Wakes the worker if it waits for no more requests than there are now.
+    fn request(&self) {
+        let before = self.requests.fetch_add(1, Ordering::SeqCst);
+        let wake_at = self.wake_at.load(Ordering::SeqCst);
+        if before.wrapping_add(1) >= wake_at {
+            self.wanted.notify_all();
+        }
+    }
+
+    // Sleeps for at most a time, unless there are `count` more requests than `seen`.
+    fn sleep<W: Wait>(&self, rt: &W, seen: u64, count: u64, patience: Duration) {
+        self.wake_at
+            .store(seen.wrapping_add(count), Ordering::SeqCst);
+        let notified = self.wanted.notifications();
+        if self.requests.load(Ordering::SeqCst).wrapping_sub(seen) < count {
+            self.wanted.sleep(rt, notified, patience);
+        }
     }
 }
 
@@ -66,13 +87,13 @@ impl<F: DurableFile, L: JournalLock> ProgressState<F, L> {
 /// worker has one, each session has one, and the program has one to stop the worker.
 ///
 /// Lines are counted from the start of the history of the meter's lock; those that the file had
-/// before are not counted. The type parameter `L` is the lock.
+/// before are not counted. The type parameter `L` names the lock and the file.
 #[derive(Drop)]
-pub struct JournalProgress<F: DurableFile, L: JournalLock> {
+pub struct JournalProgress<F: DurableFile, L: JournalIdentity> {
     state: Arc<ProgressState<F, L>, Global>,
 }
 
-impl<F: DurableFile, L: JournalLock> JournalProgress<F, L> {
+impl<F: DurableFile, L: JournalIdentity> JournalProgress<F, L> {
     /// Returns the handle of a journal without lines, which will be written to this file through a
     /// port of this lock: a wait for 0 lines returns true. Errors: `AllocError`.
     pub fn new(
@@ -81,9 +102,12 @@ impl<F: DurableFile, L: JournalLock> JournalProgress<F, L> {
         file: &F,
     ) -> Result<JournalProgress<F, L>, AllocError>
         requires lock { port.old.lock ≡ L.lock }
-        requires settled { F.acts_as_file → IsSettled F.seen F.may_leave F.stored file.now }
+        requires file { IsFileOf F.seen F.identity L.file L.first file.now }
+        requires settled { F.acts_as_file
+            → IsSettled F.seen F.may_leave F.identity F.stored file.now }
         ensures port { port.new ≡ port.old }
-        ensures stored { OnOk result (F.acts_as_file → IsStored F.renews F.stored 0) }
+        ensures stored { OnOk result (F.acts_as_file
+            → IsStored F.renews (F.stored L.file) L.first 0) }
     {
         // (no effect: the contract needs this law)
         port.history_is_legal();
@@ -94,6 +118,8 @@ impl<F: DurableFile, L: JournalLock> JournalProgress<F, L> {
             has_ended: AtomicBool::new(false),
             has_failed: AtomicBool::new(false),
             is_stopped: AtomicBool::new(false),
+            requests: AtomicU64::new(0),
+            wake_at: AtomicU64::new(0),
             saved: Condvar::new(),
             wanted: Condvar::new(),
         };
@@ -104,7 +130,7 @@ impl<F: DurableFile, L: JournalLock> JournalProgress<F, L> {
 
     /// Returns the number of lines that are on the disk.
     pub fn lines(&self) -> u64
-        ensures { F.acts_as_file → IsStored F.renews F.stored result }
+        ensures { F.acts_as_file → IsStored F.renews (F.stored L.file) L.first result }
     {
         self.state.lines.load(Ordering::SeqCst)
     }
@@ -115,7 +141,8 @@ impl<F: DurableFile, L: JournalLock> JournalProgress<F, L> {
     // others the next one. Only the worker calls it.
     pub(crate) fn announce<W: Wait>(&self, rt: &W, port: &mut Port<Kept>, lines: u64)
         requires lock { port.old.lock ≡ L.lock }
-        requires synced { F.acts_as_file → IsSynced F.renews F.stored port.old.known.seen lines }
+        requires synced { F.acts_as_file
+            → IsSynced F.renews (F.stored L.file) L.first port.old.known.seen lines }
         ensures { port.new ≡ port.old }
     {
         // (no effect: the contract needs this law)
@@ -134,13 +161,11 @@ impl<F: DurableFile, L: JournalLock> JournalProgress<F, L> {
     // soon after the one before.
     fn gather<W: Wait>(&self, rt: &W, seen: u64, count: u64) {
         for _ in 0..count {
+            let before = self.requests();
+            self.state
+                .sleep(rt, seen, count, Duration::from_micros(GATHERING));
             let now = self.requests();
-            if now.wrapping_sub(seen) >= count {
-                return;
-            }
-            let patience = Duration::from_micros(GATHERING);
-            self.state.wanted.sleep(rt, now, patience);
-            if self.requests() == now {
+            if now == before || now.wrapping_sub(seen) >= count {
                 return;
             }
         }
@@ -163,6 +188,7 @@ impl<F: DurableFile, L: JournalLock> JournalProgress<F, L> {
     /// every wait for more lines than are on the disk returns false at once.
     pub fn stop(&self) {
         self.state.is_stopped.store(true, Ordering::SeqCst);
+        self.state.requests.fetch_add(1, Ordering::SeqCst);
         self.state.wanted.notify_all();
     }
 
@@ -173,21 +199,20 @@ impl<F: DurableFile, L: JournalLock> JournalProgress<F, L> {
 
     // Returns the number of requests for a save so far, which wraps.
     pub(crate) fn requests(&self) -> u64 {
-        self.state.wanted.notifications()
+        self.state.requests.load(Ordering::SeqCst)
     }
 
     // Sleeps for a period, unless there were more requests than `seen`.
     pub(crate) fn sleep<W: Wait>(&self, rt: &W, seen: u64) {
-        self.state
-            .wanted
-            .sleep(rt, seen, Duration::from_millis(PERIOD));
+        self.state.sleep(rt, seen, 1, Duration::from_millis(PERIOD));
     }
 }
 
-impl<F: DurableFile, L: JournalLock> Durability for JournalProgress<F, L> {
+impl<F: DurableFile, L: JournalIdentity> Durability for JournalProgress<F, L> {
     ghost fits = { λ lock. lock ≡ L.lock };
 
-    ghost is_durable = { λ calls lines. F.acts_as_file → IsSynced F.renews F.stored calls lines };
+    ghost is_durable = { λ calls lines. F.acts_as_file
+        → IsSynced F.renews (F.stored L.file) L.first calls lines };
 
     fn wait<W: Wait>(&self, rt: &W, port: &mut Port<Kept>, lines: u64) -> bool {
         self.state.wait(rt, lines);

@@ -65,13 +65,13 @@ pub fn save<F: DurableFile, W: Wait>(
     taken: u64,
     room: Vec<u8>,
 ) -> Result<Saved, JournalFault>
-    requires settled { F.acts_as_file → IsSettled F.seen F.may_leave F.stored file.old }
+    requires settled { F.acts_as_file → IsSettled F.seen F.may_leave F.identity F.stored file.old }
     ensures same { IsSame port.old port.new }
     ensures watches { Watches IsLegal port.old.known port.new.known }
     ensures count { IfOk result
         (λ saved. saved.count ≡ length (lines_of_calls port.new.known.seen)) }
     ensures settled { OnOk result (F.acts_as_file
-        → IsSettled F.seen F.may_leave F.stored file.new) }
+        → IsSettled F.seen F.may_leave F.identity F.stored file.new) }
     ensures saved { IfOk result (λ saved. F.acts_as_file → (first : List (List ℕ))
         → IsSaved F.renews first taken port.old.known.seen (F.seen file.old)
         → IsSaved F.renews first saved.count port.new.known.seen (F.seen file.new)) }
@@ -80,6 +80,7 @@ pub fn save<F: DurableFile, W: Wait>(
         → IsSaved F.renews first taken port.old.known.seen (F.seen file.old)
         → LeavesOnly F.moment F.left_since file.old file.new
         (IsSavedFrom F.renews taken first port.new.known.seen) }
+    ensures identity { F.identity file.new ≡ F.identity file.old }
     ensures turns { IsErrOf result JournalFault.Turns → port.old.bound ≤ port.new.known.drawn }
     ensures failed { IsErrOf result (JournalFault.File FileFault.Failed) → F.has_failed file.new }
 {

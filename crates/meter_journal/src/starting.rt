@@ -4,7 +4,7 @@ ghost use Rattle.port_threads.specs.Ports.{AreJoined, PortContinues, SplitsOff};
 ghost use Rattle.port_threads.specs.Workers.{ReturnsPort};
 ghost use Rattle.meter_journal.specs.Saving.{Keeps};
 
-use crate::last_save::JournalLock;
+use crate::last_save::JournalIdentity;
 use crate::progress::JournalProgress;
 use crate::worker::{FailureAction, JournalWorker};
 use durable_lines::DurableFile;
@@ -24,7 +24,7 @@ pub type JournalThread<F, A, L> = WorkerThread<Kept, JournalWorker<F, A, L>>;
 pub fn start_journal<
     F: DurableFile + Send + 'static,
     A: FailureAction + 'static,
-    L: JournalLock + Send + Sync + 'static,
+    L: JournalIdentity + Send + Sync + 'static,
     R: Threads + Wait + Copy + Send + 'static,
 >(
     rt: &R,
@@ -54,7 +54,7 @@ pub fn start_journal<
 pub fn stop_journal<
     F: DurableFile + Send,
     A: FailureAction,
-    L: JournalLock + Send + Sync,
+    L: JournalIdentity + Send + Sync,
     R: Threads,
 >(
     rt: &R,
@@ -64,7 +64,7 @@ pub fn stop_journal<
 ) -> Option<Result<(), CallFault>>
     requires { running.promise.port.value.lock ≡ port.old.lock }
     ensures { let task = running.promise
-        in ReturnsPort (Keeps F.acts_as_file F.seen F.may_leave F.moment F.left_since
+        in ReturnsPort (Keeps F.acts_as_file F.identity F.seen F.may_leave F.moment F.left_since
         F.renews task.worker.value) task.port.value result port.old port.new }
 {
     progress.stop();

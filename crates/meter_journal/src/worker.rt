@@ -1,10 +1,11 @@
 //! The worker that writes a journal, in a thread of its own.
 ghost use Rattle.std.specs.Prelude.{◌≡◌, IfOk};
 ghost use Rattle.durable_lines.specs.Lines.{IsSettled};
+ghost use Rattle.meter_journal.specs.Saving.{IsFileOf};
 
 use crate::fault::JournalFault;
 use crate::keeping::keep_lines;
-use crate::last_save::JournalLock;
+use crate::last_save::JournalIdentity;
 use crate::progress::JournalProgress;
 use durable_lines::DurableFile;
 use port_threads::Worker;
@@ -24,24 +25,25 @@ pub trait FailureAction: Drop + Send {
 
 /// The worker of a journal: it saves the lines of the meter's events to its file, and announces
 /// them, until the journal is stopped or fails. Its file has whole lines, and all of them are on
-/// the disk. It works through a port of the lock `L`. Contracts see the file.
+/// the disk. It works through a port of the lock of `L`. Contracts see the file.
 #[derive(Drop)]
-pub struct JournalWorker<F: DurableFile, A: FailureAction, L: JournalLock> {
+pub struct JournalWorker<F: DurableFile, A: FailureAction, L: JournalIdentity> {
     file: F,
     progress: JournalProgress<F, L>,
     on_failure: A,
     room: Vec<u8>,
 }
 
-impl<F: DurableFile, A: FailureAction, L: JournalLock> Model for JournalWorker<F, A, L> {
+impl<F: DurableFile, A: FailureAction, L: JournalIdentity> Model for JournalWorker<F, A, L> {
     ghost Value = { F };
 
     ghost view = { λ w. w.file };
 
-    ghost invariant = { λ w. F.acts_as_file → IsSettled F.seen F.may_leave F.stored w.file };
+    ghost invariant = { λ w. IsFileOf F.seen F.identity L.file L.first w.file
+        × (F.acts_as_file → IsSettled F.seen F.may_leave F.identity F.stored w.file) };
 }
 
-impl<F: DurableFile, A: FailureAction, L: JournalLock> JournalWorker<F, A, L> {
+impl<F: DurableFile, A: FailureAction, L: JournalIdentity> JournalWorker<F, A, L> {
     /// Makes the worker of a journal that was recovered or begun, so that its file has whole lines
     /// and all of them are on the disk. Errors: `AllocError`.
     pub fn new(
@@ -51,7 +53,8 @@ impl<F: DurableFile, A: FailureAction, L: JournalLock> JournalWorker<F, A, L> {
         on_failure: A,
         room: usize,
     ) -> Result<JournalWorker<F, A, L>, AllocError>
-        requires { F.acts_as_file → IsSettled F.seen F.may_leave F.stored file }
+        requires file { IsFileOf F.seen F.identity L.file L.first file }
+        requires settled { F.acts_as_file → IsSettled F.seen F.may_leave F.identity F.stored file }
         ensures { IfOk result (λ worker. worker ≡ file) }
     {
         let mut text = Vec::new(alloc);
@@ -65,13 +68,14 @@ impl<F: DurableFile, A: FailureAction, L: JournalLock> JournalWorker<F, A, L> {
     }
 }
 
-impl<F: DurableFile + Send, A: FailureAction, L: JournalLock + Send + Sync> Worker<Port<Kept>>
+impl<F: DurableFile + Send, A: FailureAction, L: JournalIdentity + Send + Sync> Worker<Port<Kept>>
     for JournalWorker<F, A, L> {
     ghost use Rattle.meter_journal.specs.Saving.{Keeps};
 
     ghost fits = { λ port. port.lock ≡ L.lock };
 
-    ghost did = { λ worker p q end. Keeps F.acts_as_file F.seen F.may_leave F.moment F.left_since
+    ghost did = { λ worker p q end. Keeps F.acts_as_file F.identity F.seen F.may_leave F.moment
+        F.left_since
         F.renews worker p q end };
 
     /// Saves lines until the journal is stopped. The only error is `Journal`.

@@ -13,8 +13,6 @@ mod optional_file;
 mod relay;
 mod relayed_file;
 mod report;
-#[cfg(test)]
-mod tests;
 
 pub use fault::RelayFault;
 pub use following::follow_text;

@@ -1,6 +1,6 @@
 //! `OptionalFile`: the file of a meter that may have no journal.
 ghost use Rattle.std.specs.Prelude.{◌≡◌, ◌↔◌, [], IsErrOf};
-ghost use Rattle.meter_relay.specs.OptionalFile.{HasFailed};
+ghost use Rattle.meter_relay.specs.OptionalFile.{FileHasFailed, HasFailed};
 
 use durable_lines::{DurableFile, FileFault};
 use std::alloc::Global;
@@ -15,7 +15,9 @@ pub struct OptionalFile<F: DurableFile> {
 
 impl<F: DurableFile> OptionalFile<F> {
     /// Returns this file, or that of a meter without a journal.
-    pub fn new(file: Option<F>) -> OptionalFile<F> {
+    pub fn new(file: Option<F>) -> OptionalFile<F>
+        ensures { HasFailed F.has_failed result ↔ FileHasFailed F.has_failed file }
+    {
         OptionalFile {
             file,
             is_cut: false,
@@ -26,6 +28,8 @@ impl<F: DurableFile> OptionalFile<F> {
 impl<F: DurableFile> DurableFile for OptionalFile<F> {
     ghost acts_as_file = { ⊥ };
 
+    ghost identity = { λ _. 0 };
+
     ghost seen = { λ _. [] };
 
     ghost may_leave = { λ _ _. ⊥ };
@@ -34,7 +38,7 @@ impl<F: DurableFile> DurableFile for OptionalFile<F> {
 
     ghost left_since = { λ _ _ _. ⊥ };
 
-    ghost stored = { λ _. ⊥ };
+    ghost stored = { λ _ _. ⊥ };
 
     ghost has_failed = { HasFailed F.has_failed };
 

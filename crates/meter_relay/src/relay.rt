@@ -99,7 +99,9 @@ impl<W: Write + Drop, L: ChangeReport> Relay<W, L> {
     }
 
     /// Returns the output.
-    pub fn output(&self) -> &W {
+    pub fn output(&self) -> &W
+        ensures { result.now ≡ self.now.output }
+    {
         &self.output
     }
 

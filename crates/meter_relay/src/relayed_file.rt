@@ -1,6 +1,7 @@
 //! `RelayedFile`: the file of a journal, whose relay is given a change after its event is on the
 //! disk.
-ghost use Rattle.std.specs.Prelude.{◌≡◌, ◌++◌, ◌↔◌, [], IsErrOf, OnOk, false};
+ghost use Rattle.std.specs.Prelude.{◌≡◌, ◌++◌, ◌↔◌, [], IfNone, IfSome, IsErrOf, None, OnOk, Some};
+ghost use Rattle.std.specs.Prelude.{false};
 ghost use Rattle.durable_lines.specs.CrashModel.{Elapses, Follows, Narrows, HasOneOutcome, TornAppend};
 ghost use Rattle.text_lines.specs.Lines.{lines_of};
 ghost use Rattle.meter_relay.specs.Following.{MayFollowOn};
@@ -44,7 +45,10 @@ impl<F: DurableFile, W: Write + Drop, L: ChangeReport> RelayedFile<F, W, L> {
     }
 
     /// Returns the relay, if there is one.
-    pub fn relay(&self) -> Option<&Relay<W, L>> {
+    pub fn relay(&self) -> Option<&Relay<W, L>>
+        ensures present { IfSome result (λ relay. self.now.relay ≡ Some relay.now) }
+        ensures absent { IfNone result (self.now.relay ≡ None) }
+    {
         self.relay.as_ref()
     }
 
@@ -73,7 +77,9 @@ impl<F: DurableFile, W: Write + Drop, L: ChangeReport> RelayedFile<F, W, L> {
         ensures unchanged { OnOk result (F.seen self.new.file ≡ F.seen self.old.file) }
         ensures durable { OnOk result
             (HasOneOutcome (F.seen self.old.file) (F.may_leave self.new.file)) }
-        ensures stored { OnOk result (F.acts_as_file → F.stored (F.seen self.old.file)) }
+        ensures stored { OnOk result (F.acts_as_file
+            → F.stored (F.identity self.new.file) (F.seen self.old.file)) }
+        ensures identity { F.identity self.new.file ≡ F.identity self.old.file }
         ensures crash { Narrows (F.may_leave self.old.file) (F.may_leave self.new.file) }
         ensures time { Elapses (F.moment self.old.file) (F.moment self.new.file)
             (F.left_since self.old.file) (F.left_since self.new.file) (F.may_leave self.new.file) }
@@ -96,6 +102,7 @@ impl<F: DurableFile, W: Write + Drop, L: ChangeReport> RelayedFile<F, W, L> {
         ensures waiting { OnOk result
             (self.new.waiting.items ≡ self.old.waiting.items ++ bytes.now) }
         ensures relay { self.new.relay ≡ self.old.relay }
+        ensures identity { F.identity self.new.file ≡ F.identity self.old.file }
     {
         self.file.append(bytes)?;
         Ok(self.waiting.extend_from_slice(bytes)?)
@@ -104,6 +111,8 @@ impl<F: DurableFile, W: Write + Drop, L: ChangeReport> RelayedFile<F, W, L> {
 
 impl<F: DurableFile, W: Write + Drop, L: ChangeReport> DurableFile for RelayedFile<F, W, L> {
     ghost acts_as_file = { F.acts_as_file };
+
+    ghost identity = { λ r. F.identity r.file };
 
     ghost seen = { λ r. F.seen r.file };
 

@@ -5,7 +5,7 @@ use Rattle.std.proofs.Common.{length, Result, Ok, Err, IfOk, OnOk, refl, sym, ap
 use Rattle.durable_lines.specs.CrashModel.{LeavesOnly}
 use Rattle.durable_lines.proofs.Moments.{begin}
 use Rattle.durable_lines.specs.Lines.{lines_in, IsSettled}
-use Rattle.meter_journal.specs.Saving.{IsSaved, IsSavedFrom, IsSynced, Keeps}
+use Rattle.meter_journal.specs.Saving.{IsFileOf, IsSaved, IsSavedFrom, IsSynced, Keeps}
 use Rattle.meter_journal.proofs.KeepingLemmas.{saved_none}
 use Rattle.meter_journal.proofs.SavingLemmas.{saved_later}
 use Rattle.meter_run.specs.Journaled.{IsJournaledRun, IsStarted, IsFinished, LeavesFront}
@@ -148,15 +148,17 @@ front_later may_leave Renews first before after (Ok done) longer leaves = (
 )
 
 -- what the worker of a journal did: it made no call, and its file has a front of the lines
-module _ {F : Type 0} (acts : Type 0) (seen : F → List ℕ) (may_leave : F → List ℕ → Type 0)
-    (moment : F → ℕ) (left_since : F → ℕ → List ℕ → Type 0) (stored : List ℕ → Type 0)
+module _ {F : Type 0} (acts : Type 0) (identity : F → ℕ) (seen : F → List ℕ)
+    (may_leave : F → List ℕ → Type 0) (moment : F → ℕ) (left_since : F → ℕ → List ℕ → Type 0)
+    (stored : ℕ → List ℕ → Type 0)
     (Renews : List ℕ → List ℕ → Type 0) (file : F) where
   abbrev JournalDid : Did
-  JournalDid = Keeps acts seen may_leave moment left_since Renews file
+  JournalDid = Keeps acts identity seen may_leave moment left_since Renews file
 
   -- this number of lines of a history is on the disk
   abbrev OnDisk : Calls → ℕ → Type 0
-  OnDisk calls n = acts → IsSynced Renews stored calls n
+  OnDisk calls n =
+      acts → IsSynced Renews (stored (identity file)) (lines_in (seen file)) calls n
 
   quiet : (p q : MeterPort) (end : Result (Unit {0}) CallFault) → JournalDid p q end
       → Watches IsLegal p.known q.known
@@ -164,7 +166,7 @@ module _ {F : Type 0} (acts : Type 0) (seen : F → List ℕ) (may_leave : F →
 
   -- what the file has of the lines of a history, once its worker has ended
   abbrev KeptBy : Calls → Result (Unit {0}) Fault → Type 0
-  KeptBy calls journal = (ended : F)
+  KeptBy calls journal = (ended : F) × (identity ended ≡ identity file)
       × LeavesOnly moment left_since file ended (IsSavedFrom Renews 0 (lines_in (seen file)) calls)
       × OnOk journal (LeavesFront (may_leave ended) Renews (lines_in (seen file)) calls)
 
@@ -173,12 +175,16 @@ module _ {F : Type 0} (acts : Type 0) (seen : F → List ℕ) (may_leave : F →
       → (acts → (calls : Calls)
       → LeavesOnly moment left_since file file (IsSavedFrom Renews 0 (lines_in (seen file)) calls))
       → EndsWork JournalDid lent back end → acts → KeptBy back.known.seen (fault_of_journal end)
-  kept_by lent back None idle same a = (file, idle a back.known.seen, tt)
+  kept_by lent back None idle same a = (file, refl, idle a back.known.seen, tt)
   kept_by lent back (Some (Err fault)) idle worked a =
-      let kept = worked.leaves a in (kept.0, kept.1.any_moment, tt)
+      let kept = worked.leaves a in (kept.0, kept.1.one_file, kept.1.any_moment, tt)
   kept_by lent back (Some (Ok done)) idle worked a =
-      let kept = worked.leaves a in
-      (kept.0, kept.1.any_moment, (length (lines_of_calls back.known.seen), kept.1.all))
+      let kept = worked.leaves a in (
+        kept.0,
+        kept.1.one_file,
+        kept.1.any_moment,
+        (length (lines_of_calls back.known.seen), kept.1.all),
+      )
 
   journaled_run : (recorder : Recording) (given : Given) (served : Result Served ServeFault)
       (trace : Result (List ℕ) Fault) (journal : Result (Unit {0}) Fault) (lent p q : MeterPort)
@@ -187,8 +193,8 @@ module _ {F : Type 0} (acts : Type 0) (seen : F → List ℕ) (may_leave : F →
       → IsStarted (opening_of recorder.core) lent p → ServesAll given p q served
       → AreJournaled OnDisk (p.known.splits + 3) q → IsFinished JournalDid lent q trace journal
       → IfOk trace
-      (IsJournaledRun acts seen may_leave moment left_since stored Renews file recorder given served
-      journal)
+      (IsJournaledRun acts identity seen may_leave moment left_since stored Renews file recorder
+      given served journal)
   journaled_run recorder given served (Err fault) journal lent p q idle started serves waited
       finished = tt
   journaled_run recorder given served (Ok text) journal lent p q idle started serves waited
@@ -215,16 +221,17 @@ module _ {F : Type 0} (acts : Type 0) (seen : F → List ℕ) (may_leave : F →
             let kept = subst (KeptBy back.back.known.seen) (sym finished.fault)
             (kept_by lent back.back finished.end idle back.ended a) in (
               kept.0,
+              kept.1,
               leaves_later moment left_since Renews file kept.0 (lines_in (seen file))
-                  back.back.known.seen run.calls longer kept.1,
+                  back.back.known.seen run.calls longer kept.2,
               front_later (may_leave kept.0) Renews (lines_in (seen file)) back.back.known.seen
-                  run.calls journal longer kept.2,
+                  run.calls journal longer kept.3,
             );
       }
 
   -- the file of a worker that has not begun has the lines that it had
   pub idle_file : ((c : List ℕ) → left_since file (moment file) c → may_leave file c)
-      → (acts → IsSettled seen may_leave stored file) → acts → (calls : Calls)
+      → (acts → IsSettled seen may_leave identity stored file) → acts → (calls : Calls)
       → LeavesOnly moment left_since file file (IsSavedFrom Renews 0 (lines_in (seen file)) calls)
   idle_file only_now settled a calls =
       begin moment left_since file (IsSavedFrom Renews 0 (lines_in (seen file)) calls)
@@ -235,21 +242,30 @@ module _ {F : Type 0} (acts : Type 0) (seen : F → List ℕ) (may_leave : F →
       (saved_none Renews calls (seen file)) in
       (0, omega arith, saved))
 
-  -- a run is journaled also by an equal file, that of the worker
-  pub journaled_by : (recorder : Recording) (given : Given) (served : Result Served ServeFault)
+  -- a run is journaled also by an equal file, that of the worker, and by handles of that file
+  pub journaled_by : (number : ℕ) (first : List (List ℕ))
+      → IsFileOf seen identity number first file → (recorder : Recording)
+      (given : Given) (served : Result Served ServeFault)
       (trace : Result (List ℕ) Fault) (journal : Result (Unit {0}) Fault) (lent p q : MeterPort)
       (its : F) → its ≡ file
       → (acts → (calls : Calls)
       → LeavesOnly moment left_since file file (IsSavedFrom Renews 0 (lines_in (seen file)) calls))
       → IsStarted (opening_of recorder.core) lent p → ServesAll given p q served
-      → AreJournaled OnDisk (p.known.splits + 3) q
-      → IsFinished (Keeps acts seen may_leave moment left_since Renews its) lent q trace journal
-      → IfOk trace
-      (IsJournaledRun acts seen may_leave moment left_since stored Renews file recorder given served
-      journal)
-  journaled_by recorder given served trace journal lent p q its is idle started serves waited
-      finished =
-      journaled_run recorder given served trace journal lent p q idle started serves waited
+      → AreJournaled (λ calls n. acts → IsSynced Renews (stored number) first calls n)
+      (p.known.splits + 3) q
+      → IsFinished (Keeps acts identity seen may_leave moment left_since Renews its) lent q trace
+      journal → IfOk trace
+      (IsJournaledRun acts identity seen may_leave moment left_since stored Renews file recorder
+      given served journal)
+  journaled_by number first of_file recorder given served trace journal lent p q its is idle started
+      serves waited finished =
+      let Waited : ℕ → List (List ℕ) → Type 0 =
+      λ n ls. AreJournaled (λ calls m. acts → IsSynced Renews (stored n) ls calls m)
+      (p.known.splits + 3) q in
+      let waited_here : AreJournaled OnDisk (p.known.splits + 3) q =
+      subst (λ (n : ℕ). Waited n (lines_in (seen file))) (sym of_file.number_is)
+      (subst (λ (ls : List (List ℕ)). Waited number ls) (sym of_file.lines) waited) in
+      journaled_run recorder given served trace journal lent p q idle started serves waited_here
       (subst
-      (λ (f : F). IsFinished (Keeps acts seen may_leave moment left_since Renews f) lent q trace
-      journal) is finished)
+      (λ (f : F). IsFinished (Keeps acts identity seen may_leave moment left_since Renews f) lent q
+      trace journal) is finished)

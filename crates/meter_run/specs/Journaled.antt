@@ -32,20 +32,24 @@ LeavesFront may_leave Renews first calls =
 
 -- Whether this is a run in which the first port that was split off is the journal's. The calls of
 -- each session, all but at most the last one, were answered from a front of the run's own history,
--- once the lines of that front were on the disk: a sync had returned while the file held at least
--- these lines of the same history. If the file acts as the crash model has it, a crash at any
--- moment of the run leaves a file that holds the lines that it had first,
--- followed by a front of the lines of the same history, however often it was renewed. If the
--- journal has not failed either, every crash after the run leaves the same front.
-pub record IsJournaledRun {F : Type 0} (acts : Type 0) (seen : F → List ℕ)
+-- once the lines of that front were on the disk: a sync of the run's own file had returned while it
+-- held the lines that it had first, followed by at least these lines of the same history. If the
+-- file acts as the crash model has it, a crash at any moment of the run leaves a file that holds
+-- the lines that it had first, followed by a front of the lines of the same history, however often
+-- it was renewed. If the journal has not failed either, every crash after the run leaves the same
+-- front.
+pub record IsJournaledRun {F : Type 0} (acts : Type 0) (identity : F → ℕ) (seen : F → List ℕ)
     (may_leave : F → List ℕ → Type 0) (moment : F → ℕ) (left_since : F → ℕ → List ℕ → Type 0)
-    (stored : List ℕ → Type 0) (Renews : List ℕ → List ℕ → Type 0) (file : F)
+    (stored : ℕ → List ℕ → Type 0) (Renews : List ℕ → List ℕ → Type 0) (file : F)
     (recorder : Recording) (given : Given) (served : Result Served ServeFault)
     (journal : Result (Unit {0}) Fault) (text : List ℕ) : Type 0 where
   pub run : IsRunFrom 1 recorder given served text
   pub journaled : (i : ℕ) → 4 ≤ i → i < run.of_run.ports
-      → AreAnswered (λ calls n. acts → IsSynced Renews stored calls n) (i ∷ []) [] run.calls
-  pub kept : acts → (ended : F) × LeavesOnly moment left_since file ended
+      → AreAnswered
+      (λ calls n. acts → IsSynced Renews (stored (identity file)) (lines_in (seen file)) calls n)
+      (i ∷ []) [] run.calls
+  pub kept : acts → (ended : F) × (identity ended ≡ identity file)
+      × LeavesOnly moment left_since file ended
       (IsSavedFrom Renews 0 (lines_in (seen file)) run.calls)
       × OnOk journal (LeavesFront (may_leave ended) Renews (lines_in (seen file)) run.calls)
 

@@ -3,7 +3,7 @@ ghost use Rattle.std.specs.Prelude.{◌≡◌, ◌⊎◌, ⊤, ◌+◌, [], Err,
 ghost use Rattle.acse_ber.specs.Password.{IsPassword};
 ghost use Rattle.durable_lines.specs.CrashModel.{LeavesOnly};
 ghost use Rattle.durable_lines.specs.Lines.{lines_in, IsSettled};
-ghost use Rattle.meter_journal.specs.Saving.{IsSavedFrom, Keeps};
+ghost use Rattle.meter_journal.specs.Saving.{IsFileOf, IsSavedFrom, Keeps};
 ghost use Rattle.meter_run.specs.Journaled.{IsFinished, IsJournaledRun, IsStarted};
 ghost use Rattle.meter_run.specs.Journaled.{fault_of_journal};
 ghost use Rattle.meter_server.specs.ServingAll.{IsLimit, StopsFor};
@@ -20,7 +20,7 @@ use crate::running::{close_and_export, lock, serve};
 use cosem_axdr::Octets;
 use durable_lines::DurableFile;
 use meter_journal::{
-    FailureAction, JournalLock, JournalProgress, JournalThread, JournalWorker, start_journal,
+    FailureAction, JournalIdentity, JournalProgress, JournalThread, JournalWorker, start_journal,
     stop_journal,
 };
 use meter_server::{
@@ -71,7 +71,7 @@ pub struct RunTerms<'a> {
 
 // A meter in its lock, and the running worker of its journal.
 #[derive(Drop)]
-struct Started<F: DurableFile + Send, A: FailureAction, L: JournalLock + Send + Sync> {
+struct Started<F: DurableFile + Send, A: FailureAction, L: JournalIdentity + Send + Sync> {
     shared: Shared<Kept>,
     port: Port<Kept>,
     // A handle of the journal for the sessions, and one to stop the worker.
@@ -103,7 +103,7 @@ fn lock_journaled(
 fn start<
     F: DurableFile + Send + 'static,
     A: FailureAction + 'static,
-    L: JournalLock + Send + Sync + 'static,
+    L: JournalIdentity + Send + Sync + 'static,
     R: Threads + Wait + Copy + Send + 'static,
 >(
     rt: &R,
@@ -113,7 +113,9 @@ fn start<
 ) -> Option<Started<F, A, L>>
     requires lock { meter.1.lock ≡ meter.0 }
     requires same_lock { meter.1.lock ≡ L.lock }
-    requires settled { F.acts_as_file → IsSettled F.seen F.may_leave F.stored journal.file }
+    requires file { IsFileOf F.seen F.identity L.file L.first journal.file }
+    requires settled { F.acts_as_file
+        → IsSettled F.seen F.may_leave F.identity F.stored journal.file }
     ensures lock { IfSome result (λ s. s.port.lock ≡ s.shared) }
     ensures same_lock { IfSome result (λ s. s.port.lock ≡ L.lock) }
     ensures lent { IfSome result (λ s. s.running.promise.port.value.lock ≡ s.port.lock) }
@@ -159,7 +161,7 @@ fn journal_fault(end: Option<Result<(), CallFault>>) -> Result<(), Fault>
 // Proves that a crash leaves the lines of a file of which all are on the disk. Does nothing at
 // run time.
 fn file_is_idle<F: DurableFile>(file: &F)
-    requires { F.acts_as_file → IsSettled F.seen F.may_leave F.stored file.now }
+    requires { F.acts_as_file → IsSettled F.seen F.may_leave F.identity F.stored file.now }
     ensures { F.acts_as_file → (calls : Calls)
         → LeavesOnly F.moment F.left_since file.now file.now
         (IsSavedFrom F.renews 0 (lines_in (F.seen file.now)) calls) }
@@ -168,7 +170,7 @@ fn file_is_idle<F: DurableFile>(file: &F)
 }
 
 // Stops the journal once it has written all lines, closes the lock, and writes the trace.
-fn finish<F: DurableFile + Send, A: FailureAction, L: JournalLock + Send + Sync, R: Threads>(
+fn finish<F: DurableFile + Send, A: FailureAction, L: JournalIdentity + Send + Sync, R: Threads>(
     rt: &R,
     alloc: Global,
     shared: Shared<Kept>,
@@ -179,7 +181,7 @@ fn finish<F: DurableFile + Send, A: FailureAction, L: JournalLock + Send + Sync,
     requires lock { port.lock ≡ shared }
     requires lent { running.promise.port.value.lock ≡ port.lock }
     ensures finished { let task = running.promise
-        in IsFinished (Keeps F.acts_as_file F.seen F.may_leave F.moment F.left_since
+        in IsFinished (Keeps F.acts_as_file F.identity F.seen F.may_leave F.moment F.left_since
         F.renews task.worker.value) task.port.value port result.0 result.1 }
     ensures err { IfErr result.0 (λ fault. (fault ≡ Turns) ⊎ (fault ≡ Memory)) }
     ensures journal { IfErr result.1 (λ fault. (fault ≡ Write) ⊎ (fault ≡ Memory)) }
@@ -203,7 +205,7 @@ fn no_run() -> JournaledRun
 }
 
 // Runs a meter with a journal that is in its lock already, as `run_journaled_meter` does. `K` is
-// that lock.
+// that lock, and the file of the journal.
 fn run_in_lock<
     L: Listener,
     B: BlockSource + Send + 'static,
@@ -211,7 +213,7 @@ fn run_in_lock<
     U: ButtonSource + Send + 'static,
     F: DurableFile + Send + 'static,
     A: FailureAction + 'static,
-    K: JournalLock + Send + Sync + 'static,
+    K: JournalIdentity + Send + Sync + 'static,
     R: Threads + Wait + Copy + Send + 'static,
 >(
     rt: &R,
@@ -224,10 +226,12 @@ fn run_in_lock<
 ) -> JournaledRun
     requires lock { meter.1.lock ≡ meter.0 }
     requires same_lock { meter.1.lock ≡ K.lock }
-    requires settled { F.acts_as_file → IsSettled F.seen F.may_leave F.stored journal.file }
+    requires file { IsFileOf F.seen F.identity K.file K.first journal.file }
+    requires settled { F.acts_as_file
+        → IsSettled F.seen F.may_leave F.identity F.stored journal.file }
     requires password { IsPassword terms.now.password.now }
     ensures run { (recorder : Recording) → meter.1.known ≡ first_known (opening_of recorder.core)
-        → IfOk result.trace (IsJournaledRun F.acts_as_file F.seen F.may_leave F.moment
+        → IfOk result.trace (IsJournaledRun F.acts_as_file F.identity F.seen F.may_leave F.moment
         F.left_since F.stored F.renews journal.file recorder
         (record {
           blocks = B.forecast sources.blocks;
@@ -302,9 +306,11 @@ pub fn run_journaled_meter<
     terms: &RunTerms<'_>,
 ) -> JournaledRun
     requires unused { recorder.events ≡ [] }
-    requires settled { F.acts_as_file → IsSettled F.seen F.may_leave F.stored journal.file }
+    requires settled { F.acts_as_file
+        → IsSettled F.seen F.may_leave F.identity F.stored journal.file }
     requires password { IsPassword terms.now.password.now }
-    ensures run { IfOk result.trace (IsJournaledRun F.acts_as_file F.seen F.may_leave F.moment
+    ensures run { IfOk result.trace (IsJournaledRun F.acts_as_file F.identity F.seen F.may_leave
+        F.moment
         F.left_since F.stored F.renews journal.file recorder
         (record {
           blocks = B.forecast sources.blocks;

@@ -4,8 +4,8 @@
 --     PrintsText        a text of this kind was printed
 use Rattle.std.specs.Prelude.{◌≡◌, ℕ, zero, suc, Bool, true, false, Option, Some, None, List, Result, Ok, Err}
 use Rattle.std.specs.Io.KnownBytes.{Appends}
-use Rattle.server_io.specs.Ends.{has_failed, lost_lines}
-use Rattle.server_io.specs.declared.running.ConsoleEnd.{ConsoleEnd}
+use Rattle.meter_console.specs.Ends.{has_failed, lost_lines}
+use Rattle.meter_console.specs.declared.running.ConsoleEnd.{ConsoleEnd}
 use Rattle.program.specs.declared.fault.Fault.{Fault}
 use Rattle.program.specs.declared.fault.Fault.TheVariants as fault
 

@@ -4,9 +4,9 @@ ghost use Rattle.program.specs.Ends.{first_of};
 ghost use Rattle.meter_server_cli.specs.Endings.{end_of_console, Prints};
 
 use cosem_axdr::Octets;
+use meter_console::ConsoleEnd;
 use meter_server::{ServeFault, Served};
 use program::{Fault, first_fault, print_text};
-use server_io::ConsoleEnd;
 use std::io::Write;
 
 // Returns the fault of a run, by the result of its connections and whether the listener failed.

@@ -7,13 +7,14 @@ ghost use Rattle.meter_server_cli.specs.Endings.{PrintsText};
 use crate::ending::print_trace;
 use crate::serving::{ClientParameters, meter_sources};
 use durable_lines::DurableFile;
+use meter_console::{ConsoleSources, SourcesEnd};
 use meter_journal::{FailureAction, JournalFault};
 use meter_run::{JournaledRun, MeterJournal, RunTerms, run_journaled_meter};
 use meter_server::{ServeFault, Served};
 use program::Fault;
 use relay_recorder::Recorder;
 use server_files::EventFile;
-use server_io::{Closing, ConsoleSources, Sockets, SourcesEnd};
+use server_io::{Closing, Sockets};
 use std::io::Write;
 use std::sync::Wait;
 use std::thread::Threads;
@@ -92,9 +93,10 @@ pub(crate) fn run_journaled<
 )
     requires unused { length recorder.events ≡ 0 }
     requires settled { F.acts_as_file
-        → IsSettled F.seen F.may_leave F.stored parts.journal.file }
+        → IsSettled F.seen F.may_leave F.identity F.stored parts.journal.file }
     ensures { OnOk result.2
-        (PrintsText (IsJournaledRun F.acts_as_file F.seen F.may_leave F.moment F.left_since
+        (PrintsText (IsJournaledRun F.acts_as_file F.identity F.seen F.may_leave F.moment
+        F.left_since
         F.stored F.renews parts.journal.file recorder
         (record { blocks = None; moments = None; presses = None; password = meter.now.password })
         result.0 result.1)

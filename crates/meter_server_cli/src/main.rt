@@ -2,9 +2,9 @@
 //! `meter_server apdu` responds to requests in hexadecimal, one per line, and `meter_server hex`
 //! runs a client's session.
 //!
-//! `server_commands` reads the command line and has `apdu` and `hex`; `meter_run` and `server_io`
-//! have the parts of `serve`; this crate connects them to the standard streams, the threads and the
-//! exit status.
+//! `server_commands` reads the command line and has `apdu` and `hex`; `meter_run`, `meter_console`,
+//! `server_io` and `server_files` have the parts of `serve`; this crate connects them to the
+//! standard streams, the threads and the exit status.
 #![tactic(auto)]
 
 mod ending;

@@ -10,6 +10,9 @@ use crate::messages::why_not_listening;
 use cosem_axdr::Octets;
 use counted_io::Monitored;
 use durable_lines::DurableFile;
+use meter_console::{
+    Console, ConsoleBlocks, ConsoleEnd, ConsoleMoments, ConsolePresses, ConsoleSources, Reading,
+};
 use meter_run::{MeterRun, Sources, run_meter};
 use meter_server::{ServeFault, Served};
 use program::Fault;
@@ -19,10 +22,7 @@ use server_files::{
     EventOutput, JournalOptions, OpenJournal, RelayAlone, RelayOptions, RelayedJournal,
     open_journal, open_outputs,
 };
-use server_io::{
-    Closing, Console, ConsoleBlocks, ConsoleEnd, ConsoleMoments, ConsolePresses, ConsoleSources,
-    Reading, Sockets, Stopped, StreamLimits,
-};
+use server_io::{Closing, Sockets, Stopped, StreamLimits};
 use session_log::LogTime;
 use std::alloc::{AllocError, Global};
 use std::io::{BufReader, IsTerminal, Stdin, Stdout, Write};
@@ -184,7 +184,7 @@ fn start_server<R: Threads + Wait + Copy + Drop + Send + 'static>(
         reading,
         end,
     } = prepared;
-    match server_io::start(threads, rt.alloc(), reading) {
+    match meter_console::start(threads, rt.alloc(), reading) {
         Some(console) => Ok(Running {
             sockets,
             sources,

@@ -357,7 +357,7 @@ fn data_is_read_in_its_written_spelling_alone(rt: HostRuntime) {
 type CodeLine = (u64, ResultCode, ControlState, bool, &'static [u8]);
 
 // Lines of result codes, each with the values that it is written for.
-const CODE_LINES: &[CodeLine] = &[
+static CODE_LINES: &[CodeLine] = &[
     (
         1,
         ResultCode::Success,

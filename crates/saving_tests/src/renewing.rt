@@ -24,7 +24,8 @@ static RENEWED: &[u8] = b"RELAYTRACE 2\ndevice 52454C415931\nstate 2\nmode 1\n";
 /// Returns the file of a journal that is renewed by each save, and then has the last event.
 fn make_renewed_file(alloc: Global) -> Result<RenewedFile<MemoryPlace>, FileFault>
     ensures { let D = ⟦<RenewedFile<MemoryPlace> as DurableFile>⟧
-        in IfOk result (λ file. D.acts_as_file → IsSettled D.seen D.may_leave D.stored file) }
+        in IfOk result (λ file.
+        D.acts_as_file → IsSettled D.seen D.may_leave D.identity D.stored file) }
 {
     let place = MemoryPlace::new(alloc, BEGUN.to_vec(alloc)?);
     let terms = RenewalTerms {

@@ -1,12 +1,13 @@
 //! Ports that settle: they wait until the lines of all calls that they have seen are on the disk.
 ghost use Rattle.std.specs.Prelude.{◌≡◌};
 ghost use Rattle.durable_lines.specs.Lines.{IsSettled};
+ghost use Rattle.meter_journal.specs.Saving.{IsFileOf};
 
 use crate::fronts::{FIRST, first_file};
 use crate::meters::asked_port;
 use crate::waiting::run_journal;
 use durable_lines::{DurableFile, MemoryFile, recover};
-use meter_journal::JournalLock;
+use meter_journal::JournalIdentity;
 use relay_events::Event;
 use shared_meter::{Durability, Kept, settle};
 use std::alloc::Global;
@@ -32,7 +33,7 @@ struct Settled {
 
 /// Runs a journal with this file through another port of the meter, and then settles the port
 /// before and after a press. Returns `None` if out of memory.
-fn settle_twice<L: JournalLock + Send + Sync, W: Wait>(
+fn settle_twice<L: JournalIdentity + Send + Sync, W: Wait>(
     rt: &W,
     alloc: Global,
     file: MemoryFile,
@@ -40,7 +41,9 @@ fn settle_twice<L: JournalLock + Send + Sync, W: Wait>(
     other: Port<Kept>,
 ) -> Option<Settled>
     requires settled { let D = ⟦<MemoryFile as DurableFile>⟧
-        in IsSettled D.seen D.may_leave D.stored file }
+        in IsSettled D.seen D.may_leave D.identity D.stored file }
+    requires of_file { let D = ⟦<MemoryFile as DurableFile>⟧
+        in IsFileOf D.seen D.identity L.file L.first file }
     requires same_lock { (port.lock ≡ L.lock) × (other.lock ≡ L.lock) }
 {
     let (ran, _end) = run_journal::<L, W>(rt, alloc, file, other);
@@ -67,7 +70,7 @@ fn settle_twice<L: JournalLock + Send + Sync, W: Wait>(
 /// Settles a port of a meter that replied to three events, as [`settle_twice`] does.
 fn settle_asked<W: Wait>(rt: &W, alloc: Global, file: MemoryFile) -> Option<Settled>
     requires { let D = ⟦<MemoryFile as DurableFile>⟧
-        in IsSettled D.seen D.may_leave D.stored file }
+        in IsSettled D.seen D.may_leave D.identity D.stored file }
 {
     let Ok(Some(mut port)) = asked_port(rt, alloc) else {
         drop(file);

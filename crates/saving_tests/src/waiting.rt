@@ -1,11 +1,12 @@
 //! What a session learns that waits for lines of a journal.
 ghost use Rattle.std.specs.Prelude.{◌≡◌, IfSome};
 ghost use Rattle.durable_lines.specs.Lines.{IsSettled};
+ghost use Rattle.meter_journal.specs.Saving.{IsFileOf};
 
 use crate::fronts::{FIRST, first_file};
 use crate::meters::asked_port;
 use durable_lines::{DurableFile, MemoryFile, recover};
-use meter_journal::{FailureAction, JournalFault, JournalLock, JournalProgress, JournalWorker};
+use meter_journal::{FailureAction, JournalFault, JournalIdentity, JournalProgress, JournalWorker};
 use port_threads::Worker;
 use shared_meter::{Durability, Kept};
 use std::alloc::Global;
@@ -24,7 +25,7 @@ impl FailureAction for Nothing {
 
 /// Runs the worker of a journal that is asked to stop, through a port. Returns the journal's handle
 /// with the port, and the result of the work, as far as there was memory for them.
-pub(crate) fn run_journal<L: JournalLock + Send + Sync, W: Wait>(
+pub(crate) fn run_journal<L: JournalIdentity + Send + Sync, W: Wait>(
     rt: &W,
     alloc: Global,
     file: MemoryFile,
@@ -34,7 +35,9 @@ pub(crate) fn run_journal<L: JournalLock + Send + Sync, W: Wait>(
     Option<Result<(), CallFault>>,
 )
     requires settled { let D = ⟦<MemoryFile as DurableFile>⟧
-        in IsSettled D.seen D.may_leave D.stored file }
+        in IsSettled D.seen D.may_leave D.identity D.stored file }
+    requires of_file { let D = ⟦<MemoryFile as DurableFile>⟧
+        in IsFileOf D.seen D.identity L.file L.first file }
     requires same_lock { port.lock ≡ L.lock }
     ensures { IfSome result.0 (λ r. r.1.lock ≡ L.lock) }
 {
@@ -71,14 +74,16 @@ struct Waits {
 }
 
 /// Runs a journal, and then waits for its lines through the port. Returns `None` if out of memory.
-fn waits_after<L: JournalLock + Send + Sync, W: Wait>(
+fn waits_after<L: JournalIdentity + Send + Sync, W: Wait>(
     rt: &W,
     alloc: Global,
     file: MemoryFile,
     port: Port<Kept>,
 ) -> Option<Waits>
     requires settled { let D = ⟦<MemoryFile as DurableFile>⟧
-        in IsSettled D.seen D.may_leave D.stored file }
+        in IsSettled D.seen D.may_leave D.identity D.stored file }
+    requires of_file { let D = ⟦<MemoryFile as DurableFile>⟧
+        in IsFileOf D.seen D.identity L.file L.first file }
     requires same_lock { port.lock ≡ L.lock }
 {
     let (ran, end) = run_journal::<L, W>(rt, alloc, file, port);

@@ -9,8 +9,10 @@ mod journal;
 mod lock;
 mod outputs;
 mod paths;
+mod relay_log;
 
 pub use journal::{JournalOptions, OpenJournal, open_journal};
 pub use outputs::{
     EventFile, EventOutput, RelayAlone, RelayOptions, RelayedJournal, StoredJournal, open_outputs,
 };
+pub use relay_log::RelayLog;

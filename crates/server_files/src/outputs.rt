@@ -5,12 +5,12 @@ ghost use Rattle.server_files.specs.Outputs.{IsOutputOf};
 
 use crate::journal::OpenJournal;
 use crate::paths::with_suffix;
+use crate::relay_log::{RelayLog, open_relay};
 use durable_lines::{DurableFile, LockFile, StoredPlace};
 use journal_files::RenewedFile;
 use meter_relay::{OptionalFile, Relay, RelayFault, RelayedFile};
 use program::Fault;
 use relay_core::RelayCore;
-use server_io::{RelayLog, open_relay};
 use std::alloc::AllocGlobal;
 use std::fs::{File, Files};
 use std::time::Clock;

@@ -1,7 +1,6 @@
 //! The end of a server: it stops accepting connections.
 use crate::listening::Stopped;
-use crate::reading::ConsoleObserver;
-use crate::running::ConsoleEnd;
+use meter_console::{ConsoleEnd, ConsoleObserver};
 use std::net::{Net, SocketAddr, TcpStream};
 use std::sync::atomic::Ordering;
 use std::thread;

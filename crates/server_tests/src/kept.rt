@@ -1,6 +1,6 @@
-//! A meter behind its lock: a port reads what another wrote, calls are refused once all turns are
-//! drawn, and four threads press the button.
-ghost use Rattle.std.specs.Prelude.{◌≡◌, IfSome};
+//! A meter behind its lock: a port reads what another wrote, and calls are refused once all turns
+//! are drawn. tests/hostile.py has threads call a meter at full speed.
+ghost use Rattle.std.specs.Prelude.{◌≡◌};
 
 use crate::ports::new_lock;
 use cosem_axdr::Data;
@@ -11,7 +11,6 @@ use relay_core::{Event, Reply};
 use std::alloc::{AllocError, Global};
 use std::sync::Wait;
 use std::test::Fail;
-use std::thread::{Threads, join};
 
 /// threshold_normal of the import limiter.
 const THRESHOLD: AttrRef = AttrRef {
@@ -19,23 +18,6 @@ const THRESHOLD: AttrRef = AttrRef {
     name: Obis([0, 0, 17, 0, 0, 255]),
     number: 4,
 };
-
-/// control_mode of the supply switch.
-const MODE: AttrRef = AttrRef {
-    class: ClassId(70),
-    name: Obis([0, 0, 96, 3, 10, 255]),
-    number: 4,
-};
-
-/// The state of a meter when its lock is closed: its core, and the events of its export.
-#[derive(Clone, Copy, Debug, PartialEq, Eq)]
-struct Left {
-    state: ControlState,
-    threshold: u32,
-    events: usize,
-    are_write_and_read: bool,
-    are_presses: bool,
-}
 
 /// Returns whether an event writes 7,000 as the threshold.
 fn is_write(event: &Event) -> bool {
@@ -57,65 +39,71 @@ fn is_read(event: &Event) -> bool {
     }
 }
 
-/// Returns whether the first event writes the threshold and the second one reads it.
-fn are_write_and_read(events: &[Event]) -> bool {
-    match (events.get(0), events.get(1)) {
-        (Some(first), Some(second)) => is_write(first) && is_read(second),
-        _ => false,
+/// The state of a meter when its lock is closed, the number of its events, and what they are.
+#[derive(Clone, Copy, Debug, PartialEq, Eq)]
+struct Left {
+    state: ControlState,
+    threshold: u32,
+    count: u16,
+    are_write_and_read: bool,
+    are_presses: bool,
+}
+
+/// Returns whether the events of a recorder are a write of the threshold and a read of it.
+fn are_write_and_read(recorder: &Recorder) -> bool {
+    if recorder.count() != 2 {
+        return false;
+    }
+    is_write(recorder.event(0)) && is_read(recorder.event(1))
+}
+
+/// Returns whether the event of this index, if there is one, is a press of the button.
+fn is_press(recorder: &Recorder, i: u16) -> bool {
+    if i < recorder.count() {
+        matches!(recorder.event(i), Event::Button)
+    } else {
+        true
     }
 }
 
-/// Returns whether each event is a press of the button.
-fn are_presses(events: &[Event]) -> bool {
-    for event in events {
-        if !matches!(event, Event::Button) {
+/// Returns whether the first four events of a recorder, or as many as there are, are presses of the
+/// button.
+fn are_presses(recorder: &Recorder) -> bool {
+    for i in 0..4 {
+        if !is_press(recorder, i) {
             return false;
         }
     }
     true
 }
 
-/// Returns the state of a recorder's core and the events of its export.
-fn left_of(alloc: Global, recorder: &Recorder) -> Result<Left, AllocError> {
-    let trace = recorder.export(alloc)?;
-    let events = trace.events.as_slice();
-    let left = Left {
+/// Returns the state of a recorder's core and its events.
+fn left_of(recorder: &Recorder) -> Left {
+    Left {
         state: recorder.core().state(),
         threshold: recorder.core().threshold(),
-        events: events.len(),
-        are_write_and_read: are_write_and_read(events),
-        are_presses: are_presses(events),
-    };
-    drop(trace);
-    Ok(left)
+        count: recorder.count(),
+        are_write_and_read: are_write_and_read(recorder),
+        are_presses: are_presses(recorder),
+    }
 }
 
-/// Closes a lock and returns its recorder, or `None` if the lock is busy.
-fn recorder_of(shared: Shared<Kept>, port: Port<Kept>) -> Option<Recorder>
+/// Closes a lock and returns the state of its meter, or `None` if the lock is busy.
+fn close_lock(shared: Shared<Kept>, port: Port<Kept>) -> Option<Left>
     requires { port.lock ≡ shared }
 {
     match shared.close(port) {
-        Ok(kept) => Some(kept.into_recorder()),
+        Ok(kept) => {
+            let recorder = kept.into_recorder();
+            let left = left_of(&recorder);
+            drop(recorder);
+            Some(left)
+        }
         Err((_, shared, port)) => {
             drop(shared);
             drop(port);
             None
         }
-    }
-}
-
-/// Closes a lock and returns the state of its meter, or `None` if the lock is busy or out of
-/// memory.
-fn close_lock(alloc: Global, shared: Shared<Kept>, port: Port<Kept>) -> Option<Left>
-    requires { port.lock ≡ shared }
-{
-    match recorder_of(shared, port) {
-        Some(recorder) => {
-            let left = left_of(alloc, &recorder);
-            drop(recorder);
-            left.ok()
-        }
-        None => None,
     }
 }
 
@@ -199,48 +187,56 @@ fn write_and_read<W: Wait>(
 #[test]
 fn a_port_reads_what_another_wrote(rt: HostRuntime) -> Result<(), Fail> {
     let alloc = rt.alloc();
-    let (shared, mut one) = new_lock(&rt, alloc, 9)?;
+    let (shared, mut one) = new_lock(alloc, 9)?;
     let came = write_and_read(&rt, alloc, &mut one);
-    let left = close_lock(alloc, shared, one);
+    let left = close_lock(shared, one);
     let (written, told) = came?;
-    assert!(rt; written == Ok((0, 0)));
-    assert!(rt; told == Ok((255, 7_000)));
+    let are_replies = written == Ok((0, 0)) && told == Ok((255, 7_000));
     let both = Left {
         state: ControlState::Connected,
         threshold: 7_000,
-        events: 2,
+        count: 2,
         are_write_and_read: true,
         are_presses: false,
     };
-    assert!(rt; left == Some(both));
-    Ok(())
-}
-
-#[test]
-fn two_turns_exhaust_a_port(rt: HostRuntime) -> Result<(), Fail> {
-    let alloc = rt.alloc();
-    let (shared, mut port) = new_lock(&rt, alloc, 2)?;
-    let first = ask(&rt, alloc, &mut port, Event::Button);
-    let second = ask(&rt, alloc, &mut port, Event::Button);
-    let third = ask(&rt, alloc, &mut port, Event::Button);
-    let fourth = ask(&rt, alloc, &mut port, Event::Button);
-    let left = close_lock(alloc, shared, port);
-    assert!(rt; first == Ok((2, 0)) && second == first);
-    assert!(rt; third == Err(CallFault::Exhausted) && fourth == third);
-    assert!(rt; left == Some(presses(2)));
+    assert!(rt; are_replies && left == Some(both));
     Ok(())
 }
 
 /// Returns the state of a new meter after this number of presses in mode 0, in which the button
 /// does nothing.
-fn presses(count: usize) -> Left {
+fn presses(count: u16) -> Left {
     Left {
         state: ControlState::Connected,
         threshold: u32::MAX,
-        events: count,
+        count,
         are_write_and_read: false,
         are_presses: true,
     }
+}
+
+/// Presses the button four times through one port.
+fn press_four_times<W: Wait>(rt: &W, alloc: Global, port: &mut Port<Kept>) -> [Told; 4]
+    ensures { port.new.lock ≡ port.old.lock }
+{
+    [
+        ask(rt, alloc, port, Event::Button),
+        ask(rt, alloc, port, Event::Button),
+        ask(rt, alloc, port, Event::Button),
+        ask(rt, alloc, port, Event::Button),
+    ]
+}
+
+#[test]
+fn two_turns_exhaust_a_port(rt: HostRuntime) -> Result<(), Fail> {
+    let alloc = rt.alloc();
+    let (shared, mut port) = new_lock(alloc, 2)?;
+    let [first, second, third, fourth] = press_four_times(&rt, alloc, &mut port);
+    let left = close_lock(shared, port);
+    let are_replies = [first, second] == [Ok((2, 0)); 2]
+        && [third, fourth] == [Err(CallFault::Exhausted); 2];
+    assert!(rt; are_replies && left == Some(presses(2)));
+    Ok(())
 }
 
 /// Presses the button once through each of three ports.
@@ -289,96 +285,11 @@ fn press_twice_each<W: Wait>(
 #[test]
 fn three_turns_exhaust_three_ports(rt: HostRuntime) -> Result<(), Fail> {
     let alloc = rt.alloc();
-    let (shared, mut port) = new_lock(&rt, alloc, 3)?;
+    let (shared, mut port) = new_lock(alloc, 3)?;
     let came = press_twice_each(&rt, alloc, &mut port);
-    let left = close_lock(alloc, shared, port);
+    let left = close_lock(shared, port);
     let (first, second) = came?;
-    assert!(rt; first == [Ok((2, 0)); 3]);
-    assert!(rt; second == [Err(CallFault::Exhausted); 3]);
-    assert!(rt; left == Some(presses(3)));
-    Ok(())
-}
-
-/// Returns a management client's write of mode 1, in which the button disconnects and reconnects
-/// the supply.
-fn write_mode() -> Event {
-    Event::Set {
-        level: Level::Management,
-        attr: MODE,
-        selected: false,
-        value: Data::Enum(1),
-    }
-}
-
-/// Presses the button 100 times, and says whether each reply is code 0.
-fn press_often<W: Wait>(rt: &W, alloc: Global, port: Port<Kept>) -> (Port<Kept>, bool)
-    ensures { result.0.lock ≡ port.lock }
-{
-    let mut port = port;
-    let mut are_all = true;
-    for _ in 0..100 {
-        are_all = ask(rt, alloc, &mut port, Event::Button) == Ok((0, 0)) && are_all;
-    }
-    (port, are_all)
-}
-
-/// Presses the button through two ports on two threads, one of them split off from the other.
-fn press_on_two<R: Threads + Wait + Sync>(
-    rt: &R,
-    alloc: Global,
-    mut port: Port<Kept>,
-) -> (Port<Kept>, bool)
-    ensures { result.0.lock ≡ port.lock }
-{
-    let Ok(other) = port.split() else {
-        return (port, false);
-    };
-    let ((mut port, are_all), (other, are_others)) = join(
-        rt,
-        || -> (Port<Kept>, bool)
-            ensures { result.0.lock ≡ port.lock }
-        { press_often(rt, alloc, port) },
-        || -> (Port<Kept>, bool)
-            ensures { result.0.lock ≡ other.lock }
-        { press_often(rt, alloc, other) },
-    );
-    port.join(other);
-    (port, are_all && are_others)
-}
-
-/// Presses the button through four ports on four threads.
-fn press_on_four<R: Threads + Wait + Sync>(
-    rt: &R,
-    alloc: Global,
-    mut port: Port<Kept>,
-) -> (Port<Kept>, bool)
-    ensures { result.0.lock ≡ port.lock }
-{
-    let Ok(other) = port.split() else {
-        return (port, false);
-    };
-    let ((mut port, are_all), (other, are_others)) = join(
-        rt,
-        || -> (Port<Kept>, bool)
-            ensures { result.0.lock ≡ port.lock }
-        { press_on_two(rt, alloc, port) },
-        || -> (Port<Kept>, bool)
-            ensures { result.0.lock ≡ other.lock }
-        { press_on_two(rt, alloc, other) },
-    );
-    port.join(other);
-    (port, are_all && are_others)
-}
-
-#[test]
-fn four_threads_press_one_button(rt: HostRuntime) -> Result<(), Fail> {
-    let alloc = rt.alloc();
-    let (shared, mut port) = new_lock(&rt, alloc, 401)?;
-    let written = ask(&rt, alloc, &mut port, write_mode());
-    let (port, are_all) = press_on_four(&rt, alloc, port);
-    let left = close_lock(alloc, shared, port);
-    assert!(rt; written == Ok((0, 0)));
-    assert!(rt; are_all);
-    assert!(rt; matches!(left, Some(left) if left.state == ControlState::Connected));
+    let are_replies = first == [Ok((2, 0)); 3] && second == [Err(CallFault::Exhausted); 3];
+    assert!(rt; are_replies && left == Some(presses(3)));
     Ok(())
 }

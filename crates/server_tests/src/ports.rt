@@ -2,26 +2,64 @@
 ghost use Rattle.std.specs.Prelude.{◌≡◌, ◌<◌, ◌≤◌, [], IfOk};
 ghost use Rattle.acse_ber.specs.Password.{IsPassword};
 
-use crate::talks::{MANAGEMENT, Texts, talk};
 use cosem_axdr::Octets;
 use counted_io::Counted;
 use meter_server::{
     Kept, Port, PortMeter, Recorder, ServeFault, SessionEnd, Shared, serve_port, serve_session,
 };
 use std::alloc::{AllocError, Global};
-use std::process::Abort;
 use std::sync::Wait;
 use std::test::Fail;
 use turn_lock::Turned;
 
-/// A SET of control_mode to 2, and its response.
-pub(crate) const WRITE_MODE: (&str, &str) = ("C101C10046000060030AFF04001602", "C501C100");
+/// The frames of the management client: its AARQ with the password 12345678, a SET of control_mode
+/// to 2, and a GET of it.
+static WRITE_AND_READ: [u8; 108] = [
+    0x00, 0x01, 0x00, 0x01, 0x00, 0x01, 0x00, 0x38, 0x60, 0x36, 0xA1, 0x09, 0x06, 0x07, 0x60, 0x85,
+    0x74, 0x05, 0x08, 0x01, 0x01, 0x8A, 0x02, 0x07, 0x80, 0x8B, 0x07, 0x60, 0x85, 0x74, 0x05, 0x08,
+    0x02, 0x01, 0xAC, 0x0A, 0x80, 0x08, 0x31, 0x32, 0x33, 0x34, 0x35, 0x36, 0x37, 0x38, 0xBE, 0x10,
+    0x04, 0x0E, 0x01, 0x00, 0x00, 0x00, 0x06, 0x5F, 0x1F, 0x04, 0x00, 0x00, 0x1C, 0x19, 0x04, 0x00,
+    0x00, 0x01, 0x00, 0x01, 0x00, 0x01, 0x00, 0x0F, 0xC1, 0x01, 0xC1, 0x00, 0x46, 0x00, 0x00, 0x60,
+    0x03, 0x0A, 0xFF, 0x04, 0x00, 0x16, 0x02, 0x00, 0x01, 0x00, 0x01, 0x00, 0x01, 0x00, 0x0D, 0xC0,
+    0x01, 0xC1, 0x00, 0x46, 0x00, 0x00, 0x60, 0x03, 0x0A, 0xFF, 0x04, 0x00,
+];
 
-/// A GET of control_mode, and its response.
-const READ_MODE: (&str, &str) = ("C001C10046000060030AFF0400", "C401C1001602");
+/// The responses to these frames.
+static WRITTEN_AND_READ: [u8; 77] = [
+    0x00, 0x01, 0x00, 0x01, 0x00, 0x01, 0x00, 0x2B, 0x61, 0x29, 0xA1, 0x09, 0x06, 0x07, 0x60, 0x85,
+    0x74, 0x05, 0x08, 0x01, 0x01, 0xA2, 0x03, 0x02, 0x01, 0x00, 0xA3, 0x05, 0xA1, 0x03, 0x02, 0x01,
+    0x00, 0xBE, 0x10, 0x04, 0x0E, 0x08, 0x00, 0x06, 0x5F, 0x1F, 0x04, 0x00, 0x00, 0x1C, 0x19, 0x04,
+    0x00, 0x00, 0x07, 0x00, 0x01, 0x00, 0x01, 0x00, 0x01, 0x00, 0x04, 0xC5, 0x01, 0xC1, 0x00, 0x00,
+    0x01, 0x00, 0x01, 0x00, 0x01, 0x00, 0x06, 0xC4, 0x01, 0xC1, 0x00, 0x16, 0x02,
+];
+
+/// The AARQ of the management client, and a GET of control_mode.
+static READ: [u8; 85] = [
+    0x00, 0x01, 0x00, 0x01, 0x00, 0x01, 0x00, 0x38, 0x60, 0x36, 0xA1, 0x09, 0x06, 0x07, 0x60, 0x85,
+    0x74, 0x05, 0x08, 0x01, 0x01, 0x8A, 0x02, 0x07, 0x80, 0x8B, 0x07, 0x60, 0x85, 0x74, 0x05, 0x08,
+    0x02, 0x01, 0xAC, 0x0A, 0x80, 0x08, 0x31, 0x32, 0x33, 0x34, 0x35, 0x36, 0x37, 0x38, 0xBE, 0x10,
+    0x04, 0x0E, 0x01, 0x00, 0x00, 0x00, 0x06, 0x5F, 0x1F, 0x04, 0x00, 0x00, 0x1C, 0x19, 0x04, 0x00,
+    0x00, 0x01, 0x00, 0x01, 0x00, 0x01, 0x00, 0x0D, 0xC0, 0x01, 0xC1, 0x00, 0x46, 0x00, 0x00, 0x60,
+    0x03, 0x0A, 0xFF, 0x04, 0x00,
+];
+
+/// The responses to these frames, if the mode is 2.
+static READ_AS_2: [u8; 65] = [
+    0x00, 0x01, 0x00, 0x01, 0x00, 0x01, 0x00, 0x2B, 0x61, 0x29, 0xA1, 0x09, 0x06, 0x07, 0x60, 0x85,
+    0x74, 0x05, 0x08, 0x01, 0x01, 0xA2, 0x03, 0x02, 0x01, 0x00, 0xA3, 0x05, 0xA1, 0x03, 0x02, 0x01,
+    0x00, 0xBE, 0x10, 0x04, 0x0E, 0x08, 0x00, 0x06, 0x5F, 0x1F, 0x04, 0x00, 0x00, 0x1C, 0x19, 0x04,
+    0x00, 0x00, 0x07, 0x00, 0x01, 0x00, 0x01, 0x00, 0x01, 0x00, 0x06, 0xC4, 0x01, 0xC1, 0x00, 0x16,
+    0x02,
+];
+
+// The number of bytes of the AARQ and the SET, and of their responses.
+const WRITE: (usize, usize) = (87, 63);
+
+/// What a client sends, and the responses.
+type Texts<'a> = (&'a [u8], &'a [u8]);
 
 /// Returns a lock over a value, and its first port.
-fn lock_over<T: Turned>(
+pub(crate) fn lock_over<T: Turned>(
     alloc: Global,
     value: T,
     bound: u64,
@@ -39,20 +77,22 @@ fn lock_over<T: Turned>(
     }
 }
 
-/// Returns a lock over a new meter, which keeps 256 events, and its first port.
-pub(crate) fn new_lock(
-    rt: &impl Abort,
-    alloc: Global,
-    bound: u64,
-) -> Result<(Shared<Kept>, Port<Kept>), AllocError>
+/// Returns a new meter, which keeps 256 events.
+pub(crate) fn new_recorder(alloc: Global) -> Result<Recorder, AllocError>
+    ensures { IfOk result (λ recorder. recorder.events ≡ []) }
+{
+    let device = Octets::from_slice(alloc, b"RELAY1")?;
+    let recorder = Recorder::new(alloc, &device, 256);
+    drop(device);
+    recorder
+}
+
+/// Returns a lock over a new meter, and its first port.
+pub(crate) fn new_lock(alloc: Global, bound: u64) -> Result<(Shared<Kept>, Port<Kept>), AllocError>
     requires { (0 < bound) × (bound ≤ 1000) }
     ensures { IfOk result (λ r. r.1.lock ≡ r.0) }
 {
-    let device = Octets::from_slice(alloc, b"RELAY1")?;
-    assert!(rt; device.len() == 6);
-    let recorder = Recorder::new(alloc, &device, 256);
-    drop(device);
-    match recorder {
+    match new_recorder(alloc) {
         Ok(recorder) => lock_over(alloc, Kept::new(recorder), bound),
         Err(error) => Err(error),
     }
@@ -60,7 +100,7 @@ pub(crate) fn new_lock(
 
 /// Closes a lock and returns the number of events that its meter kept, or `None` if the lock is
 /// busy.
-fn kept_count(shared: Shared<Kept>, port: Port<Kept>) -> Option<u16>
+pub(crate) fn kept_count(shared: Shared<Kept>, port: Port<Kept>) -> Option<u16>
     requires { port.lock ≡ shared }
 {
     match shared.close(port) {
@@ -83,7 +123,7 @@ fn has_answer<W: Wait>(
     rt: &W,
     alloc: Global,
     port: Port<Kept>,
-    texts: (&[u8], &[u8]),
+    texts: Texts<'_>,
     password: &Octets,
     end: Result<SessionEnd, ServeFault>,
 ) -> (Port<Kept>, bool)
@@ -106,7 +146,7 @@ fn is_served_over<W: Wait>(
     rt: &W,
     alloc: Global,
     port: Port<Kept>,
-    texts: (&[u8], &[u8]),
+    texts: Texts<'_>,
     password: &Octets,
 ) -> bool
     requires { IsPassword password.now }
@@ -123,27 +163,25 @@ fn is_served_over<W: Wait>(
     is_so
 }
 
-/// Returns the results of two sessions, each through its own port, and the number of events that
-/// their meter kept.
-fn serve_two<R: Wait + Abort>(
+/// Returns the results of two sessions, each through its own port, a write of the mode and a read
+/// of it by another client, and the number of events that their meter kept.
+fn write_and_read<R: Wait>(
     rt: &R,
     alloc: Global,
     password: &Octets,
-    first: &Texts,
-    second: &Texts,
 ) -> Result<(bool, bool, Option<u16>), AllocError>
     requires { IsPassword password.now }
 {
-    let (shared, mut one) = new_lock(rt, alloc, 9)?;
+    let (shared, mut one) = new_lock(alloc, 9)?;
     match one.split() {
         Ok(two) => {
             let end = Ok(SessionEnd::Closed);
-            let texts = (first.asked.as_slice(), first.answered.as_slice());
-            let (mut one, is_first_so) = has_answer(rt, alloc, one, texts, password, end);
-            let texts = (second.asked.as_slice(), second.answered.as_slice());
-            let (two, is_second_so) = has_answer(rt, alloc, two, texts, password, end);
+            let texts = (&WRITE_AND_READ[..WRITE.0], &WRITTEN_AND_READ[..WRITE.1]);
+            let (mut one, is_written) = has_answer(rt, alloc, one, texts, password, end);
+            let texts = (READ.as_slice(), READ_AS_2.as_slice());
+            let (two, is_read) = has_answer(rt, alloc, two, texts, password, end);
             one.join(two);
-            Ok((is_first_so, is_second_so, kept_count(shared, one)))
+            Ok((is_written, is_read, kept_count(shared, one)))
         }
         Err(error) => {
             drop(shared);
@@ -153,56 +191,25 @@ fn serve_two<R: Wait + Abort>(
     }
 }
 
-/// Returns the results of two sessions, a write of the mode and a read of it by another client, and
-/// the number of events that their meter kept.
-fn write_and_read<R: Wait + Abort>(
-    rt: &R,
-    alloc: Global,
-    password: &Octets,
-) -> Result<(bool, bool, Option<u16>), Fail>
-    requires { IsPassword password.now }
-{
-    let writing = talk(alloc, MANAGEMENT, 1, &[WRITE_MODE])?;
-    let reading = talk(alloc, MANAGEMENT, 1, &[READ_MODE])?;
-    let came = serve_two(rt, alloc, password, &writing, &reading);
-    drop(writing);
-    drop(reading);
-    Ok(came?)
-}
-
 #[test]
 fn two_sessions_reach_one_meter(rt: HostRuntime) -> Result<(), Fail> {
     let password = Octets::from_slice(rt.alloc(), b"12345678")?;
     let came = write_and_read(&rt, rt.alloc(), &password);
     drop(password);
-    let (is_written, is_told, kept) = came?;
-    assert!(rt; is_written);
-    assert!(rt; is_told);
-    assert!(rt; kept == Some(2));
+    assert!(rt; came? == (true, true, Some(2)));
     Ok(())
 }
 
 /// Returns whether a session over the port of a new meter answers a write of the mode and a read of
 /// it.
-fn serve_over_a_port<R: Wait + Abort>(
-    rt: &R,
-    alloc: Global,
-    password: &Octets,
-) -> Result<bool, Fail>
+fn serve_over_a_port<R: Wait>(rt: &R, alloc: Global, password: &Octets) -> Result<bool, AllocError>
     requires { IsPassword password.now }
 {
-    let both = talk(alloc, MANAGEMENT, 1, &[WRITE_MODE, READ_MODE])?;
-    let texts = (both.asked.as_slice(), both.answered.as_slice());
-    let served = match new_lock(rt, alloc, 9) {
-        Ok((shared, port)) => {
-            let is_served = is_served_over(rt, alloc, port, texts, password);
-            drop(shared);
-            Ok(is_served)
-        }
-        Err(error) => Err(error),
-    };
-    drop(both);
-    Ok(served?)
+    let (shared, port) = new_lock(alloc, 9)?;
+    let texts = (WRITE_AND_READ.as_slice(), WRITTEN_AND_READ.as_slice());
+    let is_served = is_served_over(rt, alloc, port, texts, password);
+    drop(shared);
+    Ok(is_served)
 }
 
 #[test]
@@ -214,38 +221,20 @@ fn a_session_is_served_over_a_port_as_a_meter(rt: HostRuntime) -> Result<(), Fai
     Ok(())
 }
 
-/// Returns whether a session with a meter that takes one call stops after this answer, and the
-/// number of events that the meter kept.
-fn serve_one_turn<R: Wait + Abort>(
+/// Returns whether a session with a meter that takes one call, which writes the mode and then reads
+/// it, stops after the response to the write, and the number of events that the meter kept.
+fn write_alone<R: Wait>(
     rt: &R,
     alloc: Global,
     password: &Octets,
-    texts: (&[u8], &[u8]),
 ) -> Result<(bool, Option<u16>), AllocError>
     requires { IsPassword password.now }
 {
-    let (shared, port) = new_lock(rt, alloc, 1)?;
+    let (shared, port) = new_lock(alloc, 1)?;
+    let texts = (WRITE_AND_READ.as_slice(), &WRITTEN_AND_READ[..WRITE.1]);
     let end = Err(ServeFault::Exhausted);
     let (port, has_stopped) = has_answer(rt, alloc, port, texts, password, end);
     Ok((has_stopped, kept_count(shared, port)))
-}
-
-/// Returns whether a session that writes the mode and then reads it stops after the answer to the
-/// write, and the number of events that the meter kept.
-fn write_alone<R: Wait + Abort>(
-    rt: &R,
-    alloc: Global,
-    password: &Octets,
-) -> Result<(bool, Option<u16>), Fail>
-    requires { IsPassword password.now }
-{
-    let both = talk(alloc, MANAGEMENT, 1, &[WRITE_MODE, READ_MODE])?;
-    let one = talk(alloc, MANAGEMENT, 1, &[WRITE_MODE])?;
-    let texts = (both.asked.as_slice(), one.answered.as_slice());
-    let came = serve_one_turn(rt, alloc, password, texts);
-    drop(both);
-    drop(one);
-    Ok(came?)
 }
 
 #[test]
@@ -253,8 +242,6 @@ fn a_session_stops_where_every_turn_was_drawn(rt: HostRuntime) -> Result<(), Fai
     let password = Octets::from_slice(rt.alloc(), b"12345678")?;
     let came = write_alone(&rt, rt.alloc(), &password);
     drop(password);
-    let (has_stopped, kept) = came?;
-    assert!(rt; has_stopped);
-    assert!(rt; kept == Some(1));
+    assert!(rt; came? == (true, Some(1)));
     Ok(())
 }

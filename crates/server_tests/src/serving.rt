@@ -1,154 +1,34 @@
-//! What no contract states: sessions run in parallel, which clients are served, and that all of the
-//! meter's sources reach one meter.
-ghost use Rattle.std.specs.Prelude.{◌≡◌, IfOk};
+//! What no contract states: the end of each session is reported to its output, and that of the
+//! listener to the caller. tests/serving.py and tests/hostile.py have clients over TCP that are
+//! served in parallel, one too many, one whose stream can't be set up, and all of the meter's
+//! sources.
+ghost use Rattle.std.specs.Prelude.{◌≡◌};
 ghost use Rattle.acse_ber.specs.Password.{IsPassword};
 
-mod callers;
-mod ends;
-mod loopback;
 mod sources;
 
-use crate::ports::{WRITE_MODE, new_lock};
-use crate::talks::{MANAGEMENT, PUBLIC, Texts, talk};
-use callers::{Caller, CallerListener, ClientResults};
+use crate::ports::{kept_count, new_lock};
 use cosem_axdr::Octets;
-use lane_sampler::Block;
-use loopback::Loopback;
-use meter_server::{Listener, ServeFault, Served, serve_all};
-use relay_core::Event;
-use relay_recorder::Recorder;
+use meter_server::{ListenFault, Listener, Observer, ServeFault, Served, SessionEnd, serve_all};
 use shared_meter::Kept;
-use sources::{Presses, Samples, Ticks};
+use sources::Silent;
 use std::alloc::{AllocError, Global};
-use std::io::{Read, Write};
-use std::net::{Shutdown, TcpListener, TcpStream};
-use std::process::Abort;
+use std::io;
+use std::io::{ErrorKind, Read, Write};
+use std::sync::atomic::{AtomicU8, Ordering};
 use std::sync::{Arc, Wait};
 use std::test::Fail;
 use std::thread::Threads;
-use turn_lock::{Port, Shared};
+use turn_lock::Port;
 
-/// The public client's GET of control_state, and its response.
-const READ_STATE: (&str, &str) = ("C001C10046000060030AFF0300", "C401C1001601");
-
-// The number of bytes of the response to an association.
-const OPENED: u64 = 51;
-
-// The number of bytes of the responses to an association and to a GET of the state.
-const READ_ONCE: u64 = 65;
-
-/// What the sources give.
-#[derive(Drop)]
-struct Given {
-    block: Option<Block>,
-    moment: Option<u32>,
-    press: Option<()>,
-}
-
-// Sources that give nothing.
-const NOTHING: Given = Given {
-    block: None,
-    moment: None,
-    press: None,
-};
-
-/// The number of events of each kind that a meter keeps.
-#[derive(Clone, Copy, Debug, PartialEq, Eq)]
-struct Kinds {
-    writes: u16,
-    blocks: u16,
-    moments: u16,
-    presses: u16,
-    lists: u16,
-    others: u16,
-}
-
-// No event of any kind.
-const NO_KINDS: Kinds = Kinds {
-    writes: 0,
-    blocks: 0,
-    moments: 0,
-    presses: 0,
-    lists: 0,
-    others: 0,
-};
-
-/// Returns the index of an event's kind.
-fn place(event: &Event) -> u8 {
-    match event {
-        Event::Set { .. } => 0,
-        Event::Samples(_) => 1,
-        Event::Moment(_) => 2,
-        Event::Button => 3,
-        Event::GetList { .. } => 4,
-        _ => 5,
-    }
-}
-
-/// Returns the count, plus one if `is_so`.
-fn one_more_if(is_so: bool, count: u16) -> u16 {
-    if is_so {
-        count.saturating_add(1)
-    } else {
-        count
-    }
-}
-
-/// Returns the counts with one more event.
-fn with_event(kinds: Kinds, event: &Event) -> Kinds {
-    let place = place(event);
-    Kinds {
-        writes: one_more_if(place == 0, kinds.writes),
-        blocks: one_more_if(place == 1, kinds.blocks),
-        moments: one_more_if(place == 2, kinds.moments),
-        presses: one_more_if(place == 3, kinds.presses),
-        lists: one_more_if(place == 4, kinds.lists),
-        others: one_more_if(place == 5, kinds.others),
-    }
-}
-
-/// Returns the counts with the event of this index, if there is one.
-fn with_kept(kinds: Kinds, recorder: &Recorder, i: u16) -> Kinds {
-    if i < recorder.count() {
-        with_event(kinds, recorder.event(i))
-    } else {
-        kinds
-    }
-}
-
-fn kinds_of(recorder: &Recorder) -> Kinds {
-    let mut kinds = NO_KINDS;
-    for i in 0..256 {
-        kinds = with_kept(kinds, recorder, i);
-    }
-    kinds
-}
-
-/// The result of serving, and what the meter kept, or `None` if its lock is busy.
-type Evening = (Result<Served, ServeFault>, Option<Kinds>);
-
-fn kept_kinds(shared: Shared<Kept>, port: Port<Kept>) -> Option<Kinds>
-    requires { port.lock ≡ shared }
-{
-    match shared.close(port) {
-        Ok(kept) => {
-            let kinds = kinds_of(kept.recorder());
-            drop(kept);
-            Some(kinds)
-        }
-        Err((_, shared, port)) => {
-            drop(shared);
-            drop(port);
-            None
-        }
-    }
-}
+/// The result of serving, and the number of events that the meter kept, or `None` if its lock is
+/// busy.
+type Evening = (Result<Served, ServeFault>, Option<u16>);
 
 fn serve_by<L: Listener, R: Threads + Wait + Copy + Send + 'static>(
     rt: &R,
     alloc: Global,
     listener: &mut L,
-    given: Given,
     port: Port<Kept>,
     password: &Octets,
     limit: u64,
@@ -156,21 +36,8 @@ fn serve_by<L: Listener, R: Threads + Wait + Copy + Send + 'static>(
     requires { IsPassword password.now }
     ensures { result.0.lock ≡ port.lock }
 {
-    let Given {
-        block,
-        moment,
-        press,
-    } = given;
     match serve_all(
-        rt,
-        alloc,
-        listener,
-        Samples(block),
-        Ticks(moment),
-        Presses(press),
-        port,
-        password,
-        limit,
+        rt, alloc, listener, Silent, Silent, Silent, port, password, limit,
     ) {
         Ok((port, served)) => (port, Ok(served)),
         Err((port, fault)) => (port, Err(fault)),
@@ -178,422 +45,206 @@ fn serve_by<L: Listener, R: Threads + Wait + Copy + Send + 'static>(
 }
 
 /// Serves these clients with a new meter, whose management client has this password.
-fn serve_new<L: Listener, R: Threads + Wait + Abort + Copy + Send + 'static>(
+fn serve_new<L: Listener, R: Threads + Wait + Copy + Send + 'static>(
     rt: &R,
     alloc: Global,
     listener: &mut L,
-    given: Given,
     password: &Octets,
     limit: u64,
 ) -> Result<Evening, AllocError>
     requires { IsPassword password.now }
 {
-    match new_lock(rt, alloc, 1000) {
-        Ok((shared, port)) => {
-            let (port, served) = serve_by(rt, alloc, listener, given, port, password, limit);
-            Ok((served, kept_kinds(shared, port)))
-        }
-        Err(error) => {
-            drop(given);
-            Err(error)
-        }
-    }
+    let (shared, port) = new_lock(alloc, 1000)?;
+    let (port, served) = serve_by(rt, alloc, listener, port, password, limit);
+    Ok((served, kept_count(shared, port)))
 }
 
 /// Serves these clients with a new meter, whose management client has the password 12345678.
-fn serve<L: Listener, R: Threads + Wait + Abort + Copy + Send + 'static>(
+fn serve<L: Listener, R: Threads + Wait + Copy + Send + 'static>(
     rt: &R,
     alloc: Global,
     listener: &mut L,
-    given: Given,
     limit: u64,
 ) -> Result<Evening, AllocError> {
-    match Octets::from_slice(alloc, b"12345678") {
-        Ok(password) => {
-            assert!(*rt; password.len() == 8);
-            let evening = serve_new(rt, alloc, listener, given, &password, limit);
-            drop(password);
-            evening
+    let password = Octets::from_slice(alloc, b"12345678")?;
+    let evening = serve_new(rt, alloc, listener, &password, limit);
+    drop(password);
+    evening
+}
+
+/// A frame of no payload, from port 16 to port 1.
+static WHOLE_FRAME: [u8; 8] = [0, 1, 0, 16, 0, 1, 0, 0];
+
+/// A frame whose header announces 5 bytes; only one arrives.
+static CUT_FRAME: [u8; 9] = [0, 1, 0, 16, 0, 1, 0, 5, 0xC0];
+
+/// A header of version 2.
+static OTHER_VERSION: [u8; 8] = [0, 2, 0, 16, 0, 1, 0, 0];
+
+/// A header that announces 1,025 bytes.
+static TOO_LONG: [u8; 8] = [0, 1, 0, 16, 0, 1, 4, 1];
+
+/// The number of clients.
+const CLIENTS: usize = 5;
+
+/// Returns what a client sends, and whether its connection then fails; if not, it is closed.
+fn sent_by(client: usize) -> Option<(&'static [u8], bool)> {
+    match client {
+        0 => Some((&WHOLE_FRAME, false)),
+        1 => Some((&CUT_FRAME, false)),
+        2 => Some((&OTHER_VERSION, false)),
+        3 => Some((&TOO_LONG, false)),
+        4 => Some((&WHOLE_FRAME, true)),
+        _ => None,
+    }
+}
+
+/// Returns a number for each end: 1 to 4, or 10 more than that of a fault. 0 means no end.
+fn number_of(end: &Result<SessionEnd, ServeFault>) -> u8 {
+    match end {
+        Ok(SessionEnd::Closed) => 1,
+        Ok(SessionEnd::Cut) => 2,
+        Ok(SessionEnd::BadVersion) => 3,
+        Ok(SessionEnd::TooLong) => 4,
+        Err(fault) => 10 + *fault as u8,
+    }
+}
+
+/// The numbers of the ends that outputs received, by client.
+#[derive(Drop)]
+struct Ends {
+    numbers: [AtomicU8; CLIENTS],
+}
+
+impl Ends {
+    fn new() -> Ends {
+        Ends {
+            numbers: [
+                AtomicU8::new(0),
+                AtomicU8::new(0),
+                AtomicU8::new(0),
+                AtomicU8::new(0),
+                AtomicU8::new(0),
+            ],
         }
-        Err(error) => {
-            drop(given);
-            Err(error)
+    }
+
+    /// Returns the numbers, by client.
+    fn all(&self) -> [u8; CLIENTS] {
+        [
+            self.numbers[0].load(Ordering::SeqCst),
+            self.numbers[1].load(Ordering::SeqCst),
+            self.numbers[2].load(Ordering::SeqCst),
+            self.numbers[3].load(Ordering::SeqCst),
+            self.numbers[4].load(Ordering::SeqCst),
+        ]
+    }
+}
+
+/// Stores the end of the session of one client, and drops what is written to it.
+#[derive(Drop)]
+struct Recorded {
+    ends: Arc<Ends, Global>,
+    client: usize,
+}
+
+impl Write for Recorded {
+    fn write(&mut self, bytes: &[u8]) -> io::Result<usize> {
+        Ok(bytes.len())
+    }
+
+    fn flush(&mut self) -> io::Result<()> {
+        Ok(())
+    }
+}
+
+impl Observer for Recorded {
+    fn on_session_end(&self, end: &Result<SessionEnd, ServeFault>) {
+        if let Some(number) = self.ends.numbers.get(self.client) {
+            number.store(number_of(end), Ordering::SeqCst);
         }
     }
 }
 
-fn served_counts(served: u64, turned_away: u64) -> Result<Served, ServeFault> {
-    Ok(Served {
-        served,
-        turned_away,
-    })
+/// What one client sends.
+#[derive(Drop)]
+struct Sending {
+    left: &'static [u8],
+    fails: bool,
 }
 
-/// Returns a client that sends and expects these texts, and does not wait.
-fn client(line: &Arc<ClientResults, Global>, texts: Texts) -> Result<Caller, AllocError> {
-    match (Arc::try_clone(line), Arc::try_clone(line)) {
-        (Ok(line), Ok(other)) => {
-            let Texts { asked, answered } = texts;
-            Ok(Caller {
-                line,
-                asks: asked,
-                answers: answered,
-                waits_at: usize::MAX,
-                other,
-                other_sent: 0,
-            })
+impl Read for Sending {
+    fn read(&mut self, buffer: &mut [u8]) -> io::Result<usize> {
+        if self.left.is_empty() && self.fails {
+            return Err(io::Error::from(ErrorKind::ConnectionReset));
         }
-        (one, two) => {
-            drop(one);
-            drop(two);
-            drop(texts);
-            Err(AllocError)
-        }
+        let count = self.left.len().min(buffer.len());
+        buffer[..count].copy_from_slice(&self.left[..count]);
+        self.left = &self.left[count..];
+        Ok(count)
     }
 }
 
-/// Returns a client that associates and reads the state `reads` times, and does not wait.
-fn caller(alloc: Global, line: &Arc<ClientResults, Global>, reads: usize) -> Result<Caller, Fail> {
-    let texts = talk(alloc, PUBLIC, 16, &[READ_STATE, READ_STATE][..reads.min(2)])?;
-    Ok(client(line, texts)?)
+/// Accepts each client once, in order.
+#[derive(Drop)]
+struct Queue {
+    ends: Arc<Ends, Global>,
+    next: usize,
 }
 
-/// Returns a client that associates and reads the state. At this place of what it sends it waits
-/// until another line has received `other_sent` bytes or is closed.
-fn waiting_caller(
-    alloc: Global,
-    line: &Arc<ClientResults, Global>,
-    (reads, waits_at): (usize, usize),
-    other: &Arc<ClientResults, Global>,
-    other_sent: u64,
-) -> Result<Caller, Fail> {
-    let other = Arc::try_clone(other)?;
-    match caller(alloc, line, reads) {
-        Ok(mut waiting) => {
-            waiting.waits_at = waits_at;
-            waiting.other = other;
-            waiting.other_sent = other_sent;
-            Ok(waiting)
-        }
-        Err(fail) => {
-            drop(other);
-            Err(fail)
-        }
+impl Listener for Queue {
+    type Input = Sending;
+
+    type Output = Recorded;
+
+    fn accept(&mut self) -> Result<Option<(Sending, Recorded)>, ListenFault> {
+        let (left, fails) = sent_by(self.next).ok_or(ListenFault)?;
+        let ends = Arc::try_clone(&self.ends).map_err(|_| ListenFault)?;
+        let recorded = Recorded {
+            ends,
+            client: self.next,
+        };
+        self.next = self.next.saturating_add(1);
+        Ok(Some((Sending { left, fails }, recorded)))
     }
 }
 
-/// Returns a listener without clients.
-fn new_listener(
-    alloc: Global,
-    line: &Arc<ClientResults, Global>,
-) -> Result<CallerListener, AllocError> {
-    let line = Arc::try_clone(line)?;
-    Ok(CallerListener {
-        without_stream: 0,
-        callers: Vec::new(alloc),
-        line,
-        sent: 0,
-    })
-}
-
-/// Adds a client, if there is one, to a listener.
-fn add(listener: &mut CallerListener, caller: Result<Caller, Fail>) -> Result<(), Fail> {
-    match listener.callers.push(caller?) {
-        Ok(()) => Ok(()),
-        Err(refused) => {
-            drop(refused);
-            Err(AllocError)?
-        }
-    }
-}
-
-/// Returns the result of serving a listener's clients, once they have been added.
-fn serve_listener<R: Threads + Wait + Abort + Copy + Send + 'static>(
+/// Serves the five clients, and further ones up to a limit. Returns the result with the number of
+/// events that the meter kept, and the numbers of the ends.
+fn serve_five<R: Threads + Wait + Copy + Send + 'static>(
     rt: &R,
     alloc: Global,
-    mut listener: CallerListener,
-    added: Result<(), Fail>,
-    given: Given,
     limit: u64,
-) -> Result<Evening, Fail> {
-    if let Err(fail) = added {
-        drop(listener);
-        drop(given);
-        return Err(fail);
-    }
-    let evening = serve(rt, alloc, &mut listener, given, limit);
-    drop(listener);
-    Ok(evening?)
+) -> Result<(Evening, [u8; CLIENTS]), Fail> {
+    let ends = Arc::new(alloc, Ends::new())?;
+    let mut queue = Queue {
+        ends: Arc::try_clone(&ends)?,
+        next: 0,
+    };
+    let came = serve(rt, alloc, &mut queue, limit);
+    let numbers = ends.all();
+    drop(queue);
+    drop(ends);
+    Ok((came?, numbers))
 }
 
-/// Adds two clients: one sends its request once the other was answered, and the other once the one
-/// was answered.
-fn add_two_that_wait(
-    alloc: Global,
-    listener: &mut CallerListener,
-    one: &Arc<ClientResults, Global>,
-    two: &Arc<ClientResults, Global>,
-) -> Result<(), Fail> {
-    add(
-        listener,
-        waiting_caller(alloc, one, (2, 60), two, READ_ONCE),
-    )?;
-    add(
-        listener,
-        waiting_caller(alloc, two, (1, 39), one, READ_ONCE),
-    )
-}
-
-fn serve_two_that_wait<R: Threads + Wait + Abort + Copy + Send + 'static>(
-    rt: &R,
-    alloc: Global,
-    one: &Arc<ClientResults, Global>,
-    two: &Arc<ClientResults, Global>,
-) -> Result<Evening, Fail> {
-    let mut listener = new_listener(alloc, one)?;
-    let added = add_two_that_wait(alloc, &mut listener, one, two);
-    serve_listener(rt, alloc, listener, added, NOTHING, 2)
-}
+// Closed, cut, another version, too long, and the fault of a read.
+const NUMBERS: [u8; CLIENTS] = [1, 2, 3, 4, 11];
 
 #[test]
-fn serves_two_sessions_side_by_side(rt: HostRuntime) -> Result<(), Fail> {
-    let alloc = rt.alloc();
-    let one = Arc::new(alloc, ClientResults::new())?;
-    let two = Arc::new(alloc, ClientResults::new())?;
-    let came = serve_two_that_wait(&rt, alloc, &one, &two);
-    let outcomes = (one.outcome(), two.outcome());
-    drop(one);
-    drop(two);
-    let (served, _) = came?;
-    assert!(rt; served == served_counts(2, 0));
-    assert!(rt; outcomes == (Some((READ_ONCE + 14, 1)), Some((READ_ONCE, 1))));
-    Ok(())
-}
-
-/// Adds eight clients that end once a ninth was turned away. The ninth connects once they were
-/// answered, and must receive nothing.
-fn add_nine(
-    alloc: Global,
-    listener: &mut CallerListener,
-    eight: &Arc<ClientResults, Global>,
-    ninth: &Arc<ClientResults, Global>,
-) -> Result<(), Fail> {
-    let mut last = caller(alloc, ninth, 0)?;
-    last.answers = Vec::new(alloc);
-    add(listener, Ok(last))?;
-    for _ in 0..8 {
-        add(
-            listener,
-            waiting_caller(alloc, eight, (0, 39), ninth, u64::MAX),
-        )?;
-    }
-    listener.sent = 8 * OPENED;
-    Ok(())
-}
-
-fn serve_nine<R: Threads + Wait + Abort + Copy + Send + 'static>(
-    rt: &R,
-    alloc: Global,
-    eight: &Arc<ClientResults, Global>,
-    ninth: &Arc<ClientResults, Global>,
-) -> Result<Evening, Fail> {
-    let mut listener = new_listener(alloc, eight)?;
-    let added = add_nine(alloc, &mut listener, eight, ninth);
-    serve_listener(rt, alloc, listener, added, NOTHING, 9)
-}
-
-#[test]
-fn turns_the_ninth_away(rt: HostRuntime) -> Result<(), Fail> {
-    let alloc = rt.alloc();
-    let eight = Arc::new(alloc, ClientResults::new())?;
-    let ninth = Arc::new(alloc, ClientResults::new())?;
-    let came = serve_nine(&rt, alloc, &eight, &ninth);
-    let outcomes = (eight.outcome(), ninth.outcome());
-    drop(eight);
-    drop(ninth);
-    let (served, _) = came?;
-    assert!(rt; served == served_counts(8, 1));
-    assert!(rt; outcomes == (Some((8 * OPENED, 8)), Some((0, 0))));
-    Ok(())
-}
-
-/// Serves one client, after which the listener may fail.
-fn serve_one<R: Threads + Wait + Abort + Copy + Send + 'static>(
-    rt: &R,
-    alloc: Global,
-    line: &Arc<ClientResults, Global>,
-    only: Caller,
-    given: Given,
-    limit: u64,
-) -> Result<Evening, Fail> {
-    match new_listener(alloc, line) {
-        Ok(mut listener) => {
-            let added = add(&mut listener, Ok(only));
-            serve_listener(rt, alloc, listener, added, given, limit)
-        }
-        Err(error) => {
-            drop(only);
-            drop(given);
-            Err(error)?
-        }
-    }
-}
-
-/// Serves a client that only associates, after which the listener fails.
-fn serve_opening<R: Threads + Wait + Abort + Copy + Send + 'static>(
-    rt: &R,
-    alloc: Global,
-    line: &Arc<ClientResults, Global>,
-) -> Result<Evening, Fail> {
-    let only = caller(alloc, line, 0)?;
-    serve_one(rt, alloc, line, only, NOTHING, 2)
-}
-
-/// Serves a client that only associates, after one whose stream cannot be set up.
-fn serve_without_stream<R: Threads + Wait + Abort + Copy + Send + 'static>(
-    rt: &R,
-    alloc: Global,
-    line: &Arc<ClientResults, Global>,
-) -> Result<Evening, Fail> {
-    let mut listener = new_listener(alloc, line)?;
-    listener.without_stream = 1;
-    let added = add(&mut listener, caller(alloc, line, 0));
-    serve_listener(rt, alloc, listener, added, NOTHING, 2)
-}
-
-#[test]
-fn turns_away_a_client_whose_stream_cannot_be_set_up(rt: HostRuntime) -> Result<(), Fail> {
-    let alloc = rt.alloc();
-    let line = Arc::new(alloc, ClientResults::new())?;
-    let came = serve_without_stream(&rt, alloc, &line);
-    let outcome = line.outcome();
-    drop(line);
-    let (served, _) = came?;
-    assert!(rt; served == served_counts(1, 1));
-    assert!(rt; outcome == Some((OPENED, 1)));
+fn an_observer_receives_the_end_of_its_session(rt: HostRuntime) -> Result<(), Fail> {
+    let five = Served {
+        served: 5,
+        turned_away: 0,
+    };
+    let (evening, numbers) = serve_five(&rt, rt.alloc(), 5)?;
+    assert!(rt; evening == (Ok(five), Some(0)) && numbers == NUMBERS);
     Ok(())
 }
 
 #[test]
 fn ends_where_the_listener_fails(rt: HostRuntime) -> Result<(), Fail> {
-    let alloc = rt.alloc();
-    let line = Arc::new(alloc, ClientResults::new())?;
-    let came = serve_opening(&rt, alloc, &line);
-    let outcome = line.outcome();
-    drop(line);
-    let (served, _) = came?;
-    assert!(rt; matches!(served, Err(fault) if fault as u8 == 5));
-    assert!(rt; outcome == Some((OPENED, 1)));
-    Ok(())
-}
-
-/// Returns the management client, which writes mode 2.
-fn writing_caller(alloc: Global, line: &Arc<ClientResults, Global>) -> Result<Caller, Fail> {
-    let texts = talk(alloc, MANAGEMENT, 1, &[WRITE_MODE])?;
-    Ok(client(line, texts)?)
-}
-
-/// Serves the management client, with a block, a moment and a press of the button.
-fn serve_all_actors<R: Threads + Wait + Abort + Copy + Send + 'static>(
-    rt: &R,
-    alloc: Global,
-    line: &Arc<ClientResults, Global>,
-) -> Result<Evening, Fail> {
-    let only = writing_caller(alloc, line)?;
-    match Block::from_slice(alloc, &[10, 20]) {
-        Ok(block) => {
-            let given = Given {
-                block: Some(block),
-                moment: Some(5),
-                press: Some(()),
-            };
-            serve_one(rt, alloc, line, only, given, 1)
-        }
-        Err(error) => {
-            drop(only);
-            Err(error)?
-        }
-    }
-}
-
-#[test]
-fn hands_all_to_one_meter(rt: HostRuntime) -> Result<(), Fail> {
-    let alloc = rt.alloc();
-    let line = Arc::new(alloc, ClientResults::new())?;
-    let came = serve_all_actors(&rt, alloc, &line);
-    let outcome = line.outcome();
-    drop(line);
-    let (served, kinds) = came?;
-    assert!(rt; served == served_counts(1, 0));
-    assert!(rt; outcome == Some((OPENED + 12, 1)));
-    let all = Kinds {
-        writes: 1,
-        blocks: 1,
-        moments: 1,
-        presses: 1,
-        lists: 1,
-        others: 0,
-    };
-    assert!(rt; kinds == Some(all));
-    Ok(())
-}
-
-/// Sends a text, and ends the input.
-fn send(client: &mut TcpStream, text: &[u8]) -> Result<(), Fail> {
-    client.write_all(text)?;
-    client.shutdown(Shutdown::Write)?;
-    Ok(())
-}
-
-/// Returns whether a client receives exactly this text.
-fn receives(alloc: Global, client: &mut TcpStream, text: &[u8]) -> Result<bool, Fail> {
-    let mut received = Vec::new(alloc);
-    let read = client.read_to_end(&mut received);
-    let is_so = received.as_slice() == text;
-    drop(received);
-    read?;
-    Ok(is_so)
-}
-
-/// Returns the result of serving a client that sends the requests, and whether it receives the
-/// responses.
-fn serve_client<R: Threads + Wait + Abort + Copy + Send + 'static>(
-    rt: &R,
-    alloc: Global,
-    listener: &mut Loopback,
-    client: &mut TcpStream,
-    texts: &Texts,
-) -> Result<(Result<Served, ServeFault>, bool), Fail> {
-    send(client, texts.asked.as_slice())?;
-    let (served, _) = serve(rt, alloc, listener, NOTHING, 1)?;
-    let is_answered = receives(alloc, client, texts.answered.as_slice())?;
-    Ok((served, is_answered))
-}
-
-/// Returns the result of serving the public client's read of the state, and whether it receives the
-/// response.
-fn serve_reading<R: Threads + Wait + Abort + Copy + Send + 'static>(
-    rt: &R,
-    alloc: Global,
-    listener: &mut Loopback,
-    client: &mut TcpStream,
-) -> Result<(Result<Served, ServeFault>, bool), Fail> {
-    let texts = talk(alloc, PUBLIC, 16, &[READ_STATE])?;
-    let came = serve_client(rt, alloc, listener, client, &texts);
-    drop(texts);
-    came
-}
-
-#[test]
-fn serves_over_the_network(rt: HostRuntime) -> Result<(), Fail> {
-    let alloc = rt.alloc();
-    let mut listener = Loopback(TcpListener::bind(&rt, "127.0.0.1:0")?);
-    let mut client = TcpStream::connect(&rt, listener.0.local_addr()?)?;
-    let came = serve_reading(&rt, alloc, &mut listener, &mut client);
-    drop(client);
-    drop(listener);
-    let (served, is_answered) = came?;
-    assert!(rt; served == served_counts(1, 0));
-    assert!(rt; is_answered);
+    let (evening, numbers) = serve_five(&rt, rt.alloc(), 6)?;
+    assert!(rt; evening == (Err(ServeFault::Listen), Some(0)) && numbers == NUMBERS);
     Ok(())
 }

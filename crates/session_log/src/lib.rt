@@ -6,8 +6,6 @@ mod answer;
 mod count;
 mod log_time;
 mod reason;
-#[cfg(test)]
-mod tests;
 
 pub use answer::{AnswerKind, read_answer};
 pub use count::AnswerCount;

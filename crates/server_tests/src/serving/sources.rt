@@ -1,33 +1,25 @@
-//! Sources that give at most one thing each.
+//! A source that gives nothing.
 use lane_sampler::Block;
 use meter_server::{BlockSource, ButtonSource, MomentSource};
 
-/// One block, or none.
+/// No block, no moment and no press.
 #[derive(Drop)]
-pub(super) struct Samples(pub(super) Option<Block>);
+pub(super) struct Silent;
 
-impl BlockSource for Samples {
+impl BlockSource for Silent {
     fn next_block(&mut self) -> Option<Block> {
-        self.0.take()
+        None
     }
 }
 
-/// One moment, or none.
-#[derive(Drop)]
-pub(super) struct Ticks(pub(super) Option<u32>);
-
-impl MomentSource for Ticks {
+impl MomentSource for Silent {
     fn next_moment(&mut self) -> Option<u32> {
-        self.0.take()
+        None
     }
 }
 
-/// One press, or none.
-#[derive(Drop)]
-pub(super) struct Presses(pub(super) Option<()>);
-
-impl ButtonSource for Presses {
+impl ButtonSource for Silent {
     fn pressed(&mut self) -> bool {
-        self.0.take().is_some()
+        false
     }
 }

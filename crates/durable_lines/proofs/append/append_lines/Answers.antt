@@ -10,7 +10,7 @@ pub returns-in_err-append-clause-any_moment : goal.returns-in_err-append-clause-
 returns-in_err-append-clause-any_moment g c acts =
     let D = g.F.DurableFile in
     let old = c.args.file.now in
-    after_append D.seen D.may_leave D.stored D.moment D.left_since old c.args.text.now
+    after_append D.seen D.may_leave D.identity D.stored D.moment D.left_since old c.args.text.now
     c.append.new.self (c.requires.settled acts) (g.met.F.DurableFile.only_now old)
     c.append.ensures.time c.append.ensures.crash
 
@@ -19,12 +19,14 @@ returns-clause-any_moment g c acts =
     let D = g.F.DurableFile in
     let old = c.args.file.now in
     let text = c.args.text.now in
-    let appended = after_append D.seen D.may_leave D.stored D.moment D.left_since old text
+    let appended = after_append D.seen D.may_leave D.identity D.stored D.moment D.left_since old
+    text
     c.append.new.self (c.requires.settled acts) (g.met.F.DurableFile.only_now old)
     c.append.ensures.time c.append.ensures.crash in
-    let front = append_leaves D.seen D.may_leave D.stored D.moment D.left_since old text
+    let front = append_leaves D.seen D.may_leave D.identity D.stored D.moment D.left_since old text
     c.append.new.self (c.requires.settled acts) c.append.ensures.crash in
-    after_sync D.seen D.may_leave D.stored D.moment D.left_since old text c.append.new.self
+    after_sync D.seen D.may_leave D.identity D.stored D.moment D.left_since old text
+    c.append.new.self
     c.sync.new.self appended c.sync.ensures.time front c.sync.ensures.crash
 
 pub returns-clause-lines : goal.returns-clause-lines
@@ -38,7 +40,8 @@ returns-clause-lines g c =
 pub returns-clause-settled : goal.returns-clause-settled
 returns-clause-settled g c =
     let D = g.F.DurableFile in
-    settle_on_ok D.seen D.may_leave D.stored c.sync.result c.append.new.self c.sync.new.self
+    settle_on_ok D.seen D.may_leave D.identity D.stored c.sync.result c.append.new.self
+    c.sync.new.self
     (λ acts. subst IsText (sym (c.in_ok-append.ensures.written acts))
     (is_text-append (D.seen c.args.file.now) c.args.text.now (c.requires.settled acts).text
     c.requires.text))

@@ -101,7 +101,7 @@ returns-clause-same g c acts =
 pub returns-clause-settled : goal.returns-clause-settled
 returns-clause-settled g c acts =
     let D = g.F.DurableFile in
-    settle D.seen D.may_leave D.stored c.cut.new.self c.sync-2.new.self
+    settle D.seen D.may_leave D.identity D.stored c.cut.new.self c.sync-2.new.self
     (subst IsText (sym (sym c.in_ok-sync-2.ensures.unchanged ∙ returns-clause-seen g c acts
     ∙ returns-clause-text g c acts)) (lines_text (D.seen c.args.file.now)))
     c.in_ok-sync-2.ensures.unchanged c.in_ok-sync-2.ensures.durable

@@ -6,8 +6,9 @@ pub returns-in-Ok : goal.returns-in-Ok
 returns-in-Ok c = (
   c.in-Some.at,
   search rules,
-  gives_in c.args.terms.now c.args.places.now.items c.in-Some.at c.in-Some-get_mut.place.now
-      c.give.new.self c.args.event c.in-Ok.reply (search rules) c.in-Some-get_mut.ensures.value
+  gives_in c.args.terms.now c.of_meter.result.now c.args.places.now.items c.args.number
+      c.in-Some.at c.in-Some-get_mut.place.now c.give.new.self c.args.event c.in-Ok.reply
+      c.of_meter.ensures (search rules) (search rules) c.in-Some-get_mut.ensures.value
       c.in-Ok.ensures.gives,
   places_set c.args.places.now.items c.in-Some.at c.give.new.self,
 )

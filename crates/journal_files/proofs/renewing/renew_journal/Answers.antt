@@ -7,7 +7,7 @@ pub returns-in_err-replace-clause-any_moment : goal.returns-in_err-replace-claus
 returns-in_err-replace-clause-any_moment g c acts =
     let D = g.P.DurableFile in
     let old = c.args.place.now in
-    replaced_any D.seen D.may_leave D.stored D.moment D.left_since c.args.depth old
+    replaced_any D.seen D.may_leave D.identity D.stored D.moment D.left_since c.args.depth old
     c.renew_text_of.new.file c.replace.new.place c.as_slice.result.now
     (g.met.P.DurableFile.only_now old) c.renew_text_of.ensures.time
     c.renew_text_of.ensures.crash
@@ -19,7 +19,7 @@ pub returns-clause-any_moment : goal.returns-clause-any_moment
 returns-clause-any_moment g c acts =
     let D = g.P.DurableFile in
     let old = c.args.place.now in
-    replaced_any D.seen D.may_leave D.stored D.moment D.left_since c.args.depth old
+    replaced_any D.seen D.may_leave D.identity D.stored D.moment D.left_since c.args.depth old
     c.renew_text_of.new.file c.replace.new.place c.as_slice.result.now
     (g.met.P.DurableFile.only_now old) c.renew_text_of.ensures.time
     c.renew_text_of.ensures.crash

@@ -10,7 +10,7 @@ use Rattle.meter_journal.proofs.keeping.keep_lines.Goals as goal
 pub saving-init : goal.saving-init
 saving-init g c =
     let D = g.F.DurableFile in
-    run_begins D.acts_as_file D.seen D.may_leave D.stored D.moment D.left_since D.renews
+    run_begins D.acts_as_file D.seen D.may_leave D.identity D.stored D.moment D.left_since D.renews
     c.args.file.now c.args.port.now c.history_is_legal.ensures
     (g.met.F.DurableFile.only_now c.args.file.now)
     c.requires.settled
@@ -18,7 +18,7 @@ saving-init g c =
 pub returns-in_err-saved-clause-any_moment : goal.returns-in_err-saved-clause-any_moment
 returns-in_err-saved-clause-any_moment g c =
     let D = g.F.DurableFile in
-    crashes_on D.acts_as_file D.seen D.may_leave D.stored D.moment D.left_since D.renews
+    crashes_on D.acts_as_file D.seen D.may_leave D.identity D.stored D.moment D.left_since D.renews
     c.args.file.now
     c.saving.file c.save.new.file c.args.port.now c.saving.port c.save.new.port
     c.saving.saved.count c.saving.invariant c.save.ensures.watches c.save.ensures.any_moment
@@ -26,14 +26,16 @@ returns-in_err-saved-clause-any_moment g c =
 pub saving-preserved-then-saved-before : goal.saving-preserved-then-saved-before
 saving-preserved-then-saved-before g c =
     let D = g.F.DurableFile in
-    subst (λ (r : MeterPort). Run D.acts_as_file D.seen D.may_leave D.stored D.moment D.left_since
+    subst (λ (r : MeterPort). Run D.acts_as_file D.seen D.may_leave D.identity D.stored D.moment
+    D.left_since
     D.renews c.args.file.now c.save.new.file c.args.port.now r c.in_ok-saved.saved.count)
     (sym c.announce.ensures)
-    (run_on D.acts_as_file D.seen D.may_leave D.stored D.moment D.left_since D.renews
+    (run_on D.acts_as_file D.seen D.may_leave D.identity D.stored D.moment D.left_since D.renews
     c.args.file.now
     c.saving.file c.save.new.file c.args.port.now c.saving.port c.save.new.port
     c.saving.saved.count c.in_ok-saved.saved.count c.saving.invariant c.save.ensures.same
-    c.save.ensures.watches c.in_ok-saved.ensures.settled c.in_ok-saved.ensures.saved
+    c.save.ensures.watches c.save.ensures.identity c.in_ok-saved.ensures.settled
+    c.in_ok-saved.ensures.saved
     c.save.ensures.any_moment)
 
 pub returns-in_err-saved-clause-watches : goal.returns-in_err-saved-clause-watches
@@ -43,50 +45,61 @@ returns-in_err-saved-clause-watches g c = watches_trans c.args.port.now.known
 pub saving-preserved : goal.saving-preserved
 saving-preserved g c =
     let D = g.F.DurableFile in
-    run_on D.acts_as_file D.seen D.may_leave D.stored D.moment D.left_since D.renews c.args.file.now
+    run_on D.acts_as_file D.seen D.may_leave D.identity D.stored D.moment D.left_since D.renews
+    c.args.file.now
     c.saving.file c.save.new.file c.args.port.now c.saving.port c.save.new.port
     c.saving.saved.count c.in_ok-saved.saved.count c.saving.invariant c.save.ensures.same
-    c.save.ensures.watches c.in_ok-saved.ensures.settled c.in_ok-saved.ensures.saved
+    c.save.ensures.watches c.save.ensures.identity c.in_ok-saved.ensures.settled
+    c.in_ok-saved.ensures.saved
     c.save.ensures.any_moment
 
 pub returns-then-is_last-clause-watches : goal.returns-then-is_last-clause-watches
 returns-then-is_last-clause-watches g c =
     let D = g.F.DurableFile in
-    let run = run_on D.acts_as_file D.seen D.may_leave D.stored D.moment D.left_since D.renews
+    let run = run_on D.acts_as_file D.seen D.may_leave D.identity D.stored D.moment D.left_since
+    D.renews
     c.args.file.now c.saving.file c.save.new.file c.args.port.now c.saving.port c.save.new.port
     c.saving.saved.count c.in_ok-saved.saved.count c.saving.invariant c.save.ensures.same
-    c.save.ensures.watches c.in_ok-saved.ensures.settled c.in_ok-saved.ensures.saved
+    c.save.ensures.watches c.save.ensures.identity c.in_ok-saved.ensures.settled
+    c.in_ok-saved.ensures.saved
     c.save.ensures.any_moment in
     run.watches
 
 pub returns-then-is_last-clause-any_moment : goal.returns-then-is_last-clause-any_moment
 returns-then-is_last-clause-any_moment g c =
     let D = g.F.DurableFile in
-    let run = run_on D.acts_as_file D.seen D.may_leave D.stored D.moment D.left_since D.renews
+    let run = run_on D.acts_as_file D.seen D.may_leave D.identity D.stored D.moment D.left_since
+    D.renews
     c.args.file.now c.saving.file c.save.new.file c.args.port.now c.saving.port c.save.new.port
     c.saving.saved.count c.in_ok-saved.saved.count c.saving.invariant c.save.ensures.same
-    c.save.ensures.watches c.in_ok-saved.ensures.settled c.in_ok-saved.ensures.saved
+    c.save.ensures.watches c.save.ensures.identity c.in_ok-saved.ensures.settled
+    c.in_ok-saved.ensures.saved
     c.save.ensures.any_moment in
     run.any_moment
 
 pub announce-requires-clause-synced : goal.announce-requires-clause-synced
 announce-requires-clause-synced g c =
     let D = g.F.DurableFile in
-    synced_lines D.acts_as_file D.seen D.may_leave D.stored D.moment D.left_since D.renews
-    c.args.file.now c.save.new.file c.args.port.now c.save.new.port c.in_ok-saved.saved.count
-    (run_on D.acts_as_file D.seen D.may_leave D.stored D.moment D.left_since D.renews
+    synced_lines D.acts_as_file D.seen D.may_leave D.identity D.stored D.moment D.left_since
+    D.renews
+    g.L.JournalIdentity.file g.L.JournalIdentity.first c.args.file.now c.save.new.file
+    c.args.port.now c.save.new.port c.in_ok-saved.saved.count c.requires.file
+    (run_on D.acts_as_file D.seen D.may_leave D.identity D.stored D.moment D.left_since D.renews
     c.args.file.now c.saving.file c.save.new.file c.args.port.now c.saving.port c.save.new.port
     c.saving.saved.count c.in_ok-saved.saved.count c.saving.invariant c.save.ensures.same
-    c.save.ensures.watches c.in_ok-saved.ensures.settled c.in_ok-saved.ensures.saved
+    c.save.ensures.watches c.save.ensures.identity c.in_ok-saved.ensures.settled
+    c.in_ok-saved.ensures.saved
     c.save.ensures.any_moment)
 
 pub returns-then-is_last-clause-all_saved : goal.returns-then-is_last-clause-all_saved
 returns-then-is_last-clause-all_saved g c = λ acts.
     let D = g.F.DurableFile in
-    let run = run_on D.acts_as_file D.seen D.may_leave D.stored D.moment D.left_since D.renews
+    let run = run_on D.acts_as_file D.seen D.may_leave D.identity D.stored D.moment D.left_since
+    D.renews
     c.args.file.now c.saving.file c.save.new.file c.args.port.now c.saving.port c.save.new.port
     c.saving.saved.count c.in_ok-saved.saved.count c.saving.invariant c.save.ensures.same
-    c.save.ensures.watches c.in_ok-saved.ensures.settled c.in_ok-saved.ensures.saved
+    c.save.ensures.watches c.save.ensures.identity c.in_ok-saved.ensures.settled
+    c.in_ok-saved.ensures.saved
     c.save.ensures.any_moment in
     subst (λ (n : ℕ). IsSaved D.renews (lines_in (D.seen c.args.file.now)) n
     c.save.new.port.known.seen (D.seen c.save.new.file)) c.in_ok-saved.ensures.count

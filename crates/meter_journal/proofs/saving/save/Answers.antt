@@ -7,7 +7,8 @@ use Rattle.meter_journal.proofs.saving.save.Goals as goal
 pub returns-in_err-text-clause-any_moment : goal.returns-in_err-text-clause-any_moment
 returns-in_err-text-clause-any_moment g c = λ acts first saved.
     let D = g.F.DurableFile in
-    unchanged_leaves D.renews D.seen D.may_leave D.stored D.moment D.left_since c.args.file.now
+    unchanged_leaves D.renews D.seen D.may_leave D.identity D.stored D.moment D.left_since
+    c.args.file.now
     first c.args.taken c.args.port.now.known.seen c.take_lines.new.port.known.seen
     c.take_lines.ensures.watches.sees.seen (c.requires.settled acts)
     (g.met.F.DurableFile.only_now c.args.file.now) saved
@@ -41,7 +42,8 @@ returns-in-Ok-clause-any_moment g c = λ acts first saved.
     let q = c.take_lines.new.port.known.seen in
     let rest = rest_of (lines_of_calls q) c.args.taken c.in_ok-text.count c.in_ok-text.text.items
     c.as_slice.result.now c.as_slice.ensures.value c.in_ok-text.ensures.lines in
-    appended_leaves D.renews D.seen D.may_leave D.stored D.moment D.left_since c.args.file.now
+    appended_leaves D.renews D.seen D.may_leave D.identity D.stored D.moment D.left_since
+    c.args.file.now
     c.append_and_renew.new.file first c.args.taken c.in_ok-text.count c.as_slice.result.now
     c.args.port.now.known.seen q c.take_lines.ensures.watches.sees.seen rest saved
     (c.append_and_renew.ensures.any_moment acts first)
@@ -52,7 +54,8 @@ returns-in-Err-clause-any_moment g c = λ acts first saved.
     let q = c.take_lines.new.port.known.seen in
     let rest = rest_of (lines_of_calls q) c.args.taken c.in_ok-text.count c.in_ok-text.text.items
     c.as_slice.result.now c.as_slice.ensures.value c.in_ok-text.ensures.lines in
-    appended_leaves D.renews D.seen D.may_leave D.stored D.moment D.left_since c.args.file.now
+    appended_leaves D.renews D.seen D.may_leave D.identity D.stored D.moment D.left_since
+    c.args.file.now
     c.append_and_renew.new.file first c.args.taken c.in_ok-text.count c.as_slice.result.now
     c.args.port.now.known.seen q c.take_lines.ensures.watches.sees.seen rest saved
     (c.append_and_renew.ensures.any_moment acts first)

@@ -15,8 +15,9 @@ pub returns-clause-run : goal.returns-clause-run
 returns-clause-run g c = λ recorder known.
     let D = g.F.DurableFile in
     let started = c.in-Some.started in
-    journaled_by D.acts_as_file D.seen D.may_leave D.moment D.left_since D.stored
-    D.renews c.args.journal.file recorder (record {
+    journaled_by D.acts_as_file D.identity D.seen D.may_leave D.moment D.left_since D.stored
+    D.renews c.args.journal.file g.K.JournalIdentity.file g.K.JournalIdentity.first
+    c.requires.file recorder (record {
       blocks = g.B.BlockSource.forecast c.args.sources.blocks;
       moments = g.M.MomentSource.forecast c.args.sources.moments;
       presses = g.U.ButtonSource.forecast c.args.sources.buttons;

@@ -1,5 +1,11 @@
--- The lock of the meter.
+-- The lock of the meter, and the file of its journal.
+use Rattle.durable_lines.specs.Lines.{lines_in}
+use Rattle.durable_lines.specs.MemoryFile.{bytes_of}
 use Rattle.saving_tests.proofs.settling.settle_asked.Given as goal
 
 abbrev pub ghosts-settle_twice : goal.ghosts-settle_twice
-ghosts-settle_twice g a = record { lock = a.port.lock }
+ghosts-settle_twice g a = record {
+  lock = a.port.lock;
+  file = 0;
+  first = lines_in (bytes_of a.file);
+}

@@ -3,21 +3,14 @@ use Rattle.embedded_meter.proofs.Advancing.{advances_same, advances_none, advanc
 use Rattle.embedded_meter.proofs.Steps.{asks_works, works_short}
 use Rattle.embedded_meter.proofs.connection.ClientSession.work.Goals as goal
 
-pub returns-in_err-serve_short-in-Nothing : goal.returns-in_err-serve_short-in-Nothing
-returns-in_err-serve_short-in-Nothing c =
-    works_short _ _ _ _ c.from_residual.result _ c.from_residual.ensures.1
-    c.in_err-serve_short-in-Nothing.ensures
-
-pub returns-else-branch : goal.returns-else-branch
-returns-else-branch c =
-    let none = rw c.if-branch.false at c.in_ok-serve_short-in-Nothing.ensures in
-    rw none.1 (asks_works c.args.self.now c.ask.new.self c.args.recorder.now c.ask.result
-    (rw none.0 at c.ask.ensures))
+pub returns-in-Nothing : goal.returns-in-Nothing
+returns-in-Nothing c =
+    asks_works c.args.self.now c.ask.new.self c.args.recorder.now c.ask.result c.ask.ensures
 
 pub returns-in_err-apply-in-Asked : goal.returns-in_err-apply-in-Asked
 returns-in_err-apply-in-Asked c =
-    works_short _ _ _ _ c.from_residual-in_err-apply-in-Asked.result _
-    c.from_residual-in_err-apply-in-Asked.ensures.1
+    works_short _ _ _ _ c.from_residual.result _
+    c.from_residual.ensures.1
     (advances_kept _ _ _ _ c.in_err-apply-in-Asked.ensures.0 c.in_err-apply-in-Asked.ensures.1)
 
 pub returns-in_err-answer-in-Answered : goal.returns-in_err-answer-in-Answered

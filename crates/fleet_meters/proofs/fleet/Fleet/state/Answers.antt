@@ -11,7 +11,7 @@ pub returns-in-Ok : goal.returns-in-Ok
 returns-in-Ok g c = rw (← c.self.view_is) (
   c.in-Some.at,
   c.in-Some.ensures.place.0,
-  state_in c.self.inside.terms c.self.inside.places.items c.in-Some.at c.index.result.now
-      c.in-Ok.state (omega (arith, c.in-Some.ensures.place.1, c.len.ensures)) (search rules)
-      c.in-Ok.ensures,
+  state_in c.self.inside.terms c.of_meter.result.now c.self.inside.places.items c.args.number
+      c.in-Some.at c.index.result.now c.in-Ok.state c.of_meter.ensures c.in-Some.ensures.place.0
+      (omega (arith, c.in-Some.ensures.place.1, c.len.ensures)) (search rules) c.in-Ok.ensures,
 )

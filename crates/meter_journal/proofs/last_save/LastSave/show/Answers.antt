@@ -8,7 +8,8 @@ invariant_of-self g c =
     let D = g.F.DurableFile in (
       c.tell.ensures.note.0 ∙ (c.meet.ensures.lock.0
           ∙ (ap (λ (p : MeterPort). p.lock) c.tell-own.ensures.unchanged ∙ c.requires)),
-      λ acts. synced_as D.renews D.stored c.replace-note.result c.self.inside.note
+      λ acts. synced_as D.renews (D.stored g.L.JournalIdentity.file) g.L.JournalIdentity.first
+          c.replace-note.result c.self.inside.note
           c.meet.new.self.known.seen c.tell.result.seen c.self.inside.count
           c.replace-note.ensures.value c.meet.ensures.meets.note_seen c.tell.ensures.note.2
           (c.self.invariant.1 acts),
@@ -17,8 +18,10 @@ invariant_of-self g c =
 pub returns-clause-durable : goal.returns-clause-durable
 returns-clause-durable g c =
     let D = g.F.DurableFile in
-    durable_now D.acts_as_file D.renews D.stored c.tell.new.self.known.seen c.self.inside.count
-    (λ acts. synced_as D.renews D.stored c.replace-note.result c.self.inside.note
+    durable_now D.acts_as_file D.renews (D.stored g.L.JournalIdentity.file)
+    g.L.JournalIdentity.first c.tell.new.self.known.seen c.self.inside.count
+    (λ acts. synced_as D.renews (D.stored g.L.JournalIdentity.file) g.L.JournalIdentity.first
+    c.replace-note.result c.self.inside.note
     c.meet.new.self.known.seen c.tell.new.self.known.seen c.self.inside.count
     c.replace-note.ensures.value c.meet.ensures.meets.note_seen
     (ap (λ (p : MeterPort). p.known.seen) c.tell.ensures.unchanged) (c.self.invariant.1 acts))

@@ -1,0 +1,95 @@
+//! Tests of what contracts do not cover: how long a client's stream waits, and how the listening
+//! ends.
+use meter_server::Listener;
+use server_io::{Sockets, StreamLimits};
+use std::io::Read;
+use std::net::{SocketAddr, TcpListener, TcpStream};
+use std::sync::Arc;
+use std::sync::atomic::AtomicBool;
+use std::test::Fail;
+use std::time::{Duration, Instant};
+
+// No limits.
+const NO_LIMITS: StreamLimits = StreamLimits {
+    call: None,
+    session: None,
+};
+
+// Returns sockets on a free port of the loopback interface, and their address.
+fn listen_to(
+    rt: HostRuntime,
+    limits: StreamLimits,
+    is_stopped: bool,
+) -> Result<(Sockets<HostRuntime>, SocketAddr), Fail> {
+    let listener = TcpListener::bind(&rt, "127.0.0.1:0")?;
+    let address = listener.local_addr()?;
+    let stopped = Arc::new(rt.alloc(), AtomicBool::new(is_stopped))?;
+    let sockets = Sockets::new(rt, rt.alloc(), listener, limits, stopped, false);
+    Ok((sockets, address))
+}
+
+// Returns how long the first read from a silent client takes, which must fail, and whether a
+// second read fails.
+fn failed_reads(rt: HostRuntime, limits: StreamLimits) -> Result<(Duration, bool), Fail> {
+    let (mut sockets, address) = listen_to(rt, limits, false)?;
+    let client = TcpStream::connect(&rt, address)?;
+    let accepted = sockets.accept().map_err(|_| "no client")?;
+    let (mut input, output) = accepted.ok_or("no stream")?;
+    let began = Instant::now(&rt)?;
+    let mut buffer = [0; 8];
+    let first = input.read(&mut buffer);
+    let lasted = began.elapsed(&rt)?;
+    let second = input.read(&mut buffer);
+    drop(client);
+    drop(output);
+    if first.is_ok() {
+        return Err(Fail::from("a read of a silent client succeeds"));
+    }
+    Ok((lasted, second.is_err()))
+}
+
+#[test]
+fn a_read_takes_as_long_as_a_call_may(rt: HostRuntime) -> Result<(), Fail> {
+    let limits = StreamLimits {
+        call: Some(Duration::from_millis(200)),
+        session: Some(Duration::from_secs(20)),
+    };
+    let (lasted, fails_again) = failed_reads(rt, limits)?;
+    assert!(rt; lasted < Duration::from_secs(10));
+    assert!(rt; fails_again);
+    Ok(())
+}
+
+#[test]
+fn a_session_has_an_end(rt: HostRuntime) -> Result<(), Fail> {
+    let limits = StreamLimits {
+        call: Some(Duration::from_secs(20)),
+        session: Some(Duration::from_millis(200)),
+    };
+    let (lasted, fails_again) = failed_reads(rt, limits)?;
+    assert!(rt; lasted < Duration::from_secs(10));
+    assert!(rt; fails_again);
+    Ok(())
+}
+
+#[test]
+fn no_client_is_accepted_after_the_end_of_the_input(rt: HostRuntime) -> Result<(), Fail> {
+    let (mut sockets, address) = listen_to(rt, NO_LIMITS, true)?;
+    let client = TcpStream::connect(&rt, address)?;
+    assert!(rt; sockets.accept().is_err());
+    assert!(rt; !sockets.has_failed());
+    drop(client);
+    Ok(())
+}
+
+#[test]
+fn a_listener_that_fails_has_failed(rt: HostRuntime) -> Result<(), Fail> {
+    let listener = TcpListener::bind(&rt, "127.0.0.1:0")?;
+    // (without a client, the next call fails instead of waiting)
+    listener.set_nonblocking(true)?;
+    let stopped = Arc::new(rt.alloc(), AtomicBool::new(false))?;
+    let mut sockets = Sockets::new(rt, rt.alloc(), listener, NO_LIMITS, stopped, false);
+    assert!(rt; sockets.accept().is_err());
+    assert!(rt; sockets.has_failed());
+    Ok(())
+}

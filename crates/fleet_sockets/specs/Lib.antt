@@ -1,0 +1,2 @@
+-- What the contracts of a fleet's sockets refer to.
+pub mod Bound
