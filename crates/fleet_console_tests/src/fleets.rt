@@ -60,7 +60,7 @@ impl Stream for Silence {
 pub(crate) fn new_fleet(alloc: Global) -> Result<Fleet<Silence>, AllocError> {
     let trace = Octets::from_slice(alloc, TRACE)?;
     let password = Octets::from_slice(alloc, b"12345678")?;
-    let refusing = Octets::new(alloc);
+    let refusing = Octets::from_slice(alloc, TRACE)?;
     let common = MeterTerms {
         trace,
         password,
