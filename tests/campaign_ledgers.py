@@ -36,7 +36,7 @@ from journal import in_folder
 from ledger import HEAD_END, any_verb, entries, first_differences, has_ledger, report_of, text_of
 from one_node_slurm import LONG_PATIENCE, Slurm, missing_commands
 from scripted_meters import CROWD
-from serving import PASSWORD, check, test, wait_until
+from serving import PASSWORD, check, wait_until
 
 JOBS, PARTS, LINES = 150, 3, 1_000  # a part of 50 jobs is filled up with empty lines
 KILLED, LONG_KILLED, KILLED_JOBS = 4, 50, 90
@@ -535,17 +535,13 @@ def main():
     parser.add_argument("--seed", type=int, default=seed)
     given = parser.parse_args()
     is_long, is_short, seed = given.long, given.short, given.seed
-    if not os.access(HEAD_END, os.X_OK):
-        print(f"{HEAD_END} is missing: run bin/build or bin/test\n0 passed, 1 failed")
+    if not serving.are_built(HEAD_END):
         return 1
     if not has_ledger() or not shutil.which("parallel"):
         missing = "no --ledger" if not has_ledger() else "GNU parallel is not installed"
         print(f"skipped: {missing}\n0 passed, 0 failed")
         return 0
-    for function in TESTS:
-        test(function)
-    print(f"{serving.passed} passed, {serving.failed} failed")
-    return 1 if serving.failed else 0
+    return serving.run_tests(TESTS)
 
 
 if __name__ == "__main__":

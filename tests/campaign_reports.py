@@ -25,7 +25,7 @@ import tempfile
 sys.dont_write_bytecode = True  # importing the modules of tests/ leaves no files
 
 import serving
-from serving import PATIENCE, TOP, check, test
+from serving import PATIENCE, TOP, check
 
 HEAD_END = os.environ.get("HEAD_END") or TOP / "crates" / "head_end_cli" / "out" / "head_end_cli"
 SCRIPT = TOP / "bin" / "campaign_report"
@@ -375,13 +375,9 @@ def main(words):
     global keep
     if words[:1] == ["--keep"]:
         keep = pathlib.Path(words[1])
-    if not os.access(HEAD_END, os.X_OK):
-        print(f"{HEAD_END} is missing: run bin/build or bin/test\n0 passed, 1 failed")
+    if not serving.are_built(HEAD_END):
         return 1
-    for function in TESTS:
-        test(function)
-    print(f"{serving.passed} passed, {serving.failed} failed")
-    return 1 if serving.failed else 0
+    return serving.run_tests(TESTS)
 
 
 if __name__ == "__main__":

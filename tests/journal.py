@@ -32,7 +32,7 @@ from journal_history import (GONE, OPEN_COUNT, Console, Explanation, Journal, Ta
 from refusing import Refusing, call_numbers
 from serving import (DEVICE, DISCONNECT, MANAGEMENT, MODE, PASSWORD, PATIENCE, PLAYER, PUBLIC,
                      RECONNECT, SERVER, STATE, Client, Server, check, free_port, is_part_of,
-                     play_trace, run_with, test)
+                     play_trace, run_with)
 
 KILLS, LONG_KILLS = 200, 2_000
 STARTS, LONG_STARTS = 20, 200
@@ -650,14 +650,9 @@ def main():
     parser.add_argument("--seed", type=int, default=SEED)
     given = parser.parse_args()
     is_long, seed = given.long, given.seed
-    for executable in (SERVER, PLAYER):
-        if not os.access(executable, os.X_OK):
-            print(f"{executable} is missing: run bin/build or bin/test\n0 passed, 1 failed")
-            return 1
-    for function in TESTS:
-        test(function)
-    print(f"{serving.passed} passed, {serving.failed} failed")
-    return 1 if serving.failed else 0
+    if not serving.are_built(SERVER, PLAYER):
+        return 1
+    return serving.run_tests(TESTS)
 
 
 if __name__ == "__main__":

@@ -739,8 +739,7 @@ def main():
     parser.add_argument("--seed", type=int, default=SEED)
     given = parser.parse_args()
     is_long, seed = given.long, given.seed
-    if not os.access(HEAD_END, os.X_OK):
-        print(f"{HEAD_END} is missing: run bin/build or bin/test\n0 passed, 1 failed")
+    if not serving.are_built(HEAD_END):
         return 1
     if not has_ledger():
         print("skipped: no --ledger\n0 passed, 0 failed")

@@ -16,7 +16,7 @@ sys.dont_write_bytecode = True  # importing the modules of tests/ leaves no file
 
 import serving
 from serving import (DISCONNECT, MODE, PASSWORD, RECONNECT, SERVER, STATE, Server, check, run_with,
-                     test, wait_until)
+                     wait_until)
 
 OFF = "supply off: execute 1 70 000060030AFF 1 0F00"
 ON = "supply on: execute 1 70 000060030AFF 2 0F00"
@@ -166,20 +166,16 @@ def a_change_is_written_after_its_event_is_on_the_disk(name):
 
 
 def main():
-    if not os.access(SERVER, os.X_OK):
-        print(f"{SERVER} is missing: run bin/build or bin/test\n0 passed, 1 failed")
+    if not serving.are_built(SERVER):
         return 1
-    for function in (
+    return serving.run_tests((
         a_file_is_given_each_change,
         the_meter_itself_moves_the_relay,
         a_pipe_keeps_what_is_written,
         a_file_that_cannot_be_written_is_a_fault,
         a_relay_that_fails_ends_the_server,
         a_change_is_written_after_its_event_is_on_the_disk,
-    ):
-        test(function)
-    print(f"{serving.passed} passed, {serving.failed} failed")
-    return 1 if serving.failed else 0
+    ))
 
 
 if __name__ == "__main__":

@@ -365,18 +365,13 @@ def under_systemd(name):
 
 
 def main():
-    for executable in (serving.SERVER, serving.PLAYER):
-        if not os.access(executable, os.X_OK):
-            print(f"{executable} is missing: run bin/build or bin/test\n0 passed, 1 failed")
-            return 1
-    for function in (a_run_is_stored_and_resumed, the_console_stays_open, open_sessions_end_first,
-                     a_silent_client_delays_the_end, a_killed_server_is_not_resumed,
-                     a_killed_server_has_its_journal,
-                     a_killed_service_is_recovered, what_serves_nothing_loses_nothing,
-                     a_full_disk_keeps_the_marker, command_line, under_runit, under_systemd):
-        serving.test(function)
-    print(f"{serving.passed} passed, {serving.failed} failed")
-    return 1 if serving.failed else 0
+    if not serving.are_built(serving.SERVER, serving.PLAYER):
+        return 1
+    return serving.run_tests((a_run_is_stored_and_resumed, the_console_stays_open, open_sessions_end_first,
+                              a_silent_client_delays_the_end, a_killed_server_is_not_resumed,
+                              a_killed_server_has_its_journal,
+                              a_killed_service_is_recovered, what_serves_nothing_loses_nothing,
+                              a_full_disk_keeps_the_marker, command_line, under_runit, under_systemd))
 
 
 if __name__ == "__main__":

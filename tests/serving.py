@@ -308,6 +308,23 @@ def test(function):
         print(f"FAILED {function.__name__.replace('_', ' ')}: {type(error).__name__} {error}")
 
 
+def are_built(*executables):
+    """Whether these executables are there. The first that is missing is told as a failed check."""
+    for executable in executables:
+        if not os.access(executable, os.X_OK):
+            print(f"{executable} is missing: run bin/build or bin/test\n0 passed, 1 failed")
+            return False
+    return True
+
+
+def run_tests(tests):
+    """Runs tests, prints how many checks passed, and returns the exit status."""
+    for function in tests:
+        test(function)
+    print(f"{passed} passed, {failed} failed")
+    return 1 if failed else 0
+
+
 def requests_of_every_kind(name):
     server = Server("--connections", "2")
     public, client = server.client(PUBLIC), server.client()
@@ -711,19 +728,14 @@ def a_server_without_a_journal_says_so(name):
 
 
 def main():
-    for executable in (SERVER, PLAYER):
-        if not os.access(executable, os.X_OK):
-            print(f"{executable} is missing: run bin/test, or `rt run` in its crate")
-            return 1
-    for function in (requests_of_every_kind, a_long_answer_comes_in_blocks, clients_interleave, a_ninth_client_is_turned_away,
-                     a_client_whose_stream_cannot_be_set_up_is_turned_away,
-                     console_lines_act_beside_clients, a_console_that_is_not_read_is_a_fault, a_limit_of_connections_ends_the_server, the_end_of_input_ends_the_server,
-                     an_address_in_use_is_a_fault, a_meter_goes_on_from_its_trace, a_wrong_trace_is_not_gone_on_from, wrong_passwords_are_refused,
-                     the_log_reports_each_client, a_server_without_a_journal_says_so,
-                     the_environment_has_the_password, a_file_has_the_password, a_client_may_vanish_in_mid_frame, a_silent_client_is_closed):
-        test(function)
-    print(f"{passed} passed, {failed} failed")
-    return 1 if failed else 0
+    if not are_built(SERVER, PLAYER):
+        return 1
+    return run_tests((requests_of_every_kind, a_long_answer_comes_in_blocks, clients_interleave, a_ninth_client_is_turned_away,
+                      a_client_whose_stream_cannot_be_set_up_is_turned_away,
+                      console_lines_act_beside_clients, a_console_that_is_not_read_is_a_fault, a_limit_of_connections_ends_the_server, the_end_of_input_ends_the_server,
+                      an_address_in_use_is_a_fault, a_meter_goes_on_from_its_trace, a_wrong_trace_is_not_gone_on_from, wrong_passwords_are_refused,
+                      the_log_reports_each_client, a_server_without_a_journal_says_so,
+                      the_environment_has_the_password, a_file_has_the_password, a_client_may_vanish_in_mid_frame, a_silent_client_is_closed))
 
 
 if __name__ == "__main__":
