@@ -20,6 +20,7 @@ mod schedules;
 mod scripts;
 mod stretches;
 mod writing;
+mod written_groups;
 
 pub use laws::{replies_fit, steps_are_requests, values_are_in_range, worlds_agree};
 pub use opening::{LimiterOpening, MAX_DEVICE_NAME, Opening, OpeningFault};
@@ -28,3 +29,4 @@ pub use relay::RelayCore;
 pub use relay_events::{Event, Events, Line, Lines, Reply};
 pub use running::{RunStop, run, step_to_line};
 pub use schedules::Schedules;
+pub use written_groups::WrittenGroups;

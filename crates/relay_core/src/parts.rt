@@ -10,11 +10,11 @@ ghost use Rattle.script_steps.specs.Reading.{table_of};
 
 use crate::access::write_target;
 use crate::relay::RelayCore;
+use crate::written_groups::WrittenGroups;
 use action_schedule::ActionSchedule;
 use cosem_axdr::Data;
 use cosem_names::{AttrRef, Instance, Level, ResultCode, ScheduleNumber, Which, WriteFault};
 use limiter_attributes::read_groups;
-use limiter_core::Limiter;
 use relay_events::Event;
 use script_steps::ScriptTable;
 use std::alloc::{AllocError, Global};
@@ -28,7 +28,7 @@ pub enum Parts {
     /// The scripts of the script table.
     Scripts(ScriptTable),
     /// The group ids of a limiter, in an otherwise new limiter.
-    Groups(Limiter),
+    Groups(WrittenGroups),
     /// The entries of a schedule, in an otherwise new schedule.
     Entries(ActionSchedule),
 }
@@ -88,7 +88,7 @@ fn read_group_ids(alloc: Global, value: &Data) -> Result<Result<Parts, ResultCod
     ensures { IfOk result (λ parts. parts ≡ groups_part (groups_of value.now)) }
 {
     Ok(match read_groups(alloc, value) {
-        Ok(limiter) => Ok(Parts::Groups(limiter)),
+        Ok(limiter) => Ok(Parts::Groups(WrittenGroups::new(alloc, limiter)?)),
         Err(WriteFault::Unmatched) => Err(ResultCode::TypeUnmatched),
         Err(WriteFault::Value) => Err(ResultCode::OtherReason),
         Err(WriteFault::Memory) => return Err(AllocError),

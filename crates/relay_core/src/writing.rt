@@ -84,8 +84,8 @@ impl RelayCore {
             return;
         };
         match which {
-            Which::Import => self.import.swap_groups(&mut groups),
-            Which::Export => self.export.swap_groups(&mut groups),
+            Which::Import => groups.swap_with(&mut self.import),
+            Which::Export => groups.swap_with(&mut self.export),
         }
     }
 
