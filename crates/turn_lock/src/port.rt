@@ -1,16 +1,17 @@
 //! Ports, through which threads call the value, and the notes that one port writes for another.
-ghost use Rattle.std.specs.Prelude.{◌≡◌, ◌≤◌, ◌++◌, [], ◌∷◌, length, IfOk, IfErr, IfSome, IfNone};
-ghost use Rattle.std.specs.Prelude.{OnOk, OnSome, OnErr};
+ghost use Rattle.std.specs.Prelude.{◌≡◌, ◌≤◌, length, IfOk, IfErr, IfSome, IfNone, OnOk, OnSome};
+ghost use Rattle.std.specs.Prelude.{OnErr};
 ghost use Rattle.turn_lock.specs.Rule.{HasNoCalls};
 ghost use Rattle.turn_lock.specs.Calls.{IsLegal, Called, Watches, IsCause, EndsTurn};
 ghost use Rattle.turn_lock.specs.Calls.{parent_after_split, child_after_split, Meets, Joins};
 
 use crate::board::{Board, Place};
 use crate::call_fault::CallFault;
-use crate::steps::{call_at, divide, inspect_at, take_in, write_note};
+use crate::steps::{divide, draw, end_turn, reach, take_in, write_note};
 use crate::turned::{Inspected, Turned};
 use std::alloc::{AllocError, Global};
 use std::marker::Model;
+use std::snapshot::Snapshot;
 use std::sync::{Arc, Wait};
 
 /// A thread's handle to the value of a lock.
@@ -89,8 +90,24 @@ impl<T: Turned> Port<T> {
         ensures within { OnOk result (length self.new.known.seen ≤ self.old.bound) }
         ensures turn { EndsTurn self.old.known self.new.known result }
     {
-        let table = &self.table;
-        call_at(&table.shared, &mut self.place, rt, alloc, self.bound, event)
+        let top = &self.table.shared;
+        let place = &mut self.place;
+        let Some(turn) = draw(top, place, rt, self.bound) else {
+            return Err(CallFault::Exhausted);
+        };
+        let mut value = reach(top, place, rt, turn);
+        let asked = Snapshot::of(&event);
+        match value.inner.turn(alloc, event) {
+            Ok(reply) => {
+                let last = Some((asked, Snapshot::of(&reply)));
+                end_turn(top, place, turn, value, last);
+                Ok(reply)
+            }
+            Err(_) => {
+                end_turn(top, place, turn, value, None);
+                Err(CallFault::Memory)
+            }
+        }
     }
 
     /// Makes a second port, which has seen the same history and has made no call. It can be sent to
@@ -174,14 +191,12 @@ impl<T: Inspected> Port<T> {
         ensures within { OnSome result (length self.new.known.seen ≤ self.old.bound) }
         ensures exhausted { IfNone result (self.old.bound ≤ self.new.known.drawn) }
     {
-        let table = &self.table;
-        inspect_at(
-            &table.shared,
-            &mut self.place,
-            rt,
-            alloc,
-            self.bound,
-            question,
-        )
+        let top = &self.table.shared;
+        let place = &mut self.place;
+        let turn = draw(top, place, rt, self.bound)?;
+        let mut value = reach(top, place, rt, turn);
+        let finding = value.inner.inspect(alloc, question);
+        end_turn(top, place, turn, value, None);
+        Some(finding)
     }
 }

@@ -1,23 +1,22 @@
-//! The operations that the calls of a port consist of. Each is one or two steps on the table.
-ghost use Rattle.std.specs.Prelude.{◌≡◌, ℕ, ◌+◌, ◌<◌, ◌≤◌, [], ◌∷◌, ◌++◌, Some, None, length, IfOk};
-ghost use Rattle.std.specs.Prelude.{IfErr, OnOk, IfSome, IfNone, OnSome, IsTrue, IsFalse, Option};
+//! The operations that the calls of a port consist of. Each takes steps on the table; a call that
+//! waits repeats them.
+ghost use Rattle.std.specs.Prelude.{◌≡◌, ◌+◌, ◌<◌, ◌≤◌, [], ◌∷◌, ◌++◌, Some, None, length, IfOk};
+ghost use Rattle.std.specs.Prelude.{IfErr, IfSome, IfNone, Option};
 ghost use Rattle.std.specs.declared.snapshot.Snapshot.{Snapshot};
 ghost use Rattle.turn_lock.specs.declared.known.Stage.TheVariants.{Young, Idle, Waiting, Turn};
 ghost use Rattle.turn_lock.specs.Rule.{max_turns, LastCall, full_slot, HasNoCalls};
-ghost use Rattle.turn_lock.specs.Calls.{IsLegal, Watches, Called, IsCause, EndsTurn, IsBusy};
+ghost use Rattle.turn_lock.specs.Calls.{IsLegal, Watches, IsBusy};
 ghost use Rattle.turn_lock.specs.Seats.{IsSized, IsReady, empty_slot, with_stage, new_entries};
 ghost use Rattle.turn_lock.specs.Seats.{parent_view, child_view, note_view, seat_with, at_stage};
 ghost use Rattle.turn_lock.specs.Seats.{state_of, view_of, known_of, carried_of};
-ghost use Rattle.turn_lock.specs.Plays.{AddsCall, KnowsBoth, TakesTurn};
+ghost use Rattle.turn_lock.specs.Plays.{AddsCall, KnowsBoth};
 
 use crate::board::{HOME, Place, SERVING, Slot, TICKET, Top};
-use crate::call_fault::CallFault;
 use crate::faults::Busy;
 use crate::lodged::Lodged;
 use crate::plays::{Close, Cut, Draw, End, Look, Merge, Reach, SeeServing, Settle, TakeIn, Tell};
-use crate::turned::{Inspected, Turned};
+use crate::turned::Turned;
 use crossbeam_utils::Backoff;
-use std::alloc::Global;
 use std::snapshot::Snapshot;
 use std::sync::Wait;
 use std::time::Duration;
@@ -33,29 +32,6 @@ pub(crate) fn settle<T: Turned>(top: &Top<T>, place: &mut Place<T>)
     ensures young { (view_of place.old).stage ≡ Young → HasNoCalls (known_of place.old) }
 {
     top.load::<Settle>(place, SERVING);
-}
-
-// Returns the number of turns drawn.
-fn look<T: Turned>(top: &Top<T>, place: &mut Place<T>) -> u64
-    requires table { (place.old.table_id ≡ top.now.table_id) × IsSized top.now.table_id }
-    requires ready { IsReady place.old Idle [] }
-    ensures seat { (place.new.table_id ≡ place.old.table_id) × IsReady place.new Idle [] }
-    ensures watches { Watches T.legal (known_of place.old) (known_of place.new) }
-    ensures drawn { (known_of place.new).drawn ≡ result }
-{
-    top.load::<Look<T>>(place, TICKET)
-}
-
-// Draws turn number `turn`, unless it has been drawn already. Returns whether it did.
-fn try_draw<T: Turned>(top: &Top<T>, place: &mut Place<T>, turn: u64) -> bool
-    requires table { (place.old.table_id ≡ top.now.table_id) × IsSized top.now.table_id }
-    requires bound { turn < max_turns }
-    ensures seat { place.new.table_id ≡ place.old.table_id }
-    ensures on_true { IsTrue result
-        → state_of place.new ≡ at_stage (state_of place.old) (Waiting turn) }
-    ensures on_false { IsFalse result → state_of place.new ≡ state_of place.old }
-{
-    top.compare_exchange::<Draw>(place, TICKET, turn, turn + 1) == turn
 }
 
 // Waits for a moment: spins at first, then yields the processor, then sleeps until the count of
@@ -95,29 +71,17 @@ pub(crate) fn draw<T: Turned, W: Wait>(
 {
     let backoff = Backoff::new();
     for _ in rt.forever() {
-        let turn = look(top, place);
+        let turn = top.load::<Look<T>>(place, TICKET);
         if turn >= bound {
             return None;
         }
         let served = top.peek(SERVING);
-        if served == turn && try_draw(top, place, turn) {
+        if served == turn && top.compare_exchange::<Draw>(place, TICKET, turn, turn + 1) == turn {
             return Some(turn);
         }
         pause(top, rt, &backoff, served);
     }
     unreachable!()
-}
-
-// Takes the slot if the seat's turn has come. Returns whether it did.
-fn try_reach<T: Turned>(top: &Top<T>, place: &mut Place<T>, turn: u64) -> bool
-    requires table { (place.old.table_id ≡ top.now.table_id) × IsSized top.now.table_id }
-    requires waiting { IsReady place.old (Waiting turn) [] }
-    ensures seat { place.new.table_id ≡ place.old.table_id }
-    ensures on_true { IsTrue result
-        → TakesTurn T.origin T.stands T.legal turn (state_of place.old) (state_of place.new) }
-    ensures on_false { IsFalse result → state_of place.new ≡ state_of place.old }
-{
-    top.load::<Reach<T>>(place, SERVING) == turn
 }
 
 // Takes the value out of the slot, which the seat holds.
@@ -135,16 +99,6 @@ fn take_out<T: Turned>(top: &Top<T>, place: &mut Place<T>) -> Lodged<T>
         last: None,
     };
     top.exchange(place, HOME, empty).value.unwrap()
-}
-
-// Puts `slot` into the slot, which the seat holds.
-fn put_back<T: Turned>(top: &Top<T>, place: &mut Place<T>, slot: Slot<T, T::Event, T::Reply>)
-    requires table { (place.old.table_id ≡ top.now.table_id) × IsSized top.now.table_id }
-    requires holds { carried_of place.old ≡ (0, empty_slot) ∷ [] }
-    ensures { (place.new.table_id ≡ place.old.table_id)
-        × (state_of place.new ≡ seat_with (view_of place.old) ((0, slot) ∷ [])) }
-{
-    drop(top.exchange(place, HOME, slot));
 }
 
 // Waits for the turn and takes the value. A turn that `draw` returned has come at the first look.
@@ -165,7 +119,7 @@ pub(crate) fn reach<T: Turned, W: Wait>(
 {
     let backoff = Backoff::new();
     for _ in rt.forever() {
-        if try_reach(top, place, turn) {
+        if top.load::<Reach<T>>(place, SERVING) == turn {
             return take_out(top, place);
         }
         backoff.snooze();
@@ -194,75 +148,8 @@ pub(crate) fn end_turn<T: Turned>(
         value: Some(value),
         last,
     };
-    put_back(top, place, slot);
+    drop(top.exchange(place, HOME, slot));
     top.fetch_add::<End<T>>(place, SERVING, 1);
-}
-
-// Makes one call: draws a turn, waits for it, applies the event to the value, and ends the turn.
-pub(crate) fn call_at<T: Turned, W: Wait>(
-    top: &Top<T>,
-    place: &mut Place<T>,
-    rt: &W,
-    alloc: Global,
-    bound: u64,
-    event: T::Event,
-) -> Result<T::Reply, CallFault>
-    requires table { (place.old.table_id ≡ top.now.table_id) × IsSized top.now.table_id }
-    requires bound { bound ≤ max_turns }
-    requires ready { IsReady place.old Idle [] × IsLegal T.legal (known_of place.old) }
-    ensures seat { (place.new.table_id ≡ place.old.table_id) × IsReady place.new Idle [] }
-    ensures lawful { IsLegal T.legal (known_of place.new) }
-    ensures ok { IfOk result
-        (λ r. Called T.legal (known_of place.old) event r (known_of place.new)) }
-    ensures err { IfErr result (λ f. Watches T.legal (known_of place.old) (known_of place.new)
-        × IsCause T.sure event bound (known_of place.new) f) }
-    ensures within { OnOk result (length (known_of place.new).seen ≤ bound) }
-    ensures turn { EndsTurn (known_of place.old) (known_of place.new) result }
-{
-    let Some(turn) = draw(top, place, rt, bound) else {
-        return Err(CallFault::Exhausted);
-    };
-    let mut value = reach(top, place, rt, turn);
-    let asked = Snapshot::of(&event);
-    match value.turn(alloc, event) {
-        Ok(reply) => {
-            let last = Some((asked, Snapshot::of(&reply)));
-            end_turn(top, place, turn, value, last);
-            Ok(reply)
-        }
-        Err(_) => {
-            end_turn(top, place, turn, value, None);
-            Err(CallFault::Memory)
-        }
-    }
-}
-
-// Asks one question, and returns the answer: draws a turn, waits for it, asks the value, and ends
-// the turn without a call.
-pub(crate) fn inspect_at<T: Inspected, W: Wait>(
-    top: &Top<T>,
-    place: &mut Place<T>,
-    rt: &W,
-    alloc: Global,
-    bound: u64,
-    question: T::Question,
-) -> Option<T::Finding>
-    requires table { (place.old.table_id ≡ top.now.table_id) × IsSized top.now.table_id }
-    requires bound { bound ≤ max_turns }
-    requires ready { IsReady place.old Idle [] × IsLegal T.legal (known_of place.old) }
-    ensures seat { (place.new.table_id ≡ place.old.table_id) × IsReady place.new Idle [] }
-    ensures watches { Watches T.legal (known_of place.old) (known_of place.new) }
-    ensures finds { IfSome result (T.finds (known_of place.new).seen question) }
-    ensures within { OnSome result (length (known_of place.new).seen ≤ bound) }
-    ensures exhausted { IfNone result (bound ≤ (known_of place.new).drawn) }
-{
-    let Some(turn) = draw(top, place, rt, bound) else {
-        return None;
-    };
-    let mut value = reach(top, place, rt, turn);
-    let finding = value.inspect(alloc, question);
-    end_turn(top, place, turn, value, None);
-    Some(finding)
 }
 
 // Splits off a port's seat.
@@ -318,7 +205,7 @@ pub(crate) fn draw_last<T: Turned>(top: &Top<T>, place: &mut Place<T>) -> Result
     let served = top.load::<SeeServing>(place, SERVING);
     let drawn = top.compare_exchange::<Close<T>>(place, TICKET, served, served + 1);
     if drawn == served {
-        Ok(take_out(top, place).into_value())
+        Ok(Box::into_inner(take_out(top, place).inner))
     } else {
         Err(Busy { drawn, served })
     }
