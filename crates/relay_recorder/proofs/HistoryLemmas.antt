@@ -1,5 +1,7 @@
 -- What one more event does to a recorder's history.
-use Rattle.std.proofs.Common.{◌≡◌, ℕ, zero, suc, ◌-◌, List, [], ◌∷◌, ◌++◌, length, take, drop, map, refl, ap, sym, ◌∙◌, subst}
+use Rattle.std.proofs.Common.{◌≡◌, ℕ, zero, suc, ◌-◌, ◌≤◌, List, [], ◌∷◌, ◌++◌, length, take, drop, map, Option, None, refl, ap, sym, ◌∙◌, subst}
+use Rattle.std.specs.Prelude.{nat_lt, slice_get, if◌then◌else◌}
+use Rattle.std.specs.Option.{option_to_list}
 use Rattle.std.proofs.lemmas.List.{map_push}
 use Rattle.circular_buffer.specs.Buffer.{Buffer, buffer, keep_last}
 use Rattle.relay_events.specs.declared.event.Event.{Event}
@@ -12,8 +14,8 @@ use Rattle.relay_core.specs.Stands.{StandsFor}
 use Rattle.relay_core.specs.World.{World}
 use Rattle.relay_core.proofs.RunLemmas.{world_after-append, lines_of-append}
 use Rattle.relay_recorder.specs.Recording.{Recording, recording, all_but_last}
-use Rattle.relay_recorder.specs.Histories.{Exchange, events_of, replies_of, replies_from, StandsForHistory, HasHistory, Continues}
-use Rattle.relay_recorder.proofs.Pushed.{keep_last-more, all_but_last-more}
+use Rattle.relay_recorder.specs.Histories.{Exchange, events_of, replies_of, replies_from, HasHistory, Continues}
+use Rattle.relay_recorder.proofs.Pushed.{keep_last-more, all_but_last-more, pushed_out}
 
 -- the replies of a run with one more event
 replies_from-push : (events : List Event) (event : Event) (origin : World)
@@ -77,24 +79,26 @@ continues old new event reply core_goes answers kept opening_goes same = record 
       };
 }
 
--- `continues`, for the parts of a recorder
-pub applied : (core opening next next_opening : RelayCore) (kept ring : Buffer Event)
-    (event newest : Event) (reply : Reply)
+-- `continues`, for the parts of a recorder: the ring was given the event, and the opening core took
+-- the event that was pushed out, if any
+pub applied : (core opening next next_opening : RelayCore) (kept ring : Buffer Event) (event : Event)
+    (reply : Reply) (out : Option Event)
     → ((w : World) → StandsFor core w → StandsFor next (at_event event w).world)
     → ((w : World) → StandsFor core w → reply ≡ (at_event event w).reply)
-    → newest ≡ event
-    → ring ≡ buffer (keep_last kept.capacity (kept.items ++ newest ∷ [])) kept.capacity
+    → length kept.items ≤ kept.capacity
+    → ring ≡ buffer (keep_last kept.capacity (kept.items ++ event ∷ [])) kept.capacity
+    → out ≡ (if nat_lt (length kept.items) kept.capacity then None
+    else slice_get (kept.items ++ event ∷ []) 0)
     → ((w : World) → StandsFor opening w → StandsFor next_opening
-    (world_after (all_but_last kept.capacity (kept.items ++ newest ∷ [])) w))
+    (world_after (option_to_list out) w))
     → Continues (recording core opening kept) (recording next next_opening ring) event reply
-applied core opening next next_opening kept ring event newest reply core_goes answers same pushed
-    opening_goes =
+applied core opening next next_opening kept ring event reply out core_goes answers within pushed
+    is_out opening_goes =
     continues (recording core opening kept) (recording next next_opening ring) event reply core_goes
     answers
-    (ap (λ (b : Buffer Event). b.items) pushed
-    ∙ ap (λ (e : Event). keep_last kept.capacity (kept.items ++ e ∷ [])) same)
-    (λ w stands. subst (λ (e : Event). StandsFor next_opening
-    (world_after (all_but_last kept.capacity (kept.items ++ e ∷ [])) w)) same
+    (ap (λ (b : Buffer Event). b.items) pushed)
+    (λ w stands. subst (λ (es : List Event). StandsFor next_opening (world_after es w))
+    (sym (pushed_out kept.capacity kept.items event out within is_out))
     (opening_goes w stands))
     (ap (λ (b : Buffer Event). b.capacity) pushed)
 

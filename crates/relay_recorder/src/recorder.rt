@@ -11,7 +11,7 @@ ghost use Rattle.relay_core.specs.World.{World, IsDeviceName, new_world};
 ghost use Rattle.relay_recorder.specs.Histories.{StandsForHistory, HasHistory, Continues};
 ghost use Rattle.relay_recorder.specs.Replaying.{Replays};
 
-use crate::kept::{RecordedEvent, Ring, keep};
+use crate::kept::{RecordedEvent, Ring};
 use crate::trace::Trace;
 use circular_buffer::HeapCircularBuffer;
 use cosem_axdr::Octets;
@@ -108,11 +108,10 @@ impl Recorder {
         ensures err { OnErr result (self.new ≡ self.old) }
     {
         let (reply, parts) = self.core.step_with_parts(alloc, &event)?;
-        keep(
-            &mut self.kept,
-            &mut self.opening,
-            RecordedEvent::new(event, parts),
-        );
+        let newest = RecordedEvent { event, parts };
+        if let Some(oldest) = self.kept.push_back(newest) {
+            oldest.advance(&mut self.opening);
+        }
         Ok(reply)
     }
 
