@@ -1,5 +1,5 @@
 -- A short request, from its frame to the frame of its answer.
-use Rattle.std.proofs.Common.{◌≡◌, ◌<◌, ◌==◌, ℕ, Bool, true, if◌then◌else◌, Option, Some, None, Ok, List, [], ◌∷◌, get_or, ◌≤◌, length, take, drop, bit_and, refl, sym, ap, subst, arith}
+use Rattle.std.proofs.Common.{◌≡◌, ◌<◌, ◌==◌, ℕ, Bool, true, if◌then◌else◌, Option, Some, None, Ok, List, [], ◌∷◌, get_or, ◌≤◌, length, take, drop, bit_and, refl, sym, ap, subst, ◌∙◌, arith}
 use Rattle.std.specs.Int.{w16, from_be_bytes}
 use Rattle.byteorder.specs.Endian.{big_number}
 use Rattle.cosem_axdr.specs.Reading.{first_data, value_at, leaf_at, fixed_at}
@@ -9,7 +9,14 @@ use Rattle.relay_events.specs.declared.event.Event.{Event}
 use Rattle.relay_events.specs.declared.reply.Reply.{Reply}
 use Rattle.session_core.proofs.Tasks.{hears_any, takes_any, gives_any}
 use Rattle.session_core.specs.Calls.{IsShortRequest, call_by, call_of, is_negotiated, request_form, short_event}
-use Rattle.session_core.specs.Outgoing.{outgoing_by}
+use Rattle.session_core.specs.Answers.{answer_text, due_text}
+use Rattle.session_core.specs.Outgoing.{outgoing_by, reply_code, reply_response, reply_transfer}
+use Rattle.session_core.specs.declared.answer.Answer.TheVariants.{Service}
+use Rattle.cosem_names.specs.ResultCode.{code_of}
+use Rattle.std.specs.Prelude.{Result, IfOk}
+use Rattle.wrapper_frame.specs.declared.fault.WrapperFault.{WrapperFault}
+use Rattle.xdlms_apdu.specs.Responses.{response_text}
+use Rattle.xdlms_apdu.specs.declared.invoke_id.InvokeId.{InvokeId}
 use Rattle.session_core.specs.Progress.{AnswersBy, AsksShort, WorksBy}
 use Rattle.session_core.specs.Remaining.{is_asking, is_asking_short, load_of, task_load}
 use Rattle.session_core.specs.Rules.{HearsShort, heard_frame, incoming_after, link_after, outgoing_after, reply_text, turn_of}
@@ -29,6 +36,7 @@ use Rattle.session_core.specs.declared.task.SessionTask.TheVariants.{Listen, Awa
 use Rattle.wrapper_frame.specs.Header.{head_of, header_size, src_of, dst_of}
 use Rattle.wrapper_frame.specs.Messages.{first_frame, after_first}
 use Rattle.wrapper_frame.specs.Stream.{KeepsFrames}
+use Rattle.wrapper_frame.specs.Text.{frame_text}
 use Rattle.wrapper_frame.specs.declared.header.Head.TheVariants as head
 use Rattle.xdlms_apdu.specs.Requests.{request_of}
 use Rattle.xdlms_apdu.specs.declared.response.Exception.TheVariants.{Unknown}
@@ -292,6 +300,39 @@ asks_at_front s t pending payload kept src dst n asked request listening whole s
     }
 
 -- ---- its answer
+
+-- the frame that the code writes for the answer to a SET or to an ACTION
+pub code_frame : (asked : Asked) (reply : Reply) (framed : Result (List ℕ) WrapperFault)
+    (text payload : List ℕ) → framed ≡ Ok text
+    → IfOk framed (λ frame. frame
+    ≡ frame_text (record { src = management_device; dst = asked.link.source; payload = payload }))
+    → payload ≡ answer_text (Service (reply_response asked reply)) → text ≡ reply_text asked reply
+unfolding due_text
+code_frame asked reply framed text payload is written spells =
+    let frames : text ≡ due_text asked.link.source payload = rw is at written in
+    frames ∙ ap (due_text asked.link.source) spells
+
+pub set_payload : (asked : Asked) (reply : Reply) (id : InvokeId) (code : ℕ)
+    → asked.form ≡ asked_form.Set id → code ≡ code_of (reply_code reply)
+    → (0xC5 ∷ 0x01 ∷ id.0 ∷ code ∷ []) ≡ answer_text (Service (reply_response asked reply))
+unfolding answer_text reply_response response_text
+set_payload asked reply id code form is = rw (form, is) refl
+
+pub action_payload : (asked : Asked) (reply : Reply) (id : InvokeId) (code : ℕ)
+    → asked.form ≡ asked_form.Action id → code ≡ code_of (reply_code reply)
+    → (0xC7 ∷ 0x01 ∷ id.0 ∷ code ∷ 0x00 ∷ []) ≡ answer_text (Service (reply_response asked reply))
+unfolding answer_text reply_response response_text
+action_payload asked reply id code form is = rw (form, is) refl
+
+pub set_begins_none : (asked : Asked) (reply : Reply) (id : InvokeId)
+    → asked.form ≡ asked_form.Set id → None ≡ outgoing_by asked reply
+unfolding reply_transfer
+set_begins_none asked reply id form = rw form refl
+
+pub action_begins_none : (asked : Asked) (reply : Reply) (id : InvokeId)
+    → asked.form ≡ asked_form.Action id → None ≡ outgoing_by asked reply
+unfolding reply_transfer
+action_begins_none asked reply id form = rw form refl
 
 -- the frame of the answer is returned at once
 pub answers_any : (s t : Session) (asked : Asked) (reply : Reply) (text : List ℕ)

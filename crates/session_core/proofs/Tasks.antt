@@ -1,6 +1,6 @@
 -- The effect of each task on what the session has yet to ask and to send.
 use Rattle.std.proofs.Common.{◌≡◌, ◌≢◌, ℕ, ◌+◌, ◌<◌, ◌≤◌, ◌==◌, ◌&&◌, nat_lt, Bool, true, false, cond, Option, Some, None, Ok, List, [], ◌∷◌, ◌++◌, length, refl, sym, ◌∙◌, ap, arith, inl, inr, subst, take, drop}
-use Rattle.std.specs.Prelude.{if◌then◌else◌, option_to_list, IsTrue}
+use Rattle.std.specs.Prelude.{if◌then◌else◌, option_to_list, IsTrue, IfSome}
 use Rattle.std.proofs.lemmas.Bool.{ltb-false}
 use Rattle.std.proofs.lemmas.List.{append_assoc, append-nil, length-drop}
 use Rattle.acse_ber.specs.Reading.{aarq_of}
@@ -906,6 +906,21 @@ ends_again s end = over_by s.task end
     over_by (Send text) end e = absurd cc
     over_by (Over other) end e = cc
 
+-- a session that has reported no end
+pub not_over : (s : Session) (P : SessionEnd → Type 0)
+    → ((end : SessionEnd) → s.task ≡ Over end → ⊥) → IfSome (reported_end s) P
+unfolding reported_end
+not_over s P not = by_task s.task P not
+  where
+    by_task : (task : SessionTask) (P : SessionEnd → Type 0)
+        → ((end : SessionEnd) → task ≡ Over end → ⊥) → IfSome (end_in task) P
+    by_task Listen P not = tt
+    by_task (Read joined) P not = tt
+    by_task (Await asked) P not = tt
+    by_task (Say due) P not = tt
+    by_task (Send text) P not = tt
+    by_task (Over end) P not = absurd (not end refl)
+
 -- ---- bytes fed to any session
 
 pub feeds_after_end : (s : Session) (bytes : List ℕ) → s.is_finished ≡ true → Feeds s bytes s
@@ -913,11 +928,10 @@ feeds_after_end s bytes finished =
     by_parts (λ (u : Session). Feeds u bytes u) s true s.task finished refl
     (feeds_finished s.password s.deframer s.state s.task bytes)
 
-pub feeds_after_over : (s : Session) (bytes : List ℕ) (end : SessionEnd) → reported_end s ≡ Some end
+pub feeds_after_over : (s : Session) (bytes : List ℕ) (end : SessionEnd) → s.task ≡ Over end
     → Feeds s bytes s
 feeds_after_over s bytes end over =
-    by_parts (λ (u : Session). Feeds u bytes u) s s.is_finished (Over end) refl
-    (ends_again s end over)
+    by_parts (λ (u : Session). Feeds u bytes u) s s.is_finished (Over end) refl over
     (feeds_over s.password s.deframer s.is_finished s.state end bytes)
 
 pub feeds_any : (s : Session) (bytes pending : List ℕ) → s.is_finished ≡ false → pending

@@ -3,14 +3,13 @@
 ghost use Rattle.std.specs.Prelude.{◌≡◌, ◌≤◌, ◌<◌, ◌*◌, ◌-◌, None, length, option_and_then, true, IfOk, IfErr, OnOk, OnErr};
 ghost use Rattle.session_core.specs.Answers.{answer_text, due_text, way_text, IsSmall};
 ghost use Rattle.session_core.specs.Outgoing.{transfer_after, unsent_transfer, can_go_in_blocks, long_response, long_text, response_in_blocks, text_in_blocks, block_response, code_response, reply_code, reply_response, answer_with_header, reply_in, outgoing_by};
-ghost use Rattle.session_core.specs.Rules.{asks_short, asks_value, reply_text};
+ghost use Rattle.session_core.specs.Rules.{asks_value, reply_text};
 ghost use Rattle.session_core.specs.Standard.{block_header};
 ghost use Rattle.session_core.specs.declared.answer.Answer.TheVariants.{Service};
-ghost use Rattle.wrapper_frame.specs.Header.{max_payload};
 ghost use Rattle.xdlms_blocks.specs.Limits.{max_blocks};
 ghost use Rattle.xdlms_blocks.specs.Sending.{next_piece, after_next};
 
-use crate::answer::{SERVER_PORT, Way};
+use crate::answer::Way;
 use crate::asked::{Asked, ReplyForm};
 use crate::due::Due;
 use crate::link::Link;
@@ -21,9 +20,6 @@ use cosem_axdr::{Data, Octets};
 use cosem_names::{GetResult, ResultCode};
 use relay_events::Reply;
 use std::alloc::{AllocError, Global};
-use wrapper_frame::{WrapperFault, frame};
-use xdlms_apdu::form::NORMAL;
-use xdlms_apdu::tag::{ACTION_RESPONSE, SET_RESPONSE};
 use xdlms_apdu::{InvokeId, Response};
 use xdlms_blocks::{BlockFault, GetBlocks};
 
@@ -31,8 +27,6 @@ use xdlms_blocks::{BlockFault, GetBlocks};
 const GET_HEADER: usize = 4;
 // The length of a Get-Response-With-List before the bytes of its results.
 const GET_LIST_HEADER: usize = 3;
-// The byte that says that the answer to an ACTION has no value.
-const NO_VALUE: u8 = 0;
 
 // The answer to a reply, and the long GET that is in progress after it.
 #[derive(Drop)]
@@ -82,46 +76,11 @@ pub(crate) fn answer_reply(
     }
 }
 
-// Returns the frame with the answer to the reply to a short request. A long GET that it begins
-// replaces the last one. If out of memory, nothing has changed.
-#[tactic(auto, unfolding(crate::specs::Outgoing::reply_response, crate::specs::Outgoing::reply_transfer, crate::specs::Answers::answer_text, xdlms_apdu::specs::Responses::response_text))]
-#[inline(always)]
-pub(crate) fn answer_short(
-    alloc: Global,
-    asked: Asked,
-    reply: &Reply,
-    outgoing: &mut Option<Outgoing>,
-) -> Result<Octets, AllocError>
-    requires { asks_short asked.form ≡ true }
-    ensures text { IfOk result (λ text. text ≡ reply_text asked reply.now) }
-    ensures outgoing { OnOk result (outgoing.new ≡ outgoing_by asked reply.now) }
-    ensures err { OnErr result (outgoing.new ≡ outgoing.old) }
-{
-    let to = asked.link.source;
-    match asked.form {
-        ReplyForm::Get(_) => answer_get(alloc, asked, reply, outgoing),
-        ReplyForm::Set(id) => {
-            let code = reply_code(reply).code();
-            last_frame(alloc, to, &[SET_RESPONSE, NORMAL, id.0, code], outgoing)
-        }
-        ReplyForm::Action(id) => {
-            let code = reply_code(reply).code();
-            last_frame(
-                alloc,
-                to,
-                &[ACTION_RESPONSE, NORMAL, id.0, code, NO_VALUE],
-                outgoing,
-            )
-        }
-        ReplyForm::GetList(_) | ReplyForm::SetLastBlock(_, _) => unreachable!(),
-    }
-}
-
 // Returns the frame with the answer to the reply to a GET of one attribute. A long GET that it
 // begins replaces the last one. If out of memory, nothing has changed.
 #[tactic(auto, unfolding(crate::specs::Outgoing::reply_response, crate::specs::Outgoing::reply_transfer), using(crate::proofs::Tasks::value_cut))]
 #[inline(always)]
-fn answer_get(
+pub(crate) fn answer_get(
     alloc: Global,
     asked: Asked,
     reply: &Reply,
@@ -145,30 +104,6 @@ fn answer_get(
         return Ok(text);
     };
     answer_value(alloc, asked.link, id, value, outgoing)
-}
-
-// Returns the frame that carries a short payload to a port, after which no long GET is in progress.
-// If out of memory, nothing has changed.
-#[tactic(auto, unfolding(crate::specs::Answers::due_text))]
-fn last_frame(
-    alloc: Global,
-    to: u16,
-    payload: &[u8],
-    outgoing: &mut Option<Outgoing>,
-) -> Result<Octets, AllocError>
-    requires { length payload.now ≤ max_payload }
-    ensures text { IfOk result (λ text. text ≡ due_text to payload.now) }
-    ensures outgoing { OnOk result (outgoing.new ≡ None) }
-    ensures err { OnErr result (outgoing.new ≡ outgoing.old) }
-{
-    match frame(alloc, SERVER_PORT, to, payload) {
-        Ok(text) => {
-            *outgoing = None;
-            Ok(text)
-        }
-        Err(WrapperFault::Memory) => Err(AllocError),
-        Err(WrapperFault::Version | WrapperFault::TooLong) => unreachable!(),
-    }
 }
 
 // Returns the frame with the answer to a value.

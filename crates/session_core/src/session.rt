@@ -6,11 +6,12 @@ ghost use Rattle.wrapper_frame.specs.Header.{header_size, head_of};
 ghost use Rattle.wrapper_frame.specs.declared.header.Head.TheVariants.{Whole};
 
 use crate::answer::{SERVER_PORT, Way};
+use crate::asked::{Asked, ReplyForm};
 use crate::end::SessionEnd;
 use crate::next::Next;
 use crate::password::Password;
-use crate::replying::{Answered, answer_reply, answer_short};
-use crate::short_request::ShortRequest;
+use crate::replying::{Answered, answer_get, answer_reply, reply_code};
+use crate::short_request::{ShortRequest, read_short_request};
 use crate::state::State;
 use crate::step::TurnStep;
 use crate::task::SessionTask;
@@ -20,7 +21,12 @@ use relay_events::Reply;
 use std::alloc::{AllocError, Global};
 use std::fmt::{self, Debug, Formatter};
 use std::mem::replace;
-use wrapper_frame::{Deframer, Head, WrapperFault};
+use wrapper_frame::{Deframer, Head, WrapperFault, frame};
+use xdlms_apdu::form::NORMAL;
+use xdlms_apdu::tag::{ACTION_RESPONSE, SET_RESPONSE};
+
+// The byte that says that the answer to an ACTION has no value.
+const NO_VALUE: u8 = 0;
 
 /// A client's session with the server, from the received bytes to the frames that are sent.
 ///
@@ -79,14 +85,14 @@ impl Session {
         if self.is_finished {
             return Ok(());
         }
-        match self.reported_end() {
-            Some(_) => Ok(()),
-            None => match self.deframer.feed(bytes) {
-                Ok(()) => Ok(()),
-                Err(WrapperFault::Version) => Ok(()),
-                Err(WrapperFault::TooLong) => Ok(()),
-                Err(WrapperFault::Memory) => Err(AllocError),
-            },
+        if let SessionTask::Over(_) = &self.task {
+            return Ok(());
+        }
+        match self.deframer.feed(bytes) {
+            Ok(()) => Ok(()),
+            Err(WrapperFault::Version) => Ok(()),
+            Err(WrapperFault::TooLong) => Ok(()),
+            Err(WrapperFault::Memory) => Err(AllocError),
         }
     }
 
@@ -176,21 +182,24 @@ impl Session {
             return None;
         };
         let (source, destination) = self.deframer.ports();
-        if destination != SERVER_PORT {
+        let link = self.state.link?;
+        if destination != SERVER_PORT || source != link.source {
             return None;
         }
         let payload = self.deframer.payload(size);
-        let (asked, request) = self.state.receive_short(source, payload)?;
-        let level = asked.link.level;
+        let (form, request) = read_short_request(link.conformance, payload)?;
+        let level = link.level;
+        self.state.incoming = None;
+        self.state.outgoing = None;
         self.deframer.pass(size);
-        self.task = SessionTask::Await(asked);
+        self.task = SessionTask::Await(Asked { link, form });
         Some((level, request))
     }
 
     /// Takes in the reply to the event of `next_short` and returns the frame with its answer, as
     /// `answer` followed by `next` would. If out of memory, nothing has changed.
     #[inline(always)]
-    #[tactic(auto, unfolding(crate::specs::Remaining::is_asking_short))]
+    #[tactic(auto, unfolding(crate::specs::Remaining::is_asking_short, crate::specs::Outgoing::reply_response, crate::specs::Outgoing::reply_transfer, crate::specs::Answers::answer_text, crate::specs::Answers::due_text, xdlms_apdu::specs::Responses::response_text))]
     pub fn answer_short(&mut self, alloc: Global, reply: &Reply) -> Result<Octets, AllocError>
         requires { is_asking_short self.now ≡ true }
         ensures ok { IfOk result (λ frame. AnswersBy self.old reply.now frame self.new) }
@@ -199,9 +208,33 @@ impl Session {
         let SessionTask::Await(asked) = self.task else {
             unreachable!()
         };
-        let text = answer_short(alloc, asked, reply, &mut self.state.outgoing)?;
-        self.task = SessionTask::Listen;
-        Ok(text)
+        let to = asked.link.source;
+        let framed = match asked.form {
+            ReplyForm::Get(_) => {
+                let text = answer_get(alloc, asked, reply, &mut self.state.outgoing)?;
+                self.task = SessionTask::Listen;
+                return Ok(text);
+            }
+            ReplyForm::Set(id) => {
+                let code = reply_code(reply).code();
+                frame(alloc, SERVER_PORT, to, &[SET_RESPONSE, NORMAL, id.0, code])
+            }
+            ReplyForm::Action(id) => {
+                let code = reply_code(reply).code();
+                let payload = [ACTION_RESPONSE, NORMAL, id.0, code, NO_VALUE];
+                frame(alloc, SERVER_PORT, to, &payload)
+            }
+            ReplyForm::GetList(_) | ReplyForm::SetLastBlock(_, _) => unreachable!(),
+        };
+        match framed {
+            Ok(text) => {
+                self.state.outgoing = None;
+                self.task = SessionTask::Listen;
+                Ok(text)
+            }
+            Err(WrapperFault::Memory) => Err(AllocError),
+            Err(WrapperFault::Version | WrapperFault::TooLong) => unreachable!(),
+        }
     }
 
     // Returns the end that was reported, if the session is over.

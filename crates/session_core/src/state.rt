@@ -1,6 +1,6 @@
 //! The state of a session between two frames, the association and its block transfers, and the
 //! effect of each frame on it.
-ghost use Rattle.std.specs.Prelude.{◌≡◌, ◌≤◌, Some, None, length, true, false, IfSome, IfNone, IfOk, OnOk, OnErr};
+ghost use Rattle.std.specs.Prelude.{◌≡◌, ◌≤◌, Some, None, length, true, false, IfOk, OnOk, OnErr};
 ghost use Rattle.acse_ber.specs.Reading.{aarq_of};
 ghost use Rattle.session_core.specs.Association.{link_by_opening};
 ghost use Rattle.session_core.specs.Rules.{heard_frame, opening_answer};
@@ -16,7 +16,6 @@ use crate::incoming::{Incoming, LongService, Purpose, add_to};
 use crate::link::{Link, answer_to, link_from};
 use crate::outgoing::{Outgoing, continue_transfer};
 use crate::password::Password;
-use crate::short_request::{ShortRequest, read_short_request};
 use crate::step::TurnStep;
 use acse_ber::{AcseFault, judge, read_aarq};
 use cosem_axdr::Data;
@@ -36,7 +35,7 @@ pub(crate) struct State {
 }
 
 impl State {
-    ghost use Rattle.session_core.specs.Rules.{heard_frame, outcome_at, state_after, state_by_call, step_outcome, outcome_of_turn, call_turn, request_turn, HearsShort};
+    ghost use Rattle.session_core.specs.Rules.{heard_frame, outcome_at, state_after, state_by_call, step_outcome, outcome_of_turn, call_turn, request_turn};
     ghost use Rattle.session_core.specs.Outcome.{asks, says};
     ghost use Rattle.session_core.specs.Outgoing.{transfer_after_next, continued_response};
 
@@ -76,29 +75,6 @@ impl State {
             Some(link) if link.source == src => self.call(alloc, link, payload),
             Some(_) | None => Ok(TurnStep::Say(Due::exception(src, Exception::NotAllowed))),
         }
-    }
-
-    // Handles a frame for the server that is a short request from the client of the association.
-    // Returns what its answer needs, and the request. For any other frame returns `None` and
-    // changes nothing.
-    #[inline(always)]
-    pub(crate) fn receive_short(
-        &mut self,
-        src: u16,
-        payload: &[u8],
-    ) -> Option<(Asked, ShortRequest)>
-        ensures heard { IfSome result
-            (λ heard. HearsShort self.old (heard_frame src payload.now) heard.0 heard.1 self.new) }
-        ensures none { IfNone result (self.new ≡ self.old) }
-    {
-        let link = self.link?;
-        if link.source != src {
-            return None;
-        }
-        let (form, request) = read_short_request(link.conformance, payload)?;
-        self.incoming = None;
-        self.outgoing = None;
-        Some((Asked { link, form }, request))
     }
 
     // Handles an AARQ: it ends the association, and opens another if it is accepted.

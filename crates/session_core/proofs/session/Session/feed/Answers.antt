@@ -1,5 +1,4 @@
-use Rattle.std.proofs.Common.{sym}
-use Rattle.session_core.proofs.Tasks.{feeds_any, feeds_after_end, feeds_after_over, feeds_behind_version, feeds_behind_length, bad_version, too_long}
+use Rattle.session_core.proofs.Tasks.{not_over, feeds_any, feeds_after_end, feeds_after_over, feeds_behind_version, feeds_behind_length, bad_version, too_long}
 use Rattle.session_core.proofs.session.Session.feed.Goals as goal
 
 pub returns-then-self-clause-ok : goal.returns-then-self-clause-ok
@@ -21,6 +20,12 @@ returns-in-Err-TooLong-clause-ok c =
     c.in-Err-TooLong.ensures.err (too_long _ _ c.in-Err-TooLong.field-0-is
     c.in-Err-TooLong.ensures.stops)
 
-pub returns-in-Some-clause-ok : goal.returns-in-Some-clause-ok
-returns-in-Some-clause-ok c =
-    feeds_after_over c.args.self.now c.args.bytes.now c.in-Some.field-0 (sym c.in-Some.ensures)
+pub returns-in-Over-clause-ok : goal.returns-in-Over-clause-ok
+returns-in-Over-clause-ok c =
+    feeds_after_over c.args.self.now c.args.bytes.now _ c.in-Over.is
+
+pub returns-in-Ok-clause-over : goal.returns-in-Ok-clause-over
+returns-in-Ok-clause-over c = not_over c.args.self.now _ c.in_default.not-Over
+
+pub returns-in-Err-Memory-clause-over : goal.returns-in-Err-Memory-clause-over
+returns-in-Err-Memory-clause-over c = not_over c.args.self.now _ c.in_default.not-Over
