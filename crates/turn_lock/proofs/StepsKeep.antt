@@ -1,8 +1,6 @@
 -- Each step on the table preserves the invariant, and changes the seat's view as its play says.
 use Rattle.std.proofs.Common.{◌≡◌, ◌≢◌, ◌⊎◌, ℕ, zero, suc, ◌+◌, ◌%◌, ◌^◌, ◌<◌, ◌≤◌, eqb, ◌==◌, Bool, true, false, if◌then◌else◌, List, [], ◌∷◌, ◌++◌, length, get_or, set, sym, refl, ap, ◌∙◌, subst, inl, inr, ⊎_elim, arith, le_refl, eq-eqb, ne_eqb, length-append, Some, None}
-use mathlib.Core.Logic.{dite}
 use mathlib.Core.Option.{none, some, some-injective, some-ne-none}
-use native.Mathlib.Decide.{ℕ_discrete}
 use lib.ListN.{get_elem?}
 use lib.Seq.{set-get_or}
 use prog.Atomic.{either}
@@ -14,13 +12,13 @@ use Rattle.turn_lock.specs.declared.turned.Entry.{Entry}
 use Rattle.turn_lock.specs.declared.known.Known.{Known}
 use Rattle.turn_lock.specs.declared.known.View.{View}
 use Rattle.turn_lock.specs.declared.known.Stage.{Stage}
-use Rattle.turn_lock.specs.declared.known.Stage.TheVariants.{New, Young, Idle, Waiting, Turn, SawServing, Met}
+use Rattle.turn_lock.specs.declared.known.Stage.TheVariants.{New, Young, Idle, Turn, SawServing, Met}
 use Rattle.turn_lock.specs.declared.board.Slot.{Slot}
 use Rattle.turn_lock.specs.History.{StartsWith, calls_by}
-use Rattle.turn_lock.specs.Rule.{max_turns, LastCall, first_view, full_slot, IsOwn, Moment, HoldsTurn, HoldsSlot, HasMet, IsHome, FitsStage, IsPort, Fits, Facts, IsLockState}
+use Rattle.turn_lock.specs.Rule.{max_turns, LastCall, first_view, full_slot, IsOwn, Moment, HoldsSlot, HasMet, IsHome, FitsStage, IsPort, Fits, Facts, IsLockState}
 use Rattle.turn_lock.specs.Calls.{Watches}
 use Rattle.turn_lock.specs.Seats.{CarriedSlots, new_entries, with_stage, spent_view, parent_view, child_view, note_view, view_with_served, view_after_turn, view_with, joined_with, seat_with, seat_state}
-use Rattle.turn_lock.specs.Plays.{play, Settles, Draws, SeesServing, MovesTo, Looks, AddsCall, Ends, KnowsBoth, Merges, TakesValue, TakesTurn, Reaches, Closes}
+use Rattle.turn_lock.specs.Plays.{play, Settles, Draws, SeesServing, MovesTo, Looks, AddsCall, Ends, KnowsBoth, Merges, TakesValue, Closes}
 use Rattle.turn_lock.proofs.Lists.{starts_refl, starts_more, starts_length, calls_by-own, calls_by-other, calls_none, has_front, has_front-append, future-not-self, future_sooner, front_is_future, future-not-front, apart-not-front, among-append}
 
 -- the function f, with the value v at k
@@ -87,10 +85,6 @@ module _ {E R O : Type 0} where
   abbrev met_of : Bool × Known E R O → Stage E R O → Bool × Known E R O
   met_of d (Met b u) = (b, u)
   met_of d _ = d
-
-  abbrev turn_of : ℕ → Stage E R O → ℕ
-  turn_of d (Waiting n) = n
-  turn_of d _ = d
 
   -- the turn that a stage holds, or d if it holds none
   abbrev held_of : ℕ → Stage E R O → ℕ
@@ -187,18 +181,6 @@ module _ {T E R O : Type 0} (origin : T → O) (stands : T → List (Entry E R) 
   with_holder m holder lone = record m { holder = holder; lone = lone }
 
   -- a turn does not depend on who holds the port numbers
-  waits_still : (m : Mo) (holder : List ℕ → ℕ) (lone : Bool) (i n : ℕ) (k : Known E R O)
-      → Stand m i k (Waiting n) → Stand (with_holder m holder lone) i k (Waiting n)
-  waits_still m holder lone i n k h = (
-    record {
-      not_ended = h.0.not_ended;
-      drawn = h.0.drawn;
-      owner_is = h.0.owner_is;
-    },
-    λ e. home_stays m (with_holder m holder lone) refl refl refl refl
-        (h.1 e),
-  )
-
   holds_still : (m : Mo) (holder : List ℕ → ℕ) (lone : Bool) (i n : ℕ) (k : Known E R O)
       → HoldsSlot m i n k → HoldsSlot (with_holder m holder lone) i n k
   holds_still m holder lone i n k h =
@@ -385,21 +367,6 @@ module _ {T E R O : Type 0} (origin : T → O) (stands : T → List (Entry E R) 
         },
       ))
 
-  -- the moment after seat i has drawn a turn
-  abbrev after_draw : Mo → ℕ → ℕ → Mo
-  after_draw m i new = record m { ticket = new; owner = put m.owner m.ticket i }
-
-  -- a turn that was drawn before
-  draw_turn : (m : Mo) (i new j n : ℕ) → new ≡ m.ticket + 1 → HoldsTurn m j n
-      → HoldsTurn (after_draw m i new) j n
-  draw_turn m i new j n up h =
-      let low : n < m.ticket = h.drawn in
-      record {
-        not_ended = h.not_ended;
-        drawn = omega arith;
-        owner_is = put_else m.owner m.ticket i n (λ e. omega arith) ∙ h.owner_is;
-      }
-
   -- a seat that was taken in, after more turns were drawn
   met_later : (m m' : Mo) (j : ℕ) (k : Known E R O) (b : Bool) (u : Known E R O) → m'.start
       ≡ m.start → m'.history ≡ m.history → m'.holder ≡ m.holder → m.ticket ≤ m'.ticket
@@ -420,124 +387,15 @@ module _ {T E R O : Type 0} (origin : T → O) (stands : T → List (Entry E R) 
         };
       }
 
-  draw_staged : (m : Mo) (i new j : ℕ) (k : Known E R O) → new ≡ m.ticket + 1 → (st : Stage E R O)
-      → Stand m j k st → Stand (after_draw m i new) j k st
-  draw_staged m i new j k up New h = h
-  draw_staged m i new j k up Young h = h
-  draw_staged m i new j k up Idle h = tt
-  draw_staged m i new j k up (Waiting n) h = (
-    draw_turn m i new j n up h.0,
-    λ e. home_stays m (after_draw m i new) refl refl refl refl (h.1 e),
-  )
-  draw_staged m i new j k up (Turn n) h = record {
-    holds = draw_turn m i new j n up h.holds;
-    served = h.served;
-    seen = h.seen;
-    not_closed = h.not_closed;
-  }
-  draw_staged m i new j k up (SawServing n) h = h
-  draw_staged m i new j k up (Met b u) h = met_later m (after_draw m i new) j k b u refl refl refl
-      (omega arith) h
-
-  draw_fit : (m : Mo) (i new j : ℕ) (d : V) → new ≡ m.ticket + 1 → Fit m j d
-      → Fit (after_draw m i new) j d
-  draw_fit m i new j d up f = let low : d.known.drawn ≤ m.ticket = f.drawn in
-      record {
-        origin_is = f.origin_is;
-        seen = f.seen;
-        drawn = omega arith;
-        served = f.served;
-        first_if_lone = f.first_if_lone;
-        stage = draw_staged m i new j d.known up d.stage f.stage;
-        port = f.port;
-      }
-
   at_home : (m : Mo) → IsHome origin stands m ⊎ (m.serving < m.ticket) → m.ticket ≡ m.serving
       → IsHome origin stands m
   at_home m held e = ⊎_elim (λ h. h) (λ l. absurd (omega arith)) held
-
-  draws_at : (id : ℕ) (me : M) (old new : ℕ) (m : Mo) (vs : List V) → F m vs → Fit m id me.0 → new
-      ≡ old + 1 → old < max_turns → m.ticket ≡ old
-      → F (after_draw m id new) (set vs id (with_stage me.0 (Waiting m.ticket)))
-  draws_at id me old new m vs f fit up few hit =
-      let low : m.serving ≤ m.ticket = f.range in
-      let more : new ≡ m.ticket + 1 = omega arith in
-      moves m (after_draw m id new) vs id (with_stage me.0 (Waiting m.ticket)) f (omega arith)
-      (omega arith) f.closed_once f.lawful f.counted
-      (⊎_elim (λ h. inl (home_stays m (after_draw m id new) refl refl refl refl h))
-      (λ (l : m.serving < m.ticket). inr (omega arith)) f.home_or_held)
-      (fit_at_stage (after_draw m id new) id me.0 (Waiting m.ticket)
-      (draw_fit m id new id me.0 more fit) (
-        record { not_ended = low; drawn = omega arith; owner_is = put_here m.owner m.ticket id },
-        λ e. home_stays m (after_draw m id new) refl refl refl refl (at_home m f.home_or_held e),
-      ))
-      (λ j d _ x. draw_fit m id new j d more x)
-
-  pub draws : (slots id : ℕ) (me : M) (old new : ℕ) → new ≡ old + 1 → old < max_turns
-      → Allows Rule slots id me 0 (λ n. either (eqb n old) new n)
-      (play Draws (step slots 0 old new none) me)
-  draws slots id me old new up few = by_moment
-      (λ s. length s.homes ≡ slots → get_elem? s.views id ≡ some me.0
-      → get_or s.words 0 0 < 18446744073709551616
-      → (w : V) × (a : Act Sl) × Valid s.homes me.1 a
-      × Rule (stepped s 0 (either (eqb (get_or s.words 0 0) old) new (get_or s.words 0 0)) id
-      me.1 w a) × play Draws (step slots 0 old new none) me (get_or s.words 0 0)
-      (w, carried_after me.1 a))
-      (λ m vs f _ at _. exchanged m.ticket old new
-      (λ x. (w : V) × (a : Act Sl) × Valid (m.home ∷ []) me.1 a
-      × Rule record {
-        words = x ∷ m.serving ∷ [];
-        homes = homes_after (m.home ∷ []) me.1 a;
-        views = set vs id w;
-      } × play Draws (step slots 0 old new none) me m.ticket
-      (w, carried_after me.1 a))
-      (λ hit. let w : V = with_stage me.0 (Waiting m.ticket) in (
-        w,
-        keeps,
-        tt,
-        kept (after_draw m id new) (set vs id w)
-            (draws_at id me old new m vs f (f.fits id me.0 at) up few hit),
-        record { if_expected = λ _. refl; if_other = λ miss. absurd (miss hit) },
-      ))
-      (λ miss. (
-        me.0,
-        keeps,
-        tt,
-        kept m (set vs id me.0) (stays m vs id me.0 f (f.fits id me.0 at)),
-        record { if_expected = λ hit. absurd (miss hit); if_other = λ _. refl },
-      )))
-
-  -- the moment after the seat whose turn has come has taken the slot
-  abbrev after_take : Mo → Mo
-  after_take m = record m { home = none }
 
   -- a seat that is one of two is not alone
   not_lone : {X : Type 0} (m : Mo) (i j : ℕ) (v d : V) → j ≢ i → Fit m i v → Fit m j d
       → m.lone ≡ true → X
   not_lone m i j v d other f g lone = absurd (other (g.first_if_lone lone
       ∙ sym (f.first_if_lone lone)))
-
-  take_turn : (m : Mo) (j n : ℕ) → HoldsTurn m j n → HoldsTurn (after_take m) j n
-  take_turn m j n h = record { not_ended = h.not_ended; drawn = h.drawn; owner_is = h.owner_is }
-
-  take_staged : (m : Mo) (i n j : ℕ) (k : Known E R O) → j ≢ i → m.owner n ≡ i → n ≡ m.serving
-      → (m.lone ≡ true → ⊥) → (st : Stage E R O) → Stand m j k st → Stand (after_take m) j k st
-  take_staged m i n j k other mine here pair New h = absurd (pair h.0)
-  take_staged m i n j k other mine here pair Young h = h
-  take_staged m i n j k other mine here pair Idle h = tt
-  take_staged m i n j k other mine here pair (Waiting q) h = (
-    take_turn m j q h.0,
-    λ e. absurd (other (sym h.0.owner_is ∙ (ap m.owner (e ∙ sym here) ∙ mine))),
-  )
-  take_staged m i n j k other mine here pair (Turn q) h = record {
-    holds = take_turn m j q h.holds;
-    served = h.served;
-    seen = h.seen;
-    not_closed = h.not_closed;
-  }
-  take_staged m i n j k other mine here pair (SawServing q) h = h
-  take_staged m i n j k other mine here pair (Met b u) h =
-      met_later m (after_take m) j k b u refl refl refl (le_refl m.ticket) h
 
   restaged : (m m' : Mo) (i : ℕ) (v : V) → m'.start ≡ m.start → m'.history ≡ m.history
       → m.ticket ≤ m'.ticket → m.serving ≤ m'.serving → (m'.lone ≡ true → m.lone ≡ true) → m'.holder
@@ -557,60 +415,97 @@ module _ {T E R O : Type 0} (origin : T → O) (stands : T → List (Entry E R) 
             (λ c. (sym start c, sym holder c, sym whole c)) (f.port e);
       }
 
-  takes_at : (id n : ℕ) (v : V) (m : Mo) (vs : List V) → F m vs → Fit m id v → v.stage ≡ Waiting n
-      → m.serving ≡ n → F (after_take m) (set vs id (informed_view m v (Turn n)))
-  takes_at id n v m vs f fit is hit =
-      let w : V = informed_view m v (Turn n) in
-      let st = subst (Stand m id v.known) is fit.stage in
-      let home = st.1 (sym hit) in
-      let low : n < m.ticket = st.0.drawn in
-      let has : HoldsSlot m id n w.known = record {
-        holds = st.0;
-        served = sym hit;
-        seen = refl;
-        not_closed = home.not_closed;
-      } in
-      moves m (after_take m) vs id w f f.range f.within_most f.closed_once f.lawful f.counted
-      (inr (omega arith))
-      (restaged m (after_take m) id w refl refl (le_refl m.ticket) (le_refl m.serving) (λ e. e) refl
-      (informs m id v (Turn n) fit has)
+  -- the stage of another seat, after a step that takes the slot when all drawn turns have ended
+  taken_staged : (m m' : Mo) (j : ℕ) (k : Known E R O) → m.ticket ≡ m.serving → m'.serving
+      ≡ m.serving → m'.start ≡ m.start → m'.history ≡ m.history → m'.holder ≡ m.holder → m.ticket
+      ≤ m'.ticket → (m.lone ≡ true → ⊥) → (st : Stage E R O) → Stand m j k st → Stand m' j k st
+  taken_staged m m' j k ended served start whole holder more pair New h = absurd (pair h.0)
+  taken_staged m m' j k ended served start whole holder more pair Young h = h
+  taken_staged m m' j k ended served start whole holder more pair Idle h = tt
+  taken_staged m m' j k ended served start whole holder more pair (Turn q) h =
+      let low : m.serving ≤ q = h.holds.not_ended in
+      let high : q < m.ticket = h.holds.drawn in
+      absurd (omega arith)
+  taken_staged m m' j k ended served start whole holder more pair (SawServing q) h =
+      let low : q ≤ m.serving = h in
+      (omega arith)
+  taken_staged m m' j k ended served start whole holder more pair (Met b u) h =
+      met_later m m' j k b u start whole holder more h
+
+  -- the moment after seat i has drawn a turn and taken the slot
+  abbrev after_draw : Mo → ℕ → ℕ → Mo
+  after_draw m i new = record m { ticket = new; home = none; owner = put m.owner m.ticket i }
+
+  -- the seat that draws the turn, right before its view changes
+  draw_fit : (id old new : ℕ) (v : V) (m : Mo) → Fit m id v → v.stage ≡ SawServing old → m.ticket
+      ≤ new → Fit (after_draw m id new) id v
+  draw_fit id old new v m fit is more =
+      restaged m (after_draw m id new) id v refl refl more (le_refl m.serving) (λ e. e) refl fit
+      (subst (λ st. Stand (after_draw m id new) id v.known st) (sym is)
+      (subst (Stand m id v.known) is fit.stage))
+
+  draws_at : (id old new : ℕ) (v : V) (m : Mo) (vs : List V) → F m vs → Fit m id v → v.stage
+      ≡ SawServing old → m.ticket ≡ m.serving → new ≡ m.ticket + 1 → m.ticket < max_turns
+      → m.closed ≡ 0 → F (after_draw m id new)
+      (set vs id (informed_view (after_draw m id new) v (Turn m.ticket)))
+  draws_at id old new v m vs f fit is ended up few fresh =
+      let more : m.ticket ≤ new = omega arith in
+      let w : V = informed_view (after_draw m id new) v (Turn m.ticket) in
+      moves m (after_draw m id new) vs id w f (omega arith) (omega arith) f.closed_once f.lawful
+      f.counted (inr (omega arith))
+      (informs (after_draw m id new) id v (Turn m.ticket) (draw_fit id old new v m fit is more)
       (record {
-        holds = take_turn m id n st.0;
-        served = sym hit;
+        holds = record {
+          not_ended = omega arith;
+          drawn = omega arith;
+          owner_is = put_here m.owner m.ticket id;
+        };
+        served = ended;
         seen = refl;
-        not_closed = home.not_closed;
+        not_closed = fresh;
       }))
-      (λ j d other g. restaged m (after_take m) j d refl refl (le_refl m.ticket) (le_refl m.serving)
-      (λ e. e) refl g (take_staged m id n j d.known other st.0.owner_is (sym hit)
+      (λ j d other g. restaged m (after_draw m id new) j d refl refl more (le_refl m.serving)
+      (λ e. e) refl g (taken_staged m (after_draw m id new) j d.known ended refl refl refl refl more
       (not_lone m id j v d other fit g) d.stage g.stage))
 
-  pub reaches : (slots id n : ℕ) (me : M) → me.0.is_port ≡ true → me.0.stage ≡ Waiting n
-      → Allows Rule slots id me 1 (λ x. x) (play (Reaches origin stands legal)
-      (step slots 1 0 0 none) me)
-  reaches slots id n me port is = by_moment
+  pub draws : (slots id old new : ℕ) (me : M) → new ≡ old + 1 → old < max_turns → me.0.is_port
+      ≡ true → me.0.stage ≡ SawServing old
+      → Allows Rule slots id me 0 (λ n. either (eqb n old) new n)
+      (play (Draws origin stands legal) (step slots 0 old new none) me)
+  draws slots id old new me up few port is = by_moment
       (λ s. length s.homes ≡ slots → get_elem? s.views id ≡ some me.0
-      → get_or s.words 1 0 < 18446744073709551616
+      → get_or s.words 0 0 < 18446744073709551616
       → (w : V) × (a : Act Sl) × Valid s.homes me.1 a
-      × Rule (stepped s 1 (get_or s.words 1 0) id me.1 w a)
-      × play (Reaches origin stands legal) (step slots 1 0 0 none) me (get_or s.words 1 0)
+      × Rule (stepped s 0 (either (eqb (get_or s.words 0 0) old) new (get_or s.words 0 0)) id
+      me.1 w a) × play (Draws origin stands legal) (step slots 0 old new none) me
+      (get_or s.words 0 0) (w, carried_after me.1 a))
+      (λ m vs f _ at _. let fit = f.fits id me.0 at in let st : old ≤ m.serving = subst
+      (Stand m id me.0.known) is fit.stage in let range : m.serving ≤ m.ticket = f.range in
+      exchanged m.ticket old new
+      (λ x. (w : V) × (a : Act Sl) × Valid (m.home ∷ []) me.1 a
+      × Rule record {
+        words = x ∷ m.serving ∷ [];
+        homes = homes_after (m.home ∷ []) me.1 a;
+        views = set vs id w;
+      } × play (Draws origin stands legal) (step slots 0 old new none) me m.ticket
       (w, carried_after me.1 a))
-      (λ m vs f _ at _. let fit = f.fits id me.0 at in dite (ℕ_discrete m.serving n)
-      (λ hit. let st = subst (Stand m id me.0.known) is fit.stage in let home = st.1
-      (sym hit) in let w : V = informed_view m me.0 (Turn n) in
-      let met : TakesTurn origin stands legal n (seat_state me)
-      (seat_with w ((0, full_slot home.value home.last) ∷ me.1)) = record {
-        takes = takes_value m id me (Turn n) home.value home.last fit port f.lawful home.results
-            home.origin_is;
-        drawn = st.0.drawn;
-      } in (
+      (λ hit. let done : m.ticket ≡ m.serving = omega arith in let home = at_home m f.home_or_held
+      done in let next : new ≡ m.ticket + 1 = omega arith in let low : m.ticket < max_turns =
+      omega arith in let more : m.ticket ≤ new = omega arith in
+      let w : V = informed_view (after_draw m id new) me.0 (Turn m.ticket) in (
         w,
         takes 0 (full_slot home.value home.last),
         ap (λ h. some h) home.home_is,
-        kept (after_take m) (set vs id w) (takes_at id n me.0 m vs f fit is hit),
-        λ k is'. let same : n ≡ k = ap (turn_of n) (sym is ∙ is') in record {
-          if_served = λ _. subst (λ (z : ℕ). TakesTurn origin stands legal z (seat_state me)
-              (seat_with w ((0, full_slot home.value home.last) ∷ me.1))) same met;
-          if_not = λ miss. absurd (miss (hit ∙ same));
+        kept (after_draw m id new) (set vs id w)
+            (draws_at id old new me.0 m vs f fit is done next low home.not_closed),
+        record {
+          if_expected = λ _. record {
+            takes = takes_value (after_draw m id new) id me (Turn m.ticket) home.value home.last
+                (draw_fit id old new me.0 m fit is more) port f.lawful home.results
+                home.origin_is;
+            drawn = omega arith;
+          };
+          if_other = λ miss. absurd (miss hit);
         },
       ))
       (λ miss. (
@@ -618,12 +513,7 @@ module _ {T E R O : Type 0} (origin : T → O) (stands : T → List (Entry E R) 
         keeps,
         tt,
         kept m (set vs id me.0) (stays m vs id me.0 f fit),
-        λ k is'. let same : n ≡ k = ap (turn_of n) (sym is
-            ∙ is') in record {
-              if_served = λ hit. absurd (miss (hit ∙ sym same));
-              if_not =
-                  λ _. refl;
-            },
+        record { if_expected = λ hit. absurd (miss hit); if_other = λ _. refl },
       )))
 
   -- the moment after port p's turn has ended and the slot has x again
@@ -641,12 +531,6 @@ module _ {T E R O : Type 0} (origin : T → O) (stands : T → List (Entry E R) 
   end_staged m i n j p x l k other mine here holds pair home New h = absurd (pair h.0)
   end_staged m i n j p x l k other mine here holds pair home Young h = h
   end_staged m i n j p x l k other mine here holds pair home Idle h = tt
-  end_staged m i n j p x l k other mine here holds pair home (Waiting q) h =
-      let t = h.0 in
-      let low : m.serving ≤ q = t.not_ended in
-      let apart : q ≢ m.serving = λ e. other (sym t.owner_is ∙ (ap m.owner (e ∙ sym here) ∙ mine))
-      in
-      (record { not_ended = omega arith; drawn = t.drawn; owner_is = t.owner_is }, λ _. home)
   end_staged m i n j p x l k other mine here holds pair home (Turn q) h =
       absurd (other (sym h.holds.owner_is ∙ (ap m.owner (h.served ∙ sym here) ∙ mine)))
   end_staged m i n j p x l k other mine here holds pair home (SawServing q) h =
@@ -877,23 +761,6 @@ module _ {T E R O : Type 0} (origin : T → O) (stands : T → List (Entry E R) 
   abbrev after_close : Mo → Mo
   after_close m = record m { ticket = m.ticket + 1; home = none; closed = 1 }
 
-  close_staged : (m : Mo) (j : ℕ) (k : Known E R O) → m.ticket ≡ m.serving → (m.lone ≡ true → ⊥)
-      → (st : Stage E R O) → Stand m j k st → Stand (after_close m) j k st
-  close_staged m j k ended pair New h = absurd (pair h.0)
-  close_staged m j k ended pair Young h = h
-  close_staged m j k ended pair Idle h = tt
-  close_staged m j k ended pair (Waiting q) h =
-      let low : m.serving ≤ q = h.0.not_ended in
-      let high : q < m.ticket = h.0.drawn in
-      absurd (omega arith)
-  close_staged m j k ended pair (Turn q) h =
-      let low : m.serving ≤ q = h.holds.not_ended in
-      let high : q < m.ticket = h.holds.drawn in
-      absurd (omega arith)
-  close_staged m j k ended pair (SawServing q) h = h
-  close_staged m j k ended pair (Met b u) h =
-      met_later m (after_close m) j k b u refl refl refl (omega arith) h
-
   closes_at : (id : ℕ) (v : V) (m : Mo) (vs : List V) → F m vs → Fit m id v → m.ticket ≡ m.serving
       → m.closed ≡ 0 → F (after_close m) (set vs id (informed_view m v Idle))
   closes_at id v m vs f fit ended fresh =
@@ -905,8 +772,8 @@ module _ {T E R O : Type 0} (origin : T → O) (stands : T → List (Entry E R) 
       (restaged m (after_close m) id w refl refl more (le_refl m.serving) (λ e. e) refl
       (informs m id v Idle fit tt) tt)
       (λ j d other g. restaged m (after_close m) j d refl refl more (le_refl m.serving)
-      (λ e. e) refl g (close_staged m j d.known ended (not_lone m id j v d other fit g) d.stage
-      g.stage))
+      (λ e. e) refl g (taken_staged m (after_close m) j d.known ended refl refl refl refl more
+      (not_lone m id j v d other fit g) d.stage g.stage))
 
   pub closes : (slots id old new : ℕ) (me : M) → new ≡ old + 1 → me.0.is_port ≡ true → me.0.stage
       ≡ SawServing old
@@ -1108,7 +975,6 @@ module _ {T E R O : Type 0} (origin : T → O) (stands : T → List (Entry E R) 
   tell_staged m j k pair New h = absurd (pair h.0)
   tell_staged m j k pair Young h = h
   tell_staged m j k pair Idle h = tt
-  tell_staged m j k pair (Waiting q) h = waits_still m m.holder false j q k h
   tell_staged m j k pair (Turn q) h = holds_still m m.holder false j q k h
   tell_staged m j k pair (SawServing q) h = h
   tell_staged m j k pair (Met b u) h = met_later m (after_tell m) j k b u refl refl refl
@@ -1160,7 +1026,6 @@ module _ {T E R O : Type 0} (origin : T → O) (stands : T → List (Entry E R) 
     split_staged j d other pair New h = absurd (pair h.0)
     split_staged j d other pair Young h = h
     split_staged j d other pair Idle h = tt
-    split_staged j d other pair (Waiting q) h = waits_still m Forked.holder false j q d h
     split_staged j d other pair (Turn q) h = holds_still m Forked.holder false j q d h
     split_staged j d other pair (SawServing q) h = h
     split_staged j d other pair (Met b u) h =
@@ -1318,8 +1183,6 @@ module _ {T E R O : Type 0} (origin : T → O) (stands : T → List (Entry E R) 
   join_staged m other i j k apart New h = h
   join_staged m other i j k apart Young h = h
   join_staged m other i j k apart Idle h = tt
-  join_staged m other i j k apart (Waiting q) h =
-      waits_still m (passed_on m.holder other i) m.lone j q k h
   join_staged m other i j k apart (Turn q) h =
       holds_still m (passed_on m.holder other i) m.lone j q k h
   join_staged m other i j k apart (SawServing q) h = h

@@ -1,5 +1,5 @@
 -- What a port knows after several steps.
-use Rattle.std.proofs.Common.{◌≡◌, ◌≤◌, List, [], ◌∷◌, ◌++◌, Some, None, sym, refl, ap, ◌∙◌, subst, inl, inr, ⊎_elim, arith, le_refl}
+use Rattle.std.proofs.Common.{◌≡◌, ℕ, ◌≤◌, List, [], ◌∷◌, ◌++◌, Some, None, sym, refl, ap, ◌∙◌, subst, inl, inr, ⊎_elim, arith, le_refl}
 use Rattle.std.proofs.lemmas.List.{append-nil}
 use Rattle.std.specs.declared.snapshot.Snapshot.{Snapshot}
 use Rattle.turn_lock.specs.declared.turned.Entry.{Entry}
@@ -7,6 +7,7 @@ use Rattle.turn_lock.specs.declared.known.Known.{Known}
 use Rattle.turn_lock.specs.declared.known.View.{View}
 use Rattle.turn_lock.specs.History.{IsAmong, entry, calls_by}
 use Rattle.turn_lock.specs.Calls.{IsLegal, Watches, Called}
+use Rattle.turn_lock.specs.Seats.{view_with_served}
 use Rattle.turn_lock.specs.Plays.{AddsCall}
 use Rattle.turn_lock.proofs.Lists.{starts_refl, starts_trans}
 
@@ -45,6 +46,28 @@ module _ {E R O : Type 0} {legal : O → List (Entry E R) → Type 0} where
     };
     joined = b.joined ∙ a.joined;
   }
+
+  -- a port that has also read the count of ended turns has watched
+  pub watches_served : (k : Known E R O) (v w : View E R O) (n : ℕ) → Watches legal k v.known
+      → w ≡ view_with_served v n → v.known.served ≤ n → Watches legal k w.known
+  watches_served k v w n a is no_less = let t = a.sees in
+      subst (λ x. Watches legal k x.known) (sym is) (record {
+        sees = record {
+          origin = t.origin;
+          number = t.number;
+          splits = t.splits;
+          drawn = t.drawn;
+          served = omega (arith, t.served, no_less);
+          seen = t.seen;
+          lawful = record {
+            origin = t.lawful.origin;
+            origin_is = t.lawful.origin_is;
+            legal_history = t.lawful.legal_history;
+          };
+          own_calls = t.own_calls;
+        };
+        joined = a.joined;
+      })
 
   -- a port whose turn added nothing has watched
   pub watches_turned : (k : Known E R O) (v w : View E R O) → Watches legal k v.known

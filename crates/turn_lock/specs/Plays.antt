@@ -8,7 +8,7 @@ use Rattle.turn_lock.specs.declared.turned.Entry.{Entry}
 use Rattle.turn_lock.specs.declared.known.Known.{Known}
 use Rattle.turn_lock.specs.declared.known.View.{View}
 use Rattle.turn_lock.specs.declared.known.Stage.{Stage}
-use Rattle.turn_lock.specs.declared.known.Stage.TheVariants.{Young, Idle, Waiting, Turn, Met}
+use Rattle.turn_lock.specs.declared.known.Stage.TheVariants.{Young, Idle, Turn, Met}
 use Rattle.turn_lock.specs.declared.board.Slot.{Slot}
 use Rattle.turn_lock.specs.History.{StartsWith, IsAmong, calls_by}
 use Rattle.turn_lock.specs.Rule.{max_turns, LastCall, full_slot, IsOwn, HasNoCalls}
@@ -39,13 +39,6 @@ module _ {T E R O : Type 0} where
   pub record Settles (move : Move T E R O) : Type 0 where
     pub after_is : move.after ≡ at_stage move.before Idle
     pub no_calls : move.before.view.stage ≡ Young → HasNoCalls move.before.view.known
-
-  -- whether a compare-exchange draws a turn: the seat waits for it, or is unchanged if another seat
-  -- was first
-  pub record Draws (move : Move T E R O) : Type 0 where
-    pub if_expected : move.found ≡ move.expected
-        → move.after ≡ at_stage move.before (Waiting move.found)
-    pub if_other : move.found ≢ move.expected → move.after ≡ move.before
 
   -- whether a seat loaded the count of ended turns: no less than the seat had read before, at least
   -- one for each call that it has seen, and at most one more than a lock can have turns
@@ -132,15 +125,11 @@ module _ {T E R O : Type 0} (origin : T → O) (stands : T → List (Entry E R) 
     pub takes : TakesValue (Turn turn) before after
     pub drawn : turn < after.view.known.drawn
 
-  -- whether the seat takes this turn if all turns before it have ended, and is unchanged otherwise
-  pub record ReachesTurn (turn : ℕ) (move : Move T E R O) : Type 0 where
-    pub if_served : move.found ≡ turn → TakesTurn turn move.before move.after
-    pub if_not : move.found ≢ turn → move.after ≡ move.before
-
-  -- whether a seat that waits for a turn loaded the count of ended turns and took its turn if it is
-  -- reached
-  abbrev pub Reaches : Move T E R O → Type 0
-  Reaches move = (turn : ℕ) → move.before.view.stage ≡ Waiting turn → ReachesTurn turn move
+  -- whether a compare-exchange draws a turn: the seat takes the turn with the value, or is unchanged
+  -- if another seat was first
+  pub record Draws (move : Move T E R O) : Type 0 where
+    pub if_expected : move.found ≡ move.expected → TakesTurn move.found move.before move.after
+    pub if_other : move.found ≢ move.expected → move.after ≡ move.before
 
   -- whether a compare-exchange draws the last turn, if all drawn turns have ended, or finds the
   -- lock busy

@@ -14,7 +14,7 @@ use Rattle.turn_lock.specs.declared.turned.Entry.{Entry}
 use Rattle.turn_lock.specs.declared.known.Known.{Known}
 use Rattle.turn_lock.specs.declared.known.View.{View}
 use Rattle.turn_lock.specs.declared.known.Stage.{Stage}
-use Rattle.turn_lock.specs.declared.known.Stage.TheVariants.{New, Young, Idle, Waiting, Turn, SawServing, Met}
+use Rattle.turn_lock.specs.declared.known.Stage.TheVariants.{New, Young, Idle, Turn, SawServing, Met}
 use Rattle.turn_lock.specs.declared.board.Slot.{Slot}
 use Rattle.turn_lock.specs.History.{StartsWith, IsAmong, IsFuture, calls_by}
 
@@ -122,8 +122,6 @@ module _ {T E R O : Type 0} (origin : T → O) (stands : T → List (Entry E R) 
   FitsStage first now seat known New = (now.lone ≡ true) × (now.home ≡ some (full_slot first None))
   FitsStage first now seat known Young = HasNoCalls known
   FitsStage first now seat known Idle = Unit {0}
-  FitsStage first now seat known (Waiting turn) = HoldsTurn now seat turn
-      × (turn ≡ now.serving → IsHome now)
   FitsStage first now seat known (Turn turn) = HoldsSlot now seat turn known
   FitsStage first now seat known (SawServing count) = count ≤ now.serving
   FitsStage first now seat known (Met other_is_port other) =

@@ -9,7 +9,7 @@ use std::collections::LinkedList;
 /// into another). `number` identifies the port; the first port's is empty. `splits` counts the
 /// ports split off from it, and `joined` has the numbers of those joined in. `seen` is the history
 /// that the port has seen, `drawn` the greatest count of drawn turns that it has read, and `served`
-/// the last count of ended turns that it has read in order to close the lock.
+/// the last count of ended turns that it has read.
 pub struct Known<E, R, O> {
     pub origin: Option<O>,
     pub number: LinkedList<u64>,
@@ -28,9 +28,7 @@ pub enum Stage<E, R, O> {
     Young,
     /// Between two calls.
     Idle,
-    /// The seat has drawn this turn and waits for it.
-    Waiting(u64),
-    /// The seat holds this turn and the slot.
+    /// The seat has drawn this turn and holds it and the slot.
     Turn(u64),
     /// The seat has read that this number of turns have ended.
     SawServing(u64),

@@ -25,25 +25,15 @@ impl<T: Turned> Play<Slot<T, T::Event, T::Reply>, View<T::Event, T::Reply, T::Or
     ghost then = { play (Looks T.legal) };
 }
 
-// A compare-exchange that draws a turn.
-pub(crate) struct Draw;
-
-impl<T, E, R, O> Play<Slot<T, E, R>, View<E, R, O>> for Draw {
-    ghost use Rattle.turn_lock.specs.Plays.{play, Draws};
-
-    ghost then = { play Draws };
-}
-
-// A load of the count of ended turns, which takes the slot if the seat's turn has come.
-pub(crate) struct Reach<T> {
+// A compare-exchange that draws a turn and takes the slot.
+pub(crate) struct Draw<T> {
     value: PhantomData<T>,
 }
 
-impl<T: Turned> Play<Slot<T, T::Event, T::Reply>, View<T::Event, T::Reply, T::Origin>>
-    for Reach<T> {
-    ghost use Rattle.turn_lock.specs.Plays.{play, Reaches};
+impl<T: Turned> Play<Slot<T, T::Event, T::Reply>, View<T::Event, T::Reply, T::Origin>> for Draw<T> {
+    ghost use Rattle.turn_lock.specs.Plays.{play, Draws};
 
-    ghost then = { play (Reaches T.origin T.stands T.legal) };
+    ghost then = { play (Draws T.origin T.stands T.legal) };
 }
 
 // The end of a turn, which returns the slot.
@@ -57,7 +47,7 @@ impl<T: Turned> Play<Slot<T, T::Event, T::Reply>, View<T::Event, T::Reply, T::Or
     ghost then = { play (Ends T.legal) };
 }
 
-// A load of the count of ended turns, before a lock is closed.
+// A load of the count of ended turns, before a turn is drawn.
 pub(crate) struct SeeServing;
 
 impl<T, E, R, O> Play<Slot<T, E, R>, View<E, R, O>> for SeeServing {

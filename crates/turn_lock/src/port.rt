@@ -7,7 +7,7 @@ ghost use Rattle.turn_lock.specs.Calls.{parent_after_split, child_after_split, M
 
 use crate::board::{Board, Place};
 use crate::call_fault::CallFault;
-use crate::steps::{divide, draw, end_turn, reach, take_in, write_note};
+use crate::steps::{divide, draw, end_turn, take_in, write_note};
 use crate::turned::{Inspected, Turned};
 use std::alloc::{AllocError, Global};
 use std::marker::Model;
@@ -92,10 +92,9 @@ impl<T: Turned> Port<T> {
     {
         let top = &self.table.shared;
         let place = &mut self.place;
-        let Some(turn) = draw(top, place, rt, self.bound) else {
+        let Some((turn, mut value)) = draw(top, place, rt, self.bound) else {
             return Err(CallFault::Exhausted);
         };
-        let mut value = reach(top, place, rt, turn);
         let asked = Snapshot::of(&event);
         match value.inner.turn(alloc, event) {
             Ok(reply) => {
@@ -193,8 +192,7 @@ impl<T: Inspected> Port<T> {
     {
         let top = &self.table.shared;
         let place = &mut self.place;
-        let turn = draw(top, place, rt, self.bound)?;
-        let mut value = reach(top, place, rt, turn);
+        let (turn, mut value) = draw(top, place, rt, self.bound)?;
         let finding = value.inner.inspect(alloc, question);
         end_turn(top, place, turn, value, None);
         Some(finding)

@@ -3,7 +3,7 @@
 ghost use Rattle.std.specs.Prelude.{◌≡◌, ◌+◌, ◌<◌, ◌≤◌, [], ◌∷◌, ◌++◌, Some, None, length, IfOk};
 ghost use Rattle.std.specs.Prelude.{IfErr, IfSome, IfNone, Option};
 ghost use Rattle.std.specs.declared.snapshot.Snapshot.{Snapshot};
-ghost use Rattle.turn_lock.specs.declared.known.Stage.TheVariants.{Young, Idle, Waiting, Turn};
+ghost use Rattle.turn_lock.specs.declared.known.Stage.TheVariants.{Young, Idle, Turn};
 ghost use Rattle.turn_lock.specs.Rule.{max_turns, LastCall, full_slot, HasNoCalls};
 ghost use Rattle.turn_lock.specs.Calls.{IsLegal, Watches, IsBusy};
 ghost use Rattle.turn_lock.specs.Seats.{IsSized, IsReady, empty_slot, with_stage, new_entries};
@@ -14,7 +14,7 @@ ghost use Rattle.turn_lock.specs.Plays.{AddsCall, KnowsBoth};
 use crate::board::{HOME, Place, SERVING, Slot, TICKET, Top};
 use crate::faults::Busy;
 use crate::lodged::Lodged;
-use crate::plays::{Close, Cut, Draw, End, Look, Merge, Reach, SeeServing, Settle, TakeIn, Tell};
+use crate::plays::{Close, Cut, Draw, End, Look, Merge, SeeServing, Settle, TakeIn, Tell};
 use crate::turned::Turned;
 use crossbeam_utils::Backoff;
 use std::snapshot::Snapshot;
@@ -51,39 +51,6 @@ fn pause<T: Turned, W: Wait>(top: &Top<T>, rt: &W, backoff: &Backoff, served: u6
     }
 }
 
-// Draws a turn, or returns `None` if `bound` turns were drawn. Draws only when all drawn turns
-// have ended, so that a thread that is not running never blocks the others.
-pub(crate) fn draw<T: Turned, W: Wait>(
-    top: &Top<T>,
-    place: &mut Place<T>,
-    rt: &W,
-    bound: u64,
-) -> Option<u64>
-    requires table { (place.old.table_id ≡ top.now.table_id) × IsSized top.now.table_id }
-    requires bound { bound ≤ max_turns }
-    requires ready { IsReady place.old Idle [] × IsLegal T.legal (known_of place.old) }
-    ensures seat { place.new.table_id ≡ place.old.table_id }
-    ensures watches { Watches T.legal (known_of place.old) (known_of place.new) }
-    ensures waiting { IfSome result (λ n. IsReady place.new (Waiting n) [] × (n < bound)) }
-    ensures at_least_drawn { IfSome result (λ n. (known_of place.old).drawn ≤ n) }
-    ensures none { IfNone result (IsReady place.new Idle []
-        × (bound ≤ (known_of place.new).drawn)) }
-{
-    let backoff = Backoff::new();
-    for _ in rt.forever() {
-        let turn = top.load::<Look<T>>(place, TICKET);
-        if turn >= bound {
-            return None;
-        }
-        let served = top.peek(SERVING);
-        if served == turn && top.compare_exchange::<Draw>(place, TICKET, turn, turn + 1) == turn {
-            return Some(turn);
-        }
-        pause(top, rt, &backoff, served);
-    }
-    unreachable!()
-}
-
 // Takes the value out of the slot, which the seat holds.
 fn take_out<T: Turned>(top: &Top<T>, place: &mut Place<T>) -> Lodged<T>
     requires table { (place.old.table_id ≡ top.now.table_id) × IsSized top.now.table_id }
@@ -101,28 +68,41 @@ fn take_out<T: Turned>(top: &Top<T>, place: &mut Place<T>) -> Lodged<T>
     top.exchange(place, HOME, empty).value.unwrap()
 }
 
-// Waits for the turn and takes the value. A turn that `draw` returned has come at the first look.
-pub(crate) fn reach<T: Turned, W: Wait>(
+// Draws a turn and takes the value, or returns `None` if `bound` turns were drawn. Draws only when
+// all drawn turns have ended, so that a thread that is not running never blocks the others.
+pub(crate) fn draw<T: Turned, W: Wait>(
     top: &Top<T>,
     place: &mut Place<T>,
     rt: &W,
-    turn: u64,
-) -> Lodged<T>
+    bound: u64,
+) -> Option<(u64, Lodged<T>)>
     requires table { (place.old.table_id ≡ top.now.table_id) × IsSized top.now.table_id }
-    requires waiting { IsReady place.old (Waiting turn) [] }
-    ensures seat { (place.new.table_id ≡ place.old.table_id)
-        × IsReady place.new (Turn turn) ((0, empty_slot) ∷ []) }
+    requires bound { bound ≤ max_turns }
+    requires ready { IsReady place.old Idle [] × IsLegal T.legal (known_of place.old) }
+    ensures seat { place.new.table_id ≡ place.old.table_id }
     ensures watches { Watches T.legal (known_of place.old) (known_of place.new) }
-    ensures drawn { turn < (known_of place.new).drawn }
-    ensures value { ((known_of place.new).origin ≡ Some (T.origin result))
-        × T.stands result (known_of place.new).seen }
+    ensures taken { IfSome result
+        (λ t. IsReady place.new (Turn t.0) ((0, empty_slot) ∷ []) × (t.0 < bound)) }
+    ensures drawn { IfSome result (λ t. ((known_of place.old).drawn ≤ t.0)
+        × (t.0 < (known_of place.new).drawn)) }
+    ensures value { IfSome result (λ t. ((known_of place.new).origin ≡ Some (T.origin t.1))
+        × T.stands t.1 (known_of place.new).seen) }
+    ensures none { IfNone result (IsReady place.new Idle []
+        × (bound ≤ (known_of place.new).drawn)) }
 {
     let backoff = Backoff::new();
     for _ in rt.forever() {
-        if top.load::<Reach<T>>(place, SERVING) == turn {
-            return take_out(top, place);
+        let turn = top.load::<Look<T>>(place, TICKET);
+        if turn >= bound {
+            return None;
         }
-        backoff.snooze();
+        let served = top.load::<SeeServing>(place, SERVING);
+        if served == turn
+            && top.compare_exchange::<Draw<T>>(place, TICKET, turn, turn + 1) == turn
+        {
+            return Some((turn, take_out(top, place)));
+        }
+        pause(top, rt, &backoff, served);
     }
     unreachable!()
 }
