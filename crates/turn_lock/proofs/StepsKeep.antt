@@ -112,10 +112,10 @@ module _ {T E R O : Type 0} (origin : T → O) (stands : T → List (Entry E R) 
   F = Facts origin stands legal first
 
   abbrev Fit : Mo → ℕ → V → Type 0
-  Fit = Fits origin stands first
+  Fit = Fits first
 
   abbrev Stand : Mo → ℕ → Known E R O → Stage E R O → Type 0
-  Stand = FitsStage origin stands first
+  Stand = FitsStage first
 
   -- the table's state at a moment
   abbrev canon : Mo → List V → St

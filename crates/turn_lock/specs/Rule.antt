@@ -106,16 +106,6 @@ module _ {T E R O : Type 0} where
     pub numbers : other_is_port ≡ true → (q : List ℕ) → IsOwn other q
         → OwnsNumber now seat known other q
 
-module _ {T E R O : Type 0} (origin : T → O) (stands : T → List (Entry E R) → Type 0) where
-  -- whether the value is in the slot and results from the history, and the lock is not closed
-  pub record IsHome (now : Moment T E R O) : Type 0 where
-    pub value : T
-    pub last : LastCall E R
-    pub home_is : now.home ≡ some (full_slot value last)
-    pub results : stands value now.history
-    pub origin_is : origin value ≡ now.start
-    pub not_closed : now.closed ≡ 0
-
   -- whether a seat at this stage knows what holds at the moment; `first` is the value that the lock
   -- was made with
   abbrev pub FitsStage : T → Moment T E R O → ℕ → Known E R O → Stage E R O → Type 0
@@ -126,6 +116,16 @@ module _ {T E R O : Type 0} (origin : T → O) (stands : T → List (Entry E R) 
   FitsStage first now seat known (SawServing count) = count ≤ now.serving
   FitsStage first now seat known (Met other_is_port other) =
       HasMet now seat known other_is_port other
+
+module _ {T E R O : Type 0} (origin : T → O) (stands : T → List (Entry E R) → Type 0) where
+  -- whether the value is in the slot and results from the history, and the lock is not closed
+  pub record IsHome (now : Moment T E R O) : Type 0 where
+    pub value : T
+    pub last : LastCall E R
+    pub home_is : now.home ≡ some (full_slot value last)
+    pub results : stands value now.history
+    pub origin_is : origin value ≡ now.start
+    pub not_closed : now.closed ≡ 0
 
 -- Whether a port has seen all calls of its own numbers. The numbers that its later splits may have,
 -- have no calls, and all these numbers are distinct.
@@ -140,14 +140,14 @@ pub record IsPort {E R O : Type 0} (start : O) (holder : List ℕ → ℕ) (seat
       → (q ≢ known.number) × ¬ IsFuture known.number known.splits q
 
 -- whether the view of a seat agrees with the moment
-pub record Fits {T E R O : Type 0} (origin : T → O) (stands : T → List (Entry E R) → Type 0)
-    (first : T) (now : Moment T E R O) (seat : ℕ) (view : View E R O) : Type 0 where
+pub record Fits {T E R O : Type 0} (first : T) (now : Moment T E R O) (seat : ℕ) (view : View E R O)
+    : Type 0 where
   pub origin_is : (o : O) → view.known.origin ≡ Some o → o ≡ now.start
   pub seen : StartsWith now.history view.known.seen
   pub drawn : view.known.drawn ≤ now.ticket
   pub served : view.known.served ≤ now.serving
   pub first_if_lone : now.lone ≡ true → seat ≡ 0
-  pub stage : FitsStage origin stands first now seat view.known view.stage
+  pub stage : FitsStage first now seat view.known view.stage
   pub port : view.is_port ≡ true → IsPort now.start now.holder seat now.history view.known
 
 -- whether all of this holds at a moment: the longest history is legal and has at most one call for
@@ -163,7 +163,7 @@ pub record Facts {T E R O : Type 0} (origin : T → O) (stands : T → List (Ent
   pub counted : length now.history ≤ now.serving
   pub home_or_held : IsHome origin stands now ⊎ (now.serving < now.ticket)
   pub fits : (seat : ℕ) (view : View E R O) → get_elem? views seat ≡ some view
-      → Fits origin stands first now seat view
+      → Fits first now seat view
 
 -- whether the invariant of the table holds: the words and the slot are those of a moment at which
 -- `Facts` holds
