@@ -7,7 +7,7 @@
 - alone: the first sentence of a doc comment or a docstring does not need the one above it.
 - participle: no definition of specs/ is named by a bare participle or preposition, such as `told`,
   `merged` or `before`, also followed by `_by`.
-- clause: no clause of a contract has a name of BAD_CLAUSES, such as `some`, that says nothing.
+- clause: no clause of a contract has a name of BAD_CLAUSES, such as `some`, that states nothing.
 - action: no function has a name of BAD_FUNCTIONS, such as `turns`, that does not say what it does,
   or is a bare participle, such as `judged_trace`.
 - behind: no name of src/ or specs/ has the part `behind`.
@@ -140,7 +140,7 @@ def participle_lines(path, lines):
 
 
 def clause_lines(path, lines):
-    """The clauses of contracts with a name that says nothing."""
+    """The clauses of contracts with a name that states nothing."""
     for number, line in enumerate(lines, 1) if path.endswith(".rt") else ():
         found = CLAUSE.match(line)
         if found and found[1] in BAD_CLAUSES:

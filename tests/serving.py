@@ -309,7 +309,7 @@ def test(function):
 
 
 def are_built(*executables):
-    """Whether these executables are there. The first that is missing is told as a failed check."""
+    """Whether these executables are there. The first that is missing is reported as a failed check."""
     for executable in executables:
         if not os.access(executable, os.X_OK):
             print(f"{executable} is missing: run bin/build or bin/test\n0 passed, 1 failed")

@@ -145,7 +145,7 @@ within_call room f f' call within by = record {
   numbers = λ key c at. within_there f call key c within (from_call room f f' call by key c at);
 }
 
--- numbers are equal exactly if their test says so
+-- two numbers are equal exactly if `==` holds of them
 tells_equal : (a b : ℕ) → (eqb a b ≡ true → a ≡ b) × (a ≡ b → eqb a b ≡ true)
 tells_equal a b = (
   λ is. by_number a b (λ e _. e) (λ _ no. absurd (false≢true (sym no ∙ is))),

@@ -52,7 +52,7 @@ fn need_of(alloc: Global, session: &mut Session) -> Need {
 
 /// Returns whether a frame of another version ends a session that waits, and the session stays over
 /// whatever it is fed.
-fn says_so_again(alloc: Global, session: &mut Session) -> bool {
+fn ends_for_good(alloc: Global, session: &mut Session) -> bool {
     let is_idle = session.is_idle();
     let waits = need_of(alloc, session) == Need::Input;
     let is_asking = session.asking();
@@ -68,11 +68,11 @@ fn says_so_again(alloc: Global, session: &mut Session) -> bool {
 }
 
 #[test]
-fn a_session_that_is_over_says_so_again(rt: HostRuntime) -> Result<(), Fail> {
+fn a_session_that_is_over_stays_over(rt: HostRuntime) -> Result<(), Fail> {
     let mut session = new_session(rt.alloc())?;
-    let says_so = says_so_again(rt.alloc(), &mut session);
+    let is_over = ends_for_good(rt.alloc(), &mut session);
     drop(session);
-    assert!(rt; says_so);
+    assert!(rt; is_over);
     Ok(())
 }
 
@@ -108,7 +108,7 @@ fn feed_hex(alloc: Global, session: &mut Session, text: &str) -> bool {
 
 /// Feeds a session an AARQ, which it answers, and the frame of a request. Returns whether that is
 /// done.
-fn is_fed(alloc: Global, session: &mut Session, opening: &str, request: &str) -> bool {
+fn has_taken(alloc: Global, session: &mut Session, opening: &str, request: &str) -> bool {
     let is_fed = feed_hex(alloc, session, opening);
     let is_answered = need_of(alloc, session) == Need::Send;
     let waits = need_of(alloc, session) == Need::Input;
@@ -148,7 +148,7 @@ type Short = (&'static str, &'static str, &'static str);
 /// Returns whether a request after an AARQ has its answer from a new meter, by the short way.
 fn is_answered_shortly(alloc: Global, (opening, request, answer): &Short) -> Result<bool, Fail> {
     let mut session = new_session(alloc)?;
-    let is_fed = is_fed(alloc, &mut session, opening, request);
+    let is_fed = has_taken(alloc, &mut session, opening, request);
     let answered = answer_of_new(alloc, &mut session);
     drop(session);
     let frame = answered?;
