@@ -2,7 +2,7 @@
 ghost use Rattle.std.specs.Prelude.{◌≡◌, ◌≢◌, ◌≤◌, IfOk, IfErr};
 ghost use Rattle.acse_ber.specs.Password.{IsPassword};
 ghost use Rattle.fleet_meters.specs.Passwords.{other_byte, other_password};
-ghost use Rattle.fleet_meters.specs.Terms.{IsTrace};
+ghost use Rattle.fleet_meters.specs.Traces.{IsTrace};
 ghost use Rattle.trace_player.specs.Traces.{trace_of};
 ghost use Rattle.trace_words.specs.declared.fault.TraceFault.TheVariants.{Memory};
 ghost use Rattle.wire_bytes.specs.Outcome.{Fails};
