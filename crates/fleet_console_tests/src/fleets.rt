@@ -5,7 +5,8 @@ use cosem_axdr::Octets;
 use fleet_faults::{FaultPlan, FaultShares};
 use fleet_links::{Received, Sent, Stream};
 use fleet_meters::{Fleet, FleetTerms, MeterTerms};
-use std::alloc::{AllocError, Global};
+use std::alloc::Global;
+use trace_words::TraceFault;
 
 /// The trace of a new meter in mode 1.
 const TRACE: &[u8] = b"RELAYTRACE 1
@@ -57,18 +58,14 @@ impl Stream for Silence {
 }
 
 /// Returns a fleet of three meters without faults, with the password 12345678.
-pub(crate) fn new_fleet(alloc: Global) -> Result<Fleet<Silence>, AllocError> {
+pub(crate) fn new_fleet(alloc: Global) -> Result<Fleet<Silence>, TraceFault> {
     let trace = Octets::from_slice(alloc, TRACE)?;
     let password = Octets::from_slice(alloc, b"12345678")?;
     let refusing = Octets::from_slice(alloc, TRACE)?;
-    let common = MeterTerms {
-        trace,
-        password,
-        kept_events: 4,
-    };
+    let common = MeterTerms::from_trace(alloc, trace, password, 4)?;
     let plan = FaultPlan {
         shares: FaultShares::new(),
         seed: 0,
     };
-    Fleet::new(alloc, FleetTerms::new(alloc, common, refusing, plan)?, 3)
+    Ok(Fleet::new(alloc, FleetTerms::new(alloc, common, refusing, plan)?, 3)?)
 }

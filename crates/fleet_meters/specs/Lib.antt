@@ -5,3 +5,4 @@ pub mod Fleets
 pub mod Passwords
 pub mod Places
 pub mod Terms
+pub mod Traces

@@ -1,22 +1,14 @@
 -- What the meters of a fleet are made of.
---     IsTrace      a text that a meter can continue from
 --     terms_with   the terms of a meter that has this fault, or none
 --     terms_of     the terms of the meter with this number
 --     terms_at     the terms of the meter at this place
-use Rattle.std.specs.Prelude.{◌≡◌, ℕ, ◌+◌, List, Option, Some, None, Ok}
-use Rattle.relay_recorder.specs.declared.trace.Trace.{Trace}
-use Rattle.trace_player.specs.Traces.{trace_of}
+use Rattle.std.specs.Prelude.{ℕ, ◌+◌, Option, Some, None}
 use Rattle.fleet_faults.specs.Draws.{fault_of}
 use Rattle.fleet_faults.specs.declared.fault.InjectedFault.{InjectedFault}
 use Rattle.fleet_faults.specs.declared.fault.InjectedFault.TheVariants.{Silent, Slow, Vanishes, Closes}
 use Rattle.fleet_faults.specs.declared.fault.InjectedFault.TheVariants.{WrongPassword, Refuses}
 use Rattle.fleet_meters.specs.declared.terms.FleetTerms.{FleetTerms}
 use Rattle.fleet_meters.specs.declared.terms.MeterTerms.{MeterTerms}
-
--- whether a text can be read as a trace
-pub record IsTrace (text : List ℕ) : Type 0 where
-  pub trace : Trace
-  pub reads : trace_of text ≡ Ok trace
 
 -- the terms of a meter that has this fault, or none; all other faults are those of connections
 abbrev pub terms_with : FleetTerms → Option InjectedFault → MeterTerms

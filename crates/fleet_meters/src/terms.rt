@@ -2,6 +2,10 @@
 ghost use Rattle.std.specs.Prelude.{◌≡◌, ◌≢◌, ◌≤◌, IfOk, IfErr};
 ghost use Rattle.acse_ber.specs.Password.{IsPassword};
 ghost use Rattle.fleet_meters.specs.Passwords.{other_byte, other_password};
+ghost use Rattle.fleet_meters.specs.Traces.{IsTrace};
+ghost use Rattle.trace_player.specs.Traces.{trace_of};
+ghost use Rattle.trace_words.specs.declared.fault.TraceFault.TheVariants.{Memory};
+ghost use Rattle.wire_bytes.specs.Outcome.{Fails};
 
 use cosem_axdr::Octets;
 use fleet_faults::{FaultPlan, InjectedFault};
@@ -18,8 +22,18 @@ pub struct MeterTerms {
     pub password: Octets,
     /// The number of events that the meter keeps, 1 to 1,024.
     pub kept_events: u16,
+    ghost continues: { IsTrace trace },
     ghost guarded: { IsPassword password },
     ghost keeps: { (1 ≤ kept_events) × (kept_events ≤ 1024) },
+}
+
+// Judges whether a text is a trace. Errors: the fault of one that is not, or `Memory`.
+fn judge_trace(alloc: Global, text: &Octets) -> Result<(), TraceFault>
+    ensures is_trace { IfOk result (λ _. IsTrace text.now) }
+    ensures fault { IfErr result (λ fault. Fails Memory fault (trace_of text.now)) }
+{
+    drop(read_trace(alloc, text.as_slice())?);
+    Ok(())
 }
 
 // Returns the digit 0, or the digit 1 instead of the digit 0.
@@ -42,11 +56,6 @@ fn other_password(alloc: Global, password: &Octets) -> Result<Octets, AllocError
 }
 
 impl MeterTerms {
-    ghost use Rattle.fleet_meters.specs.Terms.{IsTrace};
-    ghost use Rattle.trace_player.specs.Traces.{trace_of};
-    ghost use Rattle.trace_words.specs.declared.fault.TraceFault.TheVariants.{Memory};
-    ghost use Rattle.wire_bytes.specs.Outcome.{Fails};
-
     /// Returns the terms of meters that each continue from the end of the trace in `trace`.
     /// Errors: the fault of a text that is not a trace, or `Memory`.
     pub fn from_trace(
@@ -62,15 +71,12 @@ impl MeterTerms {
             × (terms.kept_events ≡ kept_events)) }
         ensures fault { IfErr result (λ fault. Fails Memory fault (trace_of trace)) }
     {
-        match read_trace(alloc, trace.as_slice()) {
-            Ok(read) => {
-                drop(read);
-                Ok(MeterTerms {
-                    trace,
-                    password,
-                    kept_events,
-                })
-            }
+        match judge_trace(alloc, &trace) {
+            Ok(()) => Ok(MeterTerms {
+                trace,
+                password,
+                kept_events,
+            }),
             Err(fault) => {
                 drop(trace);
                 drop(password);
@@ -101,22 +107,21 @@ impl MeterTerms {
         }
     }
 
-    // Returns the terms of a meter that continues from another trace.
-    fn with_trace(&self, alloc: Global, trace: Octets) -> Result<MeterTerms, AllocError>
-        ensures { IfOk result (λ terms. (terms.trace ≡ trace)
+    // Returns the terms of a meter that continues from another trace. Errors: those of
+    // `from_trace`.
+    fn with_trace(&self, alloc: Global, trace: Octets) -> Result<MeterTerms, TraceFault>
+        ensures is_trace { IfOk result (λ _. IsTrace trace) }
+        ensures terms { IfOk result (λ terms. (terms.trace ≡ trace)
             × (terms.password ≡ self.now.password)
             × (terms.kept_events ≡ self.now.kept_events)) }
+        ensures fault { IfErr result (λ fault. Fails Memory fault (trace_of trace)) }
     {
         let count = self.kept_events;
         match self.password.try_clone(alloc) {
-            Ok(password) => Ok(MeterTerms {
-                trace,
-                password,
-                kept_events: count,
-            }),
-            Err(error) => {
+            Ok(password) => MeterTerms::from_trace(alloc, trace, password, count),
+            Err(_) => {
                 drop(trace);
-                Err(error)
+                Err(TraceFault::Memory)
             }
         }
     }
@@ -145,26 +150,29 @@ impl FleetTerms {
     ghost use Rattle.fleet_meters.specs.Terms.{terms_of};
 
     /// Returns the terms of the meters of a fleet: the common ones, and those of meters with the
-    /// faults `WrongPassword` and `Refuses`. The latter continue from the trace `refusing`, whose
-    /// control mode must be 0. Fails if out of memory.
+    /// faults `WrongPassword` and `Refuses`. The latter continue from the end of the trace in
+    /// `refusing`, whose control mode must be 0. Errors: the fault of a `refusing` that is not a
+    /// trace, or `Memory`.
     #[tactic(auto, using(crate::proofs::Passwords::other_differs))]
     pub fn new(
         alloc: Global,
         common: MeterTerms,
         refusing: Octets,
         plan: FaultPlan,
-    ) -> Result<FleetTerms, AllocError>
+    ) -> Result<FleetTerms, TraceFault>
+        ensures is_trace { IfOk result (λ _. IsTrace refusing) }
         ensures terms { IfOk result (λ terms. (terms.common ≡ common)
             × (terms.refuses.trace ≡ refusing) × (terms.plan ≡ plan)) }
         ensures differs { IfOk result (λ terms.
             terms.wrong_password.password ≢ common.password) }
+        ensures fault { IfErr result (λ fault. Fails Memory fault (trace_of refusing)) }
     {
         let wrong_password = match common.with_other_password(alloc) {
             Ok(terms) => terms,
-            Err(error) => {
+            Err(_) => {
                 drop(common);
                 drop(refusing);
-                return Err(error);
+                return Err(TraceFault::Memory);
             }
         };
         match common.with_trace(alloc, refusing) {
@@ -174,10 +182,10 @@ impl FleetTerms {
                 refuses,
                 plan,
             }),
-            Err(error) => {
+            Err(fault) => {
                 drop(common);
                 drop(wrong_password);
-                Err(error)
+                Err(fault)
             }
         }
     }

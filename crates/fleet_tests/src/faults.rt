@@ -11,6 +11,7 @@ use fleet_meters::{Fleet, FleetTerms};
 use std::alloc::{AllocError, Global};
 use std::process::Abort;
 use std::test::Fail;
+use trace_words::TraceFault;
 
 /// Returns the faults of meters whose draws are below 11, which have another password, and below
 /// 61, which refuse. With the seed 0, the draws of the meters 1 to 3 are 65, 10 and 53.
@@ -29,10 +30,10 @@ fn have_passwords(terms: &FleetTerms) -> bool {
 }
 
 /// Returns a fleet of three meters, each of which has one of the two faults or none.
-fn new_fleet(rt: &impl Abort, alloc: Global, plan: FaultPlan) -> Result<Fleet<Script>, AllocError> {
+fn new_fleet(rt: &impl Abort, alloc: Global, plan: FaultPlan) -> Result<Fleet<Script>, TraceFault> {
     let terms = new_terms(rt, alloc, plan)?;
     assert!(rt; have_passwords(&terms));
-    Fleet::new(alloc, terms, 3)
+    Ok(Fleet::new(alloc, terms, 3)?)
 }
 
 /// Sends requests to a meter, which must have exactly these answers.

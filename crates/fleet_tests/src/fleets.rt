@@ -12,6 +12,7 @@ use session_core::SessionEnd;
 use std::alloc::{AllocError, Global};
 use std::process::Abort;
 use std::test::Fail;
+use trace_words::TraceFault;
 
 /// The trace of a new meter in mode 1.
 pub(crate) const TRACE: &[u8] = b"RELAYTRACE 1
@@ -42,26 +43,22 @@ pub(crate) fn new_terms(
     rt: &impl Abort,
     alloc: Global,
     plan: FaultPlan,
-) -> Result<FleetTerms, AllocError> {
+) -> Result<FleetTerms, TraceFault> {
     let trace = Octets::from_slice(alloc, TRACE)?;
     let password = Octets::from_slice(alloc, b"12345678")?;
     let refusing = Octets::from_slice(alloc, REFUSING)?;
     assert!(rt; password.len() == 8);
-    let common = MeterTerms {
-        trace,
-        password,
-        kept_events: 4,
-    };
+    let common = MeterTerms::from_trace(alloc, trace, password, 4)?;
     FleetTerms::new(alloc, common, refusing, plan)
 }
 
 /// Returns a fleet of three meters without faults.
-fn new_fleet(rt: &impl Abort, alloc: Global) -> Result<Fleet<Script>, AllocError> {
+fn new_fleet(rt: &impl Abort, alloc: Global) -> Result<Fleet<Script>, TraceFault> {
     let plan = FaultPlan {
         shares: FaultShares::new(),
         seed: 0,
     };
-    Fleet::new(alloc, new_terms(rt, alloc, plan)?, 3)
+    Ok(Fleet::new(alloc, new_terms(rt, alloc, plan)?, 3)?)
 }
 
 /// The trace of a new meter in mode 0.
