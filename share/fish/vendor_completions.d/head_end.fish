@@ -2,7 +2,7 @@
 complete -c head_end -f -l help -d 'Print help'
 complete -c head_end -f -l version -d 'Print version'
 complete -c head_end -f -n __fish_use_subcommand -a check -d 'Counts the jobs on standard input'
-complete -c head_end -f -n '__fish_seen_subcommand_from check' -l verbose -d 'On a fault, report what was expected and what was found on standard error'
+complete -c head_end -f -n '__fish_seen_subcommand_from check' -l verbose -d 'If the list is wrong, report all findings on standard error'
 complete -c head_end -f -n __fish_use_subcommand -a run -d 'Runs the jobs on standard input and prints a report'
 complete -c head_end -f -n '__fish_seen_subcommand_from run' -l password -r -d 'Password of the management client, 1 to 32 bytes; default: METER_PASSWORD'
 complete -c head_end -f -n '__fish_seen_subcommand_from run' -l password-file -r -d 'File whose one line is the password; only its owner may have access to it'
