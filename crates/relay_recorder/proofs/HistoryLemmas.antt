@@ -81,8 +81,8 @@ continues old new event reply core_goes answers kept opening_goes same = record 
 
 -- `continues`, for the parts of a recorder: the ring was given the event, and the opening core took
 -- the event that was pushed out, if any
-pub applied : (core opening next next_opening : RelayCore) (kept ring : Buffer Event) (event : Event)
-    (reply : Reply) (out : Option Event)
+pub applied : (core opening next next_opening : RelayCore) (kept ring : Buffer Event)
+    (event : Event) (reply : Reply) (out : Option Event)
     → ((w : World) → StandsFor core w → StandsFor next (at_event event w).world)
     → ((w : World) → StandsFor core w → reply ≡ (at_event event w).reply)
     → length kept.items ≤ kept.capacity

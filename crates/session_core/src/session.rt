@@ -199,7 +199,7 @@ impl Session {
     /// Takes in the reply to the event of `next_short` and returns the frame with its answer, as
     /// `answer` followed by `next` would. If out of memory, nothing has changed.
     #[inline(always)]
-    #[tactic(auto, unfolding(crate::specs::Remaining::is_asking_short, crate::specs::Outgoing::reply_response, crate::specs::Outgoing::reply_transfer, crate::specs::Answers::answer_text, crate::specs::Answers::due_text, xdlms_apdu::specs::Responses::response_text))]
+    #[tactic(auto, unfolding(crate::specs::Remaining::is_asking_short))]
     pub fn answer_short(&mut self, alloc: Global, reply: &Reply) -> Result<Octets, AllocError>
         requires { is_asking_short self.now ≡ true }
         ensures ok { IfOk result (λ frame. AnswersBy self.old reply.now frame self.new) }

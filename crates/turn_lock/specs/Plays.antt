@@ -125,7 +125,7 @@ module _ {T E R O : Type 0} (origin : T → O) (stands : T → List (Entry E R) 
     pub takes : TakesValue (Turn turn) before after
     pub drawn : turn < after.view.known.drawn
 
-  -- whether a compare-exchange draws a turn: the seat takes the turn with the value, or is unchanged
+  -- whether a compare-exchange draws a turn: the seat takes the turn and the value, or is unchanged
   -- if another seat was first
   pub record Draws (move : Move T E R O) : Type 0 where
     pub if_expected : move.found ≡ move.expected → TakesTurn move.found move.before move.after
