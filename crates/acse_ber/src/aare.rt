@@ -1,10 +1,16 @@
 //! The AARE, the response to an association request (IEC 62056-5-3), as a value: result, diagnostic
 //! and user information.
 
+/// The association result accepted.
+pub const ACCEPTED: u8 = 0;
+
+/// The association result rejected-permanent.
+pub const REJECTED_PERMANENT: u8 = 1;
+
 /// The response to an association request (IEC 62056-5-3, AARE).
 #[derive(Clone, Copy, Debug, PartialEq, Eq)]
 pub struct Aare {
-    /// The association result: 0 accepts, any other value rejects.
+    /// The association result: [`ACCEPTED`], or a value that rejects.
     pub result: u8,
     /// The diagnostic, of the ACSE service user or service provider.
     pub diagnostic: u8,

@@ -9,7 +9,7 @@ ghost use Rattle.acse_ber.specs.Reading.{aare_of, aare_in, aare_with_result, aar
 ghost use Rattle.acse_ber.specs.Spelling.{SpellsAare};
 ghost use Rattle.acse_ber.specs.declared.aare.Aare.{Aare};
 
-use crate::aare::{Aare, Info};
+use crate::aare::{ACCEPTED, Aare, Info};
 use crate::fault::AcseFault;
 use crate::field::{find_inner, find_required, read_tagged};
 use crate::initiate::{
@@ -84,9 +84,6 @@ fn read_after_diagnostic(outcome: u8, diagnostic: u8, body: &[u8]) -> Result<Aar
         info,
     })
 }
-
-// The association result that accepts.
-const ACCEPTED: u8 = 0;
 
 // Reads the association result: an integer of one byte.
 fn read_result(contents: &[u8]) -> Result<u8, AcseFault>

@@ -5,6 +5,7 @@ ghost use Rattle.acse_ber.specs.Verdict.{is_no_mechanism, is_password, proposal_
 
 use crate::aarq::Aarq;
 use crate::conformance::Conformance;
+use crate::diagnostic;
 use crate::identifier::{LN_WITHOUT_CIPHERING, LOW_LEVEL_SECURITY, LOWEST_LEVEL_SECURITY};
 use crate::initiate::{Proposal, read_proposal};
 use crate::verdict::Verdict;
@@ -12,31 +13,11 @@ use bitflags::Flags;
 use cosem_axdr::Octets;
 use cosem_names::Level;
 
-// The port (wPort) of the management client, which must authenticate with the password.
-const MANAGEMENT_CLIENT: u16 = 1;
+/// The wrapper port (wPort) of the management client, which must authenticate with the password.
+pub const MANAGEMENT_CLIENT: u16 = 1;
 
-// The port (wPort) of the public client, which needs no password.
-const PUBLIC_CLIENT: u16 = 16;
-
-// The diagnostics of the ACSE service user.
-mod diagnostic {
-    // no-reason-given: the port is that of no client, or the user information is not an
-    // InitiateRequest.
-    pub(crate) const NO_REASON_GIVEN: u8 = 1;
-
-    // application-context-name-not-supported: the context is not logical names without ciphering.
-    pub(crate) const APPLICATION_CONTEXT_NAME_NOT_SUPPORTED: u8 = 2;
-
-    // authentication-mechanism-name-not-recognised: the mechanism is neither that of lowest-level
-    // nor that of low-level security.
-    pub(crate) const AUTHENTICATION_MECHANISM_NAME_NOT_RECOGNISED: u8 = 11;
-
-    // authentication-failure: the management client's password is missing or wrong.
-    pub(crate) const AUTHENTICATION_FAILURE: u8 = 13;
-
-    // authentication-required: the management client names no mechanism, or lowest-level security.
-    pub(crate) const AUTHENTICATION_REQUIRED: u8 = 14;
-}
+/// The wrapper port (wPort) of the public client, which needs no password.
+pub const PUBLIC_CLIENT: u16 = 16;
 
 // The errors of Initiate.
 mod initiate_error {

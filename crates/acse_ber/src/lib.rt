@@ -10,6 +10,7 @@ mod aarq_making;
 mod aarq_reading;
 mod aarq_writing;
 mod conformance;
+pub mod diagnostic;
 mod fault;
 mod field;
 mod field_writing;
@@ -19,10 +20,10 @@ mod judging;
 mod laws;
 mod length;
 mod release;
-mod tag;
+pub mod tag;
 mod verdict;
 
-pub use aare::{Aare, Info};
+pub use aare::{ACCEPTED, Aare, Info, REJECTED_PERMANENT};
 pub use aare_reading::read_aare;
 pub use aare_writing::write_aare;
 pub use aarq::Aarq;
@@ -31,7 +32,7 @@ pub use aarq_reading::read_aarq;
 pub use aarq_writing::write_aarq;
 pub use conformance::Conformance;
 pub use fault::AcseFault;
-pub use judging::{MAX_PASSWORD, OFFERED_CONFORMANCE, judge};
+pub use judging::{MANAGEMENT_CLIENT, MAX_PASSWORD, OFFERED_CONFORMANCE, PUBLIC_CLIENT, judge};
 pub use laws::{
     management_needs_the_password, no_spelling_begins_another, release_is_normal,
     spelled_aare_is_fit, spelled_aarq_is_fit, text_of_fit_aare_spells, text_of_fit_aarq_spells,

@@ -1,14 +1,14 @@
 //! The tags of APDUs, of their fields and of the contents of these (IEC 62056-5-3, ACSE APDUs in
 //! BER).
 
-// The tag of an AARQ, [APPLICATION 0]: the association request.
-pub(crate) const AARQ: u8 = 0x60;
+/// The tag of an AARQ, [APPLICATION 0]: the association request.
+pub const AARQ: u8 = 0x60;
 
 // The tag of an AARE, [APPLICATION 1]: the response to an AARQ.
 pub(crate) const AARE: u8 = 0x61;
 
-// The tag of an RLRQ, [APPLICATION 2]: the request to release the association.
-pub(crate) const RLRQ: u8 = 0x62;
+/// The tag of an RLRQ, [APPLICATION 2]: the request to release the association.
+pub const RLRQ: u8 = 0x62;
 
 // The lowest tag of a field of an APDU; the tags of fields are context-specific.
 pub(crate) const FIRST_FIELD: u8 = 0x80;

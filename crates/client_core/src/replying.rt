@@ -7,8 +7,9 @@ ghost use Rattle.client_core.specs.Steps.{progress_after};
 use crate::job::{Outcome, Verb};
 use crate::progress::Progress;
 use crate::sending::INVOKE_ID;
-use acse_ber::{Conformance, Info, read_aare};
+use acse_ber::{ACCEPTED, Conformance, Info, read_aare};
 use bitflags::Flags;
+use cosem_axdr::tag::ENUM;
 use std::alloc::Global;
 use xdlms_apdu::choice::{DATA, RESULT};
 use xdlms_apdu::form::NORMAL;
@@ -18,8 +19,6 @@ use xdlms_apdu::tag::{ACTION_RESPONSE, GET_RESPONSE};
 const REQUEST_ID: u8 = INVOKE_ID.0;
 // The result of what succeeded (IEC 62056-5-3, Data-Access-Result and Action-Result).
 const SUCCESS: u8 = 0;
-// The tag of an enum (IEC 62056-5-3, Data, `enum [22]`).
-const ENUM: u8 = 0x16;
 // The highest control state (IEC 62056-6-2, class 70, control_state).
 const LAST_STATE: u8 = 2;
 
@@ -78,7 +77,7 @@ fn progress_after_aare(alloc: Global, verb: Verb, payload: &[u8]) -> Progress
     let Ok(aare) = read_aare(alloc, payload) else {
         return with_outcome(Outcome::Unknown);
     };
-    if aare.result != 0 {
+    if aare.result != ACCEPTED {
         return with_outcome(Outcome::Rejected(aare.diagnostic));
     }
     if !is_granted(verb, aare.info) {

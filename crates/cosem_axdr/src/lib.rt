@@ -18,7 +18,7 @@ mod limits;
 mod measuring;
 mod reader;
 mod reading;
-mod tag;
+pub mod tag;
 mod value;
 mod writing;
 

@@ -1,4 +1,5 @@
 //! Messages about clients on standard error.
+use acse_ber::PUBLIC_CLIENT;
 use meter_server::{ServeFault, SessionEnd};
 use session_log::{AnswerCount, AnswerKind, LogTime, read_answer, reason_of};
 use std::alloc::Global;
@@ -7,9 +8,6 @@ use std::sync::atomic::{AtomicBool, Ordering};
 use std::time::Clock;
 use std::{fmt, io};
 use wrapper_frame::{Deframer, Frame};
-
-// The client address of the public client (IEC 62056-4-7); the other is the management client.
-const PUBLIC_CLIENT: u16 = 16;
 
 // The client that a line of the log is about: the number of its connection, counted from 1, and its
 // address.

@@ -9,6 +9,9 @@ use cosem_axdr::{Data, Octets, append};
 use cosem_names::GetResult;
 use std::alloc::{AllocError, Global};
 use wrapper_frame::{HEADER_SIZE, into_frame};
+use xdlms_apdu::choice::DATA;
+use xdlms_apdu::form::NORMAL;
+use xdlms_apdu::tag::GET_RESPONSE;
 use xdlms_apdu::{InvokeId, Response, append_response};
 
 // The wrapper port of the server.
@@ -16,15 +19,6 @@ pub(crate) const SERVER_PORT: u16 = 1;
 // The initial capacity of an answer in bytes. Most answers are shorter, also a list of ten numbers
 // and a block for a client that receives 64 bytes, which then allocate once.
 const ROOM: usize = 128;
-
-// The tag of a Get-Response (IEC 62056-5-3, GET).
-const GET_RESPONSE: u8 = 0xC4;
-
-// The choice of Get-Response for one result, get-response-normal.
-const NORMAL: u8 = 1;
-
-// The choice of Get-Data-Result for a value, data.
-const DATA: u8 = 0;
 
 // An answer of the server.
 #[derive(Drop)]

@@ -4,15 +4,11 @@ ghost use Rattle.std.specs.Prelude.{◌≡◌, IfOk};
 ghost use Rattle.session_core.specs.Calls.{tag_is, is_call, call_of, request_call};
 
 use crate::conformance::is_negotiated;
+use acse_ber::tag::RLRQ;
 use acse_ber::{Conformance, is_release};
 use std::alloc::{AllocError, Global};
 use xdlms_apdu::tag::{ACTION_REQUEST, GET_REQUEST, SET_REQUEST};
 use xdlms_apdu::{ApduFault, Exception, Request, read_request};
-
-// The tag of an AARQ, which requests an association.
-pub(crate) const AARQ: u8 = 0x60;
-// The tag of an RLRQ, which requests the release of an association.
-pub(crate) const RLRQ: u8 = 0x62;
 
 // A request in a payload from the client of an association.
 #[derive(Drop)]

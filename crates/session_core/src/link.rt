@@ -4,7 +4,7 @@ ghost use Rattle.std.specs.Prelude.{◌≡◌};
 ghost use Rattle.session_core.specs.Association.{aare_by, link_by};
 
 use crate::limit::{Limit, MAX_PDU};
-use acse_ber::{Aare, Conformance, Info, Verdict};
+use acse_ber::{ACCEPTED, Aare, Conformance, Info, REJECTED_PERMANENT, Verdict, diagnostic};
 use bitflags::Flags;
 use cosem_names::Level;
 
@@ -43,30 +43,21 @@ pub(crate) fn answer_to(verdict: Verdict) -> Aare
     match verdict {
         Verdict::Accepted { bits, .. } => Aare {
             result: ACCEPTED,
-            diagnostic: NULL_DIAGNOSTIC,
+            diagnostic: diagnostic::NULL,
             info: Info::Response {
                 bits,
                 limit: MAX_PDU,
             },
         },
         Verdict::Rejected(diagnostic) => Aare {
-            result: REJECTED,
+            result: REJECTED_PERMANENT,
             diagnostic,
             info: Info::Absent,
         },
         Verdict::InitiateError(error) => Aare {
-            result: REJECTED,
-            diagnostic: NO_REASON_GIVEN,
+            result: REJECTED_PERMANENT,
+            diagnostic: diagnostic::NO_REASON_GIVEN,
             info: Info::InitiateError(error),
         },
     }
 }
-
-// Association result accepted (IEC 62056-5-3, AARE).
-pub(crate) const ACCEPTED: u8 = 0;
-// Association result rejected-permanent.
-pub(crate) const REJECTED: u8 = 1;
-// Diagnostic null of acse-service-user.
-pub(crate) const NULL_DIAGNOSTIC: u8 = 0;
-// Diagnostic no-reason-given of acse-service-user.
-pub(crate) const NO_REASON_GIVEN: u8 = 1;

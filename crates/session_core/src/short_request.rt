@@ -8,6 +8,7 @@ use acse_ber::Conformance;
 use bitflags::Flags;
 use byteorder::{BigEndian, ByteOrder};
 use cosem_axdr::Data;
+use cosem_axdr::tag::{ENUM, INTEGER};
 use cosem_names::{AttrRef, ClassId, Level, MethodRef, Obis};
 use relay_events::Event;
 use xdlms_apdu::InvokeId;
@@ -22,10 +23,6 @@ const COMMAND_SIZE: usize = 15;
 const ABSENT: u8 = 0;
 // The byte that says that an ACTION has a parameter.
 const PRESENT: u8 = 1;
-// The tag of an enum (IEC 62056-6-2, Data).
-const ENUM: u8 = 0x16;
-// The tag of an integer (IEC 62056-6-2, Data).
-const INTEGER: u8 = 0x0F;
 
 /// A request that a session reads and answers without building a large value. A GET or a SET is of
 /// one attribute, without selective access.

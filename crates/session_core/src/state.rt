@@ -10,13 +10,14 @@ ghost use Rattle.session_core.specs.declared.answer.Answer.TheVariants.{Service}
 
 use crate::answer::Answer;
 use crate::asked::{Asked, ReplyForm};
-use crate::call::{AARQ, Call, has_tag, is_call, read_call};
+use crate::call::{Call, has_tag, is_call, read_call};
 use crate::due::Due;
 use crate::incoming::{Incoming, LongService, Purpose, add_to};
 use crate::link::{Link, answer_to, link_from};
 use crate::outgoing::{Outgoing, continue_transfer};
 use crate::password::Password;
 use crate::step::TurnStep;
+use acse_ber::tag::AARQ;
 use acse_ber::{AcseFault, judge, read_aarq};
 use cosem_axdr::Data;
 use cosem_names::{AttributeSelection, Level};

@@ -17,16 +17,13 @@ use crate::link::Link;
 use crate::replying::{Answered, answer_reply};
 use crate::state::State;
 use crate::step::TurnStep;
-use acse_ber::OFFERED_CONFORMANCE;
+use acse_ber::{MANAGEMENT_CLIENT, OFFERED_CONFORMANCE};
 use cosem_axdr::Octets;
 use cosem_names::Level;
 use relay_events::{Event, Reply};
 use std::alloc::{AllocError, Global};
 use xdlms_apdu::Exception;
 use xdlms_apdu::tag::{ACTION_REQUEST, GET_REQUEST, SET_REQUEST};
-
-// The wrapper port of the management client.
-const MANAGEMENT_PORT: u16 = 1;
 
 /// The result of a request without a frame: an event for the meter, or the answer.
 #[derive(Debug, Drop)]
@@ -46,11 +43,11 @@ pub fn ask_unframed(alloc: Global, payload: &[u8]) -> Result<Unframed, AllocErro
     ensures { IfOk result (λ unframed. unframed ≡ unframed_of (unframed_outcome payload.now)) }
 {
     if !is_unframed(payload) {
-        let due = Due::exception(MANAGEMENT_PORT, Exception::Unknown);
+        let due = Due::exception(MANAGEMENT_CLIENT, Exception::Unknown);
         return say(alloc, due);
     }
     let link = Link {
-        source: MANAGEMENT_PORT,
+        source: MANAGEMENT_CLIENT,
         level: Level::Management,
         conformance: OFFERED_CONFORMANCE,
         limit: Limit::new(MAX_PDU),

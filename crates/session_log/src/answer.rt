@@ -4,7 +4,7 @@ ghost use Rattle.session_log.specs.Answers.{answer_of, answer_of_aare, answer_of
 ghost use Rattle.session_log.specs.Answers.{answer_of_read, answer_of_response, answer_of_result};
 ghost use Rattle.xdlms_apdu.specs.Responses.{response_of};
 
-use acse_ber::{Aare, read_aare};
+use acse_ber::{ACCEPTED, Aare, read_aare};
 use cosem_names::{GetResult, ResultCode};
 use std::alloc::{AllocError, Global};
 use xdlms_apdu::{ApduFault, Response, read_response};
@@ -29,7 +29,7 @@ pub enum AnswerKind {
 fn answer_of_aare(aare: Aare) -> AnswerKind
     ensures { result ≡ answer_of_aare aare }
 {
-    if aare.result == 0 {
+    if aare.result == ACCEPTED {
         AnswerKind::Opened
     } else {
         AnswerKind::NotOpened(aare.diagnostic)

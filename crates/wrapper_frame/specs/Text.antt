@@ -1,5 +1,5 @@
 -- The bytes that spell a frame (IEC 62056-4-7).
-use Rattle.std.specs.Prelude.{ℕ, ◌<◌, ◌≤◌, ◌^◌, List, ◌++◌, length}
+use Rattle.std.specs.Prelude.{◌≡◌, ℕ, ◌<◌, ◌≤◌, ◌^◌, List, ◌++◌, length, drop}
 use Rattle.byteorder.specs.Endian.{big_bytes}
 use Rattle.wrapper_frame.specs.declared.parts.Frame.{Frame}
 use Rattle.wrapper_frame.specs.Header.{wrapper_version, max_payload}
@@ -18,3 +18,8 @@ pub record IsFrame (frame : Frame) : Type 0 where
   pub src : frame.src < 2 ^ 16
   pub dst : frame.dst < 2 ^ 16
   pub payload : length frame.payload ≤ max_payload
+
+-- whether a text of `count` bytes is at the front of a buffer, whose other bytes are as before
+pub record IsPlaced (text : List ℕ) (count : ℕ) (before after : List ℕ) : Type 0 where
+  pub counted : count ≡ length text
+  pub written : after ≡ text ++ drop count before

@@ -18,4 +18,4 @@ pub use fault::WrapperFault;
 pub use header::{HEADER_SIZE, Head};
 pub use law::one_reading;
 pub use parts::Frame;
-pub use text::{frame, into_frame};
+pub use text::{frame, into_frame, put_frame};

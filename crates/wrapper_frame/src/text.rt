@@ -1,8 +1,8 @@
-//! Writes a frame, in a new buffer or by overwriting eight reserved bytes in front of its payload
-//! (IEC 62056-4-7).
-ghost use Rattle.std.specs.Prelude.{◌≡◌, ◌<◌, ◌≤◌, ◌↔◌, ◌≢◌, ◌++◌, length, drop, IfOk, IsErrOf, Err};
+//! Writes a frame: in a new buffer, to the front of the caller's, or by overwriting eight reserved
+//! bytes in front of its payload (IEC 62056-4-7).
+ghost use Rattle.std.specs.Prelude.{◌≡◌, ◌<◌, ◌≤◌, ◌↔◌, ◌≢◌, ◌+◌, ◌++◌, length, drop, None, IfSome, IfNone, IfOk, IsErrOf, Err};
 ghost use Rattle.wrapper_frame.specs.Header.{header_size, max_payload};
-ghost use Rattle.wrapper_frame.specs.Text.{header_text, frame_text};
+ghost use Rattle.wrapper_frame.specs.Text.{header_text, frame_text, IsPlaced};
 
 use crate::fault::WrapperFault;
 use crate::header::{DST_AT, HEADER_SIZE, LENGTH_AT, MAX_PAYLOAD, SRC_AT, VERSION};
@@ -25,6 +25,28 @@ pub fn frame(alloc: Global, src: u16, dst: u16, payload: &[u8]) -> Result<Octets
     text.extend_from_slice(&header(src, dst, payload.len() as u16))?;
     text.extend_from_slice(payload)?;
     Ok(Octets::from_vec(text))
+}
+
+/// Writes a frame to the front of a buffer, and returns its length in bytes. Returns `None`, and
+/// changes nothing, if the payload has more than 1,024 bytes or the buffer is too short. Does not
+/// allocate.
+#[inline(always)]
+#[tactic(auto, unfolding(crate::specs::Text::frame_text))]
+pub fn put_frame(src: u16, dst: u16, payload: &[u8], buffer: &mut [u8]) -> Option<usize>
+    ensures placed { IfSome result (λ count. IsPlaced
+        (frame_text (record { src = src; dst = dst; payload = payload.now })) count buffer.old
+        buffer.new) }
+    ensures none { IfNone result (buffer.new ≡ buffer.old) }
+    ensures fits { (result ≢ None) ↔ ((length payload.now ≤ max_payload)
+        × (header_size + length payload.now ≤ length buffer.old)) }
+{
+    if payload.len() > MAX_PAYLOAD || buffer.len() < HEADER_SIZE + payload.len() {
+        return None;
+    }
+    let count = HEADER_SIZE + payload.len();
+    put_header(buffer, &header(src, dst, payload.len() as u16));
+    buffer[HEADER_SIZE..count].copy_from_slice(payload);
+    Some(count)
 }
 
 /// Converts bytes into a frame: overwrites the first eight bytes with the header. The payload is
