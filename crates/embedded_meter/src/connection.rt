@@ -183,9 +183,10 @@ impl ClientSession {
         }
     }
 
-    // Serves a short request at the front, and copies the frame with its answer to the buffer.
-    // Returns `None` if there is none; nothing has changed then. On an error the event or the reply
-    // stays pending.
+    // Serves a short request at the front, and puts the frame with its answer into the buffer. A
+    // short answer for which the buffer has room is written there without allocating. Returns
+    // `None` if there is no short request; nothing has changed then. On an error the event or the
+    // reply stays pending.
     #[inline(always)]
     fn give_short(
         &mut self,
@@ -207,6 +208,10 @@ impl ClientSession {
                 return Err(fault);
             }
         };
+        if let Some(count) = self.session.put_short_answer(&reply, buffer) {
+            drop(reply);
+            return Ok(Some(Given::Frame(count)));
+        }
         match self.session.answer_short(alloc, &reply) {
             Ok(frame) => {
                 drop(reply);

@@ -3,24 +3,26 @@ use Rattle.std.proofs.Common.{◌≡◌, ◌<◌, ◌==◌, ℕ, Bool, true, if�
 use Rattle.std.specs.Int.{w16, from_be_bytes}
 use Rattle.byteorder.specs.Endian.{big_number}
 use Rattle.cosem_axdr.specs.Reading.{first_data, value_at, leaf_at, fixed_at}
-use Rattle.std.proofs.lemmas.Bool.{eq-eqb}
+use Rattle.std.proofs.lemmas.Bool.{eq-eqb, le-leb}
 use Rattle.std.proofs.lemmas.Slice.Eq.{text_from_reads}
 use Rattle.relay_events.specs.declared.event.Event.{Event}
 use Rattle.relay_events.specs.declared.reply.Reply.{Reply}
+use Rattle.relay_events.specs.declared.reply.Reply.TheVariants.{Value}
 use Rattle.session_core.proofs.Tasks.{hears_any, takes_any, gives_any}
 use Rattle.session_core.specs.Calls.{IsShortRequest, call_by, call_of, is_negotiated, request_form, short_event}
 use Rattle.session_core.specs.Answers.{answer_text, due_text}
-use Rattle.session_core.specs.Outgoing.{outgoing_by, reply_code, reply_response, reply_transfer}
+use Rattle.session_core.specs.Outgoing.{has_room, outgoing_by, reply_code, reply_response, reply_transfer}
 use Rattle.session_core.specs.declared.answer.Answer.TheVariants.{Service}
-use Rattle.cosem_names.specs.ResultCode.{code_of}
-use Rattle.std.specs.Prelude.{Result, IfOk}
+use Rattle.cosem_axdr.specs.declared.value.Data.{Data}
+use Rattle.cosem_names.specs.declared.service.GetResult.TheVariants as result
+use Rattle.std.specs.Prelude.{Result, IfOk, IfSome}
 use Rattle.wrapper_frame.specs.declared.fault.WrapperFault.{WrapperFault}
 use Rattle.xdlms_apdu.specs.Responses.{response_text}
 use Rattle.xdlms_apdu.specs.declared.invoke_id.InvokeId.{InvokeId}
 use Rattle.session_core.specs.Progress.{AnswersBy, AsksShort, WorksBy}
 use Rattle.session_core.specs.Remaining.{is_asking, is_asking_short, load_of, task_load}
 use Rattle.session_core.specs.Rules.{HearsShort, heard_frame, incoming_after, link_after, outgoing_after, reply_text, turn_of}
-use Rattle.session_core.specs.Standard.{management_device}
+use Rattle.session_core.specs.Standard.{management_device, least_pdu}
 use Rattle.session_core.specs.declared.asked.Asked.{Asked}
 use Rattle.session_core.specs.declared.asked.ReplyForm.{ReplyForm}
 use Rattle.session_core.specs.declared.asked.ReplyForm.TheVariants as asked_form
@@ -36,10 +38,12 @@ use Rattle.session_core.specs.declared.task.SessionTask.TheVariants.{Listen, Awa
 use Rattle.wrapper_frame.specs.Header.{head_of, header_size, src_of, dst_of}
 use Rattle.wrapper_frame.specs.Messages.{first_frame, after_first}
 use Rattle.wrapper_frame.specs.Stream.{KeepsFrames}
-use Rattle.wrapper_frame.specs.Text.{frame_text}
+use Rattle.wrapper_frame.specs.Text.{frame_text, IsPlaced}
 use Rattle.wrapper_frame.specs.declared.header.Head.TheVariants as head
 use Rattle.xdlms_apdu.specs.Requests.{request_of}
 use Rattle.xdlms_apdu.specs.declared.response.Exception.TheVariants.{Unknown}
+use Rattle.xdlms_apdu.specs.declared.response.Response.{Response}
+use Rattle.xdlms_apdu.specs.declared.response.Response.TheVariants as response
 use Rattle.xdlms_blocks.specs.Transfer.{Sending}
 
 -- ---- its payload
@@ -312,17 +316,19 @@ code_frame asked reply framed text payload is written spells =
     let frames : text ≡ due_text asked.link.source payload = rw is at written in
     frames ∙ ap (due_text asked.link.source) spells
 
-pub set_payload : (asked : Asked) (reply : Reply) (id : InvokeId) (code : ℕ)
-    → asked.form ≡ asked_form.Set id → code ≡ code_of (reply_code reply)
-    → (0xC5 ∷ 0x01 ∷ id.0 ∷ code ∷ []) ≡ answer_text (Service (reply_response asked reply))
-unfolding answer_text reply_response response_text
-set_payload asked reply id code form is = rw (form, is) refl
+pub set_payload : (asked : Asked) (reply : Reply) (id : InvokeId)
+    → asked.form ≡ asked_form.Set id
+    → answer_text (Service (response.Set id (reply_code reply)))
+    ≡ answer_text (Service (reply_response asked reply))
+unfolding reply_response
+set_payload asked reply id form = rw form refl
 
-pub action_payload : (asked : Asked) (reply : Reply) (id : InvokeId) (code : ℕ)
-    → asked.form ≡ asked_form.Action id → code ≡ code_of (reply_code reply)
-    → (0xC7 ∷ 0x01 ∷ id.0 ∷ code ∷ 0x00 ∷ []) ≡ answer_text (Service (reply_response asked reply))
-unfolding answer_text reply_response response_text
-action_payload asked reply id code form is = rw (form, is) refl
+pub action_payload : (asked : Asked) (reply : Reply) (id : InvokeId)
+    → asked.form ≡ asked_form.Action id
+    → answer_text (Service (response.Action id (reply_code reply)))
+    ≡ answer_text (Service (reply_response asked reply))
+unfolding reply_response
+action_payload asked reply id form = rw form refl
 
 pub set_begins_none : (asked : Asked) (reply : Reply) (id : InvokeId)
     → asked.form ≡ asked_form.Set id → None ≡ outgoing_by asked reply
@@ -333,6 +339,55 @@ pub action_begins_none : (asked : Asked) (reply : Reply) (id : InvokeId)
     → asked.form ≡ asked_form.Action id → None ≡ outgoing_by asked reply
 unfolding reply_transfer
 action_begins_none asked reply id form = rw form refl
+
+-- an answer of at most 64 bytes fits in each client's PDU size
+has_room_for : (link : Link) (normal : Response) (text : List ℕ)
+    → text ≡ answer_text (Service normal) → length text ≤ least_pdu → least_pdu ≤ link.limit
+    → has_room link normal ≡ true
+unfolding answer_text
+has_room_for link normal text is short enough =
+    let long : length text ≡ length (response_text normal) = ap length is in
+    le-leb _ _ (omega (arith, long, short, enough))
+
+pub value_payload : (asked : Asked) (reply : Reply) (id : InvokeId) (value : Data) (text : List ℕ)
+    → asked.form ≡ asked_form.Get id → reply ≡ Value value
+    → text ≡ answer_text (Service (response.Get id (result.Value value)))
+    → length text ≤ least_pdu → least_pdu ≤ asked.link.limit
+    → text ≡ answer_text (Service (reply_response asked reply))
+unfolding reply_response
+value_payload asked reply id value text form has is short enough =
+    rw (form, has, has_room_for asked.link _ text is short enough) is
+
+pub value_begins_none : (asked : Asked) (reply : Reply) (id : InvokeId) (value : Data)
+    (text : List ℕ) → asked.form ≡ asked_form.Get id → reply ≡ Value value
+    → text ≡ answer_text (Service (response.Get id (result.Value value)))
+    → length text ≤ least_pdu → least_pdu ≤ asked.link.limit
+    → outgoing_by asked reply ≡ None
+unfolding reply_transfer
+value_begins_none asked reply id value text form has is short enough =
+    rw (form, has, has_room_for asked.link _ text is short enough) refl
+
+-- a frame with the answer is at the front of the buffer, if there was room for it
+pub placed_answer : (asked : Asked) (reply : Reply) (payload : List ℕ) (placed : Option ℕ)
+    (buffer buffer' : List ℕ) → payload ≡ answer_text (Service (reply_response asked reply))
+    → IfSome placed (λ count. IsPlaced (frame_text (record {
+      src = management_device;
+      dst = asked.link.source;
+      payload = payload;
+    })) count buffer buffer')
+    → IfSome placed (λ count. IsPlaced (reply_text asked reply) count buffer buffer')
+unfolding due_text
+placed_answer asked reply payload placed buffer buffer' spells written =
+    subst (λ (p : List ℕ). IfSome placed (λ count. IsPlaced (frame_text (record {
+      src = management_device;
+      dst = asked.link.source;
+      payload = p;
+    })) count buffer buffer')) spells written
+
+-- what holds anyway holds if there was room
+pub if_placed : (placed : Option ℕ) (P : Type 0) → P → IfSome placed (λ count. P)
+if_placed (Some count) P holds = holds
+if_placed None P holds = tt
 
 -- the frame of the answer is returned at once
 pub answers_any : (s t : Session) (asked : Asked) (reply : Reply) (text : List ℕ)

@@ -16,4 +16,5 @@ pub mod Unframed
 pub mod Remaining
 pub mod Ends
 pub mod Progress
+pub mod ShortAnswers
 pub mod Numbers

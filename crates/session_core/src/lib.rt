@@ -19,6 +19,7 @@ mod password;
 mod prepared;
 mod replying;
 mod session;
+mod short_answer;
 mod short_request;
 mod state;
 mod step;

@@ -2,7 +2,7 @@
 //! 62056-5-3).
 ghost use Rattle.std.specs.Prelude.{◌≡◌, ◌≤◌, ◌-◌};
 ghost use Rattle.session_core.specs.Association.{limit_of};
-ghost use Rattle.session_core.specs.Standard.{block_header, greatest_raw};
+ghost use Rattle.session_core.specs.Standard.{block_header, greatest_raw, least_pdu};
 ghost use Rattle.xdlms_blocks.specs.Limits.{min_block_size};
 
 use std::marker::Model;
@@ -46,6 +46,13 @@ impl Limit {
             proposed
         };
         Limit { bytes }
+    }
+
+    // Proves that the limit is one that a client may propose. Does nothing at run time.
+    pub(crate) fn is_enough(self)
+        ensures { least_pdu ≤ self }
+    {
+        let _bytes = self.bytes;
     }
 
     // Returns the number of bytes.

@@ -1,5 +1,5 @@
 //! `Session`: the bytes of a client in, events for the meter and frames for the client out.
-ghost use Rattle.std.specs.Prelude.{◌≡◌, ◌≤◌, ◌+◌, length, true, false, Some, IfSome, IfNone, IfOk, IfErr, IsOk, OnOk, OnErr, Ok};
+ghost use Rattle.std.specs.Prelude.{◌≡◌, ◌≢◌, ◌≤◌, ◌+◌, length, None, true, false, Some, IfSome, IfNone, IfOk, IfErr, IsOk, OnOk, OnErr, Ok};
 ghost use Rattle.acse_ber.specs.Password.{IsPassword};
 ghost use Rattle.session_core.specs.declared.task.SessionTask.TheVariants.{Listen, Over};
 ghost use Rattle.wrapper_frame.specs.Header.{header_size, head_of};
@@ -10,7 +10,8 @@ use crate::asked::{Asked, ReplyForm};
 use crate::end::SessionEnd;
 use crate::next::Next;
 use crate::password::Password;
-use crate::replying::{Answered, answer_get, answer_reply, reply_code};
+use crate::replying::{Answered, answer_get, answer_reply};
+use crate::short_answer::{action_answer, put_answer, set_answer};
 use crate::short_request::{ShortRequest, read_short_request};
 use crate::state::State;
 use crate::step::TurnStep;
@@ -22,11 +23,6 @@ use std::alloc::{AllocError, Global};
 use std::fmt::{self, Debug, Formatter};
 use std::mem::replace;
 use wrapper_frame::{Deframer, Head, WrapperFault, frame};
-use xdlms_apdu::form::NORMAL;
-use xdlms_apdu::tag::{ACTION_RESPONSE, SET_RESPONSE};
-
-// The byte that says that the answer to an ACTION has no value.
-const NO_VALUE: u8 = 0;
 
 /// A client's session with the server, from the received bytes to the frames that are sent.
 ///
@@ -54,6 +50,7 @@ impl Session {
     ghost use Rattle.session_core.specs.Progress.{Owes, IsQuiet, Feeds, Finishes, StepsBy};
     ghost use Rattle.session_core.specs.Progress.{Leaves, Takes};
     ghost use Rattle.session_core.specs.Calls.{short_event};
+    ghost use Rattle.session_core.specs.ShortAnswers.{PutsAnswer, answers_shortly, longest_short};
     ghost use Rattle.session_core.specs.Progress.{AnswersBy, AsksShort, WorksBy};
     ghost use Rattle.session_core.specs.Progress.{task_by, next_by};
 
@@ -215,15 +212,8 @@ impl Session {
                 self.task = SessionTask::Listen;
                 return Ok(text);
             }
-            ReplyForm::Set(id) => {
-                let code = reply_code(reply).code();
-                frame(alloc, SERVER_PORT, to, &[SET_RESPONSE, NORMAL, id.0, code])
-            }
-            ReplyForm::Action(id) => {
-                let code = reply_code(reply).code();
-                let payload = [ACTION_RESPONSE, NORMAL, id.0, code, NO_VALUE];
-                frame(alloc, SERVER_PORT, to, &payload)
-            }
+            ReplyForm::Set(id) => frame(alloc, SERVER_PORT, to, &set_answer(id, reply)),
+            ReplyForm::Action(id) => frame(alloc, SERVER_PORT, to, &action_answer(id, reply)),
             ReplyForm::GetList(_) | ReplyForm::SetLastBlock(_, _) => unreachable!(),
         };
         match framed {
@@ -235,6 +225,29 @@ impl Session {
             Err(WrapperFault::Memory) => Err(AllocError),
             Err(WrapperFault::Version | WrapperFault::TooLong) => unreachable!(),
         }
+    }
+
+    /// Takes in the reply to the event of `next_short`, writes the frame with its answer to the
+    /// front of `buffer` as `answer_short` would return it, and returns the frame's length in
+    /// bytes. Does not allocate. Returns `None`, and changes nothing, if the buffer is shorter than
+    /// the frame, or if the reply to a GET is not a boolean or an enum.
+    #[inline(always)]
+    #[tactic(auto, unfolding(crate::specs::Remaining::is_asking_short))]
+    pub fn put_short_answer(&mut self, reply: &Reply, buffer: &mut [u8]) -> Option<usize>
+        requires { is_asking_short self.now ≡ true }
+        ensures answers { IfSome result
+            (λ count. PutsAnswer self.old reply.now buffer.old count self.new buffer.new) }
+        ensures none { IfNone result ((self.new ≡ self.old) × (buffer.new ≡ buffer.old)) }
+        ensures sure { answers_shortly self.old reply.now ≡ true → longest_short
+            ≤ length buffer.old → result ≢ None }
+    {
+        let SessionTask::Await(asked) = self.task else {
+            unreachable!()
+        };
+        let count = put_answer(asked, reply, buffer)?;
+        self.state.outgoing = None;
+        self.task = SessionTask::Listen;
+        Some(count)
     }
 
     // Returns the end that was reported, if the session is over.

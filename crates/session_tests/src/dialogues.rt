@@ -208,3 +208,72 @@ fn short_requests_take_the_short_way(rt: HostRuntime) -> Result<(), Fail> {
     }
     Ok(())
 }
+
+/// Puts the answer of a core to the short request at the front into the buffer. Returns its length,
+/// 0 if there is none.
+fn put_shortly(
+    alloc: Global,
+    core: &mut RelayCore,
+    session: &mut Session,
+    buffer: &mut [u8],
+) -> Result<usize, AllocError> {
+    let Some((level, request)) = session.next_short() else {
+        return Ok(0);
+    };
+    let event = request.event(level);
+    let stepped = core.step(alloc, &event);
+    drop(event);
+    let reply = stepped?;
+    let count = session.put_short_answer(&reply, buffer).unwrap_or(0);
+    drop(reply);
+    Ok(count)
+}
+
+/// Returns whether a new meter's answer to a request after an AARQ is put into a buffer.
+fn is_put(alloc: Global, (opening, request, answer): &Short) -> Result<bool, Fail> {
+    let mut buffer = [0xEE; 14];
+    let mut session = new_session(alloc)?;
+    let is_fed = has_taken(alloc, &mut session, opening, request);
+    let mut core = new_core(alloc)?;
+    let put = put_shortly(alloc, &mut core, &mut session, &mut buffer);
+    drop(core);
+    drop(session);
+    let count = put?;
+    Ok(is_fed && are_of(alloc, &buffer[..count], answer)?)
+}
+
+/// Requests whose answers are put into a buffer of 14 bytes: reads of output_state and of
+/// control_state, a write of the control mode, and a disconnection that mode 0 refuses. Neither the
+/// read of an unknown object nor that of the device name has such an answer.
+static PUT: [Short; 6] = [
+    (
+        PUBLIC,
+        "000100100001000DC001C10046000060030AFF0200",
+        "0001000100100006C401C1000301",
+    ),
+    (
+        PUBLIC,
+        "000100100001000DC001C10046000060030AFF0300",
+        "0001000100100006C401C1001601",
+    ),
+    (
+        MANAGEMENT,
+        "000100010001000FC101C10046000060030AFF04001602",
+        "0001000100010004C501C100",
+    ),
+    (
+        MANAGEMENT,
+        "000100010001000FC301C10046000060030AFF01010F00",
+        "0001000100010005C701C10200",
+    ),
+    (PUBLIC, "000100100001000DC001C10046000060030BFF0200", ""),
+    (PUBLIC, "000100100001000DC001C1000100002A0000FF0200", ""),
+];
+
+#[test]
+fn short_answers_are_put_into_a_buffer(rt: HostRuntime) -> Result<(), Fail> {
+    for short in &PUT {
+        assert!(rt; is_put(rt.alloc(), short)?, "{}", short.1);
+    }
+    Ok(())
+}

@@ -1,5 +1,4 @@
-use Rattle.std.proofs.Common.{refl, sym, ap, ◌∙◌}
-use Rattle.cosem_names.specs.ResultCode.{code_of}
+use Rattle.std.proofs.Common.{refl, sym, ◌∙◌}
 use Rattle.session_core.proofs.Shorts.{action_begins_none, action_payload, answers_any, code_frame, set_begins_none, set_payload}
 use Rattle.session_core.proofs.session.Session.answer_short.Goals as goal
 use Rattle.session_core.proofs.session.Session.answer_short.Goals.{in-Set, in-Action}
@@ -16,15 +15,14 @@ returns-in-Ok-clause-ok c = elim c.match-asked.branch [
       answers_any c.args.self.now _ c.in-Await.asked c.args.reply.now c.in-Ok.text _ c.in-Await.is
       (code_frame c.in-Await.asked c.args.reply.now w.frame-framed.result c.in-Ok.text _
       (sym w.framed-is ∙ c.in-Ok.is) w.frame-framed.ensures.text
-      (set_payload c.in-Await.asked c.args.reply.now w.in-Set.id w.code-code.result w.in-Set.is
-      (w.code-code.ensures ∙ ap code_of w.reply_code.ensures)))
+      (w.set_answer.ensures ∙ set_payload c.in-Await.asked c.args.reply.now w.in-Set.id
+      w.in-Set.is))
       (set_begins_none c.in-Await.asked c.args.reply.now w.in-Set.id w.in-Set.is) refl
   | in-Action w ↦
       answers_any c.args.self.now _ c.in-Await.asked c.args.reply.now c.in-Ok.text _ c.in-Await.is
       (code_frame c.in-Await.asked c.args.reply.now w.frame-framed-in-Action.result c.in-Ok.text _
       (sym w.framed-is ∙ c.in-Ok.is) w.frame-framed-in-Action.ensures.text
-      (action_payload c.in-Await.asked c.args.reply.now w.in-Action.id
-      w.code-code-in-Action.result w.in-Action.is
-      (w.code-code-in-Action.ensures ∙ ap code_of w.reply_code-in-Action.ensures)))
+      (w.action_answer.ensures ∙ action_payload c.in-Await.asked c.args.reply.now
+      w.in-Action.id w.in-Action.is))
       (action_begins_none c.in-Await.asked c.args.reply.now w.in-Action.id w.in-Action.is) refl
 ]
