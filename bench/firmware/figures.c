@@ -1,6 +1,6 @@
 /* Heap, stack and time of a meter through its handle: the bytes of the pool in use after each step,
- * the bytes of the stack that each call writes, and the time of a GET from its bytes to its
- * response, and of a save to simulated flash. */
+ * the bytes of the stack that each call writes, the time of a GET from its bytes to its response,
+ * fed alone and in pieces of 1,024 bytes, and of a save to simulated flash. */
 #define _POSIX_C_SOURCE 200809L
 #include "flash_simulated.h"
 #include "heap_pool.h"
@@ -15,6 +15,7 @@
 
 #define KEPT_EVENTS 64
 #define GETS 200000
+#define PIECE 1024
 #define SAVES 2000
 #define ROUNDS 5
 #define STACK_BYTES 262144
@@ -75,6 +76,26 @@ static double nanoseconds_of_a_get(void)
     clock_gettime(CLOCK_MONOTONIC, &began);
     for (long i = 0; i < GETS; i++)
         ask(0, get, sizeof get);
+    return nanoseconds_since(&began) / GETS;
+}
+
+/* The time of a GET when pieces of 1,024 bytes are fed, as bench/session feeds serve_session. */
+static double nanoseconds_in_pieces(void)
+{
+    static uint8_t gets[GETS * sizeof get];
+    uint8_t frame[1032];
+    size_t length;
+    long answers = 0;
+    struct timespec began;
+    for (long i = 0; i < GETS; i++)
+        memcpy(gets + i * sizeof get, get, sizeof get);
+    clock_gettime(CLOCK_MONOTONIC, &began);
+    for (size_t at = 0; at < sizeof gets; at += PIECE) {
+        need(meter_feed(&meter, 0, gets + at, at + PIECE < sizeof gets ? PIECE : sizeof gets - at) == METER_OK, "a piece is not taken");
+        while (meter_next(&meter, 0, frame, sizeof frame, &length) == METER_OK)
+            answers++;
+    }
+    need(answers == GETS, "a piece is not answered");
     return nanoseconds_since(&began) / GETS;
 }
 
@@ -198,7 +219,7 @@ static void tell_stacks(void)
 int main(void)
 {
     static const uint8_t name[] = "RELAY1", password[] = "12345678";
-    double best = 1e18;
+    double best = 1e18, best_in_pieces = 1e18;
     heap_pool_begin(pool, sizeof pool);
     need(meter_open(&meter, name, sizeof name - 1, password, sizeof password - 1, KEPT_EVENTS) == METER_OK, "a meter is not opened");
     printf("heap of a meter that keeps %d events, in bytes: %zu\n", KEPT_EVENTS, heap_pool_used());
@@ -210,8 +231,11 @@ int main(void)
     for (int round = 0; round < ROUNDS; round++) {
         double taken = nanoseconds_of_a_get();
         best = taken < best ? taken : best;
+        taken = nanoseconds_in_pieces();
+        best_in_pieces = taken < best_in_pieces ? taken : best_in_pieces;
     }
     printf("a GET, from its bytes to its answer: %.0f ns (best of %d times %d)\n", best, ROUNDS, GETS);
+    printf("a GET in pieces of %d bytes: %.0f ns (best of %d times %d)\n", PIECE, best_in_pieces, ROUNDS, GETS);
     meter_close(&meter);
     printf("after meter_close: %zu\n", heap_pool_used());
     tell_stacks();

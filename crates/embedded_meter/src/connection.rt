@@ -208,19 +208,21 @@ impl ClientSession {
                 return Err(fault);
             }
         };
-        if let Some(count) = self.session.put_short_answer(&reply, buffer) {
-            drop(reply);
-            return Ok(Some(Given::Frame(count)));
-        }
-        match self.session.answer_short(alloc, &reply) {
-            Ok(frame) => {
+        match self.session.put_short_answer(&reply, buffer) {
+            Some(count) => {
                 drop(reply);
-                Ok(Some(give_frame(&mut self.pending, frame, buffer)))
+                Ok(Some(Given::Frame(count)))
             }
-            Err(fault) => {
-                put_answered(&mut self.pending, reply);
-                Err(fault)
-            }
+            None => match self.session.answer_short(alloc, &reply) {
+                Ok(frame) => {
+                    drop(reply);
+                    Ok(Some(give_frame(&mut self.pending, frame, buffer)))
+                }
+                Err(fault) => {
+                    put_answered(&mut self.pending, reply);
+                    Err(fault)
+                }
+            },
         }
     }
 
