@@ -367,7 +367,7 @@ unfolding reply_transfer
 value_begins_none asked reply id value text form has is short enough =
     rw (form, has, has_room_for asked.link _ text is short enough) refl
 
--- a frame with the answer is at the front of the buffer, if there was room for it
+-- a frame with the answer is at the front of the buffer, if it is long enough
 pub placed_answer : (asked : Asked) (reply : Reply) (payload : List ℕ) (placed : Option ℕ)
     (buffer buffer' : List ℕ) → payload ≡ answer_text (Service (reply_response asked reply))
     → IfSome placed (λ count. IsPlaced (frame_text (record {
@@ -384,7 +384,7 @@ placed_answer asked reply payload placed buffer buffer' spells written =
       payload = p;
     })) count buffer buffer')) spells written
 
--- what holds anyway holds if there was room
+-- what holds anyway holds if a frame was written
 pub if_placed : (placed : Option ℕ) (P : Type 0) → P → IfSome placed (λ count. P)
 if_placed (Some count) P holds = holds
 if_placed None P holds = tt

@@ -23,7 +23,7 @@ is_two_bytes (Boolean is_on) = true
 is_two_bytes (Enum number) = true
 is_two_bytes _ = false
 
--- whether the answer to a reply is short: to a GET of a boolean or an enum, to a SET or to an ACTION
+-- whether the answer to a reply is short: to a GET of a boolean or an enum, to a SET or an ACTION
 abbrev pub is_short_answer : ReplyForm → Reply → Bool
 is_short_answer (form.Get id) (Value value) = is_two_bytes value
 is_short_answer (form.Set id) reply = true

@@ -65,7 +65,7 @@ pub(crate) fn action_answer(id: InvokeId, reply: &Reply) -> [u8; 5]
 }
 
 // Writes the frame with the answer to the front of a buffer, and returns its length. Returns
-// `None`, and changes nothing, if the answer is none of these or the buffer is too short.
+// `None`, and changes nothing, for any other answer and if the buffer is too short.
 #[inline(always)]
 pub(crate) fn put_answer(asked: Asked, reply: &Reply, buffer: &mut [u8]) -> Option<usize>
     ensures placed { IfSome result (λ count. IsPlaced (reply_text asked reply.now) count buffer.old
