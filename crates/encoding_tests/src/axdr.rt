@@ -41,8 +41,10 @@ fn is_value_at(value: &Data, place: usize) -> bool {
         1 => matches!(value.array(), Some([Data::Unsigned(1), Data::Unsigned(2)])),
         2 => matches!(value.structure(), Some([Data::Null, Data::Boolean(true)])),
         3 => value.boolean() == Some(true),
-        4 =>
-            matches!(value, Data::BitString { bits: 5, bytes } if bytes.as_slice() == [0xB8].as_slice()),
+        4 => match value {
+            Data::BitString { bits: 5, bytes } => bytes.as_slice() == [0xB8].as_slice(),
+            _ => false,
+        },
         5 => matches!(value, Data::DoubleLong(number) if *number == -2),
         6 => value.double_long_unsigned() == Some(7000),
         7 => value.octets() == Some([0xAB, 0xCD].as_slice()),
