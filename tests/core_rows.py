@@ -227,6 +227,11 @@ TABLES = {
     "in mode 2 the button alone restores what it cut": [write(MODE, mode(2)), with_state(press(), 2), call(f"{SWITCH} 2", 2)],
     "mode 1 goes by its transitions": [
         write(MODE, mode(1)), with_state(call(f"{SWITCH} 1", 0), 0), call(f"{SWITCH} 1", 0), with_state(call(f"{SWITCH} 2", 0), 2), with_state(press(), 1)],
+    "each mode is written and read": [row for number in range(7) for row in (write(MODE, mode(number)), read(MODE, mode(number)))],
+    # A limiter disconnects and reconnects locally.
+    "a local reconnection is of modes 5 and 6": [
+        *SWITCHES, *[row for number, state in ((5, 1), (6, 1), (4, 2)) for row in (
+            write(MODE, mode(number)), with_state(values([(10, 5001)], 1, 0), 2), with_state(values([(10, 4999)], 0, 1), state))]],
     "mode 0 is refused while the supply is cut": [
         write(MODE, mode(1)), with_state(call(f"{SWITCH} 1", 0), 0), write(MODE, mode(0), 2), read(MODE, mode(1)), read(f"{SWITCH} 2", "0300")],
     "the type of a written mode is judged before its value": [
@@ -297,12 +302,21 @@ def tables():
         yield name, play(NEW_METER, [row[0] for row in rows]) == (0, expected_lines(rows), "")
 
 
+# An opening with nine samples over the threshold, and one with nine of the export.
+RUNS_OF_NINE = [
+    ({"normal": "5000", "minover": "1", "value": "5001", "over": "9 0"}, values([(1, 5001)], 1, 0)),
+    ({"xnormal": "5000", "xminover": "1", "xvalue": "5001", "xover": "9 0"}, pairs(1, 0, 5001, 0, 1, 1, 0)),
+]
+
+
 def openings():
-    """Whether each opening is accepted or refused as expected."""
+    """Whether each opening is accepted or refused as expected, and a run goes on."""
     for prefix in ("", "x"):
         for changes, is_fit in OPENINGS:
             changes = {prefix + word: value for word, value in changes.items()}
             yield f"an opening with {changes}", play(opening_with(changes), [])[0] == (0 if is_fit else 2)
+    for changes, row in RUNS_OF_NINE:
+        yield f"an opening with {changes}, played", play(opening_with(changes), [row[0]]) == (0, expected_lines([row]), "")
     for changes, is_fit in SWITCH_OPENINGS:
         yield f"an opening with {changes}", play(opening_with(changes), [])[0] == (0 if is_fit else 2)
 

@@ -53,6 +53,8 @@ SESSIONS = [
     ("a public client associates", PUBLIC_AARQ, PUBLIC_AARE, CLOSED),
     ("a request before an association is refused", PUBLIC_GET, "0001000100100003D80101", CLOSED),
     ("a header of another version ends the session", "0002001000010000", "", BAD_VERSION),
+    ("a header of version 257 ends the session", "0101001000010000", "", BAD_VERSION),
+    ("the version is judged before the length", "000200100001FFFF", "", BAD_VERSION),
     ("a header that announces 1,025 bytes ends the session", "0001001000010401", "", TOO_LONG),
     ("a header that announces 65,535 bytes ends the session", "000100100001FFFF", "", TOO_LONG),
     ("after a header of another version nothing is answered", "0001001000010001CA0002001000010000" + PUBLIC_GET,

@@ -1,10 +1,5 @@
 //! The fault of each invalid request or response, and encodings that are read but never written.
-use crate::apdu::{
-    GET, GET_SELECTED, GOT, SET_LAST_BLOCK, is_text_of_request, request_fault, request_of,
-    response_fault,
-};
-use std::alloc::Global;
-use std::process::Abort;
+use crate::apdu::{is_request, is_response};
 use xdlms_apdu::ApduFault;
 
 // Bytes that are not a request, each with the fault of reading them.
@@ -12,7 +7,7 @@ static REQUEST_FAULTS: [(&[u8], ApduFault); 11] = [
     (&[], ApduFault::UnknownTag),
     (&[0x60, 0x01], ApduFault::UnknownTag),
     (&[0xC2], ApduFault::UnknownTag),
-    (&GOT, ApduFault::UnknownTag),
+    (&[0xC4, 0x01, 0xC1, 0x00, 0x16, 0x01], ApduFault::UnknownTag),
     (&[0xC0, 0x00], ApduFault::UnknownForm),
     (&[0xC0, 0x04, 0xC1], ApduFault::UnknownForm),
     (&[0xC1, 0x04], ApduFault::UnknownForm),
@@ -37,7 +32,12 @@ static REQUEST_FAULTS: [(&[u8], ApduFault); 11] = [
 static RESPONSE_FAULTS: [(&[u8], ApduFault); 12] = [
     (&[], ApduFault::UnknownTag),
     (&[0x61, 0x01], ApduFault::UnknownTag),
-    (&GET, ApduFault::UnknownTag),
+    (
+        &[
+            0xC0, 0x01, 0xC1, 0x00, 0x46, 0x00, 0x00, 0x60, 0x03, 0x0A, 0xFF, 0x03, 0x00,
+        ],
+        ApduFault::UnknownTag,
+    ),
     (&[0xD9, 0x01, 0x01], ApduFault::UnknownTag),
     (&[0xC4, 0x04], ApduFault::UnknownForm),
     (&[0xC5, 0x04], ApduFault::UnknownForm),
@@ -53,7 +53,7 @@ static RESPONSE_FAULTS: [(&[u8], ApduFault); 12] = [
 fn a_request_fault_says_how_far_the_bytes_are_known(rt: HostRuntime) {
     for (bytes, fault) in &REQUEST_FAULTS {
         assert!(rt;
-            request_fault(rt.alloc(), bytes) == Some(*fault),
+            is_request(rt.alloc(), bytes, bytes) == Err(*fault),
             "{bytes:?}"
         );
     }
@@ -62,10 +62,7 @@ fn a_request_fault_says_how_far_the_bytes_are_known(rt: HostRuntime) {
 #[test]
 fn a_response_fault_says_how_far_the_bytes_are_known(rt: HostRuntime) {
     for (bytes, fault) in &RESPONSE_FAULTS {
-        assert!(rt;
-            response_fault(rt.alloc(), bytes) == Some(*fault),
-            "{bytes:?}"
-        );
+        assert!(rt; is_response(rt.alloc(), bytes) == Err(*fault), "{bytes:?}");
     }
 }
 
@@ -76,32 +73,28 @@ static OTHER_SPELLINGS: [(&[u8], &[u8]); 2] = [
         &[
             0xC1, 0x03, 0xC1, 0xFF, 0x00, 0x00, 0x00, 0x02, 0x82, 0x00, 0x02, 0x1B, 0x58,
         ],
-        &SET_LAST_BLOCK,
+        &[
+            0xC1, 0x03, 0xC1, 0x01, 0x00, 0x00, 0x00, 0x02, 0x02, 0x1B, 0x58,
+        ],
     ),
     (
         &[
             0xC0, 0x01, 0xC1, 0x00, 0x46, 0x00, 0x00, 0x60, 0x03, 0x0A, 0xFF, 0x03, 0x05, 0x02,
             0x02, 0x02, 0x11, 0x01, 0x11, 0x02,
         ],
-        &GET_SELECTED,
+        &[
+            0xC0, 0x01, 0xC1, 0x00, 0x46, 0x00, 0x00, 0x60, 0x03, 0x0A, 0xFF, 0x03, 0x01, 0x00,
+            0x00,
+        ],
     ),
 ];
-
-// Returns whether bytes are read as a request that is written as the other bytes.
-fn is_written_as(alloc: Global, bytes: &[u8], written: &[u8]) -> bool {
-    match request_of(alloc, bytes) {
-        Ok(request) => {
-            let is_same = is_text_of_request(alloc, &request, written);
-            drop(request);
-            is_same
-        }
-        Err(_) => false,
-    }
-}
 
 #[test]
 fn other_spellings_are_read_and_not_written(rt: HostRuntime) {
     for (bytes, written) in &OTHER_SPELLINGS {
-        assert!(rt; is_written_as(rt.alloc(), bytes, written), "{bytes:?}");
+        assert!(rt;
+            is_request(rt.alloc(), bytes, written) == Ok(true),
+            "{bytes:?}"
+        );
     }
 }

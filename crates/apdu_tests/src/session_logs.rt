@@ -1,23 +1,9 @@
 //! Tests of the meaning of answers, with APDUs of IEC 62056-5-3 written by hand, and of the time of
 //! a line.
 use session_log::{AnswerCount, AnswerKind, LogTime, read_answer, reason_of};
-use std::alloc::{AllocError, Global};
 use std::test::Fail;
 use std::time::{Clock, Duration};
 use std::{fmt, io};
-
-// The AARE with result 0, accepted.
-const ACCEPTED: [u8; 43] = [
-    0x61, 0x29, 0xA1, 0x09, 0x06, 0x07, 0x60, 0x85, 0x74, 0x05, 0x08, 0x01, 0x01, 0xA2, 0x03, 0x02,
-    0x01, 0x00, 0xA3, 0x05, 0xA1, 0x03, 0x02, 0x01, 0x00, 0xBE, 0x10, 0x04, 0x0E, 0x08, 0x00, 0x06,
-    0x5F, 0x1F, 0x04, 0x00, 0x00, 0x1E, 0x19, 0x04, 0x00, 0x00, 0x07,
-];
-
-// The AARE with diagnostic 13, authentication-failure.
-const WRONG_PASSWORD: [u8; 25] = [
-    0x61, 0x17, 0xA1, 0x09, 0x06, 0x07, 0x60, 0x85, 0x74, 0x05, 0x08, 0x01, 0x01, 0xA2, 0x03, 0x02,
-    0x01, 0x01, 0xA3, 0x05, 0xA1, 0x03, 0x02, 0x01, 0x0D,
-];
 
 // A payload and its meaning.
 struct Case {
@@ -26,7 +12,24 @@ struct Case {
 }
 
 // Payloads of answers, each with its meaning.
-static CASES: [Case; 14] = [
+static CASES: [Case; 16] = [
+    // AAREs: result 0, accepted; and diagnostic 13, authentication-failure.
+    Case {
+        payload: &[
+            0x61, 0x29, 0xA1, 0x09, 0x06, 0x07, 0x60, 0x85, 0x74, 0x05, 0x08, 0x01, 0x01, 0xA2,
+            0x03, 0x02, 0x01, 0x00, 0xA3, 0x05, 0xA1, 0x03, 0x02, 0x01, 0x00, 0xBE, 0x10, 0x04,
+            0x0E, 0x08, 0x00, 0x06, 0x5F, 0x1F, 0x04, 0x00, 0x00, 0x1E, 0x19, 0x04, 0x00, 0x00,
+            0x07,
+        ],
+        answer: AnswerKind::Opened,
+    },
+    Case {
+        payload: &[
+            0x61, 0x17, 0xA1, 0x09, 0x06, 0x07, 0x60, 0x85, 0x74, 0x05, 0x08, 0x01, 0x01, 0xA2,
+            0x03, 0x02, 0x01, 0x01, 0xA3, 0x05, 0xA1, 0x03, 0x02, 0x01, 0x0D,
+        ],
+        answer: AnswerKind::NotOpened(13),
+    },
     // GET of control_state: the value, and not defined (4); an exception.
     Case {
         payload: &[0xC4, 0x01, 0xC1, 0x00, 0x16, 0x01],
@@ -93,31 +96,17 @@ static CASES: [Case; 14] = [
     },
 ];
 
-// Returns the number of the first case whose payload has another meaning.
-fn first_wrong(alloc: Global) -> Result<Option<usize>, AllocError> {
-    for (number, case) in CASES.iter().enumerate() {
-        if read_answer(alloc, case.payload)? != case.answer {
-            return Ok(Some(number));
-        }
+#[test]
+fn answers_are_read(rt: HostRuntime) {
+    for case in &CASES {
+        let read = read_answer(rt.alloc(), case.payload);
+        assert!(rt; read == Ok(case.answer), "{:?}", case.payload);
     }
-    Ok(None)
+    assert!(rt; reason_of(13) == "wrong password");
 }
 
 #[test]
-fn answers_are_read(rt: HostRuntime) -> Result<(), Fail> {
-    let alloc = rt.alloc();
-    assert_eq!(rt; first_wrong(alloc)?, None);
-    assert_eq!(rt; read_answer(alloc, &ACCEPTED)?, AnswerKind::Opened);
-    assert_eq!(rt;
-        read_answer(alloc, &WRONG_PASSWORD)?,
-        AnswerKind::NotOpened(13)
-    );
-    assert_eq!(rt; reason_of(13), "wrong password");
-    Ok(())
-}
-
-#[test]
-fn requests_are_counted(rt: HostRuntime) -> Result<(), Fail> {
+fn requests_are_counted(rt: HostRuntime) {
     let count = AnswerCount::new()
         .with(AnswerKind::NotOpened(13))
         .with(AnswerKind::Opened)
@@ -125,14 +114,7 @@ fn requests_are_counted(rt: HostRuntime) -> Result<(), Fail> {
         .with(AnswerKind::Refused)
         .with(AnswerKind::Served)
         .with(AnswerKind::Other);
-    assert_eq!(rt;
-        count,
-        AnswerCount {
-            requests: 3,
-            refused: 1
-        }
-    );
-    Ok(())
+    assert!(rt; count.requests == 3 && count.refused == 1);
 }
 
 // A clock that always shows 2026-11-27 08:05:09.042 UTC.
@@ -151,6 +133,8 @@ impl Clock for Stopped {
 #[test]
 fn a_time_has_milliseconds(rt: HostRuntime) -> Result<(), Fail> {
     let time = format!(in rt.alloc(); "{}", LogTime::now(&Stopped))?;
-    assert_eq!(rt; time.as_str(), "2026-11-27T08:05:09.042Z");
+    let is_so = time.as_str() == "2026-11-27T08:05:09.042Z";
+    drop(time);
+    assert!(rt; is_so);
     Ok(())
 }

@@ -5,7 +5,6 @@ use counted_io::{InputFault, Monitored, read_line_within};
 use std::alloc::Global;
 use std::io;
 use std::io::{BufReader, ErrorKind, Read};
-use std::test::Fail;
 
 // Returns the lengths of two lines and of the rest of an input.
 fn read_three(
@@ -36,21 +35,6 @@ fn lengths(alloc: Global, limit: usize) -> Result<[usize; 3], InputFault>
     lengths
 }
 
-// Returns whether lines are read one by one, and a line over the limit is too long.
-fn are_lines(alloc: Global) -> bool {
-    for limit in 0..4 {
-        if lengths(alloc, limit) != Err(InputFault::TooLong) {
-            return false;
-        }
-    }
-    lengths(alloc, 4) == Ok([3, 1, 0])
-}
-
-#[test]
-fn lines_are_read_up_to_their_limit(rt: HostRuntime) {
-    assert!(rt; are_lines(rt.alloc()));
-}
-
 /// A stream whose reads fail.
 #[derive(Drop)]
 struct Failing;
@@ -61,21 +45,24 @@ impl Read for Failing {
     }
 }
 
-// Returns the result of reading a line of a failing stream, and whether the stream has failed then.
-fn read_failing(alloc: Global) -> (Result<usize, InputFault>, bool) {
+// Returns whether the read of a line of a failing stream fails, and the stream has failed then.
+fn is_recorded(alloc: Global) -> bool {
     let Ok(mut input) = BufReader::new(alloc, Monitored::new(Failing)) else {
-        return (Err(InputFault::Memory), false);
+        return false;
     };
     let mut text = Vec::new(alloc);
     let read = read_line_within(&mut input, &mut text, 4);
     let has_failed = input.get_ref().has_failed();
     drop(input);
     drop(text);
-    (read, has_failed)
+    read == Err(InputFault::Read) && has_failed
 }
 
 #[test]
-fn a_failed_read_of_a_line_is_recorded(rt: HostRuntime) {
-    let (read, has_failed) = read_failing(rt.alloc());
-    assert!(rt; read == Err(InputFault::Read) && has_failed);
+fn lines_are_read_up_to_their_limit_or_a_failed_read(rt: HostRuntime) {
+    for limit in 0..4 {
+        assert!(rt; lengths(rt.alloc(), limit) == Err(InputFault::TooLong));
+    }
+    assert!(rt; lengths(rt.alloc(), 4) == Ok([3, 1, 0]));
+    assert!(rt; is_recorded(rt.alloc()));
 }

@@ -1,12 +1,8 @@
 //! Every value of each field of a date, a time and a date-time.
 use cosem_datetime::{PatternFault, read_date, read_date_time, read_time};
-use std::process::Abort;
-
-/// 26 March 2028, a Sunday.
-const DATE: [u8; 5] = [0x07, 0xEC, 3, 26, 7];
 
 // Sunday 26 March 2028, 12:30:15, as a date-time.
-const DATE_TIME: [u8; 12] = [0x07, 0xEC, 3, 26, 7, 12, 30, 15, 0, 0, 60, 0x80];
+static DATE_TIME: [u8; 12] = [0x07, 0xEC, 3, 26, 7, 12, 30, 15, 0, 0, 60, 0x80];
 
 /// Returns the fault that a byte causes at its place in a date-time.
 fn expected_fault(at: usize, byte: u8) -> Option<PatternFault> {
@@ -19,45 +15,29 @@ fn expected_fault(at: usize, byte: u8) -> Option<PatternFault> {
     }
 }
 
-/// Returns whether reading a date-time fails with this fault or, without one, is written as it was
-/// read.
-fn is_read(text: &[u8; 12], fault: Option<PatternFault>) -> bool {
-    match read_date_time(text) {
-        Ok(field) => fault.is_none() && field.bytes() == *text,
-        Err(found) => fault == Some(found),
-    }
-}
-
-fn with_byte(at: usize, byte: u8) -> [u8; 12] {
+/// Returns whether reading a date-time with another byte at a place, and another deviation, fails
+/// with this fault or, without one, is written as it was read.
+fn is_read(at: usize, byte: u8, deviation: u16, fault: Option<PatternFault>) -> bool {
     let mut text = DATE_TIME;
+    let [high, low] = deviation.to_be_bytes();
+    text[9] = high;
+    text[10] = low;
     if let Some(found) = text.get_mut(at) {
         *found = byte;
     }
-    text
+    match read_date_time(&text) {
+        Ok(field) => fault.is_none() && field.bytes() == text,
+        Err(found) => fault == Some(found),
+    }
 }
 
 #[test]
 fn every_value_of_each_byte(rt: HostRuntime) {
     for at in 0..9 {
         for byte in 0..=255u8 {
-            let text = with_byte(at, byte);
-            assert!(rt;
-                is_read(&text, expected_fault(at, byte)),
-                "byte {at} is {byte}"
-            );
+            let fault = expected_fault(at, byte);
+            assert!(rt; is_read(at, byte, 60, fault), "byte {at} is {byte}");
         }
-    }
-}
-
-/// Returns whether a deviation of these bits is written as it was read, or `None` if it is refused.
-fn is_written_back(bits: u16) -> Option<bool> {
-    let [high, low] = bits.to_be_bytes();
-    let mut text = DATE_TIME;
-    text[9] = high;
-    text[10] = low;
-    match read_date_time(&text) {
-        Ok(field) => Some(field.bytes() == text),
-        Err(_) => None,
     }
 }
 
@@ -67,81 +47,47 @@ fn every_deviation(rt: HostRuntime) {
         // -720 to 840 minutes, in two's complement, and the value for a deviation that is not
         // specified.
         let is_taken = bits <= 840 || bits == 0x8000 || bits >= 0xFD30;
-        let expected = if is_taken { Some(true) } else { None };
-        assert!(rt; is_written_back(bits) == expected, "deviation {bits}");
+        let fault = if is_taken {
+            None
+        } else {
+            Some(PatternFault::Range)
+        };
+        assert!(rt; is_read(0, 0x07, bits, fault), "deviation {bits}");
     }
 }
 
-fn date_fault(bytes: &[u8]) -> Option<PatternFault> {
-    read_date(bytes).err()
-}
-
-fn time_fault(bytes: &[u8]) -> Option<PatternFault> {
-    read_time(bytes).err()
-}
-
-fn check_date_faults(rt: &impl Abort, faults: &[(&[u8], PatternFault)]) {
-    for (bytes, fault) in faults {
-        assert!(*rt; date_fault(bytes) == Some(*fault), "{bytes:?}");
-    }
-}
-
-fn check_time_faults(rt: &impl Abort, faults: &[(&[u8], PatternFault)]) {
-    for (bytes, fault) in faults {
-        assert!(*rt; time_fault(bytes) == Some(*fault), "{bytes:?}");
-    }
-}
-
-fn is_date(bytes: [u8; 5]) -> bool {
-    match read_date(&bytes) {
-        Ok(date) => date.bytes() == bytes,
-        Err(_) => false,
-    }
-}
-
-fn is_time(bytes: [u8; 4]) -> bool {
-    match read_time(&bytes) {
-        Ok(time) => time.bytes() == bytes,
-        Err(_) => false,
-    }
-}
-
-/// Bytes that are no date, each with the fault.
-static NO_DATES: [(&[u8], PatternFault); 2] = [
+/// Bytes that are no date, each with the fault. If there are two reasons, that of the length or
+/// that of the first field is found.
+static NO_DATES: [(&[u8], PatternFault); 6] = [
     (&[0xFF, 0xFF, 0xFD, 0xFF, 0xFF], PatternFault::SeasonMonth),
     (&[0xFF, 0xFF, 13, 1, 0xFF], PatternFault::Range),
-];
-
-/// Bytes that are no time, each with the fault.
-static NO_TIMES: [(&[u8], PatternFault); 1] = [(&[0, 60, 0, 0], PatternFault::Range)];
-
-#[test]
-fn a_date_and_a_time_alone(rt: HostRuntime) {
-    assert!(rt; is_date(DATE));
-    assert!(rt; is_time([23, 59, 0xFF, 0xFF]));
-    check_date_faults(&rt, &NO_DATES);
-    check_time_faults(&rt, &NO_TIMES);
-}
-
-/// Bytes that are no date for two reasons or of another length, each with the fault that is found
-/// first.
-static FIRST_FAULTS_OF_DATES: [(&[u8], PatternFault); 4] = [
     (&[0xFF, 0xFF, 0xFD, 0, 0], PatternFault::SeasonMonth),
     (&[0xFF, 0xFF, 0xFD, 1], PatternFault::Length),
     (&[], PatternFault::Length),
-    (&DATE_TIME, PatternFault::Length),
+    (
+        &[0x07, 0xEC, 3, 26, 7, 12, 30, 15, 0, 0, 60, 0x80],
+        PatternFault::Length,
+    ),
 ];
 
-/// Bytes of another length than a time, each with the fault.
-static FIRST_FAULTS_OF_TIMES: [(&[u8], PatternFault); 2] = [
+/// Bytes that are no time, each with the fault.
+static NO_TIMES: [(&[u8], PatternFault); 3] = [
+    (&[0, 60, 0, 0], PatternFault::Range),
     (&[24, 0, 0], PatternFault::Length),
-    (&DATE, PatternFault::Length),
+    (&[0x07, 0xEC, 3, 26, 7], PatternFault::Length),
 ];
 
 #[test]
-fn the_first_fault_is_told(rt: HostRuntime) {
-    check_date_faults(&rt, &FIRST_FAULTS_OF_DATES);
-    check_time_faults(&rt, &FIRST_FAULTS_OF_TIMES);
-    let fault = read_date_time(&DATE_TIME[..11]).err();
-    assert!(rt; fault == Some(PatternFault::Length));
+fn a_date_and_a_time_alone(rt: HostRuntime) {
+    let date = [0x07, 0xEC, 3, 26, 7];
+    let time = [23, 59, 0xFF, 0xFF];
+    assert!(rt; matches!(read_date(&date), Ok(found) if found.bytes() == date));
+    assert!(rt; matches!(read_time(&time), Ok(found) if found.bytes() == time));
+    for (bytes, fault) in &NO_DATES {
+        assert!(rt; read_date(bytes).err() == Some(*fault), "{bytes:?}");
+    }
+    for (bytes, fault) in &NO_TIMES {
+        assert!(rt; read_time(bytes).err() == Some(*fault), "{bytes:?}");
+    }
+    assert!(rt; read_date_time(&DATE_TIME[..11]).err() == Some(PatternFault::Length));
 }

@@ -3,7 +3,6 @@ use cosem_datetime::{
     DateTimeField, EntryPattern, PatternFault, calendar_laws, moment_of, read_date, read_date_time,
     read_time,
 };
-use std::process::Abort;
 use std::test::Fail;
 
 /// Midnight of 26 March 2028, a Sunday: 10,312 days after 1 January 2000.
@@ -15,6 +14,15 @@ const DAY: u32 = 86_400;
 // A time in which no field is specified.
 const ANY_TIME: [u8; 4] = [0xFF, 0xFF, 0xFF, 0xFF];
 
+// The last Sunday of March, of any year.
+const LAST_SUNDAY: [u8; 5] = [0xFF, 0xFF, 3, 0xFE, 7];
+
+// The second last day of any month.
+const SECOND_LAST: [u8; 5] = [0xFF, 0xFF, 0xFF, 0xFD, 0xFF];
+
+// The last day of any month.
+const LAST: [u8; 5] = [0xFF, 0xFF, 0xFF, 0xFE, 0xFF];
+
 fn entry(time: [u8; 4], date: [u8; 5]) -> Result<EntryPattern, PatternFault> {
     Ok(EntryPattern {
         time: read_time(&time)?,
@@ -24,67 +32,21 @@ fn entry(time: [u8; 4], date: [u8; 5]) -> Result<EntryPattern, PatternFault> {
 
 /// Returns whether a date matches the day that begins at that second.
 fn matches_day(date: [u8; 5], midnight: u32) -> Result<bool, PatternFault> {
-    Ok(entry(ANY_TIME, date)?.matches(midnight))
+    Ok(entry([0xFF; 4], date)?.matches(midnight))
 }
 
-/// Checks whether dates match the days that begin at these seconds.
-fn check_days(rt: &impl Abort, rows: &[([u8; 5], u32, bool)]) {
-    for (date, midnight, expected) in rows {
-        assert!(*rt;
-            matches_day(*date, *midnight) == Ok(*expected),
-            "{date:?} at {midnight}"
-        );
-    }
-}
-
-// The last Sunday of March, of any year.
-const LAST_SUNDAY: [u8; 5] = [0xFF, 0xFF, 3, 0xFE, 7];
-
-// The first Sunday of March from day 25 on, of any year.
-const SUNDAY_FROM_THE_25TH: [u8; 5] = [0xFF, 0xFF, 3, 25, 7];
-
-// A date whose day of the week is wrong: 25 March 2028 is a Saturday.
-static SUNDAY_25_MARCH_2028: [u8; 5] = [0x07, 0xEC, 3, 25, 7];
-
-// Dates, each with a moment of March 2028 and whether the date matches the moment's day.
-static SUNDAYS_OF_MARCH: [([u8; 5], u32, bool); 3] = [
+// Dates, each with the second at which a day begins, and whether the date matches that day.
+static DAYS: [([u8; 5], u32, bool); 12] = [
     (LAST_SUNDAY, MARCH_26, true),
     (LAST_SUNDAY, MARCH_26 - 7 * DAY, false),
-    (SUNDAY_FROM_THE_25TH, MARCH_26, true),
-];
-
-#[test]
-fn dates_of_march_2028(rt: HostRuntime) {
-    check_days(&rt, &SUNDAYS_OF_MARCH);
-    for day in 1..32u32 {
-        let midnight = MARCH_26 + DAY * day - 26 * DAY;
-        assert!(rt; matches_day(SUNDAY_25_MARCH_2028, midnight) == Ok(false));
-    }
-}
-
-// Dates, each with the moment 0, which is Saturday 1 January 2000, and whether the date matches
-// that day.
-static DAYS_AT_THE_TURN: [([u8; 5], u32, bool); 5] = [
+    // The first Sunday of March from day 25 on, of any year.
+    ([0xFF, 0xFF, 3, 25, 7], MARCH_26, true),
+    // Saturday 1 January 2000, in a week that began in 1999.
     ([0xFF, 0xFF, 12, 31, 6], 0, true),
     ([0xFF, 0xFF, 12, 31, 7], 0, false),
     ([0xFF, 0xFF, 12, 26, 6], 0, true),
     ([0xFF, 0xFF, 12, 25, 6], 0, false),
     ([0x07, 0xD0, 1, 1, 6], 0, true),
-];
-
-#[test]
-fn a_week_that_began_in_1999(rt: HostRuntime) {
-    check_days(&rt, &DAYS_AT_THE_TURN);
-}
-
-// The second last day of any month.
-const SECOND_LAST: [u8; 5] = [0xFF, 0xFF, 0xFF, 0xFD, 0xFF];
-
-// The last day of any month.
-const LAST: [u8; 5] = [0xFF, 0xFF, 0xFF, 0xFE, 0xFF];
-
-// Dates, each with a moment of March 2028 and whether the date matches the moment's day.
-static LAST_DAYS_OF_MARCH: [([u8; 5], u32, bool); 4] = [
     (SECOND_LAST, MARCH_26 + 4 * DAY, true),
     (LAST, MARCH_26 + 4 * DAY, false),
     (LAST, MARCH_26 + 5 * DAY, true),
@@ -92,8 +54,18 @@ static LAST_DAYS_OF_MARCH: [([u8; 5], u32, bool); 4] = [
 ];
 
 #[test]
-fn marks_of_the_day(rt: HostRuntime) {
-    check_days(&rt, &LAST_DAYS_OF_MARCH);
+fn dates_match_their_days(rt: HostRuntime) {
+    for (date, midnight, expected) in &DAYS {
+        assert!(rt;
+            matches_day(*date, *midnight) == Ok(*expected),
+            "{date:?} at {midnight}"
+        );
+    }
+    // The day of the week is wrong: 25 March 2028 is a Saturday.
+    for day in 1..32u32 {
+        let midnight = MARCH_26 + DAY * day - 26 * DAY;
+        assert!(rt; matches_day([0x07, 0xEC, 3, 25, 7], midnight) == Ok(false));
+    }
 }
 
 /// Two seconds, and whether the last second of a month is after the first and not after the second.
@@ -108,7 +80,7 @@ static INTERVALS: [(u32, u32, bool); 6] = [
 
 #[test]
 fn intervals(rt: HostRuntime) -> Result<(), Fail> {
-    let entry = entry([23, 59, 59, 0], LAST)?;
+    let entry = entry([23, 59, 59, 0], [0xFF, 0xFF, 0xFF, 0xFE, 0xFF])?;
     for (after, upto, expected) in &INTERVALS {
         assert!(rt;
             entry.matches_in(*after, *upto) == *expected,
@@ -120,12 +92,8 @@ fn intervals(rt: HostRuntime) -> Result<(), Fail> {
     Ok(())
 }
 
-fn is_plain(date: [u8; 5]) -> Result<bool, PatternFault> {
-    Ok(entry(ANY_TIME, date)?.date_is_plain())
-}
-
 // Dates, each with whether its year, month and day are all plain numbers.
-const PLAIN: [([u8; 5], bool); 7] = [
+static PLAIN: [([u8; 5], bool); 7] = [
     ([0x07, 0xEC, 3, 25, 7], true),
     ([0x07, 0xEC, 3, 25, 0xFF], true),
     ([0xFF, 0xFF, 3, 25, 7], false),
@@ -134,17 +102,6 @@ const PLAIN: [([u8; 5], bool); 7] = [
     ([0x07, 0xEC, 3, 0xFE, 7], false),
     ([0x07, 0xEC, 3, 0xFF, 7], false),
 ];
-
-#[test]
-fn plain_dates(rt: HostRuntime) {
-    for (date, expected) in &PLAIN {
-        assert!(rt; is_plain(*date) == Ok(*expected), "{date:?}");
-    }
-}
-
-fn are_same(one: [u8; 4], other: [u8; 4]) -> Result<bool, PatternFault> {
-    Ok(read_time(&one)?.same_time(&read_time(&other)?))
-}
 
 // The time 12:00:00.00.
 const NOON: [u8; 4] = [12, 0, 0, 0];
@@ -159,22 +116,20 @@ static TIMES: [([u8; 4], [u8; 4], bool); 5] = [
 ];
 
 #[test]
-fn times_are_compared_as_written(rt: HostRuntime) {
-    for (one, other, expected) in &TIMES {
-        assert!(rt;
-            are_same(*one, *other) == Ok(*expected),
-            "{one:?} and {other:?}"
-        );
+fn dates_are_plain_and_times_are_compared_as_written(rt: HostRuntime) -> Result<(), Fail> {
+    for (date, expected) in &PLAIN {
+        let found = entry([0xFF; 4], *date)?.date_is_plain();
+        assert!(rt; found == *expected, "{date:?}");
     }
-}
-
-/// Returns the moment of a date-time.
-fn moment(text: [u8; 12]) -> Result<Option<u32>, PatternFault> {
-    Ok(moment_of(&read_date_time(&text)?))
+    for (one, other, expected) in &TIMES {
+        let found = read_time(one)?.same_time(&read_time(other)?);
+        assert!(rt; found == *expected, "{one:?} and {other:?}");
+    }
+    Ok(())
 }
 
 // Date-times, each with its moment in seconds since 1 January 2000, if it has one.
-static MOMENTS: [([u8; 12], Option<u32>); 20] = [
+static MOMENTS: [([u8; 12], Option<u32>); 21] = [
     // 1 January 2000, 00:01:40.
     ([0x07, 0xD0, 1, 1, 0xFF, 0, 1, 40, 0, 0x80, 0, 0], Some(100)),
     ([0x07, 0xD0, 1, 1, 6, 0, 1, 40, 0, 0, 1, 0xFF], Some(160)),
@@ -208,31 +163,24 @@ static MOMENTS: [([u8; 12], Option<u32>); 20] = [
     ([0x07, 0xD0, 1, 1, 0xFF, 0, 0xFF, 0, 0, 0, 0, 0], None),
     ([0x07, 0xD0, 1, 1, 0xFF, 0, 0, 0xFF, 0, 0, 0, 0], None),
     ([0xFF, 0xFE, 1, 1, 0xFF, 0, 0, 0, 0, 0, 0, 0], None),
+    (
+        [
+            0xFF, 0xFF, 0xFF, 0xFF, 0xFF, 0xFF, 0xFF, 0xFF, 0xFF, 0x80, 0, 0xFF,
+        ],
+        None,
+    ),
 ];
 
 #[test]
-fn moments(rt: HostRuntime) {
-    for (text, second) in &MOMENTS {
-        assert!(rt; moment(*text) == Ok(*second), "{text:?}");
-    }
+fn moments(rt: HostRuntime) -> Result<(), Fail> {
     calendar_laws();
-}
-
-// A date-time in which no field is specified.
-static UNSPECIFIED: [u8; 12] = [
-    0xFF, 0xFF, 0xFF, 0xFF, 0xFF, 0xFF, 0xFF, 0xFF, 0xFF, 0x80, 0x00, 0xFF,
-];
-
-fn is_read_and_written(text: [u8; 12]) -> bool {
-    match read_date_time(&text) {
-        Ok(field) => field.bytes() == text,
-        Err(_) => false,
+    for (text, second) in &MOMENTS {
+        let field = read_date_time(text)?;
+        assert!(rt;
+            moment_of(&field) == *second && field.bytes() == *text,
+            "{text:?}"
+        );
     }
-}
-
-#[test]
-fn unspecified_date_time(rt: HostRuntime) {
-    assert!(rt; DateTimeField::unspecified().bytes() == UNSPECIFIED);
-    assert!(rt; is_read_and_written(UNSPECIFIED));
-    assert!(rt; moment(UNSPECIFIED) == Ok(None));
+    assert!(rt; DateTimeField::unspecified().bytes() == MOMENTS[20].0);
+    Ok(())
 }

@@ -5,12 +5,6 @@ use std::alloc::Global;
 use std::process::Abort;
 use std::test::Fail;
 
-// The mask of no value.
-const NONE: [u64; 4] = [0; 4];
-
-// The mask of all 256 values.
-const ALL: [u64; 4] = [u64::MAX; 4];
-
 // Returns 0, 40, 80 and so on: value 125 is 5000.
 fn by_forties() -> [u32; 256] {
     let mut values = [0; 256];
@@ -37,28 +31,24 @@ fn an_equal_value_is_on_neither_side(rt: HostRuntime) {
 
 // A mask, a place in it, and the number of consecutive ones in its 256 bits from there on.
 static RUNS: [([u64; 4], u16, u16); 8] = [
-    (ALL, 0, 256),
-    (ALL, 64, 192),
-    (ALL, 255, 1),
-    (ALL, 256, 0),
-    (ALL, 257, 0),
-    (NONE, 0, 0),
+    ([u64::MAX; 4], 0, 256),
+    ([u64::MAX; 4], 64, 192),
+    ([u64::MAX; 4], 255, 1),
+    ([u64::MAX; 4], 256, 0),
+    ([u64::MAX; 4], 257, 0),
+    ([0; 4], 0, 0),
     ([0xF0, 0, 0, 0], 5, 3),
     ([1 << 63, 3, 0, 0], 63, 3),
 ];
 
 #[test]
 fn a_run_goes_on_over_the_words_to_the_last_value(rt: HostRuntime) {
-    let expected = Masks {
-        over: ALL,
-        under: NONE,
-        len: 256,
-    };
-    assert!(rt; classify(&[5001; 256], 5000) == expected);
+    let masks = classify(&[5001; 256], 5000);
+    assert!(rt; masks.over == [u64::MAX; 4] && masks.under == [0; 4] && masks.len == 256);
     for (mask, at, run) in &RUNS {
         assert!(rt; run_from(mask, 256, *at) == *run, "{mask:?} from {at}");
     }
-    assert!(rt; run_from(&ALL, 100, 40) == 60);
+    assert!(rt; run_from(&masks.over, 100, 40) == 60);
 }
 
 // Returns whether both classifiers return the same masks, with the number of the values as their
@@ -213,14 +203,14 @@ fn made_of_pairs(alloc: Global, import: &[u32], export: &[u32]) -> Result<usize,
 }
 
 // One value more than a block can have.
-const LONG: [u32; 257] = [0; 257];
+static LONG: [u32; 257] = [0; 257];
 
 // Import values, export values, and the length of their block, or the fault.
 static LENGTHS: [(&[u32], &[u32], Result<usize, BlockMade>); 5] = [
     (&[0], &[0; 2], Err(BlockMade::Uneven)),
-    (&LONG, &[0; 256], Err(BlockMade::Uneven)),
-    (&[0; 256], &LONG, Err(BlockMade::Uneven)),
-    (&LONG, &LONG, Err(BlockMade::TooLong)),
+    (&[0; 257], &[0; 256], Err(BlockMade::Uneven)),
+    (&[0; 256], &[0; 257], Err(BlockMade::Uneven)),
+    (&[0; 257], &[0; 257], Err(BlockMade::TooLong)),
     (&[0; 256], &[0; 256], Ok(256)),
 ];
 
@@ -234,12 +224,7 @@ fn a_block_may_have_each_length(rt: HostRuntime) {
             "{len} pairs"
         );
     }
-}
-
-#[test]
-fn a_block_is_refused_by_its_lengths(rt: HostRuntime) {
     assert!(rt; block_length(rt.alloc(), &LONG) == Err(BlockMade::TooLong));
-    assert!(rt; block_length(rt.alloc(), &LONG[..256]) == Ok(256));
     for (place, (import, export, expected)) in LENGTHS.iter().enumerate() {
         assert!(rt;
             made_of_pairs(rt.alloc(), import, export) == *expected,
