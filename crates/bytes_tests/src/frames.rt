@@ -3,7 +3,7 @@
 //! executable.
 use std::alloc::Global;
 use std::test::Fail;
-use wrapper_frame::{Deframer, WrapperFault, frame};
+use wrapper_frame::{Deframer, WrapperFault, frame, put_frame};
 
 /// An association request, 31 bytes from port 16 to port 1, and a GET request of 13 bytes.
 static STREAM: [u8; 60] = [
@@ -100,6 +100,17 @@ fn a_frame_has_the_written_text(rt: HostRuntime) -> Result<(), Fail> {
     let fault = frame(rt.alloc(), 16, 1, &[0xAB; 1025]).err();
     assert!(rt; same && fault == Some(WrapperFault::TooLong));
     Ok(())
+}
+
+#[test]
+fn a_frame_is_put_into_a_buffer_that_is_long_enough(rt: HostRuntime) {
+    let mut buffer = [0xEE; 16];
+    let count = put_frame(1, 16, &WRITTEN.0, &mut buffer);
+    let is_put = count == Some(14) && &buffer[..14] == WRITTEN.1.as_slice();
+    assert!(rt; is_put && &buffer[14..] == [0xEE; 2].as_slice());
+    let mut short = [0xEE; 13];
+    let count = put_frame(1, 16, &WRITTEN.0, &mut short);
+    assert!(rt; count.is_none() && short.as_slice() == [0xEE; 13].as_slice());
 }
 
 #[test]
