@@ -127,12 +127,20 @@ static SPLIT: [Split; 4] = [
     (b"", None),
 ];
 
+// A line, and its first three words.
+type Line = (
+    &'static [u8],
+    Option<&'static [u8]>,
+    Option<&'static [u8]>,
+    Option<&'static [u8]>,
+);
+
 // Lines, each with its first three words; one blank separates two words.
-static WORDS: [(&[u8], [Option<&[u8]>; 3]); 4] = [
-    (b"get 16 70", [Some(b"get"), Some(b"16"), Some(b"70")]),
-    (b"button", [Some(b"button"), None, None]),
-    (b"get  16", [Some(b"get"), Some(b""), Some(b"16")]),
-    (b"", [Some(b""), None, None]),
+static WORDS: [Line; 4] = [
+    (b"get 16 70", Some(b"get"), Some(b"16"), Some(b"70")),
+    (b"button", Some(b"button"), None, None),
+    (b"get  16", Some(b"get"), Some(b""), Some(b"16")),
+    (b"", Some(b""), None, None),
 ];
 
 #[test]
@@ -145,7 +153,7 @@ fn lines_and_their_words_are_read(rt: HostRuntime) {
         lines.next() == Some(b"state 1".as_slice()) && lines.next() == Some(b"".as_slice())
     );
     assert!(rt; lines.next().is_none() && lines.rest() == b"mode".as_slice());
-    for (line, [first, second, third]) in &WORDS {
+    for (line, first, second, third) in &WORDS {
         let mut words = Words::new(line);
         assert!(rt;
             words.next() == *first && words.next() == *second && words.next() == *third,
