@@ -229,16 +229,26 @@ fn put_shortly(
     Ok(count)
 }
 
+/// Puts the answer of a new meter to the short request at the front into the buffer.
+fn put_of_new(
+    alloc: Global,
+    session: &mut Session,
+    buffer: &mut [u8],
+) -> Result<usize, AllocError> {
+    let mut core = new_core(alloc)?;
+    let put = put_shortly(alloc, &mut core, session, buffer);
+    drop(core);
+    put
+}
+
 /// Returns whether a new meter's answer to a request after an AARQ is put into a buffer.
 fn is_put(alloc: Global, (opening, request, answer): &Short) -> Result<bool, Fail> {
     let mut buffer = [0xEE; 14];
     let mut session = new_session(alloc)?;
     let is_fed = has_taken(alloc, &mut session, opening, request);
-    let mut core = new_core(alloc)?;
-    let put = put_shortly(alloc, &mut core, &mut session, &mut buffer);
-    drop(core);
+    let put = put_of_new(alloc, &mut session, &mut buffer);
     drop(session);
-    let count = put?;
+    let count = put?.min(buffer.len());
     Ok(is_fed && are_of(alloc, &buffer[..count], answer)?)
 }
 
