@@ -1,6 +1,7 @@
 #!/usr/bin/env python3
-"""Plays openings of traces of which a line is replaced or left out, with the proved trace player:
-each is accepted, or refused at the expected line. The lines were written by hand by docs/TRACE.md.
+"""Plays traces of which a line is replaced or left out, with the proved trace player: each is
+accepted, or refused at the expected line. Most of these lines are of the opening. They were written
+by hand by docs/TRACE.md.
 
 usage: tests/opening_rows.py
 """
@@ -11,8 +12,10 @@ import sys
 sys.dont_write_bytecode = True  # importing the modules of tests/ leaves no files
 
 from core_rows import NEW_METER as NEW_METER_2
-from core_rows import PLAYER
+from core_rows import PLAYER, TOP
 
+# The trace of docs/TRACE.md.
+WORKED = TOP / "crates" / "trace_player_cli" / "stdin"
 # A new meter, in version 1, which has no export limiter.
 NEW_METER = ["RELAYTRACE 1", *[line for line in NEW_METER_2[1:] if not line.startswith("x")]]
 # One whose last sample is the greatest.
@@ -124,6 +127,22 @@ ROWS = [
 ]
 
 
+# Lines that replace one of the worked trace of docs/TRACE.md, whose events are its lines 22 to 30,
+# and the line at which the trace is then refused. A trace of version 1 has no pairs.
+WORKED_ROWS = [
+    (21, "events 8", 30), (21, "events 10", 31), (21, "events 65537", 21), (21, "events --", 21), (21, "events - ", 21), (21, "events -1", 21),
+    (21, "events", 21), (21, "event -", 21), (21, "-", 21), (24, "press", 24), (28, "pairs 0 5001", 28),
+]
+
+# What follows a journal of a new meter in version 2, whose line 31 has the events, and the number
+# of events that are then read, or the line that is wrong: what follows the last whole line and what
+# follows a zero is left out.
+JOURNAL_ROWS = [
+    (b"\n", 0, None), (b"\nbutton\n", 1, None), (b"\nbutton", 0, None), (b"\nbutton\nmoment 5\nmom", 2, None), (b"\n\n", None, 32),
+    (b"\n\0button\n", 0, None), (b"\nbutton\n\0\n", 1, None), (b"\nbut\0on\nbutton\n", 0, None), (b"\nbutton\nmoment 7\n\0\0\0", 2, None),
+    (b"\nbutton\nmoment 07\nbutton\n", None, 33), (b"", None, 31),
+]
+
 # Texts that end before an opening does, and the line at which each is refused.
 SHORT = [("", 1), ("RELAYTRACE 1", 1), ("RELAYTRACE 1\n", 2)]
 
@@ -164,13 +183,40 @@ def missing_lines():
         yield f"{text!r} alone", found == number, found
 
 
+def worked_rows():
+    """Whether the worked trace is refused where a line is replaced, an event is missing, or its last
+    line is not ended."""
+    lines = WORKED.read_text().splitlines()
+    for number, line, wanted in WORKED_ROWS:
+        found = play_text("".join(f"{it}\n" for it in [*lines[:number - 1], line, *lines[number:]]))
+        yield f"the worked trace with {line!r}", found == wanted, found
+    for number in range(22, 31):
+        found = play_text("".join(f"{it}\n" for it in [*lines[:number - 1], *lines[number:]]))
+        yield f"the worked trace without line {number}", found == 30, found
+    found = play_text("\n".join(lines))
+    yield "the worked trace with a last line that is not ended", found == 30, found
+
+
+def journal_rows():
+    """Whether a journal has the expected number of events, or is refused at the expected line."""
+    head = "\n".join([*NEW_METER_2, "events -"]).encode()
+    for rest, count, number in JOURNAL_ROWS:
+        ran = subprocess.run([PLAYER, "--verbose"], input=head + rest, capture_output=True, timeout=60)
+        found = re.match(rb"line (\d+): ", ran.stderr)
+        if count is None:
+            is_so = (ran.returncode, ran.stdout) == (2, b"") and found and int(found[1]) == number
+        else:
+            is_so = ran.returncode == 0 and ran.stdout.count(b"\n") == count
+        yield f"a journal with {rest!r}", bool(is_so), ran
+
+
 def main():
     if not PLAYER.exists():
         print(f"{PLAYER} is missing: run bin/build or bin/test")
         print("0 passed, 1 failed")
         return 1
     passed, failed = 0, 0
-    for name, is_so, found in (*replaced_lines(), *missing_lines()):
+    for name, is_so, found in (*replaced_lines(), *missing_lines(), *worked_rows(), *journal_rows()):
         passed, failed = passed + is_so, failed + (not is_so)
         if not is_so:
             print(f"FAILED opening_rows: {name}: {found}")

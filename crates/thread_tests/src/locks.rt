@@ -46,87 +46,7 @@ pub(crate) fn close(shared: Shared<Counter>, port: Port<Counter>) -> Option<u64>
     }
 }
 
-#[test]
-fn closes_at_once(rt: HostRuntime) -> Result<(), Fail> {
-    let (shared, port) = start(rt.alloc(), 1)?;
-    let count = close(shared, port);
-    assert!(rt; count == Some(0));
-    Ok(())
-}
-
-fn bump_four_times<W: Wait>(rt: &W, alloc: Global, port: &mut Port<Counter>) -> [Answer; 4]
-    ensures { port.new.lock ≡ port.old.lock }
-{
-    [
-        port.call(rt, alloc, Bump),
-        port.call(rt, alloc, Bump),
-        port.call(rt, alloc, Bump),
-        port.call(rt, alloc, Bump),
-    ]
-}
-
-#[test]
-fn exhausts_one_port(rt: HostRuntime) -> Result<(), Fail> {
-    let alloc = rt.alloc();
-    let (shared, mut port) = start(alloc, 2)?;
-    let answers = bump_four_times(&rt, alloc, &mut port);
-    let count = close(shared, port);
-    let over = Err(CallFault::Exhausted);
-    assert!(rt; answers == [Ok(1), Ok(2), over, over]);
-    assert!(rt; count == Some(2));
-    Ok(())
-}
-
-fn bump_three<W: Wait>(rt: &W, alloc: Global, ports: &mut Three) -> [Answer; 3]
-    ensures { (ports.new.0.lock ≡ ports.old.0.lock) × (ports.new.1.lock ≡ ports.old.1.lock)
-        × (ports.new.2.lock ≡ ports.old.2.lock) }
-{
-    let (one, two, three) = ports;
-    [
-        one.call(rt, alloc, Bump),
-        two.call(rt, alloc, Bump),
-        three.call(rt, alloc, Bump),
-    ]
-}
-
-// Three ports of one lock.
-type Three = (Port<Counter>, Port<Counter>, Port<Counter>);
-
-fn make_three(port: Port<Counter>) -> Result<Three, AllocError>
-    ensures { IfOk result (λ r. (r.0.lock ≡ port.lock) × (r.1.lock ≡ port.lock)
-        × (r.2.lock ≡ port.lock)) }
-{
-    let mut one = port;
-    let mut two = one.split()?;
-    let three = two.split()?;
-    Ok((one, two, three))
-}
-
-fn join_three(ports: Three) -> Port<Counter>
-    requires { (ports.1.lock ≡ ports.0.lock) × (ports.2.lock ≡ ports.0.lock) }
-    ensures { result.lock ≡ ports.0.lock }
-{
-    let (mut one, mut two, three) = ports;
-    two.join(three);
-    one.join(two);
-    one
-}
-
-#[test]
-fn exhausts_three_ports(rt: HostRuntime) -> Result<(), Fail> {
-    let alloc = rt.alloc();
-    let (shared, port) = start(alloc, 3)?;
-    let mut ports = make_three(port)?;
-    let first = bump_three(&rt, alloc, &mut ports);
-    let second = bump_three(&rt, alloc, &mut ports);
-    let count = close(shared, join_three(ports));
-    assert!(rt; first == [Ok(1), Ok(2), Ok(3)]);
-    assert!(rt; second == [Err(CallFault::Exhausted); 3]);
-    assert!(rt; count == Some(3));
-    Ok(())
-}
-
-fn ask_moody<W: Wait>(rt: &W, alloc: Global, port: &mut Port<RefusingCounter>) -> [Answer; 4]
+fn ask_moody<W: Wait>(rt: &W, alloc: Global, port: &mut Port<RefusingCounter>) -> [Answer; 5]
     ensures { port.new.lock ≡ port.old.lock }
 {
     [
@@ -134,11 +54,12 @@ fn ask_moody<W: Wait>(rt: &W, alloc: Global, port: &mut Port<RefusingCounter>) -
         port.call(rt, alloc, Wish::Refuse),
         port.call(rt, alloc, Wish::Bump),
         port.call(rt, alloc, Wish::Bump),
+        port.call(rt, alloc, Wish::Bump),
     ]
 }
 
 // Returns the results of the calls on a refusing counter, and its count when the lock is closed.
-fn call_moody<W: Wait>(rt: &W, alloc: Global) -> Result<([Answer; 4], Option<u64>), AllocError> {
+fn call_moody<W: Wait>(rt: &W, alloc: Global) -> Result<([Answer; 5], Option<u64>), AllocError> {
     let (shared, mut port) = Shared::new(alloc, RefusingCounter::new(), 3).map_err(|_| AllocError)?;
     let answers = ask_moody(rt, alloc, &mut port);
     match shared.close(port) {
@@ -158,7 +79,7 @@ fn call_moody<W: Wait>(rt: &W, alloc: Global) -> Result<([Answer; 4], Option<u64
 fn leaves_the_value_for_want_of_memory(rt: HostRuntime) -> Result<(), Fail> {
     let (answers, count) = call_moody(&rt, rt.alloc())?;
     let (none, over) = (Err(CallFault::Memory), Err(CallFault::Exhausted));
-    assert!(rt; answers == [Ok(1), none, Ok(2), over]);
+    assert!(rt; answers == [Ok(1), none, Ok(2), over, over]);
     assert!(rt; count == Some(2));
     Ok(())
 }
@@ -258,16 +179,6 @@ fn start_gated(
     Shared::new(alloc, Gated::new(gate), 5).map_err(|_| AllocError)
 }
 
-// Makes one call through the open gate, and then shuts the gate.
-fn call_through<W: Wait>(rt: &W, alloc: Global, port: &mut Port<Gated>, gate: &Gate) -> Answer
-    ensures { port.new.lock ≡ port.old.lock }
-{
-    gate.open();
-    let answer = port.call(rt, alloc, Bump);
-    gate.shut();
-    answer
-}
-
 // Joins the caller and closes the lock. Returns the numbers of turns drawn and ended of the busy
 // `close`, and the count.
 fn close_again(refusal: Refusal, caller: Port<Gated>) -> Option<(u64, u64, u64)>
@@ -332,26 +243,6 @@ fn close_beside<R: Threads + Wait + Sync>(
     }
 }
 
-// Closes the lock while the caller's first turn waits at the gate, and again after that turn has
-// ended.
-fn hold_up_first<R: Threads + Wait + Sync>(
-    rt: &R,
-    alloc: Global,
-    gate: &Arc<Gate, Global>,
-) -> Result<Option<(u64, u64, u64)>, AllocError> {
-    let (shared, caller) = start_gated(alloc, Arc::try_clone(gate)?)?;
-    close_beside(rt, alloc, shared, caller, gate)
-}
-
-#[test]
-fn is_busy_while_the_first_turn_is_held(rt: HostRuntime) -> Result<(), Fail> {
-    let gate = Arc::new(rt.alloc(), Gate::new())?;
-    let held = hold_up_first(&rt, rt.alloc(), &gate);
-    drop(gate);
-    assert!(rt; held? == Some((1, 0, 1)));
-    Ok(())
-}
-
 // Makes a first call, and then closes the lock twice. Returns the result of that call, too.
 fn hold_up<R: Threads + Wait + Sync>(
     rt: &R,
@@ -359,7 +250,9 @@ fn hold_up<R: Threads + Wait + Sync>(
     gate: &Arc<Gate, Global>,
 ) -> Result<(Answer, Option<(u64, u64, u64)>), AllocError> {
     let (shared, mut caller) = start_gated(alloc, Arc::try_clone(gate)?)?;
-    let first = call_through(rt, alloc, &mut caller, gate);
+    gate.open();
+    let first = caller.call(rt, alloc, Bump);
+    gate.shut();
     let closed = close_beside(rt, alloc, shared, caller, gate)?;
     Ok((first, closed))
 }
@@ -541,6 +434,8 @@ fn counts_for_four_threads(rt: HostRuntime) -> Result<(), Fail> {
 #[test]
 fn exhausts_two_threads(rt: HostRuntime) -> Result<(), Fail> {
     let alloc = rt.alloc();
+    let (shared, port) = start(alloc, 1)?;
+    assert!(rt; close(shared, port) == Some(0));
     let (shared, mut one) = start(alloc, 7)?;
     let two = one.split()?;
     let (one, replies) = bump_both(&rt, alloc, one, two, 5);

@@ -3,26 +3,14 @@
 mod guests;
 
 use crate::locks::{close, start};
-use guests::{Closed, GuestListener, Hall, NONE_CLOSED};
+use guests::{GuestListener, Hall, Pace, Plan};
 use port_threads::{Accepted, serve_connections};
 use std::alloc::{AllocError, Global};
 use std::sync::{Arc, Wait};
 use std::test::Fail;
 use std::thread::Threads;
 
-/// The result of a test: what `serve_connections` returned, how many guests waited with success,
-/// and the number of calls that the sessions made.
-type Evening = (Accepted, u64, Option<u64>);
-
-fn accepted_counts(served: u64, turned_away: u64, has_failed: bool, has_starved: bool) -> Accepted {
-    Accepted {
-        served,
-        turned_away,
-        has_failed,
-        has_starved,
-    }
-}
-
+/// Serves the guests of a listener. Returns the number of calls that the sessions made, too.
 fn serve<R: Threads + Wait + Copy + Send + 'static>(
     rt: &R,
     alloc: Global,
@@ -35,133 +23,144 @@ fn serve<R: Threads + Wait + Copy + Send + 'static>(
     Ok((accepted?, count))
 }
 
-/// Serves this number of guests, after connections that are closed.
-fn spend<R: Threads + Wait + Copy + Send + 'static>(
-    rt: &R,
-    alloc: Global,
-    hall: &Arc<Hall, Global>,
-    guests: u64,
-    closed: Closed,
-    limit: u64,
-) -> Result<Evening, AllocError> {
-    let mut listener = GuestListener::new(Arc::try_clone(hall)?, guests, closed);
-    let served = serve(rt, alloc, &mut listener, limit);
-    drop(listener);
-    let (accepted, count) = served?;
-    Ok((accepted, hall.content(), count))
-}
-
-/// Serves this number of guests, who wait for one another, after connections that are closed. The
-/// server accepts `limit` connections, or any number if it is 0.
+/// Serves the guests of a plan. Returns the number of guests who waited with success, too, and that
+/// of calls that the sessions made.
 fn evening<R: Threads + Wait + Copy + Send + 'static>(
     rt: &R,
     alloc: Global,
-    guests: u64,
-    closed: Closed,
-    limit: u64,
-) -> Result<Evening, AllocError> {
-    let hall = Arc::new(alloc, Hall::new(guests))?;
-    let spent = spend(rt, alloc, &hall, guests, closed, limit);
-    drop(hall);
-    spent
-}
-
-#[test]
-fn serves_two_that_wait_for_one_another(rt: HostRuntime) -> Result<(), Fail> {
-    let spent = evening(&rt, rt.alloc(), 2, NONE_CLOSED, 2)?;
-    assert!(rt; spent == (accepted_counts(2, 0, false, false), 2, Some(2)));
-    Ok(())
-}
-
-#[test]
-fn turns_the_ninth_away(rt: HostRuntime) -> Result<(), Fail> {
-    let spent = evening(&rt, rt.alloc(), 9, NONE_CLOSED, 9)?;
-    assert!(rt; spent == (accepted_counts(8, 1, false, false), 8, Some(8)));
-    Ok(())
-}
-
-/// Serves guests who come one after the other.
-fn long_evening<R: Threads + Wait + Copy + Send + 'static>(
-    rt: &R,
-    alloc: Global,
-    guests: u64,
-) -> Result<Evening, AllocError> {
-    let hall = Arc::new(alloc, Hall::new(1))?;
-    let mut listener = GuestListener::one_by_one(Arc::try_clone(&hall)?, guests);
-    let served = serve(rt, alloc, &mut listener, guests);
+    plan: &'static Plan,
+) -> Result<(Accepted, u64, Option<u64>), AllocError> {
+    let hall = Arc::new(alloc, Hall::new())?;
+    let mut listener = GuestListener::new(Arc::try_clone(&hall)?, plan);
+    let served = serve(rt, alloc, &mut listener, plan.limit);
     drop(listener);
-    let (accepted, count) = served?;
     let content = hall.content();
     drop(hall);
+    let (accepted, count) = served?;
     Ok((accepted, content, count))
 }
 
-#[test]
-fn gives_the_place_of_an_ended_session_to_the_next(rt: HostRuntime) -> Result<(), Fail> {
-    let spent = long_evening(&rt, rt.alloc(), 20)?;
-    assert!(rt; spent == (accepted_counts(20, 0, false, false), 20, Some(20)));
-    Ok(())
-}
+/// Evenings, each with the numbers of guests served and turned away, and whether the listener
+/// failed and memory ran out. Each guest that is served makes one call and waits with success.
+static EVENINGS: [(Plan, (u64, u64, bool, bool)); 8] = [
+    (
+        Plan {
+            what: "two that wait for one another are served",
+            guests: 2,
+            wanted: 2,
+            pace: Pace::Together,
+            out_of_memory: 0,
+            setup_failed: 0,
+            limit: 2,
+        },
+        (2, 0, false, false),
+    ),
+    (
+        Plan {
+            what: "the ninth is turned away",
+            guests: 9,
+            wanted: 9,
+            pace: Pace::Together,
+            out_of_memory: 0,
+            setup_failed: 0,
+            limit: 9,
+        },
+        (8, 1, false, false),
+    ),
+    (
+        Plan {
+            what: "the place of an ended session goes to the next",
+            guests: 20,
+            wanted: 1,
+            pace: Pace::OneByOne,
+            out_of_memory: 0,
+            setup_failed: 0,
+            limit: 20,
+        },
+        (20, 0, false, false),
+    ),
+    (
+        Plan {
+            what: "no session that still runs is waited for",
+            guests: 3,
+            wanted: 1,
+            pace: Pace::AfterTheFirst,
+            out_of_memory: 0,
+            setup_failed: 0,
+            limit: 3,
+        },
+        (3, 0, false, false),
+    ),
+    // When the first guest leaves, every place is taken, and the guests in the other places wait
+    // for the ninth. So if the end were noted for another place, the server would wait for it
+    // forever.
+    (
+        Plan {
+            what: "a ninth takes the place of the one that left",
+            guests: 9,
+            wanted: 1,
+            pace: Pace::AfterTheFirst,
+            out_of_memory: 0,
+            setup_failed: 0,
+            limit: 9,
+        },
+        (9, 0, false, false),
+    ),
+    (
+        Plan {
+            what: "the listener fails",
+            guests: 1,
+            wanted: 1,
+            pace: Pace::Together,
+            out_of_memory: 0,
+            setup_failed: 0,
+            limit: 0,
+        },
+        (1, 0, true, false),
+    ),
+    (
+        Plan {
+            what: "two are closed out of memory",
+            guests: 1,
+            wanted: 1,
+            pace: Pace::Together,
+            out_of_memory: 2,
+            setup_failed: 0,
+            limit: 3,
+        },
+        (1, 2, false, true),
+    ),
+    // A stream that cannot be set up does not count as out of memory.
+    (
+        Plan {
+            what: "two streams cannot be set up",
+            guests: 1,
+            wanted: 1,
+            pace: Pace::Together,
+            out_of_memory: 0,
+            setup_failed: 2,
+            limit: 3,
+        },
+        (1, 2, false, false),
+    ),
+];
 
-/// Serves guests of whom the last comes after the first has left; all but the first wait for the
-/// last.
-fn relay_evening<R: Threads + Wait + Copy + Send + 'static>(
-    rt: &R,
-    alloc: Global,
-    guests: u64,
-) -> Result<Evening, AllocError> {
-    let hall = Arc::new(alloc, Hall::new(1))?;
-    let mut listener = GuestListener::after_the_first(Arc::try_clone(&hall)?, guests);
-    let served = serve(rt, alloc, &mut listener, guests);
-    drop(listener);
-    let (accepted, count) = served?;
-    let content = hall.content();
-    drop(hall);
-    Ok((accepted, content, count))
-}
-
 #[test]
-fn waits_for_no_session_but_those_that_ended(rt: HostRuntime) -> Result<(), Fail> {
-    let spent = relay_evening(&rt, rt.alloc(), 3)?;
-    assert!(rt; spent == (accepted_counts(3, 0, false, false), 3, Some(3)));
-    Ok(())
-}
-
-// When the first guest leaves, every place is taken, and the guests in the other places wait for
-// the ninth. So if the end were noted for another place, the server would wait for it forever.
-#[test]
-fn a_ninth_takes_the_place_of_the_one_that_left(rt: HostRuntime) -> Result<(), Fail> {
-    let spent = relay_evening(&rt, rt.alloc(), 9)?;
-    assert!(rt; spent == (accepted_counts(9, 0, false, false), 9, Some(9)));
-    Ok(())
-}
-
-#[test]
-fn ends_where_the_listener_fails(rt: HostRuntime) -> Result<(), Fail> {
-    let spent = evening(&rt, rt.alloc(), 1, NONE_CLOSED, 0)?;
-    assert!(rt; spent == (accepted_counts(1, 0, true, false), 1, Some(1)));
-    Ok(())
-}
-
-#[test]
-fn counts_what_was_closed_out_of_memory(rt: HostRuntime) -> Result<(), Fail> {
-    let closed = Closed {
-        out_of_memory: 2,
-        setup_failed: 0,
-    };
-    let spent = evening(&rt, rt.alloc(), 1, closed, 3)?;
-    assert!(rt; spent == (accepted_counts(1, 2, false, true), 1, Some(1)));
-    Ok(())
-}
-
-// A stream that cannot be set up does not count as out of memory.
-#[test]
-fn counts_those_whose_stream_cannot_be_set_up(rt: HostRuntime) -> Result<(), Fail> {
-    let closed = Closed {
-        out_of_memory: 0,
-        setup_failed: 2,
-    };
-    let spent = evening(&rt, rt.alloc(), 1, closed, 3)?;
-    assert!(rt; spent == (accepted_counts(1, 2, false, false), 1, Some(1)));
+fn guests_are_served(rt: HostRuntime) -> Result<(), Fail> {
+    for (plan, expected) in &EVENINGS {
+        let (accepted, content, count) = evening(&rt, rt.alloc(), plan)?;
+        let found = (
+            accepted.served,
+            accepted.turned_away,
+            accepted.has_failed,
+            accepted.has_starved,
+        );
+        assert!(rt; found == *expected, "{}", plan.what);
+        assert!(rt;
+            content == expected.0 && count == Some(expected.0),
+            "{}",
+            plan.what
+        );
+    }
     Ok(())
 }

@@ -16,17 +16,14 @@ const AFTER: u64 = 2_000;
 /// What guests know of one another.
 #[derive(Drop)]
 pub(super) struct Hall {
-    wanted: u64,
     arrived: AtomicU64,
     content: AtomicU64,
     closed: AtomicBool,
 }
 
 impl Hall {
-    /// Makes a hall whose guests wait until `wanted` of them have arrived, or one was closed.
-    pub(super) fn new(wanted: u64) -> Hall {
+    pub(super) fn new() -> Hall {
         Hall {
-            wanted,
             arrived: AtomicU64::new(0),
             content: AtomicU64::new(0),
             closed: AtomicBool::new(false),
@@ -38,14 +35,12 @@ impl Hall {
         self.content.load(Ordering::SeqCst)
     }
 
-    // Returns whether a guest was closed.
-    fn has_closed(&self) -> bool {
-        self.closed.load(Ordering::SeqCst)
-    }
-
-    fn wait_for(&self, guests: u64) -> bool {
+    // Waits until this number of guests have arrived or, if `or_closed`, one was closed. Returns
+    // whether that came about.
+    fn wait_for(&self, guests: u64, or_closed: bool) -> bool {
         for _ in 0..ASKED {
-            if self.has_closed() || self.arrived.load(Ordering::SeqCst) >= guests {
+            let is_over = or_closed && self.closed.load(Ordering::SeqCst);
+            if is_over || self.arrived.load(Ordering::SeqCst) >= guests {
                 return true;
             }
             thread::yield_now();
@@ -65,67 +60,23 @@ impl Hall {
             thread::yield_now();
         }
     }
-
-    // Waits until this number of guests have arrived, whether or not one was closed.
-    fn wait_for_all(&self, guests: u64) -> bool {
-        for _ in 0..ASKED {
-            if self.arrived.load(Ordering::SeqCst) >= guests {
-                return true;
-            }
-            thread::yield_now();
-        }
-        false
-    }
-
-    // Records the arrival of a guest, and waits.
-    fn stay(&self, patience: Patience) {
-        self.arrived.fetch_add(1, Ordering::SeqCst);
-        let is_content = match patience {
-            Patience::UntilClosed => self.wait_for(self.wanted),
-            Patience::ForAll(guests) => self.wait_for_all(guests),
-        };
-        if is_content {
-            self.content.fetch_add(1, Ordering::SeqCst);
-        }
-    }
 }
 
-/// A connection that makes one call and waits for others.
+/// A connection that makes one call and waits until `wanted` guests have arrived or, if
+/// `or_closed`, one was closed.
 pub(super) struct Guest {
     hall: Arc<Hall, Global>,
-    patience: Patience,
-}
-
-/// What a guest waits for.
-#[derive(Clone, Copy)]
-enum Patience {
-    /// Until the number of guests that the hall wants have arrived, or one was closed.
-    UntilClosed,
-    /// Until this number of guests have arrived.
-    ForAll(u64),
-}
-
-/// When a listener's guests arrive.
-#[derive(Clone, Copy)]
-enum Pace {
-    /// All at once, but the last after all others have arrived.
-    Together,
-    /// Each after the one before has left.
-    OneByOne,
-    /// The last comes after the first has left; the first waits for all but the last, and the
-    /// others for all.
-    AfterTheFirst,
-}
-
-impl Guest {
-    fn new(hall: Arc<Hall, Global>, patience: Patience) -> Guest {
-        Guest { hall, patience }
-    }
+    wanted: u64,
+    or_closed: bool,
 }
 
 impl Drop for Guest {
     fn drop(self) {
-        let Guest { hall, patience: _ } = self;
+        let Guest {
+            hall,
+            wanted: _,
+            or_closed: _,
+        } = self;
         hall.closed.store(true, Ordering::SeqCst);
     }
 }
@@ -138,82 +89,78 @@ impl PortConnection<Port<Counter>> for Guest {
     fn serve<W: Wait>(self, rt: &W, alloc: Global, port: Port<Counter>) -> Port<Counter> {
         let mut port = port;
         let _ = port.call(rt, alloc, Bump);
-        self.hall.stay(self.patience);
+        self.hall.arrived.fetch_add(1, Ordering::SeqCst);
+        if self.hall.wait_for(self.wanted, self.or_closed) {
+            self.hall.content.fetch_add(1, Ordering::SeqCst);
+        }
         port
     }
 }
 
-/// The numbers of connections that a listener closes before its guests come, by reason.
-#[derive(Clone, Copy)]
-pub(super) struct Closed {
-    pub(super) out_of_memory: u64,
-    pub(super) setup_failed: u64,
+/// When a listener's guests arrive.
+pub(super) enum Pace {
+    /// All at once, but the last after all others have arrived. Each waits until `wanted` guests
+    /// have arrived, or one was closed.
+    Together,
+    /// Each after the one before has left.
+    OneByOne,
+    /// The last comes after the first has left; the first waits for all but the last, and the
+    /// others for all.
+    AfterTheFirst,
 }
 
-/// The numbers if no connection is closed.
-pub(super) const NONE_CLOSED: Closed = Closed {
-    out_of_memory: 0,
-    setup_failed: 0,
-};
+/// A listener's guests, the connections that it closes before them, by reason, and the number of
+/// connections that the server accepts, or 0 for any number.
+pub(super) struct Plan {
+    pub(super) what: &'static str,
+    pub(super) guests: u64,
+    pub(super) wanted: u64,
+    pub(super) pace: Pace,
+    pub(super) out_of_memory: u64,
+    pub(super) setup_failed: u64,
+    pub(super) limit: u64,
+}
 
-/// A listener that accepts some guests, the last of them once all others have arrived, and then
-/// fails.
+/// A listener that closes connections, then accepts guests, and then fails.
 #[derive(Drop)]
 pub(super) struct GuestListener {
     hall: Arc<Hall, Global>,
-    guests: u64,
-    closed: Closed,
-    given: u64,
-    all: u64,
-    pace: Pace,
+    plan: &'static Plan,
+    calls: u64,
 }
 
 impl GuestListener {
-    /// Makes a listener of this number of guests, which first closes these connections.
-    pub(super) fn new(hall: Arc<Hall, Global>, guests: u64, closed: Closed) -> GuestListener {
+    pub(super) fn new(hall: Arc<Hall, Global>, plan: &'static Plan) -> GuestListener {
         GuestListener {
             hall,
-            guests,
-            closed,
-            given: 0,
-            all: guests,
-            pace: Pace::Together,
+            plan,
+            calls: 0,
         }
     }
 
-    /// Makes a listener of this number of guests, each of whom comes after the one before has left.
-    pub(super) fn one_by_one(hall: Arc<Hall, Global>, guests: u64) -> GuestListener {
-        let mut listener = GuestListener::new(hall, guests, NONE_CLOSED);
-        listener.pace = Pace::OneByOne;
-        listener
-    }
-
-    /// Makes a listener of this number of guests. The last comes after the first has left, and all
-    /// but the first wait for it.
-    pub(super) fn after_the_first(hall: Arc<Hall, Global>, guests: u64) -> GuestListener {
-        let mut listener = GuestListener::new(hall, guests, NONE_CLOSED);
-        listener.pace = Pace::AfterTheFirst;
-        listener
-    }
-
-    // Waits until it is time for the next guest.
-    fn pause(&self) {
-        match self.pace {
-            Pace::Together if self.guests == 0 => {
-                self.hall.wait_for(self.hall.wanted.saturating_sub(1));
+    // Waits until it is time for guest number `guest`, counted from 0. Returns how many guests that
+    // one waits for, and whether it also stops when one was closed.
+    fn receive(&self, guest: u64) -> (u64, bool) {
+        let plan = self.plan;
+        let is_last = guest.saturating_add(1) == plan.guests;
+        match plan.pace {
+            Pace::Together => {
+                if is_last {
+                    self.hall.wait_for(plan.wanted.saturating_sub(1), true);
+                }
+                (plan.wanted, true)
             }
-            Pace::OneByOne => self.hall.wait_until_left(self.given),
-            Pace::AfterTheFirst if self.guests == 0 => self.hall.wait_until_left(1),
-            _ => {}
-        }
-    }
-
-    // Returns what the next guest waits for.
-    fn patience(&self) -> Patience {
-        match self.pace {
-            Pace::AfterTheFirst if self.given == 0 => Patience::ForAll(self.all.saturating_sub(1)),
-            Pace::AfterTheFirst => Patience::ForAll(self.all),
-            _ => Patience::UntilClosed,
+            Pace::OneByOne => {
+                self.hall.wait_until_left(guest);
+                (plan.wanted, true)
+            }
+            Pace::AfterTheFirst => {
+                if is_last {
+                    self.hall.wait_until_left(1);
+                }
+                let others = if guest == 0 { 1 } else { 0 };
+                (plan.guests.saturating_sub(others), false)
+            }
         }
     }
 }
@@ -222,23 +169,26 @@ impl ConnectionSource<Port<Counter>> for GuestListener {
     type Connection = Guest;
 
     fn accept(&mut self, _alloc: Global) -> Result<Arrival<Guest>, ListenFault> {
-        if self.closed.out_of_memory > 0 {
-            self.closed.out_of_memory -= 1;
+        let call = self.calls;
+        self.calls = call.saturating_add(1);
+        if call < self.plan.out_of_memory {
             return Ok(Arrival::OutOfMemory);
         }
-        if self.closed.setup_failed > 0 {
-            self.closed.setup_failed -= 1;
+        let guest = call.saturating_sub(self.plan.out_of_memory);
+        if guest < self.plan.setup_failed {
             return Ok(Arrival::SetupFailed);
         }
-        if self.guests == 0 {
+        let guest = guest.saturating_sub(self.plan.setup_failed);
+        if guest >= self.plan.guests {
             return Err(ListenFault);
         }
-        self.guests -= 1;
-        self.pause();
-        let patience = self.patience();
-        self.given = self.given.saturating_add(1);
+        let (wanted, or_closed) = self.receive(guest);
         match Arc::try_clone(&self.hall) {
-            Ok(hall) => Ok(Arrival::Ready(Guest::new(hall, patience))),
+            Ok(hall) => Ok(Arrival::Ready(Guest {
+                hall,
+                wanted,
+                or_closed,
+            })),
             Err(_) => Ok(Arrival::OutOfMemory),
         }
     }
