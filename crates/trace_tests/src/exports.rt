@@ -58,7 +58,7 @@ get 1 71 0000110000FF 4 0
             (33, b"get 1 71 0000110000FF 4 0"),
         ],
     ),
-    // A write of mode 1, which is in the opening, a remote disconnection, and a press of the button.
+    // A write of mode 1, which is in the opening, a remote disconnection, and a press.
     (
         2,
         b"set 1 70 000060030AFF 4 0 1601

@@ -1,9 +1,10 @@
-//! A view of the worked trace of docs/TRACE.md. tests/command_lines.py plays ranges, changes, formats
-//! and damaged traces over the proved executable.
+//! Views of the worked trace of docs/TRACE.md. tests/command_lines.py plays ranges, changes,
+//! formats and damaged traces over the proved executable.
 use crate::plays::TRACE;
 use counted_io::Counted;
 use std::alloc::Global;
-use trace_views::{TraceView, play_view};
+use trace_player::{TraceFault, read_trace};
+use trace_views::{TraceFormat, TraceView, play_view, read_front, view_trace};
 
 // The output of the player for `TRACE` of plays.rt, with the event at the end of each line.
 static WITH_EVENTS: &[u8] = b"1: code 0; state 1; supply on; event set 1 70 000060030AFF 4 0 1601
@@ -31,4 +32,36 @@ fn a_view_is_written(rt: HostRuntime) {
         ..TraceView::whole()
     };
     assert!(rt; shows(rt.alloc(), TRACE, &view, WITH_EVENTS));
+}
+
+// A view of the changes among events 3 to 9.
+static LATE_CHANGES: TraceView = TraceView {
+    first: Some(3),
+    last: Some(9),
+    changes_only: true,
+    with_events: false,
+    format: TraceFormat::Lines,
+};
+
+#[test]
+fn the_front_of_a_damaged_trace_is_read(rt: HostRuntime) {
+    let front = read_front(rt.alloc(), &TRACE[..TRACE.len() - 1]);
+    let is_so = match &front {
+        Ok(front) => front.trace.events.len() == 8 && front.end == Err(TraceFault::Line(30)),
+        Err(_) => false,
+    };
+    drop(front);
+    assert!(rt; is_so);
+}
+
+#[test]
+fn a_view_of_a_trace_is_its_text(rt: HostRuntime) {
+    let alloc = rt.alloc();
+    let trace = read_trace(alloc, TRACE);
+    let shown = match &trace {
+        Ok(trace) => view_trace(alloc, trace, &LATE_CHANGES),
+        Err(_) => Ok(Vec::new(alloc)),
+    };
+    drop(trace);
+    assert!(rt; shown.is_ok_and(|shown| shown.len() == 61));
 }
