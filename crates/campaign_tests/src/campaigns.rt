@@ -4,13 +4,13 @@ ghost use Rattle.std.specs.Prelude.{◌≤◌, ◌≡◌, All, length, IfOk};
 ghost use Rattle.acse_ber.specs.Password.{IsPassword};
 ghost use Rattle.head_end.specs.Rows.{AreLines};
 
-use crate::meters::{DONE, REJECTED, job, jobs_named, password};
+use crate::meters::{DONE, REJECTED, job, password};
 use crate::scripts::{Everywhere, Meters};
 use client_core::{Job, Outcome};
 use cosem_axdr::Octets;
 use head_end::{
-    Attempt, Connector, Jobs, Report, Row, Watcher, jobs_may_be_cut, places_for, repeat_password,
-    report, reports_stand_end_to_end, run_campaign, run_job, run_watched_campaign,
+    Attempt, Connector, Jobs, Report, Row, Watcher, jobs_may_be_cut, places_for, read_jobs,
+    repeat_password, report, reports_stand_end_to_end, run_campaign, run_job, run_watched_campaign,
 };
 use std::alloc::{AllocError, Global};
 use std::sync::atomic::{AtomicU64, Ordering};
@@ -20,8 +20,8 @@ use std::thread::Threads;
 // The expected report of the three jobs.
 const REPORT: &[u8] = b"m1 done 0\nm2 rejected 13\nm3 unknown\n";
 
-/// The two meters, and a name at whose address there is none.
-const THREE: &[&[u8]] = &[b"m1", b"m2", b"m3"];
+/// Jobs at the two meters, and one at an address where there is none.
+const THREE: &[u8] = b"m1 m1 disconnect\nm2 m2 disconnect\nm3 m3 disconnect\n";
 
 /// Returns whether this is the text of a report.
 fn is_report(alloc: Global, lines: &Report, text: &[u8]) -> Result<bool, AllocError> {
@@ -67,7 +67,7 @@ fn is_put_back(alloc: Global, report: Report) -> Result<bool, AllocError> {
 
 #[test]
 fn a_report_has_a_line_for_each_job(rt: HostRuntime) -> Result<(), Fail> {
-    let jobs = jobs_named(rt.alloc(), THREE)?;
+    let jobs = read_jobs(rt.alloc(), THREE)?;
     let lines = lines_of(&rt, rt.alloc(), &jobs);
     drop(jobs);
     assert!(rt; is_put_back(rt.alloc(), lines?) == Ok(true));
@@ -170,7 +170,7 @@ fn a_watcher_is_told_of_each_job(rt: HostRuntime) -> Result<(), Fail> {
     let tally = Tally {
         told: AtomicU64::new(0),
     };
-    let jobs = jobs_named(rt.alloc(), THREE)?;
+    let jobs = read_jobs(rt.alloc(), THREE)?;
     let lines = lines_with(&rt, rt.alloc(), &jobs, &tally);
     drop(jobs);
     let has_three = match &lines {

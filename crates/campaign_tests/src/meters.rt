@@ -4,9 +4,7 @@ ghost use Rattle.acse_ber.specs.Password.{IsPassword};
 
 use client_core::{Job, Verb};
 use cosem_axdr::Octets;
-use head_end::Jobs;
 use std::alloc::{AllocError, Global};
-use wire_bytes::Listed;
 
 /// The bytes of a meter that accepts the association and does what is requested. Its AARE has
 /// 51 bytes, with its frame.
@@ -43,27 +41,6 @@ pub(crate) fn job(alloc: Global, name: &[u8], address: &[u8]) -> Result<Job, All
         address: Octets::from_slice(alloc, address)?,
         verb: Verb::Disconnect,
     })
-}
-
-/// Appends a disconnect job of each name, at the address of the same name.
-fn add_jobs(alloc: Global, names: &[&[u8]], jobs: &mut Listed<Job>) -> Result<(), AllocError> {
-    for name in names {
-        let job = job(alloc, name, name)?;
-        jobs.push(job)?;
-    }
-    Ok(())
-}
-
-/// Returns disconnect jobs with these names, each at the address of its name.
-pub(crate) fn jobs_named(alloc: Global, names: &[&[u8]]) -> Result<Jobs, AllocError> {
-    let mut jobs = Listed::new(alloc);
-    match add_jobs(alloc, names, &mut jobs) {
-        Ok(()) => Jobs::try_from(jobs).map_err(|_| AllocError),
-        Err(error) => {
-            drop(jobs);
-            Err(error)
-        }
-    }
 }
 
 /// Returns the password 12345678.

@@ -1,10 +1,7 @@
 //! Passwords of jobs, by their names. tests/command_lines.py plays lists with wrong lines, and jobs
 //! without a password.
-ghost use Rattle.acse_ber.specs.Password.{IsPassword};
-
-use crate::meters::jobs_named;
 use cosem_axdr::Octets;
-use head_end::{PasswordsFault, passwords_for};
+use head_end::{PasswordsFault, passwords_for, read_jobs};
 use std::alloc::Global;
 
 /// Lists of passwords, and the password of the job m1 with the common password 12345678.
@@ -23,7 +20,9 @@ fn are_both(passwords: &[Octets], first: &[u8]) -> bool {
 
 /// Returns whether the job m1 has this password by a list, and the job m2 has 22222222.
 fn has_password(alloc: Global, list: &[u8], first: &[u8]) -> Result<bool, PasswordsFault> {
-    let jobs = jobs_named(alloc, &[b"m1", b"m2"])?;
+    let Ok(jobs) = read_jobs(alloc, b"m1 a state\nm2 b state\n") else {
+        return Err(PasswordsFault::Memory);
+    };
     let passwords = passwords_for(alloc, jobs.as_slice(), list, Some(b"12345678"));
     drop(jobs);
     let passwords = passwords?;
