@@ -23,6 +23,7 @@ RELEASE = bytes.fromhex("00010001000100056203800100")
 
 OPENED = AARE + "001C1904000007"  # conformance: get, set and action
 WITHOUT_SERVICE = AARE + "00000804000007"  # conformance: only set
+WITHOUT_GET = AARE + "001E0104000007"  # conformance: action, and neither get nor set
 
 
 def frame_of(payload, source=1, destination=1):
@@ -272,6 +273,27 @@ def says_an_unknown_state(talk):
     talk.send(answer_to(talk.open(), state="03").replace("C701C1", "C701C2"))  # the response to another invocation of the action
 
 
+def refuses_without_parameters(talk):
+    """Refuses without the byte for return parameters, byte by byte."""
+    request = talk.open()
+    for byte in frame_of("C401C10103" if request == REQUESTS["state"] else "C701C102"):
+        talk.send_bytes(bytes([byte]))
+
+
+def answers_another_request(talk):
+    """Answers an action as a read of the state, and a read as an action."""
+    talk.send("C701C10000" if talk.open() == REQUESTS["state"] else "C401C1001602")
+
+
+def opens_without_get(talk):
+    talk.send(answer_to(talk.open(WITHOUT_GET)))
+
+
+def says_another_version(talk):
+    talk.open()
+    talk.send_bytes(bytes.fromhex("0002000100010000"))
+
+
 def says_an_exception(talk):
     talk.open()
     talk.send("D80101")
@@ -303,6 +325,10 @@ SCRIPTS = [
     (opens_without_the_service, ("rejected 0",) * 3, (1,)),
     (refuses, ("refused 250", "refused 250", "refused 12"), (3,)),
     (says_an_unknown_state, UNKNOWN, (2,)),
+    (refuses_without_parameters, ("refused 2", "refused 2", "refused 3"), (3,)),
+    (answers_another_request, UNKNOWN, (2,)),
+    (opens_without_get, ("done 0", "done 0", "rejected 0"), (1, 3)),
+    (says_another_version, UNKNOWN, (2,)),
     (says_an_exception, UNKNOWN, (2,)),
 ]
 

@@ -2,21 +2,20 @@
 ghost use Rattle.std.specs.Prelude.{◌≤◌, length, Some};
 ghost use Rattle.head_end.specs.Connections.{Forecast, ended};
 
-use crate::meters::{DONE, OPENED, REFUSED, REJECTED};
+use crate::meters::{DONE, REJECTED};
 use cosem_axdr::Octets;
 use counted_io::StreamFault;
 use head_end::{ConnectFault, Connection, Connector};
 
-/// Returns its bytes in pieces, and then ends. What is written is dropped.
+/// Returns its bytes in pieces of 7, and then ends. What is written is dropped.
 #[derive(Drop)]
 pub(crate) struct Script {
     bytes: &'static [u8],
-    piece: usize,
 }
 
 impl Connection for Script {
     fn read(&mut self, buffer: &mut [u8]) -> Result<usize, StreamFault> {
-        let count = self.bytes.len().min(buffer.len()).min(self.piece);
+        let count = self.bytes.len().min(buffer.len()).min(7);
         buffer[..count].copy_from_slice(&self.bytes[..count]);
         self.bytes = &self.bytes[count..];
         Ok(count)
@@ -27,21 +26,16 @@ impl Connection for Script {
     }
 }
 
-/// Four meters, m1 to m4, whose bytes arrive in pieces.
+/// Two meters, m1 and m2.
 #[derive(Drop)]
-pub(crate) struct Meters {
-    pub(crate) piece: usize,
-}
+pub(crate) struct Meters;
 
 impl Connector for Meters {
     type Connection = Script;
 
     fn connect(&self, address: &Octets) -> Result<Script, ConnectFault> {
         let bytes = bytes_of(address.as_slice()).ok_or(ConnectFault)?;
-        Ok(Script {
-            bytes,
-            piece: self.piece,
-        })
+        Ok(Script { bytes })
     }
 }
 
@@ -51,10 +45,6 @@ fn bytes_of(address: &[u8]) -> Option<&'static [u8]> {
         Some(&DONE)
     } else if address == b"m2".as_slice() {
         Some(&REJECTED)
-    } else if address == b"m3".as_slice() {
-        Some(&OPENED)
-    } else if address == b"m4".as_slice() {
-        Some(&REFUSED)
     } else {
         None
     }

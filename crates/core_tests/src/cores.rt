@@ -30,10 +30,10 @@ const OVER_1: &[u8] = b"\x02\x02\x02\x02\x09\x06\x00\x00\x0A\x00\x6A\xFF\x12\x00
     \x02\x02\x09\x06\x00\x00\x0A\x00\x6A\xFF\x12\x00\x00";
 
 /// An attribute by its class, its object's name and its number.
-type Place = (u16, Obis, u8);
+pub(crate) type Place = (u16, Obis, u8);
 
-// The attribute control_mode of the disconnect control.
-const MODE: Place = (70, DISCONNECT_CONTROL, 4);
+/// The attribute control_mode of the disconnect control.
+pub(crate) const MODE: Place = (70, DISCONNECT_CONTROL, 4);
 
 // The attribute scripts of the script table.
 const SCRIPTS: Place = (9, SCRIPT_TABLE, 2);
@@ -64,7 +64,7 @@ fn data(alloc: Global, bytes: &[u8]) -> Result<Data, AllocError> {
 }
 
 /// Returns a management client's write of a value.
-fn set(place: Place, value: Data) -> Event {
+pub(crate) fn set(place: Place, value: Data) -> Event {
     Event::Set {
         level: Level::Management,
         attr: attribute_at(place),
@@ -79,7 +79,7 @@ fn write_event(alloc: Global, place: Place, bytes: &[u8]) -> Result<Event, Alloc
 }
 
 /// Returns a management client's execution of a method of the switch, without a parameter.
-fn execute(number: u8) -> Event {
+pub(crate) fn execute(number: u8) -> Event {
     Event::Execute {
         level: Level::Management,
         method: MethodRef {
@@ -92,7 +92,7 @@ fn execute(number: u8) -> Event {
 }
 
 /// Returns the code of a reply, or 255 if it has none.
-fn code(reply: &Reply) -> u8 {
+pub(crate) fn code(reply: &Reply) -> u8 {
     match reply {
         Reply::Code(code) => code.code(),
         _ => 255,
@@ -100,24 +100,13 @@ fn code(reply: &Reply) -> u8 {
 }
 
 /// Applies an event to a core and returns the code of the reply.
-fn code_of(core: &mut RelayCore, alloc: Global, event: &Event) -> Result<u8, AllocError> {
-    let reply = core.step(alloc, event)?;
+fn code_of(core: &mut RelayCore, alloc: Global, event: Event) -> Result<u8, AllocError> {
+    let reply = core.step(alloc, &event);
+    drop(event);
+    let reply = reply?;
     let told = code(&reply);
     drop(reply);
     Ok(told)
-}
-
-/// Returns whether a core's reply to a write of encoded Data is Success.
-fn is_write_accepted(
-    core: &mut RelayCore,
-    alloc: Global,
-    place: Place,
-    bytes: &[u8],
-) -> Result<bool, AllocError> {
-    let event = write_event(alloc, place, bytes)?;
-    let told = code_of(core, alloc, &event);
-    drop(event);
-    Ok(told? == 0)
 }
 
 /// Returns whether a core's replies to all these writes are Success.
@@ -127,7 +116,8 @@ fn takes_all(
     writes: &[(Place, &[u8])],
 ) -> Result<bool, AllocError> {
     for (place, bytes) in writes {
-        if !is_write_accepted(core, alloc, *place, bytes)? {
+        let event = write_event(alloc, *place, bytes)?;
+        if code_of(core, alloc, event)? != 0 {
             return Ok(false);
         }
     }
@@ -145,8 +135,6 @@ enum Scenario {
     WritingDown,
     /// A run in mode 1.
     Running,
-    /// A list is read.
-    ListReading,
     /// Lists of each length are read.
     LongListReading,
     /// Blocks of samples fire, each scanned at this threshold if there is one.
@@ -160,7 +148,6 @@ fn does(core: &mut RelayCore, alloc: Global, scenario: Scenario) -> Result<bool,
         Scenario::ReturningLists => advance::returns_lists(core, alloc),
         Scenario::WritingDown => opening::is_told(core, alloc),
         Scenario::Running => running::runs_in_mode_1(core, alloc),
-        Scenario::ListReading => running::reads_a_list(core, alloc),
         Scenario::LongListReading => sizes::reads_each_list(core, alloc),
         Scenario::Firing(plan, scan) => scan::fires_with(core, alloc, plan, scan),
     }

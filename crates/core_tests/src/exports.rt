@@ -1,30 +1,17 @@
 //! A recorder's export, played again, gives the recorder's replies.
-use crate::recorders::{Scenario, code, code_of, disconnect, with_recorder, write_mode_1};
-use cosem_names::{ClassId, Level, MethodRef, Obis};
+use crate::cores::{MODE, code, execute, set};
+use crate::recorders::{Scenario, code_of, is_done};
+use cosem_axdr::Data;
 use relay_core::{Event, Events, Line, RelayCore, run};
 use relay_recorder::{Recorder, Trace};
 use std::alloc::{AllocError, Global};
-use std::process::Abort;
-
-/// Returns a management client's reconnection.
-fn reconnect() -> Event {
-    Event::Execute {
-        level: Level::Management,
-        method: MethodRef {
-            class: ClassId(70),
-            name: Obis([0, 0, 96, 3, 10, 255]),
-            number: 2,
-        },
-        parameter: None,
-    }
-}
 
 /// Returns event number `i`; the five kinds take turns.
 fn event_at(i: u32) -> Event {
     match i % 5 {
-        0 => write_mode_1(),
-        1 => disconnect(),
-        2 => reconnect(),
+        0 => set(MODE, Data::Enum(1)),
+        1 => execute(1),
+        2 => execute(2),
         3 => Event::Button,
         _ => Event::Moment(i),
     }
@@ -99,51 +86,26 @@ fn plays_to(alloc: Global, recorder: &Recorder, codes: &[u8]) -> Result<bool, Al
     plays
 }
 
-/// Applies `count` events to a recorder, and checks that its export plays to its replies.
+/// Applies `count` events to a recorder, and returns whether its export plays to its replies.
 pub(crate) fn plays_again(
-    rt: &impl Abort,
     recorder: &mut Recorder,
     alloc: Global,
     count: u32,
-) -> Result<(), AllocError> {
+) -> Result<bool, AllocError> {
     let mut codes = Vec::new(alloc);
     take_events(recorder, alloc, count, &mut codes)?;
-    assert!(rt; plays_to(alloc, recorder, codes.as_slice())?);
-    Ok(())
+    let plays = plays_to(alloc, recorder, codes.as_slice());
+    drop(codes);
+    plays
 }
 
-#[test]
-fn an_export_of_one_event_plays_again(rt: HostRuntime) {
-    assert!(rt;
-        matches!(
-            with_recorder(&rt, rt.alloc(), 1, Scenario::Export { count: 4 }),
-            Ok(())
-        )
-    );
-}
+/// Capacities of recorders, and how many events each takes before its export is played.
+static EXPORTS: [(u16, u32); 4] = [(1, 4), (7, 3), (7, 24), (1024, 3077)];
 
 #[test]
-fn an_export_of_1024_events_plays_again(rt: HostRuntime) {
-    assert!(rt;
-        matches!(
-            with_recorder(&rt, rt.alloc(), 1024, Scenario::Export { count: 3077 }),
-            Ok(())
-        )
-    );
-}
-
-#[test]
-fn an_export_of_a_part_plays_again(rt: HostRuntime) {
-    assert!(rt;
-        matches!(
-            with_recorder(&rt, rt.alloc(), 7, Scenario::Export { count: 24 }),
-            Ok(())
-        )
-    );
-    assert!(rt;
-        matches!(
-            with_recorder(&rt, rt.alloc(), 7, Scenario::Export { count: 3 }),
-            Ok(())
-        )
-    );
+fn an_export_plays_again(rt: HostRuntime) {
+    for (capacity, count) in &EXPORTS {
+        let played = is_done(rt.alloc(), *capacity, Scenario::Export { count: *count });
+        assert!(rt; played == Ok(true), "{count} events");
+    }
 }

@@ -15,34 +15,21 @@ fn steps_of(parts: &Parts, identifier: u16) -> Option<u8> {
     }
 }
 
-/// Returns whether script 3 in the parts of the event has two steps, and there is no script 1.
-fn moves_script_3(alloc: Global, event: &Event) -> Result<bool, AllocError> {
-    let parts = RelayCore::parts(alloc, event)?;
+// Returns whether the parts of a write of `scripts` are script 3 with its two steps, and no script
+// 1.
+fn is_moved(alloc: Global) -> Result<bool, AllocError> {
+    let event = write_event(alloc, SCRIPTS, MODE_0_AND_DISCONNECT)?;
+    let parts = RelayCore::parts(alloc, &event);
+    drop(event);
+    let parts = parts?;
     let moves = steps_of(&parts, 3) == Some(2) && steps_of(&parts, 1) == None;
     drop(parts);
     Ok(moves)
 }
 
-// Returns whether the parts of a write of `scripts` are script 3 with its two steps.
-fn is_moved(alloc: Global) -> Result<bool, AllocError> {
-    let event = write_event(alloc, SCRIPTS, MODE_0_AND_DISCONNECT)?;
-    let moves = moves_script_3(alloc, &event);
-    drop(event);
-    moves
-}
-
-// Returns whether an event has no parts that are decoded before it is applied.
-fn is_plain(alloc: Global, event: &Event) -> Result<bool, AllocError> {
-    let parts = RelayCore::parts(alloc, event)?;
-    let plain = matches!(&parts, Parts::Plain);
-    drop(parts);
-    Ok(plain)
-}
-
 #[test]
 fn written_scripts_are_moved_in(rt: HostRuntime) {
-    assert!(rt; matches!(is_moved(rt.alloc()), Ok(true)));
-    assert!(rt; matches!(is_plain(rt.alloc(), &Event::Button), Ok(true)));
+    assert!(rt; is_moved(rt.alloc()) == Ok(true));
 }
 
 /// Applies an event whose parts are decoded before, without a reply.
@@ -53,26 +40,13 @@ fn advance_apart(core: &mut RelayCore, alloc: Global, event: &Event) -> Result<(
 }
 
 // Applies a copy of an event whose parts are decoded before, without a reply.
-fn advance(core: &mut RelayCore, alloc: Global, event: &Event) -> Result<(), AllocError> {
-    let copy = event.try_copy(alloc)?;
+fn advance(core: &mut RelayCore, alloc: Global, event: Event) -> Result<(), AllocError> {
+    let copy = event.try_copy(alloc);
+    drop(event);
+    let copy = copy?;
     let taken = advance_apart(core, alloc, &copy);
     drop(copy);
     taken
-}
-
-// Advances the core by a write of control_mode with these bytes.
-fn advance_write(core: &mut RelayCore, alloc: Global, bytes: &[u8]) -> Result<(), AllocError> {
-    let event = write_event(alloc, MODE, bytes)?;
-    let taken = advance(core, alloc, &event);
-    drop(event);
-    taken
-}
-
-/// Sets mode 1, applies a moment and disconnects the supply.
-fn advance_to_disconnected(core: &mut RelayCore, alloc: Global) -> Result<(), AllocError> {
-    advance_write(core, alloc, &[0x16, 1])?;
-    advance(core, alloc, &Event::Moment(5))?;
-    advance(core, alloc, &execute(1))
 }
 
 // Returns whether the switch is Disconnected in mode 1 at second 5.
@@ -91,9 +65,11 @@ fn is_copied(core: &RelayCore, alloc: Global) -> Result<bool, AllocError> {
     Ok(same)
 }
 
-/// Returns whether a core is disconnected by events without replies, and so is its copy.
+/// Returns whether a core is disconnected in mode 1 by events without replies, and so is its copy.
 pub(super) fn advances(core: &mut RelayCore, alloc: Global) -> Result<bool, AllocError> {
-    advance_to_disconnected(core, alloc)?;
+    advance(core, alloc, set(MODE, Data::Enum(1)))?;
+    advance(core, alloc, Event::Moment(5))?;
+    advance(core, alloc, execute(1))?;
     Ok(is_disconnected(core) && is_copied(core, alloc)?)
 }
 

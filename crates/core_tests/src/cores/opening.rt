@@ -14,21 +14,13 @@ const SETTINGS: &[(Place, &[u8])] = &[
     ((71, EXPORT_LIMITER, 9), b"\x01\x01\x12\x00\x07"),
 ];
 
-/// Returns a block of three pairs of 5001 W and 9001 W.
-fn three_pairs(alloc: Global) -> Result<Event, AllocError> {
-    match Block::from_pairs(alloc, &[5001; 3], &[9001; 3]) {
-        Ok(pairs) => Ok(Event::Samples(pairs)),
-        Err(_) => Err(AllocError),
-    }
-}
-
 /// Applies moment 50, and then three pairs of 5001 W and 9001 W.
 fn pass(core: &mut RelayCore, alloc: Global) -> Result<(), AllocError> {
-    let _ran = code_of(core, alloc, &Event::Moment(50))?;
-    let sampled = three_pairs(alloc)?;
-    let told = code_of(core, alloc, &sampled);
-    drop(sampled);
-    let _told = told?;
+    let _ran = code_of(core, alloc, Event::Moment(50))?;
+    let Ok(pairs) = Block::from_pairs(alloc, &[5001; 3], &[9001; 3]) else {
+        return Err(AllocError);
+    };
+    let _sampled = code_of(core, alloc, Event::Samples(pairs))?;
     Ok(())
 }
 
@@ -59,24 +51,23 @@ fn is_set(opening: &Opening) -> bool {
         && opening.export.settings.groups.as_slice() == [7].as_slice()
 }
 
-// Returns whether the saved state of a core is the expected one.
+// Returns whether a core has the last samples, and its saved state is the expected one.
 fn tells(core: &RelayCore, alloc: Global) -> Result<bool, AllocError> {
     let opening = core.to_opening(alloc)?;
     let told = is_set(&opening);
     drop(opening);
-    Ok(told)
+    let has_samples = core.value() == 5001 && core.value_of(Which::Export) == 9001;
+    Ok(told && has_samples && core.threshold_of(Which::Export) == 9000)
 }
 
-/// Returns whether a core has these last samples, and saves them.
-fn is_the_same(core: &RelayCore, alloc: Global) -> Result<bool, AllocError> {
-    Ok(core.value() == 5001 && core.value_of(Which::Export) == 9001 && tells(core, alloc)?)
-}
-
-/// Returns whether a core restored from an opening is the same.
-fn is_opened_again(alloc: Global, opening: &Opening) -> Result<bool, AllocError> {
-    match RelayCore::from_opening(alloc, opening) {
+// Returns whether a core that is restored from the saved state has the same values.
+fn is_opened_again(core: &RelayCore, alloc: Global) -> Result<bool, AllocError> {
+    let opening = core.to_opening(alloc)?;
+    let opened = RelayCore::from_opening(alloc, &opening);
+    drop(opening);
+    match opened {
         Ok(core) => {
-            let same = is_the_same(&core, alloc);
+            let same = tells(&core, alloc);
             drop(core);
             same
         }
@@ -84,24 +75,11 @@ fn is_opened_again(alloc: Global, opening: &Opening) -> Result<bool, AllocError>
     }
 }
 
-// Returns whether a core that is restored from the saved state has the same values.
-fn is_written_down(core: &RelayCore, alloc: Global) -> Result<bool, AllocError> {
-    let opening = core.to_opening(alloc)?;
-    let opened = is_opened_again(alloc, &opening);
-    drop(opening);
-    opened
-}
-
 // Returns whether a core takes the settings, saves the expected state and is restored from it.
 pub(super) fn is_told(core: &mut RelayCore, alloc: Global) -> Result<bool, AllocError> {
     let taken = takes_all(core, alloc, SETTINGS)?;
     pass(core, alloc)?;
-    Ok(
-        taken
-            && core.threshold_of(Which::Export) == 9000
-            && tells(core, alloc)?
-            && is_written_down(core, alloc)?,
-    )
+    Ok(taken && tells(core, alloc)? && is_opened_again(core, alloc)?)
 }
 
 #[test]

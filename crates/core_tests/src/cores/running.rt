@@ -1,7 +1,5 @@
-//! Runs of events: each line has the reply and the switch after it, and a list is read in one step.
+//! Runs of events: each line has the reply and the switch after it.
 use super::*;
-use cosem_names::{AttributeSelection, GetResult, ResultCode};
-use wire_bytes::Listed;
 
 /// Appends an event.
 fn push(events: &mut Events, event: Event) -> Result<(), AllocError> {
@@ -75,55 +73,4 @@ pub(super) fn runs_in_mode_1(core: &mut RelayCore, alloc: Global) -> Result<bool
 #[test]
 fn a_run_in_mode_1_has_the_lines_of_the_tables(rt: HostRuntime) {
     assert!(rt; matches!(is_done(rt.alloc(), Scenario::Running), Ok(true)));
-}
-
-/// Returns a read of the state of the switch and of an unknown object, in one list.
-fn state_and_unknown(alloc: Global) -> Result<Event, AllocError> {
-    let mut items = Listed::new(alloc);
-    for name in [DISCONNECT_CONTROL, Obis([0, 0, 96, 3, 11, 255])] {
-        items.push(AttributeSelection {
-            attr: attribute_at((70, name, 3)),
-            selected: false,
-        })?;
-    }
-    Ok(Event::GetList {
-        level: Level::Public,
-        items,
-    })
-}
-
-/// Returns whether a reply is a list of the state Connected and the refusal of an unknown object.
-fn is_state_and_unknown(reply: &Reply) -> bool {
-    let Reply::Values(results) = reply else {
-        return false;
-    };
-    match results.as_slice() {
-        [
-            GetResult::Value(Data::Enum(1)),
-            GetResult::Code(ResultCode::ObjectUndefined),
-        ] => true,
-        _ => false,
-    }
-}
-
-// Returns whether a core replies to an event with the state Connected and the refusal of an unknown
-// object.
-fn replies_to(core: &mut RelayCore, alloc: Global, event: &Event) -> Result<bool, AllocError> {
-    let reply = core.step(alloc, event)?;
-    let so = is_state_and_unknown(&reply);
-    drop(reply);
-    Ok(so)
-}
-
-// Returns whether a GET of a list is answered with the state and the refusal of an unknown object.
-pub(super) fn reads_a_list(core: &mut RelayCore, alloc: Global) -> Result<bool, AllocError> {
-    let event = state_and_unknown(alloc)?;
-    let read = replies_to(core, alloc, &event);
-    drop(event);
-    read
-}
-
-#[test]
-fn a_list_is_read_at_one_moment(rt: HostRuntime) {
-    assert!(rt; matches!(is_done(rt.alloc(), Scenario::ListReading), Ok(true)));
 }

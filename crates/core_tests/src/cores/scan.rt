@@ -1,7 +1,6 @@
 //! Samples fire alike with no scan and with scans at other thresholds.
-
 use super::*;
-use lane_sampler::{Scan, Scans, classify};
+use cosem_names::Which;
 
 /// Stretches of equal import values, as lengths and values, and how often each side of the import
 /// limiter fires over them.
@@ -12,14 +11,12 @@ struct Samples {
 }
 
 /// The settings written to a new core, the blocks that it takes, and its state after them: the
-/// state of the switch, the active threshold of the import limiter, and the length of its run under
-/// that threshold.
+/// state of the switch, and the active threshold of the import limiter.
 pub(super) struct Firing {
     settings: &'static [(Place, &'static [u8])],
     blocks: &'static [Samples],
     state: u8,
     threshold: u32,
-    under_run: u64,
 }
 
 /// Script 1: writes 9000 W to threshold_normal of the import limiter.
@@ -37,42 +34,13 @@ const DISCONNECT_AND_RECONNECT: &[u8] = b"\x01\x02\
 const OVER_1_UNDER_2: &[u8] = b"\x02\x02\x02\x02\x09\x06\x00\x00\x0A\x00\x6A\xFF\x12\x00\x01\
     \x02\x02\x09\x06\x00\x00\x0A\x00\x6A\xFF\x12\x00\x02";
 
-/// 5000 W.
-const W5000: &[u8] = b"\x06\x00\x00\x13\x88";
-
-/// Four seconds over 5000 W raise the threshold to 9000 W; five seconds under it count. The upper
-/// side fires at the 37th of the 256 samples, and 219 are under the new threshold.
+/// Four seconds over 5000 W raise the threshold to 9000 W; 25 seconds under it count. The upper
+/// side fires at the 37th of the 256 samples: 219 are under the new threshold, 30 more are too few,
+/// and one more makes 250.
 static RAISES: Firing = Firing {
     settings: &[
         (SCRIPTS, RAISE_IMPORT),
-        ((71, IMPORT_LIMITER, 4), W5000),
-        ((71, IMPORT_LIMITER, 6), b"\x06\x00\x00\x00\x04"),
-        ((71, IMPORT_LIMITER, 7), b"\x06\x00\x00\x00\x05"),
-        ((71, IMPORT_LIMITER, 11), OVER_1),
-    ],
-    blocks: &[
-        Samples {
-            stretches: &[(3, 6000)],
-            over: 0,
-            under: 0,
-        },
-        Samples {
-            stretches: &[(256, 6000)],
-            over: 1,
-            under: 1,
-        },
-    ],
-    state: 1,
-    threshold: 9000,
-    under_run: 219,
-};
-
-/// Four seconds over 5000 W raise the threshold, and 25 seconds under it count: 219 samples are too
-/// few, and 31 more are 250.
-static RAISES_FOR_LONGER: Firing = Firing {
-    settings: &[
-        (SCRIPTS, RAISE_IMPORT),
-        ((71, IMPORT_LIMITER, 4), W5000),
+        ((71, IMPORT_LIMITER, 4), b"\x06\x00\x00\x13\x88"),
         ((71, IMPORT_LIMITER, 6), b"\x06\x00\x00\x00\x04"),
         ((71, IMPORT_LIMITER, 7), b"\x06\x00\x00\x00\x19"),
         ((71, IMPORT_LIMITER, 11), OVER_1),
@@ -89,14 +57,18 @@ static RAISES_FOR_LONGER: Firing = Firing {
             under: 0,
         },
         Samples {
-            stretches: &[(31, 6000)],
+            stretches: &[(30, 6000)],
+            over: 0,
+            under: 0,
+        },
+        Samples {
+            stretches: &[(1, 6000)],
             over: 0,
             under: 1,
         },
     ],
     state: 1,
     threshold: 9000,
-    under_run: 250,
 };
 
 /// Mode 5: a second over 5000 W disconnects, a second under it reconnects. The upper side fires at
@@ -106,7 +78,7 @@ static SWITCHES: Firing = Firing {
     settings: &[
         (SCRIPTS, DISCONNECT_AND_RECONNECT),
         (MODE, &[0x16, 5]),
-        ((71, IMPORT_LIMITER, 4), W5000),
+        ((71, IMPORT_LIMITER, 4), b"\x06\x00\x00\x13\x88"),
         ((71, IMPORT_LIMITER, 6), b"\x06\x00\x00\x00\x01"),
         ((71, IMPORT_LIMITER, 7), b"\x06\x00\x00\x00\x01"),
         ((71, IMPORT_LIMITER, 11), OVER_1_UNDER_2),
@@ -118,7 +90,6 @@ static SWITCHES: Firing = Firing {
     }],
     state: 1,
     threshold: 5000,
-    under_run: 10,
 };
 
 /// Returns the values of stretches, in order.
@@ -155,56 +126,6 @@ fn block_of(
     }
 }
 
-/// Returns the scan of values at a threshold, or `None` if there are more values than fit in a
-/// block.
-fn scans_of(values: &[u32], threshold: u32) -> Option<Scans> {
-    if values.len() > 256 {
-        return None;
-    }
-    Some(Scans {
-        import: Scan {
-            threshold,
-            masks: classify(values, threshold),
-        },
-        export: None,
-    })
-}
-
-/// Returns whether these are the scans of the values at a threshold.
-fn are_scans(scans: &Scans, values: &[u32], threshold: u32) -> bool {
-    match scans_of(values, threshold) {
-        Some(expected) => *scans == expected,
-        None => false,
-    }
-}
-
-/// Returns whether a block has the scan at this threshold, or has none if there is no threshold.
-fn is_scanned(block: &Block, scan: Option<u32>) -> bool {
-    match scan {
-        Some(threshold) => match block.scanned() {
-            Some(scans) => are_scans(scans, block.values(), threshold),
-            None => false,
-        },
-        None => block.scanned().is_none(),
-    }
-}
-
-/// Returns whether a core that takes this event replies that each side fired this number of times.
-fn replies(
-    core: &mut RelayCore,
-    alloc: Global,
-    event: &Event,
-    fired: (u16, u16),
-) -> Result<bool, AllocError> {
-    let reply = core.step(alloc, event)?;
-    let is_so = match &reply {
-        Reply::Sampled { over, under } => (*over, *under) == fired,
-        _ => false,
-    };
-    drop(reply);
-    Ok(is_so)
-}
-
 /// Returns whether each side fires over these samples the expected number of times.
 fn fires(
     core: &mut RelayCore,
@@ -212,53 +133,16 @@ fn fires(
     samples: &Samples,
     scan: Option<u32>,
 ) -> Result<bool, AllocError> {
-    let block = block_of(alloc, samples.stretches, scan)?;
-    let is_scanned = is_scanned(&block, scan);
-    let event = Event::Samples(block);
-    let fired = replies(core, alloc, &event, (samples.over, samples.under));
+    let event = Event::Samples(block_of(alloc, samples.stretches, scan)?);
+    let reply = core.step(alloc, &event);
     drop(event);
-    Ok(fired? && is_scanned)
-}
-
-/// Returns whether each side fires over each of these blocks the expected number of times.
-fn fires_over_all(
-    core: &mut RelayCore,
-    alloc: Global,
-    blocks: &[Samples],
-    scan: Option<u32>,
-) -> Result<bool, AllocError> {
-    for samples in blocks {
-        if !fires(core, alloc, samples, scan)? {
-            return Ok(false);
-        }
-    }
-    Ok(true)
-}
-
-/// Returns whether threshold_active of the import limiter reads as this many watts.
-fn reads_threshold(core: &mut RelayCore, alloc: Global, watts: u32) -> Result<bool, AllocError> {
-    let event = Event::Get {
-        level: Level::Management,
-        attr: attribute_at((71, IMPORT_LIMITER, 3)),
-        selected: false,
-    };
-    let taken = core.step(alloc, &event);
-    drop(event);
-    let reply = taken?;
+    let reply = reply?;
     let is_so = match &reply {
-        Reply::Value(Data::DoubleLongUnsigned(read)) => *read == watts,
+        Reply::Sampled { over, under } => *over == samples.over && *under == samples.under,
         _ => false,
     };
     drop(reply);
     Ok(is_so)
-}
-
-/// Returns the length of the import limiter's run under its threshold.
-fn under_run(core: &RelayCore, alloc: Global) -> Result<u64, AllocError> {
-    let opening = core.to_opening(alloc)?;
-    let run = opening.import.under.run;
-    drop(opening);
-    Ok(run)
 }
 
 /// Returns whether a new core with the settings of a plan fires as planned, with each block scanned
@@ -269,32 +153,24 @@ pub(super) fn fires_with(
     plan: &Firing,
     scan: Option<u32>,
 ) -> Result<bool, AllocError> {
-    Ok(
-        takes_all(core, alloc, plan.settings)?
-            && fires_over_all(core, alloc, plan.blocks, scan)?
-            && u8::from(core.state()) == plan.state
-            && reads_threshold(core, alloc, plan.threshold)?
-            && under_run(core, alloc)? == plan.under_run,
-    )
+    if !takes_all(core, alloc, plan.settings)? {
+        return Ok(false);
+    }
+    for samples in plan.blocks {
+        if !fires(core, alloc, samples, scan)? {
+            return Ok(false);
+        }
+    }
+    Ok(u8::from(core.state()) == plan.state && core.threshold_of(Which::Import) == plan.threshold)
 }
 
-/// Returns whether a plan has its result without a scan, and with scans at 5000 and at 4000 W.
-fn goes_with_each_scan(alloc: Global, plan: &'static Firing) -> bool {
-    [None, Some(5000), Some(4000)].iter().all(|scan| is_done(alloc, Scenario::Firing(plan, *scan))
-        == Ok(true))
-}
-
-#[test]
-fn a_firing_raises_the_threshold_within_a_block(rt: HostRuntime) {
-    assert!(rt; goes_with_each_scan(rt.alloc(), &RAISES));
-}
+/// No scan, a scan at the threshold, and one at another.
+static SCANS: [Option<u32>; 3] = [None, Some(5000), Some(4000)];
 
 #[test]
-fn the_samples_after_a_firing_are_of_the_new_run(rt: HostRuntime) {
-    assert!(rt; goes_with_each_scan(rt.alloc(), &RAISES_FOR_LONGER));
-}
-
-#[test]
-fn a_block_cuts_and_restores_the_supply(rt: HostRuntime) {
-    assert!(rt; goes_with_each_scan(rt.alloc(), &SWITCHES));
+fn blocks_fire_alike_with_each_scan(rt: HostRuntime) {
+    for scan in &SCANS {
+        assert!(rt; is_done(rt.alloc(), Scenario::Firing(&RAISES, *scan)) == Ok(true));
+        assert!(rt; is_done(rt.alloc(), Scenario::Firing(&SWITCHES, *scan)) == Ok(true));
+    }
 }
