@@ -13,6 +13,7 @@ usage: tests/journal.py [--long] [--seed N]
 
 import argparse
 import collections
+import fcntl
 import os
 import pathlib
 import random
@@ -253,11 +254,49 @@ def a_wrong_journal_is_refused(name, folder):
         has_place = re.search(rf"^{re.escape(str(journal.path))}: line {at + 1}\b", made[2])
         check(f"{name}: {what}", is_fault(made, 2, "input") and has_place, made)
         check(f"{name}: {what}, unchanged", journal.path.read_bytes() == held)
-    for what, held in (("an empty file", b""), ("a trace of counted events", trace_of_a_run())):
+    for what, held, why in (
+            ("an empty file", b"", "line 1 "),
+            ("a trace of counted events", trace_of_a_run(), "expected a journal, ")):
         journal.path.write_bytes(held)
         made = start_on(journal.path)
-        check(f"{name}: {what}",
-              is_fault(made, 2, "input") and journal.path.read_bytes() == held, made)
+        has_reason = made[2].startswith(f"{journal.path}: {why}")
+        check(f"{name}: {what}", is_fault(made, 2, "input") and has_reason, made)
+        check(f"{name}: {what}, unchanged", journal.path.read_bytes() == held)
+
+
+# The journal of a new meter with the name METER7, written by hand as docs/TRACE.md has it.
+BEGUN = b"""RELAYTRACE 2
+device 4D4554455237
+state 1
+mode 0
+value 0
+now -
+normal 4294967295
+emergency 4294967295
+minover 0
+minunder 0
+profile 0 FFFFFFFFFFFFFFFFFF8000FF 0
+groups
+actions 0 0
+over 0 0
+under 0 0
+xvalue 0
+xnormal 4294967295
+xemergency 4294967295
+xminover 0
+xminunder 0
+xprofile 0 FFFFFFFFFFFFFFFFFF8000FF 0
+xgroups
+xactions 0 0
+xover 0 0
+xunder 0 0
+scripts 0100
+schedule 0 0 5 0100
+schedule 1 0 5 0100
+schedule 2 0 5 0100
+schedule 3 0 5 0100
+events -
+"""
 
 
 @in_folder
@@ -265,13 +304,16 @@ def another_meter_is_refused(name, folder):
     path = folder / "journal"
     for _ in range(2):
         server = start_server(path, "--device", "METER7")
+        check(f"{name}: the journal", path.read_bytes() == BEGUN, path.read_bytes())
         client = server.client()
         check(f"{name}: its own", client.get(DEVICE) == "value 0906" + b"METER7".hex().upper())
         client.close()
         check(f"{name}: end", server.end()[0] == 0)
     held = path.read_bytes()
     made = start_on(path, "--device", "METER8")
-    check(name, is_fault(made, 2, "input") and path.read_bytes() == held, made)
+    has_reason = made[2].startswith(f"{path}: the journal of a meter with another device name\n")
+    is_refused = is_fault(made, 2, "input") and has_reason
+    check(name, is_refused and path.read_bytes() == held, made)
 
 
 @in_folder
@@ -279,14 +321,34 @@ def one_server_has_a_journal(name, folder):
     journal = journal_with_events(folder / "journal")
     server = start_server(journal.path)
     made = start_on(journal.path)
-    check(f"{name}: a second server",
-          is_fault(made, 3, "write") and journal.path.read_bytes() == journal.text, made)
+    has_reason = f"{journal.path}: another server has this journal\n" in made[2]
+    check(f"{name}: a second server", is_fault(made, 3, "write") and has_reason, made)
+    check(f"{name}: a second server, unchanged", journal.path.read_bytes() == journal.text)
     client = server.client()
     check(f"{name}: the first serves", client.execute(RECONNECT) == "code 0")
     check(f"{name}: its line", len(journal.follow()) == 1)
     client.close()
     server.stop()
     check(f"{name}: once it was killed, another", end_of_a_run(journal))
+
+
+@in_folder
+def a_locked_file_is_refused(name, folder):
+    """A journal that another process has locked is not opened, and none is replaced through a draft
+    that another has locked. A draft that a crash has left is replaced."""
+    journal = journal_with_events(folder / "journal")
+    held, draft = journal.text + LINE * 300, folder / "journal.new"
+    journal.path.write_bytes(held)
+    draft.write_bytes(b"left by a crash\n")
+    for path in (journal.path, draft):
+        with open(path, "rb+") as file:
+            fcntl.flock(file, fcntl.LOCK_EX)
+            made = start_on(journal.path, "--journal-limit", "4096")
+        check(f"{name}: {path.name}", is_fault(made, 3, "write"), made)
+        check(f"{name}: {path.name}, unchanged", journal.path.read_bytes() == held)
+    status = start_server(journal.path, limit=4096).end()[0]
+    check(f"{name}: then it is renewed",
+          status == 0 and journal.path.read_bytes() != held and not draft.exists(), status)
 
 
 @in_folder
@@ -341,6 +403,21 @@ def a_long_journal_is_renewed_at_a_start(name, folder):
           (folder / "journal.1").read_bytes() == journal.text + LINE * 300)
     client.close()
     check(f"{name}: end", server.end()[0] == 0)
+
+
+@in_folder
+def the_last_journals_are_kept(name, folder):
+    """Each of three starts renews a long journal: the two last ones before it are kept, in order."""
+    journal, held = journal_with_events(folder / "journal"), []
+    for turn in range(3):
+        with open(journal.path, "ab") as file:
+            file.write(LINE * (300 + turn))
+        held.append(journal.path.read_bytes())
+        server = start_server(journal.path, "--depth", "1", "--keep-journals", "2", limit=4096)
+        check(f"{name}: end {turn}", server.end()[0] == 0)
+    kept = [(folder / f"journal.{number}").read_bytes() for number in (1, 2)]
+    check(f"{name}: in order", kept == [held[2], held[1]])
+    check(f"{name}: no more", not (folder / "journal.3").exists())
 
 
 def trace_of_a_run():
@@ -635,8 +712,9 @@ def a_short_or_interrupted_call_changes_nothing(name):
 
 TESTS = (a_journal_changes_no_answer, an_answer_has_its_line, a_torn_end_is_cut,
          a_wrong_journal_is_refused, another_meter_is_refused, one_server_has_a_journal,
-         a_journal_needs_its_folder, a_journal_begins_from_a_trace, a_journal_is_renewed,
-         a_long_journal_is_renewed_at_a_start, a_start_may_be_killed,
+         a_locked_file_is_refused, a_journal_needs_its_folder, a_journal_begins_from_a_trace,
+         a_journal_is_renewed, a_long_journal_is_renewed_at_a_start, the_last_journals_are_kept,
+         a_start_may_be_killed,
          killed_servers_lose_no_answer, a_full_disk_ends_the_server,
          a_failed_sync_is_never_answered, a_failed_read_or_write_loses_no_answer,
          a_short_or_interrupted_call_changes_nothing)

@@ -4,35 +4,91 @@ use durable_lines::{
     ByteFate, DurableFile, FileFault, LockFault, MemoryFile, StoredFile, append_lines, is_text,
     recover,
 };
-use std::alloc::Global;
+use std::alloc::{AllocError, Global};
 use std::fs::File;
 use std::test::Fail;
 use std::{fs, io};
 
-// Returns a file with these lines, to which a text was appended.
-fn file_with(alloc: Global, lines: &[u8], text: &[u8]) -> Result<MemoryFile, FileFault> {
-    let mut file = MemoryFile::new(alloc, lines.to_vec(alloc)?);
-    recover(alloc, &mut file)?;
+// Returns whether a recovery finds this text in a file and cuts this number of bytes after it.
+fn has_text<F: DurableFile>(alloc: Global, file: &mut F, text: &[u8], cut: usize) -> bool {
+    match recover(alloc, file) {
+        Ok(found) => {
+            let is_so = found.text.as_slice() == text && found.cut == cut;
+            drop(found);
+            is_so
+        }
+        Err(_) => false,
+    }
+}
+
+// Recovers a file, and appends a text to it.
+fn append<F: DurableFile>(alloc: Global, file: &mut F, text: &[u8]) -> Result<(), FileFault> {
     if !is_text(text) {
         return Err(FileFault::TooLong);
     }
-    append_lines(&mut file, text)?;
-    Ok(file)
+    recover(alloc, file)?;
+    append_lines(file, text)
 }
 
 // Returns whether a file with these bytes has this text, is cut to it, and stays so.
-fn is_recovered_as(alloc: Global, bytes: &[u8], text: &[u8]) -> Result<bool, FileFault> {
-    let mut file = MemoryFile::new(alloc, bytes.to_vec(alloc)?);
-    let found = recover(alloc, &mut file)?;
-    let cut = file.bytes()?;
-    let again = recover(alloc, &mut file)?;
-    Ok(
-        found.text.as_slice() == text
-            && bytes.len() == text.len().saturating_add(found.cut)
-            && cut.as_slice() == text
-            && again.text.as_slice() == text
-            && again.cut == 0,
-    )
+fn is_recovered_as(alloc: Global, bytes: Vec<u8>, text: &[u8]) -> bool {
+    let cut = bytes.len().wrapping_sub(text.len());
+    let mut file = MemoryFile::new(alloc, bytes);
+    let is_so = has_text(alloc, &mut file, text, cut) && has_text(alloc, &mut file, text, 0);
+    drop(file);
+    is_so
+}
+
+// The bytes of files, each with the text of its whole lines.
+static TORN: [(&[u8], &[u8]); 9] = [
+    (b"", b""),
+    (b"a\nb\n", b"a\nb\n"),
+    (b"a\n\nb\n", b"a\n\nb\n"),
+    (b"a\nb", b"a\n"),
+    (b"a", b""),
+    (b"a\n\0\nb\n", b"a\n"),
+    (b"a\nb\0c\nd\n", b"a\n"),
+    (b"\0a\n", b""),
+    (b"\n\0", b"\n"),
+];
+
+#[test]
+fn a_file_is_cut_after_its_whole_lines(rt: HostRuntime) -> Result<(), Fail> {
+    let alloc = rt.alloc();
+    for (bytes, text) in &TORN {
+        assert!(rt;
+            is_recovered_as(alloc, bytes.to_vec(alloc)?, text),
+            "{bytes:?}"
+        );
+    }
+    Ok(())
+}
+
+// Texts, each with whether it is one of whole lines without a byte 0.
+static TEXTS: [(&[u8], bool); 7] = [
+    (b"", true),
+    (b"\n", true),
+    (b"a\nb\n", true),
+    (b"a", false),
+    (b"a\nb", false),
+    (b"a\0\n", false),
+    (b"\0", false),
+];
+
+#[test]
+fn whole_lines_without_a_byte_0_are_a_text(rt: HostRuntime) {
+    for (text, expected) in &TEXTS {
+        assert!(rt; is_text(text) == *expected, "{text:?}");
+    }
+}
+
+// Returns the fate of a byte in a crash: kept for 0, zeroed for 1, otherwise missing.
+fn fate_of(number: u32) -> ByteFate {
+    match number {
+        0 => ByteFate::Kept,
+        1 => ByteFate::Zeroed,
+        _ => ByteFate::Missing,
+    }
 }
 
 // Returns one of the 81 fates of four bytes.
@@ -45,53 +101,61 @@ fn fates_of(number: u32) -> [ByteFate; 4] {
     ]
 }
 
-// Returns the fate of a byte in a crash: kept for 0, zeroed for 1, otherwise missing.
-fn fate_of(number: u32) -> ByteFate {
-    match number {
-        0 => ByteFate::Kept,
-        1 => ByteFate::Zeroed,
-        _ => ByteFate::Missing,
+// The line of a file, and it with the first of two lines that are appended to it, and with both.
+static FRONTS: [&[u8]; 3] = [b"a\n", b"a\nb\n", b"a\nb\nc\n"];
+
+// The number of fates of the four appended bytes after which a crash leaves each of `FRONTS`: after
+// the append, before its sync, and at each moment before it. Before the sync the first line is
+// whole if its two bytes are kept, 9 fates of 81; the second is, too, in 1 of these.
+static COUNTS: [[u32; 3]; 3] = [[0, 0, 81], [72, 8, 1], [81, 0, 0]];
+
+// Returns the number of fates of four bytes after which a crash this number of moments ago leaves
+// this text.
+fn count_of(alloc: Global, file: &MemoryFile, ago: usize, text: &[u8]) -> u32 {
+    let moment = file.moment().saturating_sub(ago);
+    let mut count = 0u32;
+    for number in 0..81 {
+        if let Ok(bytes) = file.after_crash(moment, &fates_of(number)) {
+            if is_recovered_as(alloc, bytes, text) {
+                count = count.saturating_add(1);
+            }
+        }
     }
+    count
+}
+
+// Returns whether crashes leave what `COUNTS` has, and 4 bytes are not synced before the sync.
+fn leaves_fronts(alloc: Global, file: &MemoryFile) -> bool {
+    for ago in 0..=file.moment() {
+        let Some(counts) = COUNTS.get(ago.min(2)) else {
+            return false;
+        };
+        for (front, count) in FRONTS.iter().zip(counts) {
+            if count_of(alloc, file, ago, front) != *count {
+                return false;
+            }
+        }
+    }
+    file.unsynced_len(file.moment().saturating_sub(1)) == 4
 }
 
 #[test]
-fn lines_are_appended_after_those_of_the_file(rt: HostRuntime) -> Result<(), Fail> {
-    let file = file_with(rt.alloc(), b"a\n", b"b\n\nc\n")?;
-    assert!(rt; file.bytes()?.as_slice() == b"a\nb\n\nc\n".as_slice());
-    Ok(())
-}
-
-#[test]
-fn a_file_is_cut_after_its_whole_lines(rt: HostRuntime) -> Result<(), Fail> {
+fn each_torn_state_of_an_append_has_a_front_of_the_lines(rt: HostRuntime) -> Result<(), Fail> {
     let alloc = rt.alloc();
-    assert!(rt; is_recovered_as(alloc, b"", b"")?);
-    assert!(rt; is_recovered_as(alloc, b"a\nb\n", b"a\nb\n")?);
-    assert!(rt; is_recovered_as(alloc, b"a\nb", b"a\n")?);
-    assert!(rt; is_recovered_as(alloc, b"a", b"")?);
-    assert!(rt; is_recovered_as(alloc, b"a\n\0\nb\n", b"a\n")?);
-    assert!(rt; is_recovered_as(alloc, b"a\nb\0c\nd\n", b"a\n")?);
-    assert!(rt; is_recovered_as(alloc, b"\0a\n", b"")?);
-    assert!(rt; is_recovered_as(alloc, b"\n\0", b"\n")?);
+    let mut file = MemoryFile::new(alloc, b"a\n".as_slice().to_vec(alloc)?);
+    let appended = append(alloc, &mut file, b"b\nc\n");
+    let is_so = leaves_fronts(alloc, &file);
+    drop(file);
+    assert!(rt; appended == Ok(()) && is_so);
     Ok(())
 }
 
-#[test]
-fn whole_lines_without_a_byte_0_are_a_text(rt: HostRuntime) {
-    assert!(rt; is_text(b"") && is_text(b"\n") && is_text(b"a\nb\n"));
-    assert!(rt; !is_text(b"a") && !is_text(b"a\nb") && !is_text(b"a\0\n") && !is_text(b"\0"));
-}
-
-// Returns whether a crash at each moment of an append of two lines to one line leaves these lines
-// and a front of the new ones, whatever becomes of each byte.
-fn leaves_a_front(alloc: Global) -> Result<bool, FileFault> {
-    let file = file_with(alloc, b"a\n", b"b\nc\n")?;
+// Returns whether a crash at each moment leaves one line, whatever becomes of the cuts.
+fn leaves_one_line(alloc: Global, file: &MemoryFile) -> Result<bool, AllocError> {
     for moment in 0..=file.moment() {
-        for number in 0..81 {
-            let bytes = file.after_crash(moment, &fates_of(number))?;
-            let is_front = is_recovered_as(alloc, &bytes, b"a\n")?
-                || is_recovered_as(alloc, &bytes, b"a\nb\n")?
-                || is_recovered_as(alloc, &bytes, b"a\nb\nc\n")?;
-            if !is_front {
+        for len in 0..8 {
+            let bytes = file.after_undone_cut(moment, len)?;
+            if !is_recovered_as(alloc, bytes, b"a\n") {
                 return Ok(false);
             }
         }
@@ -100,93 +164,46 @@ fn leaves_a_front(alloc: Global) -> Result<bool, FileFault> {
 }
 
 #[test]
-fn each_torn_state_of_an_append_has_a_front_of_the_lines(rt: HostRuntime) -> Result<(), Fail> {
-    assert!(rt; leaves_a_front(rt.alloc())?);
-    Ok(())
-}
-
-// Returns the number of fates of the four bytes of an append after which a crash before its sync
-// leaves no new line, the first alone, and both.
-fn counts_before_the_sync(alloc: Global) -> Result<[u32; 3], FileFault> {
-    let file = file_with(alloc, b"a\n", b"b\nc\n")?;
-    let before = file.moment().saturating_sub(1);
-    let mut counts = [0u32; 3];
-    for number in 0..81 {
-        let bytes = file.after_crash(before, &fates_of(number))?;
-        if is_recovered_as(alloc, &bytes, b"a\n")? {
-            counts[0] = counts[0].saturating_add(1);
-        } else if is_recovered_as(alloc, &bytes, b"a\nb\n")? {
-            counts[1] = counts[1].saturating_add(1);
-        } else if is_recovered_as(alloc, &bytes, b"a\nb\nc\n")? {
-            counts[2] = counts[2].saturating_add(1);
-        }
-    }
-    Ok(counts)
-}
-
-// The first line is whole if its two bytes are kept, 9 fates of 81; the second is, too, in 1 of
-// these.
-#[test]
-fn a_line_is_left_only_if_all_its_bytes_are(rt: HostRuntime) -> Result<(), Fail> {
-    assert!(rt; counts_before_the_sync(rt.alloc())? == [72, 8, 1]);
-    Ok(())
-}
-
-#[test]
-fn no_crash_after_an_append_loses_a_line(rt: HostRuntime) -> Result<(), Fail> {
-    let alloc = rt.alloc();
-    let file = file_with(alloc, b"a\n", b"b\nc\n")?;
-    for number in 0..81 {
-        let bytes = file.after_crash(file.moment(), &fates_of(number))?;
-        assert!(rt; bytes.as_slice() == b"a\nb\nc\n".as_slice());
-    }
-    Ok(())
-}
-
-#[test]
 fn a_crash_during_a_recovery_leaves_the_same_lines(rt: HostRuntime) -> Result<(), Fail> {
     let alloc = rt.alloc();
     let mut file = MemoryFile::new(alloc, b"a\nb\0\nc".as_slice().to_vec(alloc)?);
-    recover(alloc, &mut file)?;
-    for moment in 0..=file.moment() {
-        let bytes = file.after_crash(moment, &[])?;
-        assert!(rt; is_recovered_as(alloc, &bytes, b"a\n")?);
-        for len in 0..8 {
-            let bytes = file.after_undone_cut(moment, len)?;
-            assert!(rt; is_recovered_as(alloc, &bytes, b"a\n")?);
-        }
-    }
+    let is_recovered = has_text(alloc, &mut file, b"a\n", 4);
+    let is_left = leaves_one_line(alloc, &file);
+    let bytes = file.bytes();
+    drop(file);
+    assert!(rt; is_recovered && is_left == Ok(true));
+    assert!(rt; bytes?.as_slice() == b"a\n".as_slice());
     Ok(())
 }
 
-#[test]
-fn an_empty_text_is_not_synced(rt: HostRuntime) -> Result<(), Fail> {
-    let alloc = rt.alloc();
-    let file = file_with(alloc, b"a\n", b"")?;
-    let mut recovered = MemoryFile::new(alloc, b"a\n".as_slice().to_vec(alloc)?);
-    recover(alloc, &mut recovered)?;
-    assert!(rt; file.moment() == recovered.moment());
-    Ok(())
-}
-
-// Returns the faults of an append whose sync fails, of a read after it, and of a recovery.
-fn faults_of(alloc: Global) -> Result<[Option<FileFault>; 3], FileFault> {
-    let mut file = MemoryFile::failing_after(alloc, b"a\n".as_slice().to_vec(alloc)?, 2);
-    recover(alloc, &mut file)?;
-    let text = b"b\n".as_slice();
-    if !is_text(text) {
-        return Err(FileFault::TooLong);
-    }
-    let append = append_lines(&mut file, text).err();
-    let read = file.read(alloc).err();
-    let recovery = recover(alloc, &mut file).err();
-    Ok([append, read, recovery])
-}
+// The number of syncs that return `Ok`, a text, and the fault of its append after a recovery, which
+// syncs before it reads and after it cuts. An empty text is not synced.
+static SYNCS: [(u64, &[u8], Option<FileFault>); 3] = [
+    (2, b"", None),
+    (2, b"b\n", Some(FileFault::Failed)),
+    (3, b"b\n", None),
+];
 
 #[test]
 fn a_file_whose_sync_failed_fails_for_good(rt: HostRuntime) -> Result<(), Fail> {
-    assert!(rt; faults_of(rt.alloc())? == [Some(FileFault::Failed); 3]);
+    let alloc = rt.alloc();
+    for (syncs, text, fault) in &SYNCS {
+        let mut file = MemoryFile::failing_after(alloc, Vec::new(alloc), *syncs);
+        let append = append(alloc, &mut file, text).err();
+        let read = file.read(alloc).err();
+        drop(file);
+        assert!(rt; append == *fault && read == *fault, "{syncs} {text:?}");
+    }
     Ok(())
+}
+
+// Returns whether a file of the operating system with the bytes `a\nb\0` and a limit of 8 bytes is
+// recovered and appended to, and a text that would exceed the limit is refused.
+fn keeps_its_limit(alloc: Global, file: &mut StoredFile) -> bool {
+    has_text(alloc, file, b"a\n", 2)
+        && append(alloc, file, b"bc\n") == Ok(())
+        && append(alloc, file, b"def\n") == Err(FileFault::TooLong)
+        && append(alloc, file, b"de\n") == Ok(())
 }
 
 // Opens a file of the operating system for reading and writing.
@@ -194,55 +211,21 @@ fn open_file(rt: &HostRuntime, path: &str) -> io::Result<File> {
     File::options().read(true).write(true).open(rt, path)
 }
 
-// Appends a text to a file that need not be recovered for it.
-fn append_text(file: &mut StoredFile, text: &[u8]) -> Result<(), FileFault> {
-    if !is_text(text) {
-        return Err(FileFault::Failed);
-    }
-    append_lines(file, text)
-}
-
 #[test]
 fn a_stored_file_keeps_its_lines_up_to_its_limit(rt: HostRuntime) -> Result<(), Fail> {
-    let alloc = rt.alloc();
     let path = "torn_lines_kept";
     fs::write(&rt, path, b"a\nb\0".as_slice())?;
+    let second = open_file(&rt, path)?;
     let mut file = StoredFile::try_lock(open_file(&rt, path)?, 8)?;
-    let found = recover(alloc, &mut file)?;
-    assert!(rt; found.text.as_slice() == b"a\n".as_slice() && found.cut == 2);
-    append_text(&mut file, b"bc\n")?;
-    assert!(rt; fs::read(&rt, path)?.as_slice() == b"a\nbc\n".as_slice());
-    assert!(rt; append_text(&mut file, b"def\n") == Err(FileFault::TooLong));
-    append_text(&mut file, b"de\n")?;
-    assert!(rt; recover(alloc, &mut file)?.text.as_slice() == b"a\nbc\nde\n".as_slice());
-    fs::write(&rt, path, b"a\nbc\nde\nf".as_slice())?;
-    assert!(rt; file.read(alloc).err() == Some(FileFault::TooLong));
-    fs::remove_file(&rt, path)?;
-    Ok(())
-}
-
-#[test]
-fn a_stored_file_is_locked_until_it_is_dropped(rt: HostRuntime) -> Result<(), Fail> {
-    let path = "torn_lines_locked";
-    fs::write(&rt, path, b"".as_slice())?;
-    let file = StoredFile::try_lock(open_file(&rt, path)?, 8)?;
-    let second = StoredFile::try_lock(open_file(&rt, path)?, 8);
-    assert!(rt; second.err() == Some(LockFault::Held));
+    let locked = StoredFile::try_lock(second, 8).err();
+    let is_kept = keeps_its_limit(rt.alloc(), &mut file);
+    let bytes = fs::read(&rt, path);
+    let written = fs::write(&rt, path, b"a\nbc\nde\nf".as_slice());
+    let long = file.read(rt.alloc()).err();
     drop(file);
-    assert!(rt; StoredFile::try_lock(open_file(&rt, path)?, 8).is_ok());
-    fs::remove_file(&rt, path)?;
-    Ok(())
-}
-
-#[test]
-fn a_stored_file_that_failed_fails_for_good(rt: HostRuntime) -> Result<(), Fail> {
-    let alloc = rt.alloc();
-    let path = "torn_lines_read_only";
-    fs::write(&rt, path, b"a\n".as_slice())?;
-    let mut file = StoredFile::try_lock(File::open(&rt, path)?, 8)?;
-    assert!(rt; file.read(alloc)?.as_slice() == b"a\n".as_slice());
-    assert!(rt; append_text(&mut file, b"b\n") == Err(FileFault::Failed));
-    assert!(rt; file.read(alloc).err() == Some(FileFault::Failed));
+    assert!(rt; is_kept && bytes?.as_slice() == b"a\nbc\nde\n".as_slice());
+    assert!(rt; locked == Some(LockFault::Held));
+    assert!(rt; written.is_ok() && long == Some(FileFault::TooLong));
     fs::remove_file(&rt, path)?;
     Ok(())
 }

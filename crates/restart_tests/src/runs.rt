@@ -5,8 +5,8 @@ use disconnect_control::ControlState;
 use durable_lines::{
     ByteFate, FileFault, MemoryFile, MemoryPlace, append_and_renew, is_text, recover,
 };
-use journal_files::{RenewalTerms, RenewedFile, Resumed, StartFault, resume_journal};
-use std::alloc::{AllocError, Global};
+use journal_files::{RenewalTerms, RenewedFile, Resumed, resume_journal};
+use std::alloc::Global;
 use std::test::Fail;
 
 // The lines of a run: a write of mode 1, a remote disconnection, a moment, a remote reconnection
@@ -30,29 +30,44 @@ static STATES: [ControlState; 6] = [
     ControlState::Connected,
 ];
 
-// Returns the fates of bytes of which the first are kept and the next is zeroed.
-fn fates_of(alloc: Global, kept: usize) -> Result<Vec<ByteFate>, AllocError> {
-    let mut fates = Vec::new(alloc);
-    for _ in 0..kept {
-        fates.push(ByteFate::Kept)?;
-    }
-    fates.push(ByteFate::Zeroed)?;
-    Ok(fates)
-}
+// The fates of the bytes of a line: the first is zeroed, 7 are kept and one is zeroed, or all are
+// kept. The rest is missing.
+static FATES: [&[ByteFate]; 3] = [
+    &[ByteFate::Zeroed],
+    &[
+        ByteFate::Kept,
+        ByteFate::Kept,
+        ByteFate::Kept,
+        ByteFate::Kept,
+        ByteFate::Kept,
+        ByteFate::Kept,
+        ByteFate::Kept,
+        ByteFate::Zeroed,
+    ],
+    &[ByteFate::Kept; 64],
+];
 
 // Returns the state of the supply of a meter that is resumed from these bytes.
-fn state_of(alloc: Global, bytes: Vec<u8>) -> Result<ControlState, StartFault> {
-    let device = Octets::from_slice(alloc, b"METER7")?;
+fn state_of(alloc: Global, device: &Octets, bytes: Vec<u8>) -> Option<ControlState> {
     let mut file = MemoryFile::new(alloc, bytes);
-    let resumed = resume_journal(alloc, &mut file, &device, 16);
-    drop(device);
+    let resumed = resume_journal(alloc, &mut file, device, 16);
+    drop(file);
     match resumed {
         Ok(Resumed { recorder, cut: _ }) => {
             let state = recorder.core().state();
             drop(recorder);
-            Ok(state)
+            Some(state)
         }
-        Err(fault) => Err(fault),
+        Err(_) => None,
+    }
+}
+
+// Returns whether these bytes are a journal of a meter in one of the states after the first `least`
+// lines or more.
+fn is_front(alloc: Global, device: &Octets, bytes: Vec<u8>, least: usize) -> bool {
+    match state_of(alloc, device, bytes) {
+        Some(state) => STATES.iter().skip(least).any(|other| *other == state),
+        None => false,
     }
 }
 
@@ -60,17 +75,16 @@ fn state_of(alloc: Global, bytes: Vec<u8>) -> Result<ControlState, StartFault> {
 // one of the states after the first `least` lines or more.
 fn leaves_a_front(
     alloc: Global,
+    device: &Octets,
     place: &MemoryPlace,
     from: usize,
     least: usize,
-) -> Result<bool, StartFault> {
+) -> Result<bool, FileFault> {
     for moment in from..=place.moment() {
-        for kept in [0, 7, 64] {
+        for fates in &FATES {
             for is_renamed in [false, true] {
-                let fates = fates_of(alloc, kept)?;
-                let left = place.after_crash(moment, is_renamed, fates.as_slice())?;
-                let state = state_of(alloc, left)?;
-                if !STATES.iter().skip(least).any(|other| *other == state) {
+                let left = place.after_crash(moment, is_renamed, fates)?;
+                if !is_front(alloc, device, left, least) {
                     return Ok(false);
                 }
             }
@@ -93,35 +107,52 @@ fn append_line(
 }
 
 // Returns whether a crash at each moment of a run leaves a front of it, with each line that was
-// appended before, and whether its journal was renewed.
-fn survives(alloc: Global, limit: usize, depth: usize) -> Result<(bool, bool), StartFault> {
-    let place = MemoryPlace::new(alloc, BEGUN.to_vec(alloc)?);
-    let mut file = RenewedFile::new(alloc, place, RenewalTerms { limit, depth });
+// appended before, and one after the run all of it.
+fn survives(
+    alloc: Global,
+    device: &Octets,
+    file: &mut RenewedFile<MemoryPlace>,
+) -> Result<bool, FileFault> {
     let mut from = 0;
     for (index, line) in LINES.iter().enumerate() {
-        append_line(alloc, &mut file, line)?;
-        if !leaves_a_front(alloc, file.place(), from, index)? {
-            return Ok((false, false));
+        append_line(alloc, file, line)?;
+        if !leaves_a_front(alloc, device, file.place(), from, index)? {
+            return Ok(false);
         }
         from = file.place().moment();
     }
-    let place = file.place();
-    let left = place.after_crash(place.moment(), false, &[])?;
-    let is_renewed = !left.as_slice().starts_with(BEGUN);
-    Ok((
-        state_of(alloc, left)? == ControlState::Connected,
-        is_renewed,
-    ))
+    leaves_a_front(alloc, device, file.place(), from, LINES.len())
 }
+
+// The limits and depths of journals, each with whether it is renewed in the run.
+static RUNS: [(usize, usize, bool); 4] = [
+    (16, 2, true),
+    (0, 0, true),
+    (64, 1024, false),
+    (4_096, 2, false),
+];
 
 #[test]
 fn a_crash_at_each_moment_of_a_run_with_renewals_leaves_a_front_of_it(
     rt: HostRuntime,
 ) -> Result<(), Fail> {
     let alloc = rt.alloc();
-    assert!(rt; survives(alloc, 16, 2)? == (true, true));
-    assert!(rt; survives(alloc, 0, 0)? == (true, true));
-    assert!(rt; survives(alloc, 64, 1024)? == (true, false));
-    assert!(rt; survives(alloc, 4_096, 2)? == (true, false));
+    let device = Octets::from_slice(alloc, b"METER7")?;
+    for (limit, depth, is_renewed) in &RUNS {
+        let terms = RenewalTerms {
+            limit: *limit,
+            depth: *depth,
+        };
+        let place = MemoryPlace::new(alloc, BEGUN.to_vec(alloc)?);
+        let mut file = RenewedFile::new(alloc, place, terms);
+        let survived = survives(alloc, &device, &mut file);
+        let bytes = file.place().bytes();
+        drop(file);
+        assert!(rt; survived == Ok(true), "{limit}");
+        assert!(rt;
+            bytes?.as_slice().starts_with(BEGUN) != *is_renewed,
+            "{limit}"
+        );
+    }
     Ok(())
 }

@@ -21,15 +21,13 @@ xprofile 0 FFFFFFFFFFFFFFFFFF8000FF 0\nxgroups\nxactions 0 0\nxover 0 0\nxunder 
 scripts 0100\nschedule 0 0 5 0100\nschedule 1 0 5 0100\nschedule 2 0 5 0100\n\
 schedule 3 0 5 0100\nevents -\n";
 
-/// A write of mode 1, and a remote disconnection.
-pub(crate) static EVENTS: &[u8] =
-    b"set 1 70 000060030AFF 4 0 1601\nexecute 1 70 000060030AFF 1 0F00\n";
-
-/// Returns the texts, one after the other.
-pub(crate) fn join_texts(alloc: Global, texts: &[&[u8]]) -> Result<Vec<u8>, AllocError> {
-    let mut all = Vec::new(alloc);
-    for text in texts {
-        all.extend_from_slice(text)?;
-    }
+/// Returns a text followed by another.
+pub(crate) fn join_texts(
+    alloc: Global,
+    first: &[u8],
+    second: &[u8],
+) -> Result<Vec<u8>, AllocError> {
+    let mut all = first.to_vec(alloc)?;
+    all.extend_from_slice(second)?;
     Ok(all)
 }

@@ -1,8 +1,0 @@
-//! Tests of `durable_lines`: files that are replaced as a whole.
-//!
-//! The tests have a crate of their own because a check of tests also proves the rest of their
-//! crate.
-#![tactic(auto)]
-
-#[cfg(test)]
-mod replaced_files;
