@@ -310,7 +310,7 @@ RUNS_OF_NINE = [
 
 
 def openings():
-    """Whether each opening is accepted or refused as expected, and a run goes on."""
+    """Whether each opening is accepted or refused as expected, and a run continues."""
     for prefix in ("", "x"):
         for changes, is_fit in OPENINGS:
             changes = {prefix + word: value for word, value in changes.items()}
