@@ -7,13 +7,12 @@ The expected bytes are those of the standard (IEC 62056-5-3); none comes from th
 
 usage: tests/codec_rows.py
 """
-import os
 import sys
 
 sys.dont_write_bytecode = True  # importing the modules of tests/ leaves no files
 
 import serving
-from serving import AARE, MANAGEMENT, NAMING, PASSWORD, PUBLIC, REFUSED, RELEASED, SERVER, check, test
+from serving import AARE, MANAGEMENT, NAMING, PASSWORD, PUBLIC, REFUSED, RELEASED, SERVER, check
 from sessions import (FIRST_BLOCK, GET_STATE, MANAGEMENT_AARQ, OBJECT_LIST, PUBLIC_AARQ, SMALL, TEN_NAMES, Talk, blocks_read, blocks_written, by_hex,
                       check_by_hex, frame)
 
@@ -252,15 +251,10 @@ def other_payloads_have_their_exceptions(name):
 
 
 def main():
-    if not os.access(SERVER, os.X_OK):
-        print(f"{SERVER} is missing: run bin/test, or `rt run` in its crate")
-        print("0 passed, 1 failed")
+    if not serving.are_built(SERVER):
         return 1
-    for function in (openings_have_their_answers, openings_have_their_levels, releases_are_known, blocks_have_their_answers,
-                     no_more_than_8192_bytes_are_joined, requests_end_where_they_should, other_payloads_have_their_exceptions):
-        test(function)
-    print(f"{serving.passed} passed, {serving.failed} failed")
-    return 1 if serving.failed else 0
+    return serving.run_tests((openings_have_their_answers, openings_have_their_levels, releases_are_known, blocks_have_their_answers,
+                              no_more_than_8192_bytes_are_joined, requests_end_where_they_should, other_payloads_have_their_exceptions))
 
 
 if __name__ == "__main__":

@@ -27,6 +27,7 @@ import time
 sys.dont_write_bytecode = True  # importing the modules of tests/ leaves no files
 
 import serving
+from core_rows import NEW_METER
 from journal_history import (GONE, OPEN_COUNT, Console, Explanation, Journal, Talker, end_of_a_run,
                              journal_with_events, lines_played, model_lines, restart, start_server,
                              torn_tail, whole_lines)
@@ -264,39 +265,8 @@ def a_wrong_journal_is_refused(name, folder):
         check(f"{name}: {what}, unchanged", journal.path.read_bytes() == held)
 
 
-# The journal of a new meter with the name METER7, written by hand as docs/TRACE.md has it.
-BEGUN = b"""RELAYTRACE 2
-device 4D4554455237
-state 1
-mode 0
-value 0
-now -
-normal 4294967295
-emergency 4294967295
-minover 0
-minunder 0
-profile 0 FFFFFFFFFFFFFFFFFF8000FF 0
-groups
-actions 0 0
-over 0 0
-under 0 0
-xvalue 0
-xnormal 4294967295
-xemergency 4294967295
-xminover 0
-xminunder 0
-xprofile 0 FFFFFFFFFFFFFFFFFF8000FF 0
-xgroups
-xactions 0 0
-xover 0 0
-xunder 0 0
-scripts 0100
-schedule 0 0 5 0100
-schedule 1 0 5 0100
-schedule 2 0 5 0100
-schedule 3 0 5 0100
-events -
-"""
+# The journal of a new meter with the name METER7, as docs/TRACE.md has it.
+BEGUN = "\n".join(["RELAYTRACE 2", "device 4D4554455237", *NEW_METER[2:], "events -", ""]).encode()
 
 
 @in_folder

@@ -9,7 +9,6 @@ program's output.
 usage: tests/sessions.py
 """
 import contextlib
-import os
 import re
 import socket
 import subprocess
@@ -18,7 +17,7 @@ import sys
 sys.dont_write_bytecode = True  # importing the modules of tests/ leaves no files
 
 import serving
-from serving import MANAGEMENT, PASSWORD, PATIENCE, PUBLIC, SERVER, Server, check, test
+from serving import MANAGEMENT, PASSWORD, PATIENCE, PUBLIC, SERVER, Server, check
 
 # The AARQ of each client, in its frame, and the AARE. The public client calls from port 16, the
 # management client from port 1 with the password 12345678.
@@ -446,15 +445,10 @@ def texts_in_hexadecimal_are_judged(name):
 
 
 def main():
-    if not os.access(SERVER, os.X_OK):
-        print(f"{SERVER} is missing: run bin/test, or `rt run` in its crate")
-        print("0 passed, 1 failed")
+    if not serving.are_built(SERVER):
         return 1
-    for function in (sessions_are_answered_to_their_end, talks_are_answered, long_values_go_in_blocks, cut_talks_are_answered_so_far,
-                     an_opening_with_a_changed_byte_has_one_answer, requests_without_frames_are_answered, texts_in_hexadecimal_are_judged):
-        test(function)
-    print(f"{serving.passed} passed, {serving.failed} failed")
-    return 1 if serving.failed else 0
+    return serving.run_tests((sessions_are_answered_to_their_end, talks_are_answered, long_values_go_in_blocks, cut_talks_are_answered_so_far,
+                              an_opening_with_a_changed_byte_has_one_answer, requests_without_frames_are_answered, texts_in_hexadecimal_are_judged))
 
 
 if __name__ == "__main__":
