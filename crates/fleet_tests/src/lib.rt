@@ -1,16 +1,32 @@
-//! Tests of `fleet_links` and `fleet_meters`: connections over a stream whose bytes are written by
-//! hand.
+//! Tests of `fleet_links`, `fleet_meters`, `fleet_faults`, `fleet_console` and `fleet_timers`:
+//! connections over a stream whose bytes are written by hand, streams with each fault, events that
+//! are held back, and lines of the console with their answers.
 //!
-//! Tests are in a crate of their own because a check of tests proves their whole crate again.
+//! The tests have a crate of their own because a check of tests also proves the rest of their
+//! crate.
 #![tactic(auto)]
 
 #[cfg(test)]
 mod addresses;
 #[cfg(test)]
+mod consoles;
+#[cfg(test)]
+mod delays;
+#[cfg(test)]
+mod draws;
+#[cfg(test)]
+mod events;
+#[cfg(test)]
 mod faults;
 #[cfg(test)]
 mod fleets;
 #[cfg(test)]
+mod silent_fleets;
+#[cfg(test)]
+mod streams;
+#[cfg(test)]
 mod talk;
 #[cfg(test)]
 mod terms;
+#[cfg(test)]
+mod timers;

@@ -1,15 +1,30 @@
-//! Tests of `cosem_names`, `script_steps`, `action_schedule` and `limiter_attributes`: worked
-//! values of names, rights and object lists, and attributes as they are read and written.
-//! tests/object_rows.py plays many more over the proved executable, which costs no proof.
+//! Tests of the objects, from `cosem_names`, `cosem_datetime`, `disconnect_control`,
+//! `limiter_core`, `lane_sampler`, `script_steps`, `action_schedule` and `limiter_attributes`:
+//! worked values of names, rights and object lists, attributes as they are read and written, dates
+//! and the moments that they match, the switch, the runs of a limiter, and blocks of samples.
+//! tests/object_rows.py plays many more attributes over the proved executable, which costs no
+//! proof.
 //!
-//! The tests have a crate of their own, since checking tests proves anew all that is in their
+//! The tests have a crate of their own because a check of tests also proves the rest of their
 //! crate.
 #![tactic(auto)]
 
 #[cfg(test)]
+mod controls;
+#[cfg(test)]
+mod date_fields;
+#[cfg(test)]
+mod dates;
+#[cfg(test)]
+mod lanes;
+#[cfg(test)]
 mod limiter_texts;
 #[cfg(test)]
+mod limiters;
+#[cfg(test)]
 mod names;
+#[cfg(test)]
+mod numbers;
 #[cfg(test)]
 mod schedules;
 #[cfg(test)]

@@ -1,7 +1,9 @@
-//! Tests of `trace_player` and `trace_views`: traces that are read, written and played, journals,
-//! views of a run, and what a recorder exports.
+//! Tests of the traces: the openings and lines of `trace_words`, `trace_openings` and `trace_lines`;
+//! the traces that `trace_player` reads, writes and plays; the views of `trace_views`; and the
+//! records of `record_parts` and `trace_records`.
 //!
-//! The tests have a crate of their own, because checking tests proves their whole crate again.
+//! The tests have a crate of their own because a check of tests also proves the rest of their
+//! crate.
 #![tactic(auto)]
 
 #[cfg(test)]
@@ -9,7 +11,17 @@ mod exports;
 #[cfg(test)]
 mod journals;
 #[cfg(test)]
+mod lines;
+#[cfg(test)]
+mod openings;
+#[cfg(test)]
+mod parts;
+#[cfg(test)]
 mod plays;
+#[cfg(test)]
+mod record_views;
+#[cfg(test)]
+mod records;
 #[cfg(test)]
 mod views;
 #[cfg(test)]

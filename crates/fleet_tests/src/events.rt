@@ -1,6 +1,6 @@
 //! Events that meters of a fleet are given: the button disconnects and reconnects in mode 1
 //! (IEC 62056-6-2, class 70), for one meter alone.
-use crate::fleets::{Silence, new_fleet};
+use crate::silent_fleets::{Silence, new_fleet};
 use disconnect_control::ControlState;
 use fleet_meters::{AccessFault, Fleet};
 use relay_events::Event;

@@ -1,40 +1,8 @@
 //! The worked trace of docs/TRACE.md as records.
+use crate::plays::TRACE;
 use counted_io::Counted;
 use std::alloc::Global;
 use trace_views::{TraceFormat, TraceView, play_view};
-
-// The worked trace of docs/TRACE.md, with nine events.
-const TRACE: &[u8] = b"RELAYTRACE 1
-device 52454C415931
-state 1
-mode 0
-value 0
-now -
-normal 4294967295
-emergency 4294967295
-minover 0
-minunder 0
-profile 0 FFFFFFFFFFFFFFFFFF8000FF 0
-groups
-actions 0 0
-over 0 0
-under 0 0
-scripts 0100
-schedule 0 0 5 0100
-schedule 1 0 5 0100
-schedule 2 0 5 0100
-schedule 3 0 5 0100
-events 9
-set 1 70 000060030AFF 4 0 1601
-execute 1 70 000060030AFF 1 0F00
-button
-execute 1 70 000060030AFF 2 -
-button
-get 16 70 000060030AFF 2 0
-samples 10 20
-moment 5
-moment 4
-";
 
 // The events of `TRACE` as comma-separated values. The clock has no moment before event 8, which
 // sets it to 5; event 9 is a moment before that one, and changes nothing.

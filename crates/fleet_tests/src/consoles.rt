@@ -1,6 +1,6 @@
 //! Lines of the console of a fleet of three meters in mode 1, and their answers, written by hand:
 //! the button disconnects, and reconnects what is ready for it (IEC 62056-6-2, class 70).
-use crate::fleets::{Silence, new_fleet};
+use crate::silent_fleets::{Silence, new_fleet};
 use disconnect_control::ControlState;
 use fleet_console::{ConsoleFault, ConsoleInput, FleetConsole, read_command, run_command};
 use fleet_meters::{AccessFault, Fleet};
