@@ -1,5 +1,5 @@
 -- A short request, from its frame to the frame of its answer.
-use Rattle.std.proofs.Common.{◌≡◌, ◌<◌, ◌==◌, ℕ, Bool, true, if◌then◌else◌, Option, Some, None, Ok, List, [], ◌∷◌, get_or, ◌≤◌, length, take, drop, bit_and, refl, sym, ap, subst, ◌∙◌, arith}
+use Rattle.std.proofs.Common.{◌≡◌, ◌<◌, ◌==◌, ℕ, Bool, true, if◌then◌else◌, Option, Some, None, Ok, List, [], ◌∷◌, get_or, ◌≤◌, length, take, drop, bit_and, length-append, refl, sym, ap, subst, ◌∙◌, arith}
 use Rattle.std.specs.Int.{w16, from_be_bytes}
 use Rattle.byteorder.specs.Endian.{big_number}
 use Rattle.cosem_axdr.specs.Reading.{first_data, value_at, leaf_at, fixed_at}
@@ -15,13 +15,14 @@ use Rattle.session_core.specs.Outgoing.{has_room, outgoing_by, reply_code, reply
 use Rattle.session_core.specs.declared.answer.Answer.TheVariants.{Service}
 use Rattle.cosem_axdr.specs.declared.value.Data.{Data}
 use Rattle.cosem_names.specs.declared.service.GetResult.TheVariants as result
-use Rattle.std.specs.Prelude.{Result, IfOk, IfSome}
+use Rattle.std.specs.Prelude.{Result, IfOk, IfSome, ◌≢◌, ◌↔◌, ◌+◌}
 use Rattle.wrapper_frame.specs.declared.fault.WrapperFault.{WrapperFault}
 use Rattle.xdlms_apdu.specs.Responses.{response_text}
 use Rattle.xdlms_apdu.specs.declared.invoke_id.InvokeId.{InvokeId}
 use Rattle.session_core.specs.Progress.{AnswersBy, AsksShort, WorksBy}
 use Rattle.session_core.specs.Remaining.{is_asking, is_asking_short, load_of, task_load}
 use Rattle.session_core.specs.Rules.{HearsShort, heard_frame, incoming_after, link_after, outgoing_after, reply_text, turn_of}
+use Rattle.session_core.specs.ShortAnswers.{is_short_answer, is_two_bytes, IsShortIn}
 use Rattle.session_core.specs.Standard.{management_device, least_pdu}
 use Rattle.session_core.specs.declared.asked.Asked.{Asked}
 use Rattle.session_core.specs.declared.asked.ReplyForm.{ReplyForm}
@@ -35,10 +36,10 @@ use Rattle.session_core.specs.declared.short_request.ShortRequest.TheVariants as
 use Rattle.session_core.specs.declared.state.State.{State}
 use Rattle.session_core.specs.declared.step.TurnStep.TheVariants as step
 use Rattle.session_core.specs.declared.task.SessionTask.TheVariants.{Listen, Await, Send}
-use Rattle.wrapper_frame.specs.Header.{head_of, header_size, src_of, dst_of}
+use Rattle.wrapper_frame.specs.Header.{head_of, header_size, max_payload, src_of, dst_of}
 use Rattle.wrapper_frame.specs.Messages.{first_frame, after_first}
 use Rattle.wrapper_frame.specs.Stream.{KeepsFrames}
-use Rattle.wrapper_frame.specs.Text.{frame_text, IsPlaced}
+use Rattle.wrapper_frame.specs.Text.{frame_text, header_text, IsPlaced}
 use Rattle.wrapper_frame.specs.declared.header.Head.TheVariants as head
 use Rattle.xdlms_apdu.specs.Requests.{request_of}
 use Rattle.xdlms_apdu.specs.declared.response.Exception.TheVariants.{Unknown}
@@ -383,6 +384,38 @@ placed_answer asked reply payload placed buffer buffer' spells written =
       dst = asked.link.source;
       payload = p;
     })) count buffer buffer')) spells written
+
+-- the answer to a reply is short: to a GET of a value of two bytes, to a SET and to an ACTION
+pub short_value : (asked : Asked) (reply : Reply) (id : InvokeId) (value : Data)
+    → asked.form ≡ asked_form.Get id → reply ≡ Value value → is_two_bytes value ≡ true
+    → is_short_answer asked.form reply ≡ true
+short_value asked reply id value form has two = rw (form, has) two
+
+pub short_set : (asked : Asked) (reply : Reply) (id : InvokeId)
+    → asked.form ≡ asked_form.Set id → is_short_answer asked.form reply ≡ true
+short_set asked reply id form = rw form refl
+
+pub short_action : (asked : Asked) (reply : Reply) (id : InvokeId)
+    → asked.form ≡ asked_form.Action id → is_short_answer asked.form reply ≡ true
+short_action asked reply id form = rw form refl
+
+-- a frame with a short answer is written exactly if it fits in the buffer
+pub fits_answer : (asked : Asked) (reply : Reply) (payload buffer : List ℕ) (placed : Option ℕ)
+    → payload ≡ answer_text (Service (reply_response asked reply)) → length payload ≤ max_payload
+    → is_short_answer asked.form reply ≡ true
+    → ((placed ≢ None) ↔ ((length payload ≤ max_payload)
+    × (header_size + length payload ≤ length buffer)))
+    → (placed ≢ None) ↔ IsShortIn buffer asked reply
+unfolding due_text frame_text
+fits_answer asked reply payload buffer placed spells small short fits =
+    let long : length (due_text asked.link.source payload) ≡ header_size + length payload =
+    length-append (header_text management_device asked.link.source (length payload)) payload in
+    let longs : length (reply_text asked reply) ≡ header_size + length payload =
+    subst (λ (p : List ℕ). length (due_text asked.link.source p) ≡ header_size + length payload)
+    spells long in (
+      (λ given. (short, omega (arith, longs, (fits.0 given).1))),
+      (λ is. fits.1 (small, omega (arith, longs, is.1))),
+    )
 
 -- what holds anyway holds if a frame was written
 pub if_placed : (placed : Option ℕ) (P : Type 0) → P → IfSome placed (λ count. P)

@@ -1,20 +1,20 @@
 -- Answers that are written without memory (IEC 62056-5-3, GET, SET and ACTION).
 --     is_two_bytes, is_short_answer    which values and answers are
---     longest_short                    the length of the longest, with its frame's header
---     answers_shortly                  whether the session's answer is one
+--     IsShortIn, AnswersIn             whether a session's answer is one that fits in a buffer
 --     PutsAnswer                       a session answered in the caller's buffer
-use Rattle.std.specs.Prelude.{ℕ, ◌+◌, Bool, true, false, List}
+use Rattle.std.specs.Prelude.{◌≡◌, ◌≤◌, ℕ, Bool, true, false, List, length}
 use Rattle.cosem_axdr.specs.declared.value.Data.{Data}
 use Rattle.cosem_axdr.specs.declared.value.Data.TheVariants.{Boolean, Enum}
 use Rattle.relay_events.specs.declared.reply.Reply.{Reply}
 use Rattle.relay_events.specs.declared.reply.Reply.TheVariants.{Value}
 use Rattle.session_core.specs.Progress.{AnswersBy}
+use Rattle.session_core.specs.Rules.{reply_text}
+use Rattle.session_core.specs.declared.asked.Asked.{Asked}
 use Rattle.session_core.specs.declared.asked.ReplyForm.{ReplyForm}
 use Rattle.session_core.specs.declared.asked.ReplyForm.TheVariants as form
 use Rattle.session_core.specs.declared.session.Session.{Session}
 use Rattle.session_core.specs.declared.task.SessionTask.{SessionTask}
 use Rattle.session_core.specs.declared.task.SessionTask.TheVariants.{Await}
-use Rattle.wrapper_frame.specs.Header.{header_size}
 use Rattle.wrapper_frame.specs.Text.{IsPlaced}
 
 -- whether the text of a Data has two bytes, tag and contents: a boolean or an enum
@@ -30,19 +30,19 @@ is_short_answer (form.Set id) reply = true
 is_short_answer (form.Action id) reply = true
 is_short_answer _ _ = false
 
--- the length of the longest short answer with its header: a Get-Response of four bytes and a value
--- of two
-abbrev pub longest_short : ℕ
-longest_short = header_size + 6
+-- whether the answer to a reply is short, and its frame fits in a buffer
+abbrev pub IsShortIn : List ℕ → Asked → Reply → Type 0
+IsShortIn buffer asked reply =
+    (is_short_answer asked.form reply ≡ true) × (length (reply_text asked reply) ≤ length buffer)
 
--- whether a task is to await the reply to a request whose answer would be short
-abbrev pub is_short_after : SessionTask → Reply → Bool
-is_short_after (Await asked) reply = is_short_answer asked.form reply
-is_short_after _ reply = false
+-- whether a task is to await a reply whose answer is short and fits in a buffer
+abbrev pub AwaitsIn : List ℕ → SessionTask → Reply → Type 0
+AwaitsIn buffer (Await asked) reply = IsShortIn buffer asked reply
+AwaitsIn buffer _ reply = ⊥
 
--- whether the session's answer to a reply is short
-abbrev pub answers_shortly : Session → Reply → Bool
-answers_shortly s reply = is_short_after s.task reply
+-- whether the session's answer to a reply is short and fits in a buffer
+abbrev pub AnswersIn : List ℕ → Session → Reply → Type 0
+AnswersIn buffer s reply = AwaitsIn buffer s.task reply
 
 -- whether the session took in the reply, and its answer is at the front of the buffer
 pub record PutsAnswer (old : Session) (reply : Reply) (buffer : List ℕ) (count : ℕ)

@@ -48,8 +48,9 @@ impl Limit {
         Limit { bytes }
     }
 
-    // Proves that the limit is one that a client may propose. Does nothing at run time.
-    pub(crate) fn is_enough(self)
+    // Proves that a PDU of the limit has at least the 64 bytes that a client must take. Does nothing
+    // at run time.
+    pub(crate) fn holds_least_pdu(self)
         ensures { least_pdu ≤ self }
     {
         let _bytes = self.bytes;

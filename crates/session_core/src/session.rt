@@ -1,5 +1,5 @@
 //! `Session`: the bytes of a client in, events for the meter and frames for the client out.
-ghost use Rattle.std.specs.Prelude.{◌≡◌, ◌≢◌, ◌≤◌, ◌+◌, length, None, true, false, Some, IfSome, IfNone, IfOk, IfErr, IsOk, OnOk, OnErr, Ok};
+ghost use Rattle.std.specs.Prelude.{◌≡◌, ◌≢◌, ◌≤◌, ◌↔◌, ◌+◌, length, None, true, false, Some, IfSome, IfNone, IfOk, IfErr, IsOk, OnOk, OnErr, Ok};
 ghost use Rattle.acse_ber.specs.Password.{IsPassword};
 ghost use Rattle.session_core.specs.declared.task.SessionTask.TheVariants.{Listen, Over};
 ghost use Rattle.wrapper_frame.specs.Header.{header_size, head_of};
@@ -50,7 +50,7 @@ impl Session {
     ghost use Rattle.session_core.specs.Progress.{Owes, IsQuiet, Feeds, Finishes, StepsBy};
     ghost use Rattle.session_core.specs.Progress.{Leaves, Takes};
     ghost use Rattle.session_core.specs.Calls.{short_event};
-    ghost use Rattle.session_core.specs.ShortAnswers.{PutsAnswer, answers_shortly, longest_short};
+    ghost use Rattle.session_core.specs.ShortAnswers.{PutsAnswer, AnswersIn};
     ghost use Rattle.session_core.specs.Progress.{AnswersBy, AsksShort, WorksBy};
     ghost use Rattle.session_core.specs.Progress.{task_by, next_by};
 
@@ -238,8 +238,7 @@ impl Session {
         ensures answers { IfSome result
             (λ count. PutsAnswer self.old reply.now buffer.old count self.new buffer.new) }
         ensures none { IfNone result ((self.new ≡ self.old) × (buffer.new ≡ buffer.old)) }
-        ensures sure { answers_shortly self.old reply.now ≡ true → longest_short
-            ≤ length buffer.old → result ≢ None }
+        ensures fits { (result ≢ None) ↔ AnswersIn buffer.old self.old reply.now }
     {
         let SessionTask::Await(asked) = self.task else {
             unreachable!()

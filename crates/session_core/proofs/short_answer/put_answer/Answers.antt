@@ -1,5 +1,6 @@
 use Rattle.std.proofs.Common.{sym, ◌∙◌, arith}
-use Rattle.session_core.proofs.Shorts.{action_begins_none, action_payload, if_placed, placed_answer, set_begins_none, set_payload, value_begins_none, value_payload}
+use Rattle.std.proofs.lemmas.Option.{none-some}
+use Rattle.session_core.proofs.Shorts.{action_begins_none, action_payload, fits_answer, if_placed, placed_answer, set_begins_none, set_payload, short_action, short_set, short_value, value_begins_none, value_payload}
 use Rattle.session_core.proofs.short_answer.put_answer.Goals as goal
 
 pub returns-in_ok-value_answer-in-Get-clause-placed :
@@ -9,7 +10,7 @@ returns-in_ok-value_answer-in-Get-clause-placed c =
     placed_answer c.args.asked c.args.reply.now answer.field-0 _ _ _
     (value_payload c.args.asked c.args.reply.now c.in-Get.id c.in-Value.value answer.field-0
     c.in-Get.is c.in-Value.is answer.ensures.text
-    (omega (arith, answer.ensures.size)) c.is_enough.ensures) c.put_frame.ensures.placed
+    (omega (arith, answer.ensures.size)) c.holds_least_pdu.ensures) c.put_frame.ensures.placed
 
 pub returns-in_ok-value_answer-in-Get-clause-begins_none :
     goal.returns-in_ok-value_answer-in-Get-clause-begins_none
@@ -18,7 +19,19 @@ returns-in_ok-value_answer-in-Get-clause-begins_none c =
     if_placed _ _
     (value_begins_none c.args.asked c.args.reply.now c.in-Get.id c.in-Value.value answer.field-0
     c.in-Get.is c.in-Value.is answer.ensures.text
-    (omega (arith, answer.ensures.size)) c.is_enough.ensures)
+    (omega (arith, answer.ensures.size)) c.holds_least_pdu.ensures)
+
+pub returns-in_ok-value_answer-in-Get-clause-fits :
+    goal.returns-in_ok-value_answer-in-Get-clause-fits
+returns-in_ok-value_answer-in-Get-clause-fits c =
+    let answer = c.in_ok-value_answer-in-Get in
+    fits_answer c.args.asked c.args.reply.now answer.field-0 c.args.buffer.now _
+    (value_payload c.args.asked c.args.reply.now c.in-Get.id c.in-Value.value answer.field-0
+    c.in-Get.is c.in-Value.is answer.ensures.text
+    (omega (arith, answer.ensures.size)) c.holds_least_pdu.ensures)
+    (omega (arith, answer.ensures.size))
+    (short_value c.args.asked c.args.reply.now c.in-Get.id c.in-Value.value c.in-Get.is c.in-Value.is
+    (answer.ensures.which.0 (λ e. none-some _ (sym e)))) c.put_frame.ensures.fits
 
 pub returns-in-Set-clause-placed : goal.returns-in-Set-clause-placed
 returns-in-Set-clause-placed c =
@@ -41,3 +54,18 @@ pub returns-in-Action-clause-begins_none : goal.returns-in-Action-clause-begins_
 returns-in-Action-clause-begins_none c =
     if_placed _ _
     (sym (action_begins_none c.args.asked c.args.reply.now c.in-Action.id c.in-Action.is))
+
+pub returns-in-Set-clause-fits : goal.returns-in-Set-clause-fits
+returns-in-Set-clause-fits c =
+    fits_answer c.args.asked c.args.reply.now c.set_answer.result c.args.buffer.now _
+    (c.set_answer.ensures ∙ set_payload c.args.asked c.args.reply.now c.in-Set.id c.in-Set.is)
+    (omega arith) (short_set c.args.asked c.args.reply.now c.in-Set.id c.in-Set.is)
+    c.put_frame-in-Set.ensures.fits
+
+pub returns-in-Action-clause-fits : goal.returns-in-Action-clause-fits
+returns-in-Action-clause-fits c =
+    fits_answer c.args.asked c.args.reply.now c.action_answer.result c.args.buffer.now _
+    (c.action_answer.ensures ∙ action_payload c.args.asked c.args.reply.now c.in-Action.id
+    c.in-Action.is)
+    (omega arith) (short_action c.args.asked c.args.reply.now c.in-Action.id c.in-Action.is)
+    c.put_frame-in-Action.ensures.fits
