@@ -10,6 +10,11 @@ pub draft_bytes : {D : Type 0} (seen : D → List ℕ) (empty appended : D) (byt
     → seen empty ≡ [] → seen appended ≡ seen empty ++ bytes → seen appended ≡ bytes
 draft_bytes seen empty appended bytes none written = written ∙ ap (λ bs. bs ++ bytes) none
 
+-- the name has the bytes of the draft, which a sync and a rename do not change
+pub named_bytes : (named synced appended bytes : List ℕ) → named ≡ synced → synced ≡ appended
+    → appended ≡ bytes → named ≡ bytes
+named_bytes named synced appended bytes renames syncs is = renames ∙ syncs ∙ is
+
 module _ {F : Type 0} (may_leave : F → List ℕ → Type 0) (moment : F → ℕ)
     (left_since : F → ℕ → List ℕ → Type 0) (old : F) (bytes : List ℕ) where
   -- what a crash may leave: what it could before, or the new bytes

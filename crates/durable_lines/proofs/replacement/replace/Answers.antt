@@ -1,7 +1,7 @@
 use Rattle.std.proofs.Common.{sym, ◌∙◌, subst}
 use Rattle.std.proofs.lemmas.Result.{on_ok_weaker}
 use Rattle.durable_lines.proofs.ReplaceLemmas.{after_call, after_create, draft_bytes}
-use Rattle.durable_lines.proofs.ReplaceLemmas.{old_or_draft, settle_named}
+use Rattle.durable_lines.proofs.ReplaceLemmas.{named_bytes, old_or_draft, settle_named}
 use Rattle.durable_lines.proofs.replacement.replace.Goals as goal
 
 pub returns-in_err-draft-clause-any_moment : goal.returns-in_err-draft-clause-any_moment
@@ -93,7 +93,9 @@ returns-clause-settled g c =
     (c.in_ok-append.ensures.written (g.met.P.Place.drafts_act acts)) in
     settle_named D.seen D.may_leave D.identity D.stored c.sync_folder.result c.rename.new.self
     c.sync_folder.new.self bytes
-    (λ acts. c.in_ok-rename.ensures.seen ∙ c.in_ok-sync.ensures.unchanged ∙ is acts)
+    (λ acts. named_bytes (D.seen c.rename.new.self) (draft.seen c.sync.new.self)
+    (draft.seen c.append.new.self) bytes c.in_ok-rename.ensures.seen
+    c.in_ok-sync.ensures.unchanged (is acts))
     (λ acts. subst (λ i. D.stored i bytes) (sym c.sync_folder.ensures.identity)
     (c.in_ok-rename.ensures.stored bytes
     (subst (draft.stored (draft.identity c.sync.new.self)) (is acts)
