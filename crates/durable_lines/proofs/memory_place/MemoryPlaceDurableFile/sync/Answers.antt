@@ -1,4 +1,4 @@
-use Rattle.std.proofs.Common.{◌≡◌, None, sym, ◌∙◌, ap, subst}
+use Rattle.std.proofs.Common.{None, sym, ◌∙◌, ap, subst}
 use Rattle.durable_lines.specs.CrashModel.{Narrows, HasOneOutcome}
 use Rattle.durable_lines.specs.FileState.{State, seen_of, synced_with}
 use Rattle.durable_lines.specs.MemoryPlace.{MayBeLeft}
