@@ -5,6 +5,7 @@ pub mod Moments
 pub mod PastLemmas
 pub mod PlaceLemmas
 pub mod RecoveryLemmas
+pub mod ReplaceLemmas
 pub mod StateLemmas
 pub mod SyncLemmas
 pub mod TextLaws

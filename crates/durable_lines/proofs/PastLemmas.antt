@@ -4,6 +4,14 @@ use Rattle.std.proofs.Common.{length, drop, refl, sym, subst, arith, length-appe
 use Rattle.durable_lines.specs.CrashModel.{Elapses}
 use Rattle.durable_lines.specs.Moments.{AnyLeft, LeftIn}
 
+-- nothing is claimed of what a crash of a stored file leaves
+pub elapses_unclaimed : Elapses 0 0 (λ t c. ⊥) (λ t c. ⊥) (λ c. ⊥)
+elapses_unclaimed = record {
+  later = omega arith;
+  nothing_else = λ t c le since. absurd since;
+  keeps = λ t c le since. since;
+}
+
 module _ {S : Type 0} (left : S → List ℕ → Type 0) where
   keeps : (past : List S) (s : S) (c : List ℕ) → AnyLeft left past c
       → AnyLeft left (past ++ s ∷ []) c
@@ -50,7 +58,8 @@ module _ {S : Type 0} (left : S → List ℕ → Type 0) where
       subst (λ l. Elapses (length past) (length l) (LeftIn left past old) (LeftIn left l new)
       (left new)) (sym same) (elapses_push past old new)
 
-  elapses_still : (past : List S) (state : S) → Elapses (length past) (length past)
+  -- nothing happens
+  pub elapses_still : (past : List S) (state : S) → Elapses (length past) (length past)
       (LeftIn left past state) (LeftIn left past state) (left state)
   elapses_still past state = record {
     later = omega arith;

@@ -1,7 +1,8 @@
 -- What a crash leaves under a name in memory after an append, a cut and a sync.
-use Rattle.std.proofs.Common.{inl, inr, ℕ, List, [], None, sym, append-nil}
+use Rattle.std.proofs.Common.{◌⊎◌, inl, inr, ℕ, List, [], None, Some, sym, append-nil}
 use Rattle.durable_lines.specs.CrashModel.{Follows, Narrows, HasOneOutcome, TornAppend, TornCut}
-use Rattle.durable_lines.specs.FileState.{seen_of, synced_with, after_append, after_cut}
+use Rattle.durable_lines.specs.FileState.{State, seen_of, synced_with, after_append, after_cut}
+use Rattle.durable_lines.specs.FileState.{IsLeft}
 use Rattle.durable_lines.specs.MemoryPlace.{MayBeLeft}
 use Rattle.durable_lines.specs.declared.memory_place.PlaceState.{PlaceState}
 use Rattle.durable_lines.proofs.StateLemmas.{append_follows, cut_follows, only_synced}
@@ -41,3 +42,22 @@ pub only_synced_in : (bytes : List ℕ)
     → HasOneOutcome bytes (MayBeLeft (record { current = synced_with bytes; previous = None }))
 only_synced_in bytes c (inl left) = only_synced bytes c left
 only_synced_in bytes c (inr none) = absurd none
+
+-- the state after a rename
+abbrev pub renamed : PlaceState → State → PlaceState
+renamed s draft = record { current = draft; previous = Some s.current }
+
+-- a crash after a rename leaves the old file or the draft
+pub rename_leaves : (s : PlaceState) (draft : State) (c : List ℕ) → MayBeLeft (renamed s draft) c
+    → MayBeLeft s c ⊎ IsLeft draft c
+rename_leaves s draft c (inl left) = inr left
+rename_leaves s draft c (inr was) = inl (inl was)
+
+-- the state of a file whose name is on the disk
+abbrev pub settled : State → PlaceState
+settled file = record { current = file; previous = None }
+
+-- a crash after the sync of the folder leaves the file that has the name
+pub only_current : (file : State) → Narrows (IsLeft file) (MayBeLeft (settled file))
+only_current file c (inl left) = left
+only_current file c (inr none) = absurd none

@@ -15,6 +15,15 @@ pub cut_bytes : (len : ℕ) (bytes : List ℕ) → len ≡ length (text_of (line
     → take len bytes ≡ text_of (lines_in bytes)
 cut_bytes len bytes is = ap (λ n. take n bytes) is ∙ take-text bytes
 
+-- a file that is synced, read, and cut after the lines found is the text of the lines
+pub cut_text : (len : ℕ) (old synced read scanned left : List ℕ) → synced ≡ old → read ≡ synced
+    → scanned ≡ read → len ≡ length (text_of (lines_in scanned)) → left ≡ take len read
+    → left ≡ text_of (lines_in old)
+cut_text len old synced read scanned left same reads scans is cut =
+    let found : read ≡ old = reads ∙ same in
+    cut ∙ ap (take len) found
+    ∙ cut_bytes len old (is ∙ ap (λ l. length (text_of (lines_in l))) (scans ∙ found))
+
 module _ {F : Type 0} (seen : F → List ℕ) (may_leave : F → List ℕ → Type 0) (moment : F → ℕ)
     (left_since : F → ℕ → List ℕ → Type 0) (old : F) where
   -- what a crash may leave: what it could before, or the same lines

@@ -1,7 +1,7 @@
 use Rattle.std.proofs.Common.{length, take, sym, ◌∙◌, ap, subst}
 use Rattle.durable_lines.specs.Lines.{lines_in, text_of, IsText}
 use Rattle.durable_lines.proofs.LineLemmas.{lines_in-same}
-use Rattle.durable_lines.proofs.RecoveryLemmas.{after_sync, after_read, after_cut, cut_bytes}
+use Rattle.durable_lines.proofs.RecoveryLemmas.{after_sync, after_read, after_cut, cut_text}
 use Rattle.durable_lines.proofs.RecoveryLemmas.{cut_lines, lines_text}
 use Rattle.durable_lines.proofs.SyncLemmas.{settle}
 use Rattle.durable_lines.proofs.recovery.recover.Goals as goal
@@ -79,11 +79,9 @@ returns-clause-any_moment g c acts =
 
 pub returns-clause-text : goal.returns-clause-text
 returns-clause-text g c acts =
-    let bytes = c.in_ok-text.ensures.bytes acts ∙ c.in_ok-sync.ensures.unchanged in
-    let len = c.whole_len-len.ensures.len
-    ∙ ap (λ l. length (text_of (lines_in l))) (c.deref.ensures.value ∙ bytes) in
-    c.truncate.ensures.items ∙ ap (take c.whole_len-len.result) bytes
-    ∙ cut_bytes c.whole_len-len.result (g.F.DurableFile.seen c.args.file.now) len
+    cut_text c.whole_len-len.result (g.F.DurableFile.seen c.args.file.now) _ _ _ _
+    c.in_ok-sync.ensures.unchanged (c.in_ok-text.ensures.bytes acts) c.deref.ensures.value
+    c.whole_len-len.ensures.len c.truncate.ensures.items
 
 -- the file is the text of its lines
 pub returns-clause-seen : goal.returns-clause-seen

@@ -3,7 +3,7 @@ use Rattle.durable_lines.specs.CrashModel.{Follows, TornCut}
 use Rattle.durable_lines.specs.FileState.{seen_of}
 use Rattle.durable_lines.specs.MemoryPlace.{MayBeLeft}
 use Rattle.durable_lines.specs.declared.memory_place.PlaceState.{PlaceState}
-use Rattle.durable_lines.proofs.PastLemmas.{elapses_to}
+use Rattle.durable_lines.proofs.PastLemmas.{elapses_same, elapses_still, elapses_to}
 use Rattle.durable_lines.proofs.PlaceLemmas.{cut_follows_in, same_cuts}
 use Rattle.durable_lines.proofs.StateLemmas.{seen_of-after_cut}
 use Rattle.durable_lines.proofs.memory_place.MemoryPlaceDurableFile.cut.Goals as goal
@@ -32,3 +32,12 @@ returns-clause-cut c acts =
 pub returns-clause-time : goal.returns-clause-time
 returns-clause-time c = elapses_to MayBeLeft c.args.self.now.past.items c.change.new.past.items
     c.args.self.now.state c.change.new.state c.in_ok-change.ensures.past
+
+pub returns-in_err-next-clause-time : goal.returns-in_err-next-clause-time
+returns-in_err-next-clause-time c =
+    elapses_still MayBeLeft c.args.self.now.past.items c.args.self.now.state
+
+pub returns-in_err-change-clause-time : goal.returns-in_err-change-clause-time
+returns-in_err-change-clause-time c = elapses_same MayBeLeft c.args.self.now.past.items
+    c.change.new.past.items c.args.self.now.state c.change.new.state
+    c.in_err-change.ensures.past_unchanged c.in_err-change.ensures.unchanged

@@ -1,9 +1,9 @@
-use Rattle.std.proofs.Common.{◌≡◌, None, sym, ◌∙◌, ap, subst}
+use Rattle.std.proofs.Common.{None, sym, ◌∙◌, ap, subst}
 use Rattle.durable_lines.specs.CrashModel.{Narrows, HasOneOutcome}
 use Rattle.durable_lines.specs.FileState.{State, seen_of, synced_with}
 use Rattle.durable_lines.specs.MemoryPlace.{MayBeLeft}
 use Rattle.durable_lines.specs.declared.memory_place.PlaceState.{PlaceState}
-use Rattle.durable_lines.proofs.PastLemmas.{elapses_to}
+use Rattle.durable_lines.proofs.PastLemmas.{elapses_same, elapses_still, elapses_to}
 use Rattle.durable_lines.proofs.PlaceLemmas.{only_synced_in, sync_narrows_in}
 use Rattle.durable_lines.proofs.memory_place.MemoryPlaceDurableFile.sync.Goals as goal
 
@@ -29,3 +29,17 @@ returns-clause-crash c =
 pub returns-clause-time : goal.returns-clause-time
 returns-clause-time c = elapses_to MayBeLeft c.args.self.now.past.items c.change.new.past.items
     c.args.self.now.state c.change.new.state c.in_ok-change.ensures.past
+
+pub returns-in_err-bytes-clause-time : goal.returns-in_err-bytes-clause-time
+returns-in_err-bytes-clause-time c =
+    elapses_still MayBeLeft c.args.self.now.past.items c.args.self.now.state
+
+pub returns-in_err-change-clause-time : goal.returns-in_err-change-clause-time
+returns-in_err-change-clause-time c = elapses_same MayBeLeft c.args.self.now.past.items
+    c.change.new.past.items c.args.self.now.state c.change.new.state
+    c.in_err-change.ensures.past_unchanged c.in_err-change.ensures.unchanged
+
+pub returns-in_err-change-clause-crash : goal.returns-in_err-change-clause-crash
+returns-in_err-change-clause-crash c = subst
+    (λ s. Narrows (MayBeLeft c.args.self.now.state) (MayBeLeft s))
+    (sym c.in_err-change.ensures.unchanged) (λ bytes left. left)
