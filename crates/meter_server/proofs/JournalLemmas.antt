@@ -20,13 +20,16 @@ use Rattle.session_io.specs.Meters.{RepliesTo, RefusesLast}
 use Rattle.session_io.specs.Serving.{ServesSession, plan_of}
 use Rattle.session_io.specs.Sides.{Sides}
 use Rattle.session_io.specs.declared.fault.ServeFault.{ServeFault}
-use Rattle.shared_meter.specs.Calls.{Calls}
-use Rattle.shared_meter.specs.Settling.{AreDurable}
+use Rattle.relay_core.specs.declared.opening.Opening.{Opening}
+use Rattle.shared_meter.specs.Calls.{Calls, IsLegal}
+use Rattle.shared_meter.proofs.SettlingLemmas.{durable_later}
 use Rattle.turn_lock.proofs.Lists.{starts_refl, starts_trans}
+use Rattle.turn_lock.specs.Calls.{Called}
 use Rattle.turn_lock.specs.History.{StartsWith, calls_by, entry}
 use Rattle.turn_lock.specs.Shown.{IsSame}
 use Rattle.turn_lock.specs.declared.call_fault.CallFault.{CallFault}
 use Rattle.turn_lock.specs.declared.call_fault.CallFault.TheVariants as call
+use Rattle.turn_lock.specs.declared.known.Known.{Known}
 
 -- the port remains the same one
 called_same : (p : MeterPort) (event : Event) (reply : Reply) (q : MeterPort)
@@ -41,14 +44,19 @@ called_enters p event reply q called =
     called.watches.sees.own_calls p.known.number (inl (sym called.call.calls.number))
     ∙ called.call.calls.own_calls
 
--- the history that it knows begins with the one that it knew before
+-- after a call the port's history begins with the one that it knew before
+pub reply_seen : (k : Known Event Reply Opening) (event : Event) (reply : Reply)
+    (l : Known Event Reply Opening) → Called IsLegal k event reply l → StartsWith l.seen k.seen
+reply_seen k event reply l called =
+    let last = entry k.number event reply in
+    (called.seen.0 ++ last ∷ [], called.seen.1 ∙ append_assoc k.seen called.seen.0 (last ∷ []))
+
+-- so it does if the port has then watched
 called_seen : (p : MeterPort) (event : Event) (reply : Reply) (q : MeterPort)
     → HasCalled p event reply q → StartsWith q.known.seen p.known.seen
 called_seen p event reply q called =
-    let seen = called.call.calls.seen in
-    let last = entry p.known.number event reply in
     starts_trans q.known.seen called.between.known.seen p.known.seen called.watches.sees.seen
-    (seen.0 ++ last ∷ [], seen.1 ∙ append_assoc p.known.seen seen.0 (last ∷ []))
+    (reply_seen p.known event reply called.between.known called.call.calls)
 
 -- what holds of an event that was not passed on
 held_same : (p : MeterPort) (event : Event) (q : MeterPort) → IsHeldBack p event q → IsSame p q
@@ -63,18 +71,6 @@ held_seen : (p : MeterPort) (event : Event) (q : MeterPort) → IsHeldBack p eve
     → StartsWith q.known.seen p.known.seen
 held_seen p event q held =
     subst (λ x. StartsWith x.known.seen p.known.seen) (sym held.1) (starts_refl p.known.seen)
-
--- lines of a history that are on the disk are those of a longer one
-durable_later : (IsDurable : Calls → ℕ → Type 0) (before after : Calls) (lines : ℕ)
-    → StartsWith after before → AreDurable IsDurable before lines
-    → AreDurable IsDurable after lines
-durable_later IsDurable before after lines longer are = record {
-  saved = are.saved;
-  begins = starts_trans after before are.saved longer are.begins;
-  count = are.count;
-  enough = are.enough;
-  durable = are.durable;
-}
 
 -- the calls of a session are the same in a longer history without further calls of its port
 pub answered_later : (IsDurable : Calls → ℕ → Type 0) (number : List ℕ) (before after : Calls)

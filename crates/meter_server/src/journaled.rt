@@ -1,5 +1,5 @@
 //! A session on a meter whose journal has to be on the disk before each reply.
-ghost use Rattle.std.specs.Prelude.{◌≡◌, List, IfOk};
+ghost use Rattle.std.specs.Prelude.{◌≡◌, List, IfOk, IfSome};
 ghost use Rattle.acse_ber.specs.Password.{IsPassword};
 ghost use Rattle.session_io.specs.Meters.{RepliesTo};
 ghost use Rattle.meter_server.specs.Journaled.{AreWritten, JournalSteps};
@@ -11,6 +11,7 @@ ghost use Rattle.session_io.specs.Sides.{input_of, outlets_of};
 ghost use Rattle.relay_events.specs.Kinds.{Fits};
 ghost use Rattle.relay_events.specs.declared.event.Event.{Event};
 ghost use Rattle.relay_events.specs.declared.reply.Reply.{Reply};
+ghost use Rattle.shared_meter.specs.Settling.{AreDurable};
 ghost use Rattle.turn_lock.specs.Shown.{IsSame};
 
 use cosem_axdr::Octets;
@@ -35,11 +36,15 @@ pub struct JournaledPort<'a, W: Wait, D: Durability> {
     rt: &'a W,
     journal: &'a D,
     port: Port<Kept>,
+    // The number of lines of the port's history that were seen to be on the disk.
+    settled: Option<u64>,
 }
 
 impl<'a, W: Wait, D: Durability> Model for JournaledPort<'a, W, D> {
     ghost use Rattle.std.specs.Coded.{codes};
+    ghost use Rattle.std.specs.Prelude.{IfSome};
     ghost use Rattle.meter_server.specs.Ports.{MeterPort};
+    ghost use Rattle.shared_meter.specs.Settling.{AreDurable};
     ghost use Rattle.relay_events.specs.contracts.event.Event as event_row;
     ghost use Rattle.relay_events.specs.contracts.reply.Reply as reply_row;
     ghost use Rattle.relay_core.specs.contracts.opening.Opening as opening_row;
@@ -55,7 +60,8 @@ impl<'a, W: Wait, D: Durability> Model for JournaledPort<'a, W, D> {
 
     ghost view = { λ meter. meter.port };
 
-    ghost invariant = { λ meter. D.fits meter.port.lock };
+    ghost invariant = { λ meter. D.fits meter.port.lock
+        × IfSome meter.settled (AreDurable D.is_durable meter.port.known.seen) };
 }
 
 impl<'a, W: Wait, D: Durability> JournaledPort<'a, W, D> {
@@ -65,7 +71,12 @@ impl<'a, W: Wait, D: Durability> JournaledPort<'a, W, D> {
         requires { D.fits port.lock }
         ensures { result ≡ port }
     {
-        JournaledPort { rt, journal, port }
+        JournaledPort {
+            rt,
+            journal,
+            port,
+            settled: None,
+        }
     }
 
     /// Returns the port, with all calls that it has seen.
@@ -76,6 +87,7 @@ impl<'a, W: Wait, D: Durability> JournaledPort<'a, W, D> {
             rt: _,
             journal: _,
             port,
+            settled: _,
         } = self;
         port
     }
@@ -83,24 +95,30 @@ impl<'a, W: Wait, D: Durability> JournaledPort<'a, W, D> {
 
 // Calls the port, and returns the reply once the lines of all calls that the port has seen are on
 // the disk. If the journal has failed, an event that may change the meter is not passed on. If it
-// fails after the call, the reply is dropped.
+// fails after the call, the reply is dropped. `settled` is the number of lines that were seen to be
+// on the disk.
 fn ask<W: Wait, D: Durability>(
     rt: &W,
     alloc: Global,
     port: &mut Port<Kept>,
     journal: &D,
+    settled: &mut Option<u64>,
     event: Event,
 ) -> Result<Reply, CallFault>
-    requires { D.fits port.old.lock }
+    requires fits { D.fits port.old.lock }
+    requires settled { IfSome settled.old (AreDurable D.is_durable port.old.known.seen) }
     ensures step { JournalSteps D.is_durable port.old event result port.new }
     ensures fits { IfOk result (Fits event) }
+    ensures settled { IfSome settled.new (AreDurable D.is_durable port.new.known.seen) }
 {
     if !event.is_read() && journal.has_failed() {
         drop(event);
         return Err(CallFault::Journal);
     }
+    let known = settled.take();
     let reply = port.call(rt, alloc, event)?;
-    if settle(rt, alloc, port, journal) {
+    *settled = settle(rt, alloc, port, journal, known);
+    if settled.is_some() {
         return Ok(reply);
     }
     drop(reply);
@@ -111,7 +129,14 @@ impl<'a, W: Wait, D: Durability> Meter for JournaledPort<'a, W, D> {
     ghost steps = { JournalSteps D.is_durable };
 
     fn call(&mut self, alloc: Global, event: Event) -> Result<Reply, CallFault> {
-        ask(self.rt, alloc, &mut self.port, self.journal, event)
+        ask(
+            self.rt,
+            alloc,
+            &mut self.port,
+            self.journal,
+            &mut self.settled,
+            event,
+        )
     }
 }
 

@@ -16,10 +16,10 @@ use std::sync::Wait;
 use std::test::Fail;
 use turn_lock::Port;
 
-/// What a port learned that settled twice, before and after a press.
+/// What a port learned that settled before and after a press.
 #[derive(Clone, Copy, Debug, PartialEq, Eq)]
 struct Settled {
-    /// Whether it settled before the press.
+    /// Whether it settled before the press, twice with the same number of lines.
     is_settled: bool,
     /// Whether the press was replied to.
     is_pressed: bool,
@@ -31,9 +31,9 @@ struct Settled {
     lines: u64,
 }
 
-/// Runs a journal with this file through another port of the meter, and then settles the port
-/// before and after a press. Returns `None` if out of memory.
-fn settle_twice<L: JournalIdentity + Send + Sync, W: Wait>(
+/// Runs a journal with this file through another port of the meter, and then settles the port twice
+/// before a press and once after it. Returns `None` if out of memory.
+fn settle_port<L: JournalIdentity + Send + Sync, W: Wait>(
     rt: &W,
     alloc: Global,
     file: MemoryFile,
@@ -52,12 +52,13 @@ fn settle_twice<L: JournalIdentity + Send + Sync, W: Wait>(
         return None;
     };
     drop(other);
-    let is_settled = settle(rt, alloc, &mut port, &progress);
+    let known = settle(rt, alloc, &mut port, &progress, None);
+    let again = settle(rt, alloc, &mut port, &progress, known);
     let is_pressed = port.call(rt, alloc, Event::Button).is_ok();
-    let is_press_settled = settle(rt, alloc, &mut port, &progress);
+    let is_press_settled = settle(rt, alloc, &mut port, &progress, None).is_some();
     drop(port);
     let settled = Settled {
-        is_settled,
+        is_settled: known.is_some() && again == known,
         is_pressed,
         is_press_settled,
         has_failed: progress.has_failed(),
@@ -67,7 +68,7 @@ fn settle_twice<L: JournalIdentity + Send + Sync, W: Wait>(
     Some(settled)
 }
 
-/// Settles a port of a meter that replied to three events, as [`settle_twice`] does.
+/// Settles a port of a meter that replied to three events, as [`settle_port`] does.
 fn settle_asked<W: Wait>(rt: &W, alloc: Global, file: MemoryFile) -> Option<Settled>
     requires { let D = ⟦<MemoryFile as DurableFile>⟧
         in IsSettled D.seen D.may_leave D.identity D.stored file }
@@ -81,7 +82,7 @@ fn settle_asked<W: Wait>(rt: &W, alloc: Global, file: MemoryFile) -> Option<Sett
         drop(port);
         return None;
     };
-    settle_twice::<Brand, W>(rt, alloc, file, port, other)
+    settle_port::<Brand, W>(rt, alloc, file, port, other)
 }
 
 #[test]

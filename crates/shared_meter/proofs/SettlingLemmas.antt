@@ -1,10 +1,11 @@
 -- A port that waits for its journal.
-use Rattle.std.proofs.Common.{◌≡◌, ℕ, ◌≤◌, List, [], ◌∷◌, ◌++◌, length, ap, arith, length-append}
-use Rattle.std.proofs.Common.{le_refl, subst, ◌∙◌}
+use Rattle.std.proofs.Common.{◌≡◌, ℕ, ◌≤◌, [], ◌∷◌, ◌++◌, length, ap, arith, length-append}
+use Rattle.std.proofs.Common.{Option, Some, None, le_refl, subst, ◌∙◌}
+use Rattle.std.specs.Prelude.{IfSome}
 use Rattle.turn_lock.specs.Calls.{Watches}
 use Rattle.turn_lock.specs.History.{StartsWith}
 use Rattle.turn_lock.specs.Shown.{IsSame}
-use Rattle.turn_lock.proofs.Lists.{starts_refl}
+use Rattle.turn_lock.proofs.Lists.{starts_refl, starts_trans}
 use Rattle.turn_lock.proofs.Watching.{watches_trans}
 use Rattle.shared_meter.specs.Calls.{Calls, IsLegal}
 use Rattle.shared_meter.specs.Handed.{MeterPort}
@@ -40,6 +41,37 @@ durable_at_once IsDurable calls lines durable = record {
   count = lines;
   enough = le_refl lines;
   durable = durable;
+}
+
+-- lines of a history that are on the disk are those of a longer one
+pub durable_later : (IsDurable : Calls → ℕ → Type 0) (before after : Calls) (lines : ℕ)
+    → StartsWith after before → AreDurable IsDurable before lines
+    → AreDurable IsDurable after lines
+durable_later IsDurable before after lines longer are = record {
+  saved = are.saved;
+  begins = starts_trans after before are.saved longer are.begins;
+  count = are.count;
+  enough = are.enough;
+  durable = are.durable;
+}
+
+-- lines of which it is known that they are on the disk are there later
+pub known_later : (IsDurable : Calls → ℕ → Type 0) (before after : Calls) (known : Option ℕ)
+    → StartsWith after before → IfSome known (AreDurable IsDurable before)
+    → IfSome known (AreDurable IsDurable after)
+known_later IsDurable before after (Some lines) longer are =
+    durable_later IsDurable before after lines longer are
+known_later IsDurable before after None longer are = tt
+
+-- fewer lines are on the disk too
+pub durable_fewer : (IsDurable : Calls → ℕ → Type 0) (calls : Calls) (lines fewer : ℕ)
+    → fewer ≤ lines → AreDurable IsDurable calls lines → AreDurable IsDurable calls fewer
+durable_fewer IsDurable calls lines fewer less are = record {
+  saved = are.saved;
+  begins = are.begins;
+  count = are.count;
+  enough = omega (arith, less, are.enough);
+  durable = are.durable;
 }
 
 -- the same port after two steps without a call

@@ -1,5 +1,5 @@
 //! Waits until the journal has reached the disk.
-ghost use Rattle.std.specs.Prelude.{ℕ, ⊤, IsTrue};
+ghost use Rattle.std.specs.Prelude.{ℕ, ⊤, ◌≢◌, None, IfSome, IsTrue};
 ghost use Rattle.atomic_table.specs.Seated.{TableId};
 ghost use Rattle.turn_lock.specs.Calls.{Watches};
 ghost use Rattle.turn_lock.specs.Shown.{IsSame};
@@ -65,21 +65,56 @@ impl Durability for NoJournal {
     }
 }
 
-/// Waits until the lines of all calls that the port has seen are on the disk. Returns false if this
-/// is not certain: the journal has failed, a line was lost, or all turns of the lock were drawn.
+// Waits until this number of lines is on the disk, unless it is known that as many are.
+fn wait_for<D: Durability, W: Wait>(
+    rt: &W,
+    port: &mut Port<Kept>,
+    durability: &D,
+    known: Option<u64>,
+    lines: u64,
+) -> bool
+    requires fits { D.fits port.old.lock }
+    requires known { IfSome known (AreDurable D.is_durable port.old.known.seen) }
+    ensures same { IsSame port.old port.new }
+    ensures watches { Watches IsLegal port.old.known port.new.known }
+    ensures durable { IsTrue result → AreDurable D.is_durable port.new.known.seen lines }
+{
+    if let Some(known) = known
+        && lines <= known
+    {
+        // (no effect: the contract needs this law)
+        port.history_is_legal();
+        return true;
+    }
+    durability.wait(rt, port, lines)
+}
+
+/// Waits until the lines of all calls that the port has seen are on the disk, and returns their
+/// number. Returns `None` if this is not certain: the journal has failed, a line was lost, or all
+/// turns of the lock were drawn.
+///
+/// `known` is the result of an earlier call, or `None`. If the port has seen no further lines since
+/// then, the journal is not looked at.
 pub fn settle<D: Durability, W: Wait>(
     rt: &W,
     alloc: Global,
     port: &mut Port<Kept>,
     durability: &D,
-) -> bool
-    requires { D.fits port.old.lock }
+    known: Option<u64>,
+) -> Option<u64>
+    requires fits { D.fits port.old.lock }
+    requires known { IfSome known (AreDurable D.is_durable port.old.known.seen) }
     ensures same { IsSame port.old port.new }
     ensures watches { Watches IsLegal port.old.known port.new.known }
-    ensures settled { IsTrue result → Settles D.is_durable port.old port.new }
+    ensures settled { result ≢ None → Settles D.is_durable port.old port.new }
+    ensures known { IfSome result (AreDurable D.is_durable port.new.known.seen) }
 {
-    match port.inspect(rt, alloc, Question::Count) {
-        Some(Finding::Count(lines)) => durability.wait(rt, port, lines),
-        _ => false,
+    let Some(Finding::Count(lines)) = port.inspect(rt, alloc, Question::Count) else {
+        return None;
+    };
+    if wait_for(rt, port, durability, known, lines) {
+        Some(lines)
+    } else {
+        None
     }
 }

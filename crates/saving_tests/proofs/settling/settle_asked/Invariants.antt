@@ -3,8 +3,8 @@ use Rattle.durable_lines.specs.Lines.{lines_in}
 use Rattle.durable_lines.specs.MemoryFile.{bytes_of}
 use Rattle.saving_tests.proofs.settling.settle_asked.Given as goal
 
-abbrev pub ghosts-settle_twice : goal.ghosts-settle_twice
-ghosts-settle_twice g a = record {
+abbrev pub ghosts-settle_port : goal.ghosts-settle_port
+ghosts-settle_port g a = record {
   lock = a.port.lock;
   file = 0;
   first = lines_in (bytes_of a.file);
