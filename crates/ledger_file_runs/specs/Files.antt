@@ -13,8 +13,8 @@ use Rattle.head_end.specs.Connections.{Forecast}
 use Rattle.sqlite_ledger.specs.Marks.{IsMarked, LeavesEntries}
 use Rattle.sqlite_ledger.specs.Schema.{ledger_schema}
 use Rattle.ledger_files.specs.Opened.{IsOpenedFrom}
-use Rattle.ledger_runs.specs.declared.running.LedgerTexts.{LedgerTexts}
-use Rattle.ledger_runs.specs.Texts.{IsRunOnLedger}
+use Rattle.ledger_campaigns.specs.declared.texts.LedgerTexts.{LedgerTexts}
+use Rattle.ledger_campaigns.specs.Texts.{IsRunOnLedger}
 
 -- Whether the ledger was opened from what the files held, and the run was on this ledger. The disk
 -- is honest if it returned what was written, and a place is marked if whatever a crash leaves has

@@ -3,12 +3,11 @@ ghost use Rattle.std.specs.Prelude.{◌≡◌, length, pos, IfOk};
 ghost use Rattle.sqlite.specs.State.{HasCleanDisk};
 ghost use Rattle.sqlite.specs.Held.{state};
 ghost use Rattle.sqlite_ledger.specs.Marks.{IsMarked, LeavesEntries};
-ghost use Rattle.ledger_runs.specs.Texts.{IsRunOnLedger};
+ghost use Rattle.ledger_campaigns.specs.Texts.{IsRunOnLedger};
 
 use campaign_ledger::Ledger;
 use head_end::{Connector, Watcher};
-use ledger_campaigns::LedgeredPlan;
-use ledger_runs::{LedgerTexts, run_on_ledger};
+use ledger_campaigns::{LedgerTexts, LedgeredPlan, run_on_ledger};
 use sqlite::Alter;
 use sqlite_ledger::SqliteBook;
 use std::alloc::{AllocError, Global};

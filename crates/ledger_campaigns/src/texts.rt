@@ -1,13 +1,14 @@
 //! Runs the jobs of a campaign on an open ledger, and returns the texts.
 ghost use Rattle.std.specs.Prelude.{◌≡◌, length, IfOk};
 ghost use Rattle.head_end.specs.Reports.{report_text};
-ghost use Rattle.ledger_runs.specs.Texts.{IsRunOnLedger};
+ghost use Rattle.ledger_campaigns.specs.Texts.{IsRunOnLedger};
 
 use crate::noting::add_notes;
+use crate::plan::LedgeredPlan;
+use crate::run::{LedgeredRun, run_ledgered_campaign};
 use campaign_ledger::{Book, Ledger};
 use cosem_axdr::Octets;
 use head_end::{Connector, Report, Watcher, report};
-use ledger_campaigns::{LedgeredPlan, LedgeredRun, run_ledgered_campaign};
 use std::alloc::{AllocError, Global};
 use std::sync::Wait;
 use std::thread::Threads;

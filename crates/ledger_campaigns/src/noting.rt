@@ -1,6 +1,6 @@
 //! The jobs whose outcome is unknown, told apart by their entries.
 ghost use Rattle.std.specs.Prelude.{◌≡◌, ◌++◌, ◌∷◌, [], codes, OnOk};
-ghost use Rattle.ledger_runs.specs.Notes.{note_text, unknown_text};
+ghost use Rattle.ledger_campaigns.specs.Notes.{note_text, unknown_text};
 
 use campaign_ledger::LedgerEntry;
 use client_core::Outcome;

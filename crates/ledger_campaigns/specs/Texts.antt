@@ -10,7 +10,7 @@ use Rattle.head_end.specs.Attempts.{State}
 use Rattle.head_end.specs.Connections.{Forecast}
 use Rattle.head_end.specs.Reports.{report_text}
 use Rattle.ledger_campaigns.specs.Campaigns.{AreLinesFor, AreSwitched, IsLedgeredRun}
-use Rattle.ledger_runs.specs.declared.running.LedgerTexts.{LedgerTexts}
+use Rattle.ledger_campaigns.specs.declared.texts.LedgerTexts.{LedgerTexts}
 
 module _ {B : Type 0} (is_honest : B → Type 0) (is_marked : B → ℕ → Type 0)
     (may_leave : B → (ℕ → LedgerEntry) → Type 0) where
