@@ -7,14 +7,14 @@ use Rattle.sqlite.specs.Recovery.{Image}
 use Rattle.client_core.specs.declared.job.Job.{Job}
 use Rattle.head_end.specs.Connections.{Forecast}
 use Rattle.ledger_reports.specs.declared.line.LedgerLine.{LedgerLine}
-use Rattle.ledger_questions.specs.Asked.{IsAsked}
-use Rattle.ledger_questions.specs.Questions.{questions}
-use Rattle.ledger_questions.specs.declared.asking.AskedMeters.{AskedMeters}
+use Rattle.ledger_campaigns.specs.AskedMeters.{IsAsked}
+use Rattle.ledger_campaigns.specs.Questions.{questions}
+use Rattle.ledger_campaigns.specs.declared.asked_meters.AskedMeters.{AskedMeters}
 use Rattle.ledger_files.specs.Answered.{AreRecorded}
 use Rattle.ledger_file_runs.specs.declared.asking.AskedLedger.{AskedLedger}
 
 -- whether jobs are the questions of some lines, which were read of a ledger: so none of them is a
--- switching command (`questions_switch_nothing` of `ledger_questions`)
+-- switching command (`questions_switch_nothing` of `ledger_campaigns`)
 pub record AreQuestions (jobs : List Job) : Type 0 where
   pub lines : List LedgerLine
   pub are : jobs ≡ questions lines

@@ -5,9 +5,8 @@ ghost use Rattle.ledger_file_runs.specs.Asked.{AreQuestions, IsAskedOnFile};
 
 use cosem_axdr::Octets;
 use head_end::{Connector, Jobs, JobsFault, Watcher};
-use ledger_campaigns::LedgeredPlan;
+use ledger_campaigns::{AskedMeters, LedgeredPlan, ask_meters, questions};
 use ledger_files::{append_answers, read_ledger};
-use ledger_questions::{AskedMeters, ask_meters, questions};
 use sqlite::{FileFrom, Start};
 use sqlite_disk::Disk;
 use sqlite_ledger::LedgerOpenFault;

@@ -13,7 +13,7 @@ use Rattle.head_end.specs.declared.row.ReportLine.{ReportLine}
 use Rattle.head_end.specs.declared.row.Row.{Row}
 use Rattle.head_end.specs.declared.row.Row.TheVariants.{Came, Memory}
 use Rattle.ledger_reports.specs.declared.answer.StateAnswer.{StateAnswer}
-use Rattle.ledger_questions.specs.declared.asking.AskedMeters.{AskedMeters}
+use Rattle.ledger_campaigns.specs.declared.asked_meters.AskedMeters.{AskedMeters}
 
 -- the answer with this state to a question
 abbrev pub answer_with : Option ℕ → Job → ℕ → StateAnswer

@@ -1,12 +1,12 @@
 //! `ask_meters`: asks meters for their states.
 ghost use Rattle.std.specs.Prelude.{◌≡◌, IfOk};
 ghost use Rattle.head_end.specs.Reports.{report_text};
-ghost use Rattle.ledger_questions.specs.Asked.{answers_of, IsAsked};
+ghost use Rattle.ledger_campaigns.specs.AskedMeters.{answers_of, IsAsked};
 
-use crate::answers::answers_of;
+use crate::meter_answers::answers_of;
+use crate::plan::LedgeredPlan;
 use cosem_axdr::Octets;
 use head_end::{Connector, Jobs, Report, Watcher, places_for, report, run_watched_campaign};
-use ledger_campaigns::LedgeredPlan;
 use ledger_reports::StateAnswer;
 use std::alloc::{AllocError, Global};
 use std::thread::Threads;

@@ -7,7 +7,7 @@ use Rattle.ledger_reports.specs.declared.line.LedgerLine.{LedgerLine}
 use Rattle.ledger_reports.specs.declared.state.Standing.{Standing}
 use Rattle.ledger_reports.specs.declared.state.Standing.TheVariants.{Done, Refused, Rejected}
 use Rattle.ledger_reports.specs.declared.state.Standing.TheVariants.{Unknown, NotSent}
-use Rattle.ledger_questions.specs.Questions.{question, question_for, question_in, questions}
+use Rattle.ledger_campaigns.specs.Questions.{question, question_for, question_in, questions}
 
 module _ (P : Job → Type 0) (asks : (job : Job) → P (question job)) where
   -- what holds of the question of any job holds of one more

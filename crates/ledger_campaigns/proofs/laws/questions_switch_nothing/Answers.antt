@@ -1,6 +1,6 @@
 use Rattle.std.proofs.Common.{refl}
-use Rattle.ledger_questions.proofs.QuestionLemmas.{all_questions}
-use Rattle.ledger_questions.proofs.laws.questions_switch_nothing.Goals as goal
+use Rattle.ledger_campaigns.proofs.QuestionLemmas.{all_questions}
+use Rattle.ledger_campaigns.proofs.laws.questions_switch_nothing.Goals as goal
 
 pub returns-clause-verbs : goal.returns-clause-verbs
 returns-clause-verbs c lines = all_questions _ (λ job. refl) lines

@@ -1,6 +1,6 @@
 use Rattle.std.proofs.Common.{◌≡◌, ◌++◌, ℕ, length}
-use Rattle.ledger_questions.specs.Asked.{answers_of}
-use Rattle.ledger_questions.proofs.answers.answers_of.Given as goal
+use Rattle.ledger_campaigns.specs.AskedMeters.{answers_of}
+use Rattle.ledger_campaigns.proofs.meter_answers.answers_of.Given as goal
 
 -- the questions that are left
 abbrev pub decreases-lines : goal.decreases-lines

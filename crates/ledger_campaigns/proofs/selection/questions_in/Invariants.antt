@@ -1,7 +1,7 @@
 use Rattle.std.proofs.Common.{◌≡◌, take}
 use Rattle.std.specs.List.{flat_map}
-use Rattle.ledger_questions.specs.Questions.{question_in}
-use Rattle.ledger_questions.proofs.selection.questions_in.Given as goal
+use Rattle.ledger_campaigns.specs.Questions.{question_in}
+use Rattle.ledger_campaigns.proofs.selection.questions_in.Given as goal
 
 -- the questions of the lines so far
 abbrev pub invariant-lines : goal.invariant-lines

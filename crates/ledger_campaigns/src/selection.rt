@@ -1,6 +1,6 @@
 //! `questions`: the jobs that ask for the states of meters.
 ghost use Rattle.std.specs.Prelude.{◌≡◌, ◌++◌, ◌∷◌, [], IfOk, OnOk};
-ghost use Rattle.ledger_questions.specs.Questions.{question, question_in, questions};
+ghost use Rattle.ledger_campaigns.specs.Questions.{question, question_in, questions};
 
 use campaign_ledger::LedgerEntry;
 use client_core::{Job, Outcome, Verb};

@@ -1,6 +1,6 @@
 //! `answers_of`: the answers that report a state.
 ghost use Rattle.std.specs.Prelude.{◌≡◌, ◌++◌, IfOk, OnOk};
-ghost use Rattle.ledger_questions.specs.Asked.{answer_in, answer_with, answers_of};
+ghost use Rattle.ledger_campaigns.specs.AskedMeters.{answer_in, answer_with, answers_of};
 
 use client_core::{Job, Outcome};
 use head_end::{ReportLine, Row};
