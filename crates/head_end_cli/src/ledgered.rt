@@ -12,7 +12,7 @@ use clap::ArgMatches;
 use head_end::Connector;
 use head_end_commands::{CampaignPlan, plan_campaign};
 use ledger_campaigns::{LedgerTexts, LedgeredPlan};
-use ledger_file_runs::{LedgerReport, run_with_ledger};
+use ledger_files::{LedgerReport, run_with_ledger};
 use program::{Fault, print_text};
 use sqlite::{FileFrom, Start};
 use sqlite_disk::Disk;

@@ -1,5 +1,5 @@
 use Rattle.std.proofs.Common.{refl}
-use Rattle.ledger_file_runs.proofs.asking.ask_with_ledger.Goals as goal
+use Rattle.ledger_files.proofs.asking.ask_with_ledger.Goals as goal
 
 pub returns-in-Ok : goal.returns-in-Ok
 returns-in-Ok g c = record {

@@ -11,7 +11,7 @@ use Rattle.ledger_campaigns.specs.AskedMeters.{IsAsked}
 use Rattle.ledger_campaigns.specs.Questions.{questions}
 use Rattle.ledger_campaigns.specs.declared.asked_meters.AskedMeters.{AskedMeters}
 use Rattle.ledger_files.specs.Answered.{AreRecorded}
-use Rattle.ledger_file_runs.specs.declared.asking.AskedLedger.{AskedLedger}
+use Rattle.ledger_files.specs.declared.asking.AskedLedger.{AskedLedger}
 
 -- whether jobs are the questions of some lines, which were read of a ledger: so none of them is a
 -- switching command (`questions_switch_nothing` of `ledger_campaigns`)

@@ -1,20 +1,13 @@
-//! A campaign on a ledger in a file: opens the ledger, runs the jobs and closes the ledger. Also
-//! the questions to its meters, whose answers go to the file next to the ledger.
-#![tactic(auto)]
-
-mod asking;
-mod connected;
-
+//! A campaign on a ledger in a file: opens the ledger, runs the jobs and closes the ledger.
 ghost use Rattle.std.specs.Prelude.{IfOk};
 ghost use Rattle.sqlite.specs.WalFiles.{image_at};
-ghost use Rattle.ledger_file_runs.specs.Files.{IsRunOnFile};
+ghost use Rattle.ledger_files.specs.Runs.{IsRunOnFile};
 
 use crate::connected::run_on_connection;
-pub use asking::{AskedLedger, ask_with_ledger, read_questions};
+use crate::{BookFrom, close_ledger, open_ledger_from};
 use campaign_ledger::Ledger;
 use head_end::{Connector, Watcher};
 use ledger_campaigns::{LedgerTexts, LedgeredPlan};
-use ledger_files::{BookFrom, close_ledger, open_ledger_from};
 use sqlite::{FileFrom, Start};
 use sqlite_disk::Disk;
 use sqlite_ledger::LedgerOpenFault;
@@ -46,8 +39,7 @@ fn close<S: Start>(ledger: Option<Ledger<BookFrom<S>>>) -> bool {
 /// Opens the ledger of a campaign at a path, where `S` stands for what the file holds, runs its
 /// jobs with permits of the ledger, and closes it.
 ///
-/// Errors, all before the first connection is made: those of
-/// [`open_ledger_from`](ledger_files::open_ledger_from), and `Memory`.
+/// Errors, all before the first connection is made: those of [`open_ledger_from`], and `Memory`.
 pub fn run_with_ledger<S: Start + Send, R: Threads + Wait + Sync, C: Connector, W: Watcher>(
     rt: &HostRuntime,
     threads: &R,

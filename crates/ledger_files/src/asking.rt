@@ -1,12 +1,13 @@
 //! Asks the meters whose commands may have been sent and that gave no valid answer.
 ghost use Rattle.std.specs.Prelude.{IfOk};
 ghost use Rattle.sqlite.specs.WalFiles.{image_at};
-ghost use Rattle.ledger_file_runs.specs.Asked.{AreQuestions, IsAskedOnFile};
+ghost use Rattle.ledger_files.specs.Asked.{AreQuestions, IsAskedOnFile};
 
+use crate::answers::append_answers;
+use crate::reading::read_ledger;
 use cosem_axdr::Octets;
 use head_end::{Connector, Jobs, JobsFault, Watcher};
 use ledger_campaigns::{AskedMeters, LedgeredPlan, ask_meters, questions};
-use ledger_files::{append_answers, read_ledger};
 use sqlite::{FileFrom, Start};
 use sqlite_disk::Disk;
 use sqlite_ledger::LedgerOpenFault;
@@ -27,8 +28,8 @@ pub struct AskedLedger {
 /// Returns the questions of the ledger at a path: a job that reads the state for each job whose
 /// command may have been sent and that has no valid answer, in the order of the jobs.
 ///
-/// Errors: those of [`read_ledger`](ledger_files::read_ledger); `NotALedger` also for more than
-/// 1,000 questions, which no ledger of the head end has; `Memory`.
+/// Errors: those of [`read_ledger`]; `NotALedger` also for more than 1,000 questions, which no
+/// ledger of the head end has; `Memory`.
 pub fn read_questions(rt: &HostRuntime, path: &str) -> Result<Jobs, LedgerOpenFault>
     ensures { IfOk result AreQuestions }
 {
