@@ -7,10 +7,10 @@ use Rattle.sqlite_disk.specs.declared.Disk.{Ghosts}
 use Rattle.sqlite.specs.Recovery.{Image}
 use Rattle.client_core.specs.declared.job.Job.{Job}
 use Rattle.head_end.specs.Connections.{Forecast}
-use Rattle.ledger_questions.specs.Asked.{IsAsked}
-use Rattle.ledger_questions.specs.declared.asking.AskedMeters.{AskedMeters}
+use Rattle.ledger_campaigns.specs.AskedMeters.{IsAsked}
+use Rattle.ledger_campaigns.specs.declared.asked_meters.AskedMeters.{AskedMeters}
 use Rattle.ledger_files.specs.Answered.{AreRecorded}
-use Rattle.ledger_file_runs.specs.declared.asking.AskedLedger.{AskedLedger}
+use Rattle.ledger_files.specs.declared.asking.AskedLedger.{AskedLedger}
 
 -- whether the answers are recorded, and the report of the questions was printed
 pub record PrintsAsked (asked : AskedLedger) (written written' : Option (List ℕ)) : Type 0 where

@@ -12,8 +12,8 @@ use Rattle.sqlite_disk.specs.declared.Disk.{Ghosts}
 use Rattle.sqlite.specs.Recovery.{Image}
 use Rattle.client_core.specs.declared.job.Job.{Job}
 use Rattle.head_end.specs.Connections.{Forecast}
-use Rattle.ledger_runs.specs.declared.running.LedgerTexts.{LedgerTexts}
-use Rattle.ledger_file_runs.specs.Files.{IsRunOnFile}
+use Rattle.ledger_campaigns.specs.declared.texts.LedgerTexts.{LedgerTexts}
+use Rattle.ledger_files.specs.Runs.{IsRunOnFile}
 use Rattle.ledger_reports.specs.Answers.{with_answer}
 use Rattle.ledger_reports.specs.declared.answer.StateAnswer.{StateAnswer}
 use Rattle.ledger_reports.specs.declared.line.LedgerLine.{LedgerLine}

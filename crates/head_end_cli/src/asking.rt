@@ -6,7 +6,7 @@ ghost use Rattle.clap.specs.Matches.{found_of};
 ghost use Rattle.head_end_cli.specs.Asking.{PrintsAnswers, PrintsAsked};
 ghost use Rattle.head_end_commands.specs.Options.{AreLimits, AreWorkers};
 ghost use Rattle.head_end_commands.specs.Passwords.{HasPasswords};
-ghost use Rattle.ledger_file_runs.specs.Asked.{AreQuestions};
+ghost use Rattle.ledger_files.specs.Asked.{AreQuestions};
 
 use crate::ledgered::LedgeredCampaign;
 use crate::progress::{CampaignProgress, ProgressWatch};
@@ -15,7 +15,7 @@ use clap::ArgMatches;
 use head_end::{Connector, Jobs};
 use head_end_commands::plan_jobs;
 use ledger_campaigns::LedgeredPlan;
-use ledger_file_runs::{AskedLedger, ask_with_ledger, read_questions};
+use ledger_files::{AskedLedger, ask_with_ledger, read_questions};
 use program::{Fault, print_text};
 use sqlite::{FileFrom, Start};
 use sqlite_disk::Disk;

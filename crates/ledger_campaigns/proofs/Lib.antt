@@ -1,6 +1,7 @@
 pub mod CampaignLemmas
 pub mod DeskLemmas
 pub mod PlaceLemmas
+pub mod QuestionLemmas
 pub mod RoundLemmas
 pub mod RunLemmas
 pub mod RunningLemmas

@@ -1,3 +1,6 @@
--- What the contracts of a ledger in an SQLite file, and of the answers next to it, refer to.
+-- What the contracts of a ledger in an SQLite file, of campaigns on it, and of the answers next to
+-- it refer to.
 pub mod Answered
+pub mod Asked
 pub mod Opened
+pub mod Runs

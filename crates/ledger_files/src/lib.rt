@@ -1,12 +1,15 @@
-//! The ledger of a campaign in an SQLite file, and the file of answers next to it.
+//! The ledger of a campaign in an SQLite file, and the file of answers next to it: opens and closes
+//! them, runs the jobs of the campaign, and asks its meters.
 //!
-//! This crate owns the connection over files: it opens the file and closes it, so that a program
-//! only names its calls.
+//! This crate owns the connections over files, so that a program only names its calls.
 #![tactic(auto)]
 
 mod answers;
+mod asking;
+mod connected;
 mod laws;
 mod reading;
+mod runs;
 
 ghost use Rattle.std.specs.Prelude.{◌≡◌, length, IfOk, false};
 ghost use Rattle.sqlite.specs.State.{HasCleanDisk};
@@ -16,10 +19,12 @@ ghost use Rattle.sqlite_ledger.specs.Schema.{ledger_schema};
 ghost use Rattle.ledger_files.specs.Opened.{IsOpenedFrom};
 
 pub use answers::{append_answers, read_answers_of};
+pub use asking::{AskedLedger, ask_with_ledger, read_questions};
 use campaign_ledger::{Ledger, LedgerFault};
 use client_core::Job;
 pub use laws::the_next_run_finds_what_was_left;
 pub use reading::read_ledger;
+pub use runs::{LedgerReport, run_with_ledger};
 use sqlite::{Connection, FileFrom, FileStore, Start, Unknown};
 use sqlite_ledger::{LedgerOpenFault, SqliteBook, open_book};
 use std::fs::OpenOptions;

@@ -1,7 +1,6 @@
-//! Tests of `campaign_ledger`, `ledger_campaigns`, `ledger_reports`, `ledger_questions` and
-//! `ledger_records`: runs on a book in memory, whose entries the next run finds, a ledger as text,
-//! and its questions; and of `sqlite_ledger` and `ledger_answers`: ledgers and files of answers in
-//! memory.
+//! Tests of `campaign_ledger`, `ledger_campaigns`, `ledger_reports` and `ledger_records`: runs on a
+//! book in memory, whose entries the next run finds, the questions to its meters, and a ledger as
+//! text; and of `sqlite_ledger` and `ledger_answers`: ledgers and files of answers in memory.
 //!
 //! The tests have a crate of their own because a check of tests also proves the rest of their
 //! crate.

@@ -4,8 +4,7 @@ use campaign_ledger::LedgerEntry;
 use client_core::{Job, Outcome, Verb};
 use cosem_axdr::Octets;
 use head_end::{Jobs, ReportLine, Row, UnwatchedCampaign, passwords_for};
-use ledger_campaigns::LedgeredPlan;
-use ledger_questions::{AskedMeters, answers_of, ask_meters, questions};
+use ledger_campaigns::{AskedMeters, LedgeredPlan, answers_of, ask_meters, questions};
 use ledger_reports::{
     LedgerLine, LedgerTimes, MeterState, StateAnswer, enter_answers, latest_answer,
 };

@@ -1,0 +1,32 @@
+-- A run of a campaign on a ledger in a file.
+--     IsRunOnFile       the open found what the file held, and the run was on this ledger
+use Rattle.std.specs.Prelude.{◌≡◌, ℕ, pos, List, Option, Result}
+use Rattle.sqlite_disk.specs.declared.Disk.{Ghosts}
+use Rattle.sqlite.specs.declared.FileStore.{FileStore}
+use Rattle.sqlite.specs.Held.{Held}
+use Rattle.sqlite.specs.Files.{file_state}
+use Rattle.sqlite.specs.Recovery.{Image}
+use Rattle.sqlite.specs.State.{HasCleanDisk}
+use Rattle.client_core.specs.declared.job.Job.{Job}
+use Rattle.campaign_ledger.specs.Grants.{LedgerState}
+use Rattle.head_end.specs.Connections.{Forecast}
+use Rattle.sqlite_ledger.specs.Marks.{IsMarked, LeavesEntries}
+use Rattle.sqlite_ledger.specs.Schema.{ledger_schema}
+use Rattle.ledger_files.specs.Opened.{IsOpenedFrom}
+use Rattle.ledger_campaigns.specs.declared.texts.LedgerTexts.{LedgerTexts}
+use Rattle.ledger_campaigns.specs.Texts.{IsRunOnLedger}
+
+-- Whether the ledger was opened from what the files held, and the run was on this ledger. The disk
+-- is honest if it returned what was written, and a place is marked if whatever a crash leaves has
+-- its mark.
+pub record IsRunOnFile {D F : Type 0} (g : Ghosts D) (held : Image)
+    (tells : List ℕ → Option Forecast) (jobs : List Job) (passwords : List (List ℕ))
+    (texts : Result LedgerTexts F) : Type 0 where
+  pub start : LedgerState (Held (FileStore D g))
+  pub now : Option (LedgerState (Held (FileStore D g)))
+  pub schema_is : start.book.schema ≡ ledger_schema
+  pub opened : HasCleanDisk (file_state start.book) → IsOpenedFrom held start.book
+  pub run : IsRunOnLedger (λ book. HasCleanDisk (file_state book))
+      (λ book place. IsMarked (file_state book).may_leave (pos place))
+      (λ book entries. LeavesEntries (file_state book).may_leave entries) tells jobs passwords
+      start now texts

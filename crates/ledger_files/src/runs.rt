@@ -1,0 +1,64 @@
+//! A campaign on a ledger in a file: opens the ledger, runs the jobs and closes the ledger.
+ghost use Rattle.std.specs.Prelude.{IfOk};
+ghost use Rattle.sqlite.specs.WalFiles.{image_at};
+ghost use Rattle.ledger_files.specs.Runs.{IsRunOnFile};
+
+use crate::connected::run_on_connection;
+use crate::{BookFrom, close_ledger, open_ledger_from};
+use campaign_ledger::Ledger;
+use head_end::{Connector, Watcher};
+use ledger_campaigns::{LedgerTexts, LedgeredPlan};
+use sqlite::{FileFrom, Start};
+use sqlite_disk::Disk;
+use sqlite_ledger::LedgerOpenFault;
+use std::alloc::AllocError;
+use std::rt::HostRuntime;
+use std::sync::Wait;
+use std::thread::Threads;
+
+/// The end of a campaign on a ledger.
+#[derive(Drop)]
+pub struct LedgerReport {
+    /// The texts, unless out of memory: the ledger then has the outcomes.
+    pub texts: Result<LedgerTexts, AllocError>,
+    /// Whether the ledger failed: no further command went out then.
+    pub has_failed: bool,
+}
+
+// Closes a ledger. Returns whether it was there, had not failed and was closed.
+fn close<S: Start>(ledger: Option<Ledger<BookFrom<S>>>) -> bool {
+    match ledger {
+        Some(ledger) => {
+            let has_failed = ledger.has_failed();
+            close_ledger(ledger).is_ok() && !has_failed
+        }
+        None => false,
+    }
+}
+
+/// Opens the ledger of a campaign at a path, where `S` stands for what the file holds, runs its
+/// jobs with permits of the ledger, and closes it.
+///
+/// Errors, all before the first connection is made: those of [`open_ledger_from`], and `Memory`.
+pub fn run_with_ledger<S: Start + Send, R: Threads + Wait + Sync, C: Connector, W: Watcher>(
+    rt: &HostRuntime,
+    threads: &R,
+    plan: &LedgeredPlan<'_, W>,
+    path: &str,
+    start: S,
+    connector: &C,
+) -> Result<LedgerReport, LedgerOpenFault>
+    ensures { IfOk result (λ report. IsRunOnFile ⟦<FileFrom<S> as Disk>⟧ (image_at S.Start)
+        (C.tells connector.now) plan.now.jobs.now plan.now.passwords.now report.texts) }
+{
+    match open_ledger_from(rt, path, plan.jobs.as_slice(), start) {
+        Ok(ledger) => match run_on_connection(threads, rt.alloc(), plan, ledger, connector) {
+            Ok((texts, ledger)) => Ok(LedgerReport {
+                texts,
+                has_failed: !close(ledger),
+            }),
+            Err(_) => Err(LedgerOpenFault::Memory),
+        },
+        Err(fault) => Err(fault),
+    }
+}

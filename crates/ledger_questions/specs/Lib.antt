@@ -1,3 +1,0 @@
--- What the contracts of the questions to meters refer to.
-pub mod Asked
-pub mod Questions

@@ -1,3 +1,0 @@
--- What the contracts of a campaign on an open ledger refer to.
-pub mod Notes
-pub mod Texts
