@@ -48,8 +48,8 @@ impl Limit {
         Limit { bytes }
     }
 
-    // Proves that a PDU of the limit has at least the 64 bytes that a client must take. Does nothing
-    // at run time.
+    // Proves that a PDU of the limit has at least the 64 bytes that a client must take. Does
+    // nothing at run time.
     pub(crate) fn holds_least_pdu(self)
         ensures { least_pdu ≤ self }
     {

@@ -1,6 +1,6 @@
-//! Tests of the traces: the openings and lines of `trace_words`, `trace_openings` and `trace_lines`;
-//! the traces that `trace_player` reads, writes and plays; the views of `trace_views`; and the
-//! records of `record_parts` and `trace_records`.
+//! Tests of the traces: the openings and lines of `trace_words`, `trace_openings` and
+//! `trace_lines`; the traces that `trace_player` reads, writes and plays; the views of
+//! `trace_views`; and the records of `record_parts` and `trace_records`.
 //!
 //! The tests have a crate of their own because a check of tests also proves the rest of their
 //! crate.
