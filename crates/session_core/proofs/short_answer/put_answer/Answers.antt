@@ -30,8 +30,8 @@ returns-in_ok-value_answer-in-Get-clause-fits c =
     c.in-Get.is c.in-Value.is answer.ensures.text
     (omega (arith, answer.ensures.size)) c.holds_least_pdu.ensures)
     (omega (arith, answer.ensures.size))
-    (short_value c.args.asked c.args.reply.now c.in-Get.id c.in-Value.value c.in-Get.is c.in-Value.is
-    (answer.ensures.which.0 (λ e. none-some _ (sym e)))) c.put_frame.ensures.fits
+    (short_value c.args.asked c.args.reply.now c.in-Get.id c.in-Value.value c.in-Get.is
+    c.in-Value.is (answer.ensures.which.0 (λ e. none-some _ (sym e)))) c.put_frame.ensures.fits
 
 pub returns-in-Set-clause-placed : goal.returns-in-Set-clause-placed
 returns-in-Set-clause-placed c =
