@@ -7,8 +7,8 @@ use Rattle.relay_events.specs.declared.reply.Reply.{Reply}
 use Rattle.fleet_meters.specs.Fleets.{FleetState, Applies, GivesBy}
 use Rattle.fleet_meters.specs.declared.place.AccessFault.{AccessFault}
 use Rattle.fleet_meters.specs.declared.place.AccessFault.TheVariants.{NoMeter, Memory}
-use Rattle.fleet_runs.specs.Calls.{FleetCall, gave, Calls, AreGiven, GivesEvents}
-use Rattle.fleet_runs.proofs.Steps.{calls_on, gives_nothing}
+use Rattle.fleet_meters.specs.Calls.{FleetCall, gave, Calls, AreGiven, GivesEvents}
+use Rattle.fleet_meters.proofs.Steps.{calls_on, gives_nothing}
 use Rattle.fleet_console.specs.Running.{GivesFrom, GivesOneBy, GivesEachBy, RunsBy}
 use Rattle.fleet_console.specs.Running.{given_calls, size_in}
 use Rattle.fleet_console.specs.declared.meters.Meters.{Meters}

@@ -11,8 +11,8 @@ use Rattle.relay_events.specs.declared.reply.Reply.{Reply}
 use Rattle.fleet_meters.specs.Fleets.{FleetState}
 use Rattle.fleet_meters.specs.declared.place.AccessFault.{AccessFault}
 use Rattle.fleet_meters.specs.declared.place.AccessFault.TheVariants.{NoMeter, Memory}
-use Rattle.fleet_runs.specs.Calls.{FleetCall, gave, Calls}
-use Rattle.fleet_runs.proofs.Steps.{calls_on}
+use Rattle.fleet_meters.specs.Calls.{FleetCall, gave, Calls}
+use Rattle.fleet_meters.proofs.Steps.{calls_on}
 use Rattle.fleet_console.specs.Running.{GivesFrom, GivesEachBy, GivesBy, given_calls, size_in}
 use Rattle.fleet_console.specs.Slices.{Underway, underway_after, has_more, first_slice, after_slice}
 use Rattle.fleet_console.specs.Slices.{slice_size}

@@ -13,7 +13,7 @@ use Rattle.fleet_meters.specs.Places.{HasState, meter_in}
 use Rattle.fleet_meters.specs.Terms.{terms_at}
 use Rattle.fleet_meters.specs.declared.place.AccessFault.{AccessFault}
 use Rattle.fleet_meters.specs.declared.place.AccessFault.TheVariants.{NoMeter, Memory}
-use Rattle.fleet_runs.specs.Calls.{FleetCall, gave, Calls}
+use Rattle.fleet_meters.specs.Calls.{FleetCall, gave, Calls}
 use Rattle.fleet_console.specs.Commands.{state_word}
 use Rattle.fleet_console.specs.declared.command.Command.{Command}
 use Rattle.fleet_console.specs.declared.command.Command.TheVariants.{Give, State, Trace, Count}

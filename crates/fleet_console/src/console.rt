@@ -1,6 +1,6 @@
 //! `FleetConsole`: the lines of an input, and their answers.
 ghost use Rattle.std.specs.Prelude.{◌≡◌, ◌≢◌, IfSome, None, Ok, is_ok};
-ghost use Rattle.fleet_runs.specs.Calls.{GivesEvents};
+ghost use Rattle.fleet_meters.specs.Calls.{GivesEvents};
 ghost use Rattle.fleet_console.specs.Slices.{has_more};
 ghost use Rattle.fleet_console.specs.Steps.{CarriesOut, IsDone, IsRead, StepsBy};
 
@@ -230,7 +230,7 @@ impl<I: Read + Drop, O: Write + Drop, R: Eprint + Files<File = File> + Drop> Fle
     }
 
     // Carries out the command for the next slice of its meters.
-    #[tactic(auto, using(fleet_runs::proofs::Steps::gives_nothing, crate::proofs::Stepping::slice_goes_on, crate::proofs::Stepping::slice_stops))]
+    #[tactic(auto, using(fleet_meters::proofs::Steps::gives_nothing, crate::proofs::Stepping::slice_goes_on, crate::proofs::Stepping::slice_stops))]
     fn run_slice<S: Stream + Drop>(&mut self, alloc: Global, fleet: &mut Fleet<S>)
         requires { self.now.command ≢ None }
         ensures steps { StepsBy self.old.command fleet.old self.new.command fleet.new }
@@ -283,7 +283,7 @@ impl<I: Read + Drop, O: Write + Drop, R: Eprint + Files<File = File> + Drop> Fle
     /// line; or reads the input once. What follows the last byte 0A of the input is not a line. A
     /// line that is wrong, or of more than 8,192 bytes with the byte 0A that ends it, is reported
     /// with its number, counted from 1, and changes nothing.
-    #[tactic(auto, using(fleet_runs::proofs::Steps::gives_nothing, crate::proofs::Stepping::reads_line))]
+    #[tactic(auto, using(fleet_meters::proofs::Steps::gives_nothing, crate::proofs::Stepping::reads_line))]
     pub fn run<S: Stream + Drop>(&mut self, alloc: Global, fleet: &mut Fleet<S>) -> ConsoleInput
         ensures steps { StepsBy self.old.command fleet.old self.new.command fleet.new }
         ensures gives { GivesEvents fleet.old fleet.new }

@@ -1,6 +1,6 @@
 //! Carries out the commands of the console.
 ghost use Rattle.std.specs.Prelude.{◌≡◌, ◌++◌, OnOk};
-ghost use Rattle.fleet_runs.specs.Calls.{GivesEvents};
+ghost use Rattle.fleet_meters.specs.Calls.{GivesEvents};
 ghost use Rattle.fleet_console.specs.Running.{CountsBy, GivesBy, GivesEachBy, GivesOneBy, RunsBy};
 ghost use Rattle.fleet_console.specs.Running.{ShowsOneBy, StatesBy, TracesBy, number_line, state_line};
 

@@ -2,3 +2,10 @@ pub mod Seats
 pub mod Fleets
 pub mod Passwords
 pub mod Counting
+pub mod Steps
+pub mod Histories
+pub mod Served
+pub mod CallLists
+pub mod Living
+pub mod Sessions
+pub mod Moments

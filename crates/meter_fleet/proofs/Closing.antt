@@ -8,8 +8,8 @@ use Rattle.std.proofs.lemmas.Grind.{flat_map-append}
 use Rattle.slab.specs.Slab.{get}
 use Rattle.fleet_links.specs.Streams.{StreamState}
 use Rattle.fleet_meters.specs.Fleets.{FleetState, Releases}
-use Rattle.fleet_runs.specs.Calls.{FleetCall, Calls}
-use Rattle.fleet_runs.proofs.Steps.{calls_on}
+use Rattle.fleet_meters.specs.Calls.{FleetCall, Calls}
+use Rattle.fleet_meters.proofs.Steps.{calls_on}
 use Rattle.meter_fleet.specs.Rounds.{left, vacant, departure_key, departure_calls, ClosesKeys}
 use Rattle.meter_fleet.specs.Rounds.{frame_bytes}
 

@@ -11,12 +11,13 @@ use Rattle.fleet_meters.specs.Clients.{ClientState}
 use Rattle.fleet_meters.specs.Fleets.{FleetState}
 use Rattle.fleet_meters.specs.declared.place.Refusal.{Refusal}
 use Rattle.fleet_meters.specs.declared.terms.FleetTerms.{FleetTerms}
-use Rattle.fleet_runs.specs.Calls.{FleetCall, admitted, ran, closed, missed, gave, Calls, AreGiven}
-use Rattle.fleet_runs.specs.Moments.{NoneOf, RunsOut}
-use Rattle.fleet_runs.proofs.CallLists.{none_both, waits_not_over, again_not_over}
-use Rattle.fleet_runs.proofs.Moments.{WholeBut, whole_new, whole_call, whole_again, whole_calls}
-use Rattle.fleet_runs.proofs.Moments.{are_whole, holds_always}
-use Rattle.fleet_runs.proofs.Steps.{calls_on, calls_split}
+use Rattle.fleet_meters.specs.Calls.{FleetCall, admitted, ran, closed, missed, gave, Calls}
+use Rattle.fleet_meters.specs.Calls.{AreGiven}
+use Rattle.fleet_meters.specs.Moments.{NoneOf, RunsOut}
+use Rattle.fleet_meters.proofs.CallLists.{none_both, waits_not_over, again_not_over}
+use Rattle.fleet_meters.proofs.Moments.{WholeBut, whole_new, whole_call, whole_again, whole_calls}
+use Rattle.fleet_meters.proofs.Moments.{are_whole, holds_always}
+use Rattle.fleet_meters.proofs.Steps.{calls_on, calls_split}
 use Rattle.meter_fleet.specs.Networks.{NetworkEvent}
 use Rattle.meter_fleet.specs.Rounds.{Departure, left, vacant, departure_calls, Arrival, client, gone}
 use Rattle.meter_fleet.specs.Rounds.{admission, arrival_calls, Service, absent, idle, busy, over}

@@ -11,8 +11,8 @@ use Rattle.fleet_links.specs.Addresses.{meter_of}
 use Rattle.fleet_links.specs.Streams.{StreamState}
 use Rattle.fleet_meters.specs.Fleets.{FleetState, AdmitsBy}
 use Rattle.fleet_meters.specs.declared.place.Refusal.{Refusal}
-use Rattle.fleet_runs.specs.Calls.{FleetCall, Calls}
-use Rattle.fleet_runs.proofs.Steps.{calls_on}
+use Rattle.fleet_meters.specs.Calls.{FleetCall, Calls}
+use Rattle.fleet_meters.proofs.Steps.{calls_on}
 use Rattle.meter_fleet.specs.Networks.{NetworkEvent, accepted, rejected, no_client, Tells}
 use Rattle.meter_fleet.specs.Rounds.{Arrival, client, gone, arrival_event, arrival_calls}
 use Rattle.meter_fleet.specs.Rounds.{AcceptsClients, AcceptsOne, AdmitsAt, max_accepted, frame_bytes}

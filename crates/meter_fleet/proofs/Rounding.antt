@@ -4,8 +4,8 @@ use Rattle.std.proofs.Common.{Err, refl, sym, ◌∙◌, ap, subst, append-nil}
 use Rattle.std.specs.List.{flat_map}
 use Rattle.fleet_meters.specs.Fleets.{FleetState, IsNewFleet}
 use Rattle.fleet_meters.specs.declared.terms.FleetTerms.{FleetTerms}
-use Rattle.fleet_runs.specs.Calls.{GivesEvents}
-use Rattle.fleet_runs.proofs.Steps.{calls_on}
+use Rattle.fleet_meters.specs.Calls.{GivesEvents}
+use Rattle.fleet_meters.proofs.Steps.{calls_on}
 use Rattle.meter_fleet.specs.Networks.{NetworkEvent, polled, operated, Tells}
 use Rattle.meter_fleet.specs.Rounds.{service_calls, arrival_calls, client_events, AcceptsClients}
 use Rattle.meter_fleet.specs.Rounds.{departure_calls, ClosesKeys}

@@ -13,8 +13,8 @@ use Rattle.fleet_links.specs.declared.link.LinkEnd.{LinkEnd}
 use Rattle.fleet_links.specs.declared.link.Turn.{Turn}
 use Rattle.fleet_links.specs.declared.link.Turn.TheVariants.{Waits, Again, Over}
 use Rattle.fleet_meters.specs.Fleets.{FleetState, Runs, Releases}
-use Rattle.fleet_runs.specs.Calls.{FleetCall, RunsAt, Calls}
-use Rattle.fleet_runs.proofs.Steps.{calls_on}
+use Rattle.fleet_meters.specs.Calls.{FleetCall, RunsAt, Calls}
+use Rattle.fleet_meters.proofs.Steps.{calls_on}
 use Rattle.meter_fleet.specs.Rounds.{Service, absent, idle, busy, over, service_key, service_calls}
 use Rattle.meter_fleet.specs.Rounds.{key_again, ServesKeys, StopsAfter, ServesMore, frame_bytes}
 use Rattle.meter_fleet.specs.declared.serving.FleetFault.{FleetFault}

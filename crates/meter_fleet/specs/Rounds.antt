@@ -17,7 +17,7 @@ use Rattle.fleet_links.specs.declared.link.Turn.TheVariants.{Waits, Again, Over}
 use Rattle.fleet_meters.specs.Fleets.{FleetState, IsNewFleet}
 use Rattle.fleet_meters.specs.declared.place.Refusal.{Refusal}
 use Rattle.fleet_meters.specs.declared.terms.FleetTerms.{FleetTerms}
-use Rattle.fleet_runs.specs.Calls.{FleetCall, admitted, ran, closed, missed, Calls, AreGiven}
+use Rattle.fleet_meters.specs.Calls.{FleetCall, admitted, ran, closed, missed, Calls, AreGiven}
 use Rattle.meter_fleet.specs.Networks.{NetworkEvent, polled, failed, operated, accepted}
 use Rattle.meter_fleet.specs.Networks.{rejected, no_client}
 use Rattle.meter_fleet.specs.Networks.{Tells}

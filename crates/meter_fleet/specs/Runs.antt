@@ -9,8 +9,8 @@ use Rattle.std.specs.Prelude.{◌≡◌, ◌++◌, ℕ, List, [], Option}
 use Rattle.std.specs.List.{flat_map}
 use Rattle.fleet_meters.specs.Fleets.{FleetState, IsNewFleet}
 use Rattle.fleet_meters.specs.declared.terms.FleetTerms.{FleetTerms}
-use Rattle.fleet_runs.specs.Calls.{FleetCall, Calls}
-use Rattle.fleet_runs.specs.Moments.{Holds, AreWhole}
+use Rattle.fleet_meters.specs.Calls.{FleetCall, Calls}
+use Rattle.fleet_meters.specs.Moments.{Holds, AreWhole}
 use Rattle.meter_fleet.specs.Networks.{NetworkEvent}
 use Rattle.meter_fleet.specs.Rounds.{Round, LoopState, FailsBy, DoesRounds, ServesUntil, ServesFleet}
 use Rattle.meter_fleet.specs.Rounds.{round_calls, start_of, frame_bytes}

@@ -1,6 +1,6 @@
 //! `Network`: where clients come from, which connections are ready, and what the operator asks for.
 ghost use Rattle.std.specs.Prelude.{List, ◌∷◌, [], Option};
-ghost use Rattle.fleet_runs.specs.Calls.{GivesEvents};
+ghost use Rattle.fleet_meters.specs.Calls.{GivesEvents};
 ghost use Rattle.meter_fleet.specs.Networks.{NetworkEvent, PollsTo, AcceptsBy, Tells, operated};
 
 use fleet_links::Stream;

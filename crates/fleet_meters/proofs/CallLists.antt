@@ -5,9 +5,9 @@ use Rattle.relay_recorder.specs.Histories.{Exchange}
 use Rattle.fleet_links.specs.declared.link.LinkEnd.TheVariants.{Memory}
 use Rattle.fleet_links.specs.declared.link.Turn.{Turn}
 use Rattle.fleet_links.specs.declared.link.Turn.TheVariants.{Waits, Again, Over}
-use Rattle.fleet_runs.specs.Calls.{FleetCall, admitted, ran, closed, missed, gave, IsEnd}
-use Rattle.fleet_runs.specs.Calls.{told_in, exchanges_at, told_there, told_at}
-use Rattle.fleet_runs.specs.Moments.{NoneOf, IsClosing, RunsOut, turn_after, last_turn}
+use Rattle.fleet_meters.specs.Calls.{FleetCall, admitted, ran, closed, missed, gave, IsEnd}
+use Rattle.fleet_meters.specs.Calls.{told_in, exchanges_at, told_there, told_at}
+use Rattle.fleet_meters.specs.Moments.{NoneOf, IsClosing, RunsOut, turn_after, last_turn}
 
 pub none_on : (Kind : FleetCall → Type 0) (calls : List FleetCall) (call : FleetCall)
     → NoneOf Kind calls → (¬ (Kind call)) → NoneOf Kind (calls ++ call ∷ [])

@@ -22,9 +22,9 @@ use Rattle.fleet_meters.specs.Fleets.{FleetState, IsFleet}
 use Rattle.fleet_meters.specs.Places.{Makes, meter_in}
 use Rattle.fleet_meters.specs.Terms.{terms_at, terms_of}
 use Rattle.fleet_meters.specs.declared.terms.FleetTerms.{FleetTerms}
-use Rattle.fleet_runs.specs.Calls.{FleetCall, admitted, ran, closed, missed, gave}
-use Rattle.fleet_runs.specs.Calls.{exchanges_at, told_at}
-use Rattle.fleet_runs.specs.Lives.{IsServed, HasAnswered, ExtendsHistory}
+use Rattle.fleet_meters.specs.Calls.{FleetCall, admitted, ran, closed, missed, gave}
+use Rattle.fleet_meters.specs.Calls.{exchanges_at, told_at}
+use Rattle.fleet_meters.specs.Lives.{IsServed, HasAnswered, ExtendsHistory}
 
 -- ---- kinds of calls
 

@@ -11,11 +11,11 @@ use Rattle.fleet_meters.specs.Fleets.{FleetState, MetersStay}
 use Rattle.fleet_meters.specs.Places.{Makes, meter_in}
 use Rattle.fleet_meters.specs.Terms.{terms_at}
 use Rattle.fleet_meters.specs.declared.terms.MeterTerms.{MeterTerms}
-use Rattle.fleet_runs.specs.Calls.{FleetCall, admitted, ran, closed, missed, gave, CallsBy, Calls}
-use Rattle.fleet_runs.specs.Calls.{told_there, told_at}
-use Rattle.fleet_runs.specs.Law.{HaveTheirHistories}
-use Rattle.fleet_runs.specs.Lives.{ExtendsHistory}
-use Rattle.fleet_runs.proofs.Steps.{by_number, refused}
+use Rattle.fleet_meters.specs.Calls.{FleetCall, admitted, ran, closed, missed, gave, CallsBy, Calls}
+use Rattle.fleet_meters.specs.Calls.{told_there, told_at}
+use Rattle.fleet_meters.specs.Law.{HaveTheirHistories}
+use Rattle.fleet_meters.specs.Lives.{ExtendsHistory}
+use Rattle.fleet_meters.proofs.Steps.{by_number, refused}
 
 -- ---- one meter
 

@@ -17,9 +17,9 @@ use Rattle.fleet_meters.specs.Fleets.{FleetState, IsFleet, IsNewFleet, MetersSta
 use Rattle.fleet_meters.specs.Places.{PlacesStay}
 use Rattle.fleet_meters.specs.declared.terms.FleetTerms.{FleetTerms}
 use Rattle.fleet_meters.proofs.Fleets.{runs_keeps, releases_keeps, admits_keeps, unchanged_keeps}
-use Rattle.fleet_runs.specs.Calls.{FleetCall, admitted, ran, closed, missed, gave, CallsBy}
-use Rattle.fleet_runs.specs.Moments.{Addresses, IsConnected}
-use Rattle.fleet_runs.proofs.Steps.{by_number, refused}
+use Rattle.fleet_meters.specs.Calls.{FleetCall, admitted, ran, closed, missed, gave, CallsBy}
+use Rattle.fleet_meters.specs.Moments.{Addresses, IsConnected}
+use Rattle.fleet_meters.proofs.Steps.{by_number, refused}
 
 -- ---- the invariant
 

@@ -11,8 +11,8 @@ use Rattle.fleet_meters.specs.declared.place.Refusal.{Refusal}
 use Rattle.fleet_meters.specs.declared.place.Refusal.TheVariants.{NoMeter, Full, Memory}
 use Rattle.fleet_meters.specs.Terms.{terms_at}
 use Rattle.fleet_meters.specs.declared.terms.FleetTerms.{FleetTerms}
-use Rattle.fleet_runs.specs.Calls.{FleetCall, admitted, ran, closed, missed, gave, CallsBy, Calls}
-use Rattle.fleet_runs.specs.Calls.{AreGiven, GivesEvents}
+use Rattle.fleet_meters.specs.Calls.{FleetCall, admitted, ran, closed, missed, gave, CallsBy, Calls}
+use Rattle.fleet_meters.specs.Calls.{AreGiven, GivesEvents}
 
 -- either two numbers are the same, or they differ
 pub by_number : {X : Type 0} (a b : ℕ) → (a ≡ b → (a == b) ≡ true → X)

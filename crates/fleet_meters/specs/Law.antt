@@ -16,10 +16,11 @@ use Rattle.fleet_meters.specs.Fleets.{FleetState, IsNewFleet}
 use Rattle.fleet_meters.specs.Places.{meter_in}
 use Rattle.fleet_meters.specs.Terms.{terms_of}
 use Rattle.fleet_meters.specs.declared.terms.FleetTerms.{FleetTerms}
-use Rattle.fleet_runs.specs.Calls.{FleetCall, admitted, ran, CallsBy, Calls, StaysOpen, exchanges_at}
-use Rattle.fleet_runs.specs.Calls.{told_at}
-use Rattle.fleet_runs.specs.Lives.{IsServed, HasAnswered, ExtendsHistory}
-use Rattle.fleet_runs.specs.Moments.{NoneOf, Addresses, Holds}
+use Rattle.fleet_meters.specs.Calls.{FleetCall, admitted, ran, CallsBy, Calls, StaysOpen}
+use Rattle.fleet_meters.specs.Calls.{exchanges_at}
+use Rattle.fleet_meters.specs.Calls.{told_at}
+use Rattle.fleet_meters.specs.Lives.{IsServed, HasAnswered, ExtendsHistory}
+use Rattle.fleet_meters.specs.Moments.{NoneOf, Addresses, Holds}
 
 -- Whether the connection with this key was admitted, and has not ended since. A fleet of meters
 -- with these terms was new. After some calls it admitted a connection with this stream to the meter

@@ -12,15 +12,17 @@ use Rattle.fleet_meters.specs.Fleets.{FleetState, Admits}
 use Rattle.fleet_meters.specs.Terms.{terms_at, terms_of}
 use Rattle.fleet_meters.specs.declared.terms.FleetTerms.{FleetTerms}
 use Rattle.fleet_meters.specs.declared.terms.MeterTerms.{MeterTerms}
-use Rattle.fleet_runs.specs.Calls.{FleetCall, admitted, ran, closed, missed, gave, RunsAt}
-use Rattle.fleet_runs.specs.Calls.{CallsBy, told_in, exchanges_at}
-use Rattle.fleet_runs.specs.Lives.{IsServed, HasAnswered}
-use Rattle.fleet_runs.specs.Moments.{NoneOf, IsClosing, RunsOut, RunsElsewhere, turn_after, last_turn}
-use Rattle.fleet_runs.specs.Moments.{HasLived}
-use Rattle.fleet_runs.proofs.CallLists.{none_on, none_before, none_last, exchanges_on, last_on, split_on}
-use Rattle.fleet_runs.proofs.CallLists.{not_end}
-use Rattle.fleet_runs.proofs.Served.{served_call, served_new, waited}
-use Rattle.fleet_runs.proofs.Steps.{by_number, refused, IsGuarded}
+use Rattle.fleet_meters.specs.Calls.{FleetCall, admitted, ran, closed, missed, gave, RunsAt}
+use Rattle.fleet_meters.specs.Calls.{CallsBy, told_in, exchanges_at}
+use Rattle.fleet_meters.specs.Lives.{IsServed, HasAnswered}
+use Rattle.fleet_meters.specs.Moments.{NoneOf, IsClosing, RunsOut, RunsElsewhere, turn_after}
+use Rattle.fleet_meters.specs.Moments.{last_turn}
+use Rattle.fleet_meters.specs.Moments.{HasLived}
+use Rattle.fleet_meters.proofs.CallLists.{none_on, none_before, none_last, exchanges_on, last_on}
+use Rattle.fleet_meters.proofs.CallLists.{split_on}
+use Rattle.fleet_meters.proofs.CallLists.{not_end}
+use Rattle.fleet_meters.proofs.Served.{served_call, served_new, waited}
+use Rattle.fleet_meters.proofs.Steps.{by_number, refused, IsGuarded}
 
 -- an open connection has lived, and if this holds, memory never ran out in its turns
 pub record Lived (terms : FleetTerms) (calls : List FleetCall) (now : FleetState) (key : ℕ)

@@ -1,5 +1,5 @@
-use Rattle.fleet_runs.proofs.Served.{have_frames, have_answers}
-use Rattle.fleet_runs.proofs.law.answered_connections.Goals as goal
+use Rattle.fleet_meters.proofs.Served.{have_frames, have_answers}
+use Rattle.fleet_meters.proofs.law.answered_connections.Goals as goal
 
 pub returns-clause-frames : goal.returns-clause-frames
 returns-clause-frames c = have_frames

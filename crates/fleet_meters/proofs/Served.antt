@@ -28,14 +28,14 @@ use Rattle.fleet_meters.specs.Places.{meter_in, session_of, session_in}
 use Rattle.fleet_meters.specs.Terms.{terms_at, terms_of}
 use Rattle.fleet_meters.specs.declared.terms.FleetTerms.{FleetTerms}
 use Rattle.fleet_meters.specs.declared.terms.MeterTerms.{MeterTerms}
-use Rattle.fleet_runs.specs.Calls.{FleetCall, admitted, ran, closed, missed, gave, RunsAt}
-use Rattle.fleet_runs.specs.Calls.{CallsBy, Calls}
-use Rattle.fleet_runs.specs.Calls.{IsEnd, StaysOpen, told_in, exchanges_at}
-use Rattle.fleet_runs.specs.Law.{HaveTheirFrames, HaveTheirAnswers}
-use Rattle.fleet_runs.specs.Lives.{Remains, Lives, IsServed, HasAnswered}
-use Rattle.fleet_runs.proofs.CallLists.{waits_not_over}
-use Rattle.fleet_runs.proofs.Steps.{by_number, refused, IsGuarded, made_guarded, guarded_calls}
-use Rattle.fleet_runs.proofs.Steps.{terms_kept}
+use Rattle.fleet_meters.specs.Calls.{FleetCall, admitted, ran, closed, missed, gave, RunsAt}
+use Rattle.fleet_meters.specs.Calls.{CallsBy, Calls}
+use Rattle.fleet_meters.specs.Calls.{IsEnd, StaysOpen, told_in, exchanges_at}
+use Rattle.fleet_meters.specs.Law.{HaveTheirFrames, HaveTheirAnswers}
+use Rattle.fleet_meters.specs.Lives.{Remains, Lives, IsServed, HasAnswered}
+use Rattle.fleet_meters.proofs.CallLists.{waits_not_over}
+use Rattle.fleet_meters.proofs.Steps.{by_number, refused, IsGuarded, made_guarded, guarded_calls}
+use Rattle.fleet_meters.proofs.Steps.{terms_kept}
 
 map_both : {A B : Type 0} (f : A → B) (xs ys : List A) → map f (xs ++ ys) ≡ map f xs ++ map f ys
 map_both f [] ys = refl

@@ -12,19 +12,19 @@ use Rattle.fleet_meters.specs.Places.{Makes, meter_in}
 use Rattle.fleet_meters.specs.Terms.{terms_at}
 use Rattle.fleet_meters.specs.declared.terms.FleetTerms.{FleetTerms}
 use Rattle.fleet_meters.specs.declared.terms.MeterTerms.{MeterTerms}
-use Rattle.fleet_runs.specs.Calls.{FleetCall, admitted, ran, closed, missed, gave, CallsBy, Calls}
-use Rattle.fleet_runs.specs.Calls.{told_there, told_at}
-use Rattle.fleet_runs.specs.Law.{HoldsAlways, StayUnaddressed}
-use Rattle.fleet_runs.specs.Lives.{ExtendsHistory}
-use Rattle.fleet_runs.specs.Moments.{NoneOf, RunsOut, Addresses, AreWhole, IsMeterAfter}
-use Rattle.fleet_runs.proofs.Histories.{extends_nothing, extends_more, extends_event}
-use Rattle.fleet_runs.proofs.Histories.{history_call}
-use Rattle.fleet_runs.proofs.CallLists.{told_on}
-use Rattle.fleet_runs.proofs.Living.{HaveLived, lives_call}
-use Rattle.fleet_runs.proofs.Served.{guarded_new}
-use Rattle.fleet_runs.proofs.Sessions.{Was, IsNewly, AreWithin, fleet_new, fleet_call, from_call}
-use Rattle.fleet_runs.proofs.Sessions.{within_new, within_call, at_most_eight}
-use Rattle.fleet_runs.proofs.Steps.{by_number, refused, IsGuarded, guarded_call, same_terms}
+use Rattle.fleet_meters.specs.Calls.{FleetCall, admitted, ran, closed, missed, gave, CallsBy, Calls}
+use Rattle.fleet_meters.specs.Calls.{told_there, told_at}
+use Rattle.fleet_meters.specs.Law.{HoldsAlways, StayUnaddressed}
+use Rattle.fleet_meters.specs.Lives.{ExtendsHistory}
+use Rattle.fleet_meters.specs.Moments.{NoneOf, RunsOut, Addresses, AreWhole, IsMeterAfter}
+use Rattle.fleet_meters.proofs.Histories.{extends_nothing, extends_more, extends_event}
+use Rattle.fleet_meters.proofs.Histories.{history_call}
+use Rattle.fleet_meters.proofs.CallLists.{told_on}
+use Rattle.fleet_meters.proofs.Living.{HaveLived, lives_call}
+use Rattle.fleet_meters.proofs.Served.{guarded_new}
+use Rattle.fleet_meters.proofs.Sessions.{Was, IsNewly, AreWithin, fleet_new, fleet_call, from_call}
+use Rattle.fleet_meters.proofs.Sessions.{within_new, within_call, at_most_eight}
+use Rattle.fleet_meters.proofs.Steps.{by_number, refused, IsGuarded, guarded_call, same_terms}
 
 -- ---- the meter at a place
 

@@ -1,5 +1,5 @@
-use Rattle.fleet_runs.proofs.Moments.{holds_always, stay_unaddressed}
-use Rattle.fleet_runs.proofs.law.moments_of_fleets.Goals as goal
+use Rattle.fleet_meters.proofs.Moments.{holds_always, stay_unaddressed}
+use Rattle.fleet_meters.proofs.law.moments_of_fleets.Goals as goal
 
 pub returns-clause-holds : goal.returns-clause-holds
 returns-clause-holds c = holds_always

@@ -1,6 +1,6 @@
 //! Proves what holds of a fleet after any admissions, turns, closings and events.
-ghost use Rattle.fleet_runs.specs.Law.{HaveTheirFrames, HaveTheirAnswers, HaveTheirHistories};
-ghost use Rattle.fleet_runs.specs.Law.{HoldsAlways, StayUnaddressed};
+ghost use Rattle.fleet_meters.specs.Law.{HaveTheirFrames, HaveTheirAnswers, HaveTheirHistories};
+ghost use Rattle.fleet_meters.specs.Law.{HoldsAlways, StayUnaddressed};
 
 /// Proves that a connection, after any calls of its fleet, has been written the first frames that
 /// its session owes for the bytes that were read from it, and all of them if it waits with nothing

@@ -1,5 +1,0 @@
-use Rattle.fleet_runs.proofs.Histories.{have_histories}
-use Rattle.fleet_runs.proofs.law.separate_histories.Goals as goal
-
-pub returns : goal.returns
-returns c = have_histories
