@@ -1,2 +1,3 @@
--- What the contracts of a fleet's sockets refer to.
+-- What the contracts of a fleet's sockets and of their times refer to.
+pub mod Activity
 pub mod Bound

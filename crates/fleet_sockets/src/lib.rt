@@ -5,8 +5,10 @@
 //! standard input.
 #![tactic(auto)]
 
+mod activity;
 mod socket;
 mod sockets;
 
+pub use activity::ActivityTimes;
 pub use socket::Socket;
 pub use sockets::{FleetSockets, TimeLimits};

@@ -3,11 +3,11 @@
 ghost use Rattle.std.specs.Prelude.{◌≡◌, ◌++◌, ℕ, List, None, IfOk};
 ghost use Rattle.fleet_sockets.specs.Bound.{IsBound};
 
+use crate::activity::ActivityTimes;
 use crate::socket::Socket;
 use fleet_console::{ConsoleInput, FleetConsole};
 use fleet_faults::{Delays, FaultPlan, FaultyStream, InjectedFault};
 use fleet_meters::Fleet;
-use fleet_timers::ActivityTimes;
 use meter_fleet::{Network, NetworkFault, NextClient};
 use mio::net::{TcpListener, TcpStream};
 use mio::unix::SourceFd;

@@ -1,4 +1,4 @@
-//! Tests of `fleet_links`, `fleet_meters`, `fleet_faults`, `fleet_console` and `fleet_timers`:
+//! Tests of `fleet_links`, `fleet_meters`, `fleet_faults`, `fleet_console` and `fleet_sockets`:
 //! connections over a stream whose bytes are written by hand, streams with each fault, events that
 //! are held back, and lines of the console with their answers.
 //!

@@ -1,5 +1,5 @@
 //! Connections that are active and idle, in milliseconds.
-use fleet_timers::ActivityTimes;
+use fleet_sockets::ActivityTimes;
 use std::test::Fail;
 
 #[test]

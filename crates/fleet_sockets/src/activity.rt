@@ -1,6 +1,7 @@
 //! `ActivityTimes`: when each connection was last active.
 ghost use Rattle.std.specs.Prelude.{◌≡◌, ◌++◌, [], OnOk, OnErr, length, map};
-ghost use Rattle.fleet_timers.specs.Activity.{TakesFirst, is_idle, idle_keys, moment_after_search, times_after_touch};
+ghost use Rattle.fleet_sockets.specs.Activity.{TakesFirst, is_idle, idle_keys, moment_after_search};
+ghost use Rattle.fleet_sockets.specs.Activity.{times_after_touch};
 
 use std::alloc::{AllocError, Global};
 use std::marker::Model;

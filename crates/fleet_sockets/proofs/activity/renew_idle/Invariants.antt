@@ -1,7 +1,7 @@
 -- The idle ones so far were moment_after_search, and the others are unchanged.
 use Rattle.std.proofs.Common.{◌≡◌, ◌<◌, ◌≤◌, ℕ, get_or, length}
-use Rattle.fleet_timers.specs.Activity.{moment_after_search}
-use Rattle.fleet_timers.proofs.activity.renew_idle.Given as goal
+use Rattle.fleet_sockets.specs.Activity.{moment_after_search}
+use Rattle.fleet_sockets.proofs.activity.renew_idle.Given as goal
 
 abbrev pub invariant-moments : goal.invariant-moments
 invariant-moments l = record {

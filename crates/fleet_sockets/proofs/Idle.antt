@@ -5,7 +5,8 @@ use Rattle.std.proofs.Common.{append-nil, slice_index_or, get_or}
 use Rattle.std.specs.Prelude.{map, if◌then◌else◌}
 use Rattle.std.proofs.lemmas.List.{take_more, take-append-drop, length-take}
 use Rattle.std.proofs.lemmas.List.{ext_get_or, get_or-map, length-map}
-use Rattle.fleet_timers.specs.Activity.{TakesFirst, is_idle, idle_at, idle_from, idle_keys, moment_after_search}
+use Rattle.fleet_sockets.specs.Activity.{TakesFirst, is_idle, idle_at, idle_from, idle_keys}
+use Rattle.fleet_sockets.specs.Activity.{moment_after_search}
 
 idle_append : (limit now key : ℕ) (xs ys : List ℕ) → idle_from limit now key (xs ++ ys)
     ≡ idle_from limit now key xs ++ idle_from limit now (key + length xs) ys

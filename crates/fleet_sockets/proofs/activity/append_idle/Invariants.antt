@@ -1,7 +1,7 @@
 -- The idle ones so far were appended.
 use Rattle.std.proofs.Common.{◌≡◌, ◌++◌, take}
-use Rattle.fleet_timers.specs.Activity.{idle_keys}
-use Rattle.fleet_timers.proofs.activity.append_idle.Given as goal
+use Rattle.fleet_sockets.specs.Activity.{idle_keys}
+use Rattle.fleet_sockets.proofs.activity.append_idle.Given as goal
 
 abbrev pub invariant-moments : goal.invariant-moments
 invariant-moments l =
