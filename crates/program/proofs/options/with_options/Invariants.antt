@@ -6,4 +6,5 @@ use Rattle.program.proofs.options.with_options.Given as goal
 -- the options before the index were added
 abbrev pub invariant-loop-option : goal.invariant-loop-option
 invariant-loop-option l =
-    AddsInTurn (AddsOption l.has_password) l.initial.command (take l.option-index l.options) l.command
+    AddsInTurn (AddsOption l.has_password) l.initial.command (take l.option-index l.options)
+    l.command
