@@ -1,4 +1,6 @@
--- What the contracts that all programs share refer to: beginning, end, exit status and passwords.
+-- What the contracts that all programs share refer to: beginning, options, end, exit status and
+-- passwords.
 pub mod Ends
+pub mod Options
 pub mod Passwords
 pub mod Statuses

@@ -1,8 +1,10 @@
-//! How each program begins and ends: the words of its command line, one that asks only for help or
-//! is wrong, the word of the line `fault: WORD` on standard error, and the exit status.
+//! How each program begins and ends: the words of its command line, the options of its commands, a
+//! command line that asks only for help or is wrong, the word of the line `fault: WORD` on standard
+//! error, and the exit status.
 #![tactic(auto)]
 
 mod fault;
+pub mod options;
 mod password;
 mod start;
 
