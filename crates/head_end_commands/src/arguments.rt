@@ -1,7 +1,8 @@
 //! The commands, their help and the command line of the program.
-use crate::options::{ASK, LEDGER_TO_READ, OptionText, RUN, VERBOSE_FINDINGS, argument, format};
+use crate::options::{ASK, CHECK, RUN, STATUS};
 use clap::Command;
-use program::{with_argument, with_subcommand};
+use program::options::with_options;
+use program::with_subcommand;
 use std::alloc::{AllocError, Global};
 
 // The end of `--help`.
@@ -34,21 +35,6 @@ N is the diagnostic of its AARE
   NAME unknown       no valid answer came
   NAME memory        out of memory";
 
-// Adds options to a command. `has_password` says whether a password is given without the option
-// `--password`.
-fn with_options<'a>(
-    alloc: Global,
-    command: Command<'a>,
-    options: &[OptionText],
-    has_password: bool,
-) -> Result<Command<'a>, AllocError> {
-    let mut command = command;
-    for option in options {
-        command = command.arg(argument(alloc, option, has_password))?;
-    }
-    Ok(command)
-}
-
 // Returns the usage of `run`, whose option `--password` is required unless `has_password`.
 fn usage_of_run(has_password: bool) -> &'static str {
     if has_password {
@@ -80,20 +66,20 @@ fn ask_command<'a>(alloc: Global, has_password: bool) -> Result<Command<'a>, All
 
 // Returns the command `check`.
 fn check_command<'a>(alloc: Global) -> Result<Command<'a>, AllocError> {
-    Command::new(alloc, "check")
+    let command = Command::new(alloc, "check")
         .about(
             "Counts the jobs on standard input: NAME ADDRESS VERB (disconnect, reconnect or state)",
         )
-        .override_usage("head_end check [OPTIONS] < FILE")
-        .arg(argument(alloc, &VERBOSE_FINDINGS, true))
+        .override_usage("head_end check [OPTIONS] < FILE");
+    with_options(alloc, command, &CHECK, true)
 }
 
 // Returns the command `status`.
 fn status_command<'a>(alloc: Global) -> Result<Command<'a>, AllocError> {
-    let made = Command::new(alloc, "status")
-        .about("Prints the state of a ledger's campaign, and the jobs that need a second look")
-        .arg(argument(alloc, &LEDGER_TO_READ, true));
-    with_argument(made, format(alloc))
+    let command = Command::new(alloc, "status").about(
+        "Prints the state of a ledger's campaign, and the jobs that need a second look",
+    );
+    with_options(alloc, command, &STATUS, true)
 }
 
 // Returns the program without its commands.
