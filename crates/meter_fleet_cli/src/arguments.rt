@@ -1,6 +1,9 @@
 //! The command line and its help.
-use clap::{Arg, ArgAction, Command, value_parser};
-use program::{with_argument, with_subcommand};
+use clap::Command;
+use program::options::{
+    NumberRange, OptionText, OptionValue, PASSWORD, PASSWORD_FILE, Presence, with_options,
+};
+use program::with_subcommand;
 use std::alloc::{AllocError, Global};
 
 // The end of `--help`.
@@ -32,176 +35,117 @@ Lines of standard input, where METERS is N, N-M or all:
   N trace FILE                  write the trace of meter N to FILE
   count STATE                   count the meters that are disconnected, connected or ready";
 
-// Returns an option with a value.
-fn option<'a>(
-    alloc: Global,
-    name: &'static str,
-    value: &'static str,
-    help: &'static str,
-) -> Arg<'a> {
-    Arg::new(alloc, name)
-        .long(name)
-        .value_name(value)
-        .help(help)
-}
+// `--meters`.
+const METERS: OptionText = OptionText {
+    name: "meters",
+    value: OptionValue::Number("N", NumberRange::U32(1, 16_777_215)),
+    presence: Presence::Required,
+    help: "Number of meters, 1 to 16777215",
+};
 
-// Returns the option `--meters`.
-fn meters<'a>(alloc: Global) -> Arg<'a> {
-    option(alloc, "meters", "N", "Number of meters, 1 to 16777215")
-        .required(true)
-        .value_parser(value_parser!(u32).range(1..=16_777_215))
-}
+// `--listen`.
+const LISTEN: OptionText = OptionText {
+    name: "listen",
+    value: OptionValue::Text("ADDRESS"),
+    presence: Presence::Default("127.0.0.1"),
+    help: "Address to listen on; 0.0.0.0 reaches every meter",
+};
 
-// Returns the option `--password`.
-fn password<'a>(alloc: Global) -> Arg<'a> {
-    option(
-        alloc,
-        "password",
-        "TEXT",
-        "Password of the management client, 1 to 32 bytes; default: METER_PASSWORD",
-    )
-    .action(ArgAction::Set)
-}
+// `--port`.
+const PORT: OptionText = OptionText {
+    name: "port",
+    value: OptionValue::Number("N", NumberRange::U16(0, u16::MAX)),
+    presence: Presence::Default("4059"),
+    help: "Port of every meter",
+};
 
-// Returns the option `--password-file`.
-fn password_file<'a>(alloc: Global) -> Arg<'a> {
-    option(
-        alloc,
-        "password-file",
-        "FILE",
-        "File whose one line is the password; only its owner may have access to it",
-    )
-    .action(ArgAction::Set)
-}
+// `--mode`.
+const MODE: OptionText = OptionText {
+    name: "mode",
+    value: OptionValue::Number("N", NumberRange::U8(0, 6)),
+    presence: Presence::Default("0"),
+    help: "Control mode of a new meter, 0 to 6 (class 70, attribute 4)",
+};
 
-// Returns the option `--listen`.
-fn listen<'a>(alloc: Global) -> Arg<'a> {
-    option(
-        alloc,
-        "listen",
-        "ADDRESS",
-        "Address to listen on; 0.0.0.0 reaches every meter",
-    )
-    .default_value("127.0.0.1")
-}
+// `--depth`.
+const DEPTH: OptionText = OptionText {
+    name: "depth",
+    value: OptionValue::Number("N", NumberRange::U16(1, 1024)),
+    presence: Presence::Default("1"),
+    help: "Number of events that each meter keeps, the latest ones, 1 to 1024",
+};
 
-// Returns the option `--port`.
-fn port<'a>(alloc: Global) -> Arg<'a> {
-    option(alloc, "port", "N", "Port of every meter")
-        .value_parser(value_parser!(u16))
-        .default_value("4059")
-}
+// `--resume`.
+const RESUME: OptionText = OptionText {
+    name: "resume",
+    value: OptionValue::Text("FILE"),
+    presence: Presence::Optional,
+    help: "Each meter resumes from the trace in FILE; --mode is not used",
+};
 
-// Returns the option `--mode`.
-fn mode<'a>(alloc: Global) -> Arg<'a> {
-    option(
-        alloc,
-        "mode",
-        "N",
-        "Control mode of a new meter, 0 to 6 (class 70, attribute 4)",
-    )
-    .value_parser(value_parser!(u8).range(0..=6))
-    .default_value("0")
-}
+// `--inactivity`.
+const INACTIVITY: OptionText = OptionText {
+    name: "inactivity",
+    value: OptionValue::Number("SECONDS", NumberRange::U32(0, u32::MAX)),
+    presence: Presence::Default("180"),
+    help: "Close a connection that is idle for this time, 0 to 4294967295; 0: never",
+};
 
-// Returns the option `--depth`.
-fn depth<'a>(alloc: Global) -> Arg<'a> {
-    option(
-        alloc,
-        "depth",
-        "N",
-        "Number of events that each meter keeps, the latest ones, 1 to 1024",
-    )
-    .value_parser(value_parser!(u16).range(1..=1024))
-    .default_value("1")
-}
+// `--session`.
+const SESSION: OptionText = OptionText {
+    name: "session",
+    value: OptionValue::Number("SECONDS", NumberRange::U32(0, u32::MAX)),
+    presence: Presence::Default("3600"),
+    help: "Close a connection that lasts longer, 0 to 4294967295; 0: never",
+};
 
-// Returns the option `--resume`.
-fn resume<'a>(alloc: Global) -> Arg<'a> {
-    option(
-        alloc,
-        "resume",
-        "FILE",
-        "Each meter resumes from the trace in FILE; --mode is not used",
-    )
-    .action(ArgAction::Set)
-}
+// `--fault`.
+const FAULT: OptionText = OptionText {
+    name: "fault",
+    value: OptionValue::Texts("NAME=PERCENT"),
+    presence: Presence::Optional,
+    help: "Inject this fault into this share of the meters; may be given for each fault",
+};
 
-// Returns the option `--inactivity`.
-fn inactivity<'a>(alloc: Global) -> Arg<'a> {
-    option(
-        alloc,
-        "inactivity",
-        "SECONDS",
-        "Close a connection that is idle for this time, 0 to 4294967295; 0: never",
-    )
-    .value_parser(value_parser!(u32))
-    .default_value("180")
-}
+// `--seed`.
+const SEED: OptionText = OptionText {
+    name: "seed",
+    value: OptionValue::Number("N", NumberRange::U32(0, u32::MAX)),
+    presence: Presence::Default("0"),
+    help: "Seed that chooses the meters that have a fault, 0 to 4294967295",
+};
 
-// Returns the option `--session`.
-fn session<'a>(alloc: Global) -> Arg<'a> {
-    option(
-        alloc,
-        "session",
-        "SECONDS",
-        "Close a connection that lasts longer, 0 to 4294967295; 0: never",
-    )
-    .value_parser(value_parser!(u32))
-    .default_value("3600")
-}
+// `--verbose`.
+const VERBOSE: OptionText = OptionText {
+    name: "verbose",
+    value: OptionValue::Nothing,
+    presence: Presence::Optional,
+    help: "Report the address, and faults in full, on standard error",
+};
 
-// Returns the option `--fault`.
-fn fault<'a>(alloc: Global) -> Arg<'a> {
-    option(
-        alloc,
-        "fault",
-        "NAME=PERCENT",
-        "Inject this fault into this share of the meters; may be given for each fault",
-    )
-    .action(ArgAction::Append)
-}
+// The options of `serve`, in the order of its help.
+static SERVE: [OptionText; 13] = [
+    METERS,
+    PASSWORD,
+    PASSWORD_FILE,
+    LISTEN,
+    PORT,
+    MODE,
+    DEPTH,
+    RESUME,
+    INACTIVITY,
+    SESSION,
+    FAULT,
+    SEED,
+    VERBOSE,
+];
 
-// Returns the option `--seed`.
-fn seed<'a>(alloc: Global) -> Arg<'a> {
-    option(
-        alloc,
-        "seed",
-        "N",
-        "Seed that chooses the meters that have a fault, 0 to 4294967295",
-    )
-    .value_parser(value_parser!(u32))
-    .default_value("0")
-}
-
-// Returns the option `--verbose`.
-fn verbose<'a>(alloc: Global) -> Arg<'a> {
-    Arg::new(alloc, "verbose")
-        .long("verbose")
-        .help("Report the address, and faults in full, on standard error")
-        .action(ArgAction::SetTrue)
-}
-
-// Returns the command `serve`.
+// Returns the command `serve`. A missing password is reported once the command line is parsed.
 fn serve_command<'a>(alloc: Global) -> Result<Command<'a>, AllocError> {
-    let made = Ok(
-        Command::new(alloc, "serve")
-            .about("Serves the clients of many meters, each at its own loopback address")
-            .after_help(ADDRESSES),
-    );
-    let made = with_argument(made, meters(alloc));
-    let made = with_argument(made, password(alloc));
-    let made = with_argument(made, password_file(alloc));
-    let made = with_argument(made, listen(alloc));
-    let made = with_argument(made, port(alloc));
-    let made = with_argument(made, mode(alloc));
-    let made = with_argument(made, depth(alloc));
-    let made = with_argument(made, resume(alloc));
-    let made = with_argument(made, inactivity(alloc));
-    let made = with_argument(made, session(alloc));
-    let made = with_argument(made, fault(alloc));
-    let made = with_argument(made, seed(alloc));
-    with_argument(made, verbose(alloc))
+    let command = Command::new(alloc, "serve")
+        .about("Serves the clients of many meters, each at its own loopback address")
+        .after_help(ADDRESSES);
+    with_options(alloc, command, &SERVE, true)
 }
 
 // Returns the program without its command.
