@@ -1,6 +1,5 @@
-//! Tests of `fleet_links`, `fleet_meters`, `fleet_faults`, `fleet_console` and `fleet_sockets`:
-//! connections over a stream whose bytes are written by hand, streams with each fault, events that
-//! are held back, and lines of the console with their answers.
+//! Tests of `fleet_links`, `fleet_meters` and `fleet_console`: connections over a stream whose bytes
+//! are written by hand, and lines of the console with their answers.
 //!
 //! The tests have a crate of their own because a check of tests also proves the rest of their
 //! crate.
@@ -11,10 +10,6 @@ mod addresses;
 #[cfg(test)]
 mod consoles;
 #[cfg(test)]
-mod delays;
-#[cfg(test)]
-mod draws;
-#[cfg(test)]
 mod events;
 #[cfg(test)]
 mod faults;
@@ -23,10 +18,6 @@ mod fleets;
 #[cfg(test)]
 mod silent_fleets;
 #[cfg(test)]
-mod streams;
-#[cfg(test)]
 mod talk;
 #[cfg(test)]
 mod terms;
-#[cfg(test)]
-mod timers;
