@@ -1,5 +1,5 @@
-//! Tests of `fleet_links`, `fleet_meters` and `fleet_console`: connections over a stream whose bytes
-//! are written by hand, and lines of the console with their answers.
+//! Tests of `fleet_links`, `fleet_meters` and `fleet_console`: connections over a stream whose
+//! bytes are written by hand, and lines of the console with their answers.
 //!
 //! The tests have a crate of their own because a check of tests also proves the rest of their
 //! crate.
