@@ -84,6 +84,32 @@ fn leaves_the_value_for_want_of_memory(rt: HostRuntime) -> Result<(), Fail> {
     Ok(())
 }
 
+// Calls a refusing counter and asks in the same turn, in each of four calls, whether its count is
+// this number.
+fn ask_in_turn<W: Wait>(
+    rt: &W,
+    alloc: Global,
+) -> Result<[Result<(u64, bool), CallFault>; 4], AllocError> {
+    let (shared, mut port) = Shared::new(alloc, RefusingCounter::new(), 3).map_err(|_| AllocError)?;
+    let answers = [
+        port.call_and_inspect(rt, alloc, Wish::Bump, 1),
+        port.call_and_inspect(rt, alloc, Wish::Refuse, 1),
+        port.call_and_inspect(rt, alloc, Wish::Bump, 1),
+        port.call_and_inspect(rt, alloc, Wish::Bump, 3),
+    ];
+    drop(port);
+    drop(shared);
+    Ok(answers)
+}
+
+#[test]
+fn asks_in_the_turn_of_a_call(rt: HostRuntime) -> Result<(), Fail> {
+    let answers = ask_in_turn(&rt, rt.alloc())?;
+    let (none, over) = (Err(CallFault::Memory), Err(CallFault::Exhausted));
+    assert!(rt; answers == [Ok((1, true)), none, Ok((2, false)), over]);
+    Ok(())
+}
+
 // Calls through one port, passes a note of it to the other, and calls through that: the second call
 // is after the first in one legal history.
 fn call_when_told<T: Turned, W: Wait>(

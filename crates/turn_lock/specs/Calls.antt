@@ -65,8 +65,8 @@ IsCause sure event bound after Journal = ⊥
 -- whether a call that returned a reply or `Memory` ended a turn of its own, drawn after the last
 -- turn that the port had read of; nothing is claimed of one that was refused because all turns were
 -- drawn
-abbrev pub EndsTurn : {E R O : Type 0} → Known E R O → Known E R O → Result R CallFault → Type 0
-EndsTurn before after (Ok reply) = before.drawn < after.drawn
+abbrev pub EndsTurn : {E R O A : Type 0} → Known E R O → Known E R O → Result A CallFault → Type 0
+EndsTurn before after (Ok answer) = before.drawn < after.drawn
 EndsTurn before after (Err Memory) = before.drawn < after.drawn
 EndsTurn before after (Err Exhausted) = Unit {0}
 EndsTurn before after (Err Journal) = ⊥

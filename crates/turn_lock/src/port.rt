@@ -197,4 +197,38 @@ impl<T: Inspected> Port<T> {
         end_turn(top, place, turn, value, None);
         Some(finding)
     }
+
+    /// Waits for a turn, applies the event to the value, and asks it a question in the same turn.
+    ///
+    /// After `Ok` the port has seen what it has seen after [`call`](Port::call), and the finding is
+    /// right for that history. The errors are those of `call`; the question is then not asked.
+    pub fn call_and_inspect<W: Wait>(
+        &mut self,
+        rt: &W,
+        alloc: Global,
+        event: T::Event,
+        question: T::Question,
+    ) -> Result<(T::Reply, T::Finding), CallFault>
+        ensures lock { (self.new.lock ≡ self.old.lock) × (self.new.bound ≡ self.old.bound) }
+        ensures ok { IfOk result (λ r. Called T.legal self.old.known event r.0 self.new.known) }
+        ensures finds { IfOk result (λ r. T.finds self.new.known.seen question r.1) }
+        ensures err { IfErr result (λ f. Watches T.legal self.old.known self.new.known
+            × IsCause T.sure event self.old.bound self.new.known f) }
+        ensures within { OnOk result (length self.new.known.seen ≤ self.old.bound) }
+        ensures turn { EndsTurn self.old.known self.new.known result }
+    {
+        let top = &self.table.shared;
+        let place = &mut self.place;
+        let drawn = draw(top, place, rt, self.bound).ok_or(CallFault::Exhausted);
+        let (turn, mut value) = drawn?;
+        let asked = Snapshot::of(&event);
+        let Ok(reply) = value.inner.turn(alloc, event) else {
+            end_turn(top, place, turn, value, None);
+            return Err(CallFault::Memory);
+        };
+        let found = value.inner.inspect(alloc, question);
+        let replied = Snapshot::of(&reply);
+        end_turn(top, place, turn, value, Some((asked, replied)));
+        Ok((reply, found))
+    }
 }

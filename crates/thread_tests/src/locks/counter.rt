@@ -1,12 +1,12 @@
 //! Values for the tests of locks.
-ghost use Rattle.std.specs.Prelude.{◌≡◌, ◌≢◌, ℕ, ◌+◌, ◌%◌, ◌^◌, IfOk, IfErr};
+ghost use Rattle.std.specs.Prelude.{◌≡◌, ◌≢◌, ℕ, ◌+◌, ◌%◌, ◌^◌, IfOk, IfErr, IsTrue};
 ghost use Rattle.turn_lock.specs.Trials.{next_count, Counts, count_after};
 
 use std::alloc::{AllocError, Global};
 use std::sync::Arc;
 use std::sync::atomic::{AtomicBool, Ordering};
 use std::thread;
-use turn_lock::Turned;
+use turn_lock::{Inspected, Turned};
 
 /// The number of times that a wait reads its flag.
 const ASKED: u64 = 1_000_000;
@@ -187,4 +187,17 @@ impl Turned for RefusingCounter {
     }
 
     ghost is_legal = { λ _ _ s. s.0 };
+}
+
+impl Inspected for RefusingCounter {
+    /// Is this the count?
+    type Question = u64;
+
+    type Finding = bool;
+
+    ghost finds = { λ h question finding. IsTrue finding → question ≡ count_after 0 h };
+
+    fn inspect(&mut self, _alloc: Global, question: u64) -> bool {
+        question == self.count
+    }
 }
