@@ -292,6 +292,17 @@ fn is_busy_while_a_turn_is_held(rt: HostRuntime) -> Result<(), Fail> {
     Ok(())
 }
 
+#[test]
+fn is_busy_while_the_first_turn_is_held(rt: HostRuntime) -> Result<(), Fail> {
+    let alloc = rt.alloc();
+    let gate = Arc::new(alloc, Gate::new())?;
+    let (shared, caller) = start_gated(alloc, Arc::try_clone(&gate)?)?;
+    let closed = close_beside(&rt, alloc, shared, caller, &gate);
+    drop(gate);
+    assert!(rt; closed? == Some((1, 0, 1)));
+    Ok(())
+}
+
 // Opens the gate after 20 ms.
 fn open_late<R: Clock>(rt: &R, gate: &Gate) {
     gate.has_begun();
