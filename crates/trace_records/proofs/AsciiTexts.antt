@@ -1,40 +1,31 @@
 -- The texts of records are ASCII: the words of replies and events.
 use Rattle.std.proofs.Common.{◌≡◌, ℕ, zero, suc, ◌+◌, ◌/◌, ◌%◌, ◌<◌, Bool, true, false, cond}
-use Rattle.std.proofs.Common.{nat_lt, ◌==◌, List, [], ◌∷◌, ◌++◌, length, Option, Some, None, codes}
+use Rattle.std.proofs.Common.{nat_lt, ◌==◌, List, [], ◌∷◌, ◌++◌, length, codes}
 use Rattle.std.proofs.Common.{decimal, refl, arith}
 use Rattle.std.proofs.lemmas.Bool.{and_parts}
 use Rattle.std.proofs.lemmas.Bool.Decides.{nat_tests}
 use Rattle.std.proofs.lemmas.Str.{IsAscii-append, IsUtf8-from_ascii}
 use Rattle.std.proofs.lemmas.Str.Ascii.{IsAscii-nil}
 use Rattle.std.specs.Fmt.{digit_glyph, digits, digits_onto}
-use Rattle.std.specs.List.{list_all, join_with_byte, slice_index, zip, AllByRecursion}
+use Rattle.std.specs.List.{list_all, join_with_byte, slice_index, AllByRecursion}
 use Rattle.std.specs.Str.{IsAscii, IsUtf8}
 use Rattle.hex.specs.Hex.{encode_upper, encode_with, upper_digits}
-use Rattle.wire_bytes.specs.Choice.{keyed_text}
 use Rattle.cosem_axdr.specs.Spelling.{text}
 use Rattle.cosem_axdr.specs.View.{tree_of}
 use Rattle.cosem_axdr.specs.declared.value.Data.{Data}
 use Rattle.cosem_names.specs.ResultCode.{code_of}
-use Rattle.cosem_names.specs.declared.service.AttributeSelection.{AttributeSelection}
 use Rattle.cosem_names.specs.declared.service.GetResult.{GetResult}
 use Rattle.cosem_names.specs.declared.service.GetResult.TheVariants as result
 use Rattle.relay_events.specs.declared.event.Event.{Event}
-use Rattle.relay_events.specs.declared.event.Event.TheVariants.{Get, GetList, Set, Execute, Button}
-use Rattle.relay_events.specs.declared.event.Event.TheVariants.{Samples, Moment}
 use Rattle.relay_events.specs.declared.reply.Reply.{Reply}
 use Rattle.relay_events.specs.declared.reply.Reply.TheVariants.{Value, Values, Code, Sampled}
 use Rattle.relay_events.specs.declared.reply.Reply.TheVariants.{SampledBoth, Ran, Stale}
 use Rattle.text_lines.specs.Words.{line_of}
-use Rattle.trace_lines.specs.Events.{event_forms, later_forms, samples_parts}
-use Rattle.trace_lines.specs.Parts.{selection_part, sample_part, pair_part}
-use Rattle.trace_lines.specs.Reading.{level_number, parameter_word}
+use Rattle.trace_lines.proofs.EventLaws.{WordsHave, event_words}
 use Rattle.trace_lines.specs.Replies.{reply_row, result_words}
 use Rattle.trace_lines.specs.Writing.{event_row}
-use Rattle.trace_words.specs.Parts.{words_before}
 use Rattle.trace_words.specs.Rows.{Row}
-use Rattle.trace_words.specs.Writing.{all_words, data_word, flag_number, row_text}
-use Rattle.trace_words.specs.Writing.{words_after_blanks}
-use Rattle.trace_words.specs.declared.version.Version.TheVariants.{Two}
+use Rattle.trace_words.specs.Writing.{all_words, data_word, row_text, words_after_blanks}
 use Rattle.record_parts.proofs.AsciiTexts.{literal, one_more}
 use Rattle.trace_records.specs.Records.{reply_text}
 
@@ -74,10 +65,6 @@ decimal_is_ascii n = onto_is_ascii 64 n [] IsAscii-nil
 
 data_is_ascii : (value : Data) → IsAscii (data_word value)
 data_is_ascii value = hex_is_ascii (text (tree_of value))
-
-parameter_is_ascii : (parameter : Option Data) → IsAscii (parameter_word parameter)
-parameter_is_ascii None = literal (codes "-") refl
-parameter_is_ascii (Some value) = data_is_ascii value
 
 -- ---- lines of words
 
@@ -149,92 +136,14 @@ reply_is_ascii reply = row_is_ascii (reply_row reply) (reply_words reply)
 
 -- ---- events
 
-items_are_ascii : (items : List AttributeSelection)
-    → AreAscii (all_words (words_before selection_part) items)
-unfolding all_words
-items_are_ascii [] = tt
-items_are_ascii (item ∷ items) = (
-  decimal_is_ascii item.attr.class.0,
-  (
-    hex_is_ascii item.attr.name.0,
-    (
-      decimal_is_ascii item.attr.number,
-      (decimal_is_ascii (flag_number item.selected), items_are_ascii items),
-    ),
-  ),
-)
-
-values_are_ascii : (values : List ℕ) → AreAscii (all_words (words_before sample_part) values)
-unfolding all_words
-values_are_ascii [] = tt
-values_are_ascii (value ∷ values) = (decimal_is_ascii value, values_are_ascii values)
-
-pairs_are_ascii : (pairs : List (ℕ × ℕ)) → AreAscii (all_words (words_before pair_part) pairs)
-unfolding all_words
-pairs_are_ascii [] = tt
-pairs_are_ascii (pair ∷ pairs) =
-    (decimal_is_ascii pair.0, (decimal_is_ascii pair.1, pairs_are_ascii pairs))
-
-block_is_ascii : (imports : List ℕ) (exports : Option (List ℕ))
-    → AreAscii (keyed_text (event_forms (later_forms Two)) (samples_parts imports exports))
-block_is_ascii imports None = (literal (codes "samples") refl, values_are_ascii imports)
-block_is_ascii imports (Some exports) =
-    (literal (codes "pairs") refl, pairs_are_ascii (zip imports exports))
-
-event_words : (event : Event) → AreAscii (event_row event)
-unfolding event_row
-event_words (Get level attr selected) = (
-  literal (codes "get") refl,
-  (
-    decimal_is_ascii (level_number level),
-    (
-      decimal_is_ascii attr.class.0,
-      (
-        hex_is_ascii attr.name.0,
-        (decimal_is_ascii attr.number, (decimal_is_ascii (flag_number selected), tt)),
-      ),
-    ),
-  ),
-)
-event_words (GetList level items) = (
-  literal (codes "getlist") refl,
-  (
-    decimal_is_ascii (level_number level),
-    (decimal_is_ascii (length items), items_are_ascii items),
-  ),
-)
-event_words (Set level attr selected value) = (
-  literal (codes "set") refl,
-  (
-    decimal_is_ascii (level_number level),
-    (
-      decimal_is_ascii attr.class.0,
-      (
-        hex_is_ascii attr.name.0,
-        (
-          decimal_is_ascii attr.number,
-          (decimal_is_ascii (flag_number selected), (data_is_ascii value, tt)),
-        ),
-      ),
-    ),
-  ),
-)
-event_words (Execute level method parameter) = (
-  literal (codes "execute") refl,
-  (
-    decimal_is_ascii (level_number level),
-    (
-      decimal_is_ascii method.class.0,
-      (
-        hex_is_ascii method.name.0,
-        (decimal_is_ascii method.number, (parameter_is_ascii parameter, tt)),
-      ),
-    ),
-  ),
-)
-event_words Button = (literal (codes "button") refl, tt)
-event_words (Moment now) = (literal (codes "moment") refl, (decimal_is_ascii now, tt))
-event_words (Samples block) = block_is_ascii block.import block.export
+words_are_ascii : WordsHave ⊥ IsAscii
+words_are_ascii = record {
+  fixed = λ word above ascii. literal word ascii;
+  number = decimal_is_ascii;
+  name = λ bytes known. hex_is_ascii bytes;
+  value = λ value known. data_is_ascii value;
+}
 
 pub event_is_ascii : (event : Event) → IsAscii (line_of (event_row event))
-event_is_ascii event = line_is_ascii (event_row event) (event_words event)
+event_is_ascii event = line_is_ascii (event_row event)
+    (event_words words_are_ascii event (λ none. absurd none) (λ none. absurd none))
