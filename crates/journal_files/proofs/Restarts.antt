@@ -7,8 +7,7 @@ use Rattle.relay_core.specs.Runs.{world_after}
 use Rattle.relay_core.specs.World.{World}
 use Rattle.relay_events.specs.Kinds.{is_read}
 use Rattle.relay_events.specs.declared.event.Event.{Event}
-use Rattle.relay_events.specs.declared.event.Event.TheVariants.{Get, GetList, Set, Execute}
-use Rattle.relay_events.specs.declared.event.Event.TheVariants.{Button, Samples, Moment}
+use Rattle.relay_events.specs.declared.event.Event.TheVariants.{Get, GetList}
 use Rattle.relay_recorder.specs.declared.trace.Trace.{Trace}
 use Rattle.trace_player.specs.Journals.{with_events}
 use Rattle.trace_player.specs.Resuming.{world_of}
@@ -21,11 +20,7 @@ changing_on : (event : Event) (events : List Event) (w : World)
 unfolding at_event
 changing_on (Get level attr selected) events w rest = rest w
 changing_on (GetList level items) events w rest = rest w
-changing_on (Set level attr selected value) events w rest = rest _
-changing_on (Execute level method parameter) events w rest = rest _
-changing_on Button events w rest = rest _
-changing_on (Samples block) events w rest = rest _
-changing_on (Moment now) events w rest = rest _
+changing_on event events w rest = rest _
 
 pub changing_world : (events : List Event) (w : World)
     → world_after (changing events) w ≡ world_after events w

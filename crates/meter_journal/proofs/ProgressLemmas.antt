@@ -1,17 +1,15 @@
 -- The number of lines on the disk.
-use Rattle.std.proofs.Common.{◌≡◌, ℕ, ◌≤◌, List, arith, subst, sym}
+use Rattle.std.proofs.Common.{◌≡◌, ℕ, List, subst, sym}
 use Rattle.durable_lines.specs.Lines.{IsSettled}
 use Rattle.turn_lock.specs.Calls.{IsLegal}
 use Rattle.turn_lock.specs.History.{StartsWith}
 use Rattle.turn_lock.specs.Shown.{ShownNote}
-use Rattle.turn_lock.proofs.Lists.{starts_refl}
 use Rattle.relay_core.specs.declared.opening.Opening.{Opening}
 use Rattle.relay_events.specs.declared.event.Event.{Event}
 use Rattle.relay_events.specs.declared.reply.Reply.{Reply}
 use Rattle.shared_meter.specs.Calls.{Calls}
 use Rattle.shared_meter.specs.Calls.{IsLegal as IsMeterLegal}
 use Rattle.shared_meter.specs.Handed.{MeterPort}
-use Rattle.shared_meter.specs.Settling.{AreDurable}
 use Rattle.meter_journal.specs.Saving.{IsFileOf, IsSaved, IsStored, IsSynced}
 use Rattle.meter_journal.proofs.KeepingLemmas.{saved_none}
 use Rattle.meter_journal.proofs.SavingLemmas.{Lines, saved_later}
@@ -60,29 +58,7 @@ synced_as Renews stored first note old seen now n same starts is_now synced =
     subst (λ (calls : Calls). IsSynced Renews stored first calls n) (sym is_now)
     (synced_later Renews stored first old.seen seen n (subst S same starts) synced)
 
-module _ (acts : Type 0) (Renews : List ℕ → List ℕ → Type 0) (stored : List ℕ → Type 0)
-    (first : Lines) where
-  -- this number of lines of a history is on the disk
-  abbrev pub Synced : Calls → ℕ → Type 0
-  Synced calls n = acts → IsSynced Renews stored first calls n
-
-  -- more lines are enough for fewer
-  pub durable_fewer : (calls : Calls) (n fewer : ℕ) → fewer ≤ n → AreDurable Synced calls n
-      → AreDurable Synced calls fewer
-  durable_fewer calls n fewer few are = record {
-    saved = are.saved;
-    begins = are.begins;
-    count = are.count;
-    enough = omega (arith, few, are.enough);
-    durable = are.durable;
-  }
-
-  -- the lines of the history that a port has seen
-  pub durable_now : (calls : Calls) (n : ℕ) → Synced calls n → AreDurable Synced calls n
-  durable_now calls n synced = record {
-    saved = calls;
-    begins = starts_refl calls;
-    count = n;
-    enough = omega arith;
-    durable = synced;
-  }
+-- whether this number of lines of a history is on the disk
+abbrev pub Synced : (acts : Type 0) → (Renews : List ℕ → List ℕ → Type 0)
+    → (stored : List ℕ → Type 0) → (first : Lines) → Calls → ℕ → Type 0
+Synced acts Renews stored first calls n = acts → IsSynced Renews stored first calls n

@@ -7,8 +7,7 @@ use Rattle.relay_core.specs.Machine.{at_event}
 use Rattle.relay_core.specs.Runs.{lines_of}
 use Rattle.relay_core.specs.World.{World}
 use Rattle.relay_events.specs.declared.event.Event.{Event}
-use Rattle.relay_events.specs.declared.event.Event.TheVariants.{Get, GetList, Set, Execute}
-use Rattle.relay_events.specs.declared.event.Event.TheVariants.{Button, Samples, Moment}
+use Rattle.relay_events.specs.declared.event.Event.TheVariants.{Get, GetList}
 use Rattle.shared_meter.specs.Calls.{Calls}
 use Rattle.shared_meter.specs.Pending.{event_lines, lines_of_calls}
 use Rattle.trace_lines.proofs.EventLaws.{event_line_again}
@@ -48,15 +47,7 @@ changing_more : (event : Event) (calls : Calls) → AreChanging calls → (event
     → events ≡ changing (event ∷ events_of_calls calls)
 changing_more (Get level attr selected) calls rest events traced are = rest events traced are
 changing_more (GetList level items) calls rest events traced are = rest events traced are
-changing_more (Set level attr selected value) calls rest events traced are =
-    line_more (Set level attr selected value) calls rest events traced are
-changing_more (Execute level method parameter) calls rest events traced are =
-    line_more (Execute level method parameter) calls rest events traced are
-changing_more Button calls rest events traced are = line_more Button calls rest events traced are
-changing_more (Samples block) calls rest events traced are =
-    line_more (Samples block) calls rest events traced are
-changing_more (Moment now) calls rest events traced are =
-    line_more (Moment now) calls rest events traced are
+changing_more event calls rest events traced are = line_more event calls rest events traced are
 
 are_changing : (calls : Calls) → AreChanging calls
 are_changing [] events traced are = are
@@ -89,13 +80,7 @@ changes_on (Get level attr selected) events w rest =
     rest w ∙ sym (same_none (is_on w) (change_lines (is_on w) (lines_of events w)))
 changes_on (GetList level items) events w rest =
     rest w ∙ sym (same_none (is_on w) (change_lines (is_on w) (lines_of events w)))
-changes_on (Set level attr selected value) events w rest =
-    acting_on (Set level attr selected value) events w rest
-changes_on (Execute level method parameter) events w rest =
-    acting_on (Execute level method parameter) events w rest
-changes_on Button events w rest = acting_on Button events w rest
-changes_on (Samples block) events w rest = acting_on (Samples block) events w rest
-changes_on (Moment now) events w rest = acting_on (Moment now) events w rest
+changes_on event events w rest = acting_on event events w rest
 
 changes_same : (events : List Event) (w : World) → AreSame events w
 changes_same [] w = refl

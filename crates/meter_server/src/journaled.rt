@@ -19,7 +19,7 @@ use counted_io::{Reader, Writer};
 use relay_events::{Event, Reply};
 use session_core::SessionEnd;
 use session_io::{Meter, ServeFault, serve_session};
-use shared_meter::{Durability, Kept, settle};
+use shared_meter::{Durability, Finding, Kept, Question, settle};
 use std::alloc::Global;
 use std::marker::Model;
 use std::sync::Wait;
@@ -116,9 +116,13 @@ fn ask<W: Wait, D: Durability>(
         return Err(CallFault::Journal);
     }
     let known = settled.take();
-    let reply = port.call(rt, alloc, event)?;
-    *settled = settle(rt, alloc, port, journal, known);
-    if settled.is_some() {
+    let (reply, found) = port.call_and_inspect(rt, alloc, event, Question::Count)?;
+    let Finding::Count(lines) = found else {
+        drop(reply);
+        return Err(CallFault::Journal);
+    };
+    if settle(rt, port, journal, known, lines) {
+        *settled = Some(lines);
         return Ok(reply);
     }
     drop(reply);

@@ -9,7 +9,7 @@ use crate::waiting::run_journal;
 use durable_lines::{DurableFile, MemoryFile, recover};
 use meter_journal::JournalIdentity;
 use relay_events::Event;
-use shared_meter::{Durability, Kept, settle};
+use shared_meter::{Durability, Finding, Kept, Question, settle};
 use std::alloc::Global;
 use std::marker::Brand;
 use std::sync::Wait;
@@ -19,11 +19,11 @@ use turn_lock::Port;
 /// What a port learned that settled before and after a press.
 #[derive(Clone, Copy, Debug, PartialEq, Eq)]
 struct Settled {
-    /// Whether it settled before the press, twice with the same number of lines.
+    /// Whether it settled for three lines before the press, twice.
     is_settled: bool,
-    /// Whether the press was replied to.
+    /// Whether the press was replied to, and a question in the same turn found four lines.
     is_pressed: bool,
-    /// Whether it settled after the press.
+    /// Whether it settled for four lines after the press.
     is_press_settled: bool,
     /// Whether the journal has failed.
     has_failed: bool,
@@ -52,14 +52,14 @@ fn settle_port<L: JournalIdentity + Send + Sync, W: Wait>(
         return None;
     };
     drop(other);
-    let known = settle(rt, alloc, &mut port, &progress, None);
-    let again = settle(rt, alloc, &mut port, &progress, known);
-    let is_pressed = port.call(rt, alloc, Event::Button).is_ok();
-    let is_press_settled = settle(rt, alloc, &mut port, &progress, None).is_some();
+    let is_settled = settle(rt, &mut port, &progress, None, 3)
+        && settle(rt, &mut port, &progress, Some(3), 3);
+    let pressed = port.call_and_inspect(rt, alloc, Event::Button, Question::Count);
+    let is_press_settled = settle(rt, &mut port, &progress, None, 4);
     drop(port);
     let settled = Settled {
-        is_settled: known.is_some() && again == known,
-        is_pressed,
+        is_settled,
+        is_pressed: matches!(pressed, Ok((_, Finding::Count(4)))),
         is_press_settled,
         has_failed: progress.has_failed(),
         lines: progress.lines(),

@@ -1,14 +1,13 @@
 //! Waits until the journal has reached the disk.
-ghost use Rattle.std.specs.Prelude.{ℕ, ⊤, ◌≢◌, None, IfSome, IsTrue};
+ghost use Rattle.std.specs.Prelude.{ℕ, ⊤, IfSome, IsTrue};
 ghost use Rattle.atomic_table.specs.Seated.{TableId};
 ghost use Rattle.turn_lock.specs.Calls.{Watches};
 ghost use Rattle.turn_lock.specs.Shown.{IsSame};
 ghost use Rattle.shared_meter.specs.Calls.{Calls, IsLegal};
-ghost use Rattle.shared_meter.specs.Settling.{AreDurable, Settles};
+ghost use Rattle.shared_meter.specs.Settling.{AreDurable};
 
 use crate::kept::Kept;
-use crate::pending::{Finding, Question};
-use std::alloc::{AllocError, Global};
+use std::alloc::AllocError;
 use std::sync::Wait;
 use turn_lock::Port;
 
@@ -65,8 +64,12 @@ impl Durability for NoJournal {
     }
 }
 
-// Waits until this number of lines is on the disk, unless it is known that as many are.
-fn wait_for<D: Durability, W: Wait>(
+/// Waits until at least this number of lines of the port's history is on the disk. Returns false if
+/// the journal has failed.
+///
+/// `known` is a number of lines that were seen to be on the disk, or `None`. If it is no less than
+/// `lines`, the journal is not looked at.
+pub fn settle<D: Durability, W: Wait>(
     rt: &W,
     port: &mut Port<Kept>,
     durability: &D,
@@ -87,34 +90,4 @@ fn wait_for<D: Durability, W: Wait>(
         return true;
     }
     durability.wait(rt, port, lines)
-}
-
-/// Waits until the lines of all calls that the port has seen are on the disk, and returns their
-/// number. Returns `None` if this is not certain: the journal has failed, a line was lost, or all
-/// turns of the lock were drawn.
-///
-/// `known` is the result of an earlier call, or `None`. If the port has seen no further lines since
-/// then, the journal is not looked at.
-pub fn settle<D: Durability, W: Wait>(
-    rt: &W,
-    alloc: Global,
-    port: &mut Port<Kept>,
-    durability: &D,
-    known: Option<u64>,
-) -> Option<u64>
-    requires fits { D.fits port.old.lock }
-    requires known { IfSome known (AreDurable D.is_durable port.old.known.seen) }
-    ensures same { IsSame port.old port.new }
-    ensures watches { Watches IsLegal port.old.known port.new.known }
-    ensures settled { result ≢ None → Settles D.is_durable port.old port.new }
-    ensures known { IfSome result (AreDurable D.is_durable port.new.known.seen) }
-{
-    let Some(Finding::Count(lines)) = port.inspect(rt, alloc, Question::Count) else {
-        return None;
-    };
-    if wait_for(rt, port, durability, known, lines) {
-        Some(lines)
-    } else {
-        None
-    }
 }

@@ -1,6 +1,7 @@
 use Rattle.std.proofs.Common.{ap, ◌∙◌}
 use Rattle.shared_meter.specs.Handed.{MeterPort}
-use Rattle.meter_journal.proofs.ProgressLemmas.{durable_now, synced_as}
+use Rattle.shared_meter.proofs.SettlingLemmas.{durable_at_once}
+use Rattle.meter_journal.proofs.ProgressLemmas.{Synced, synced_as}
 use Rattle.meter_journal.proofs.last_save.LastSave.show.Goals as goal
 
 pub invariant_of-self : goal.invariant_of-self
@@ -18,9 +19,10 @@ invariant_of-self g c =
 pub returns-clause-durable : goal.returns-clause-durable
 returns-clause-durable g c =
     let D = g.F.DurableFile in
-    durable_now D.acts_as_file D.renews (D.stored g.L.JournalIdentity.file)
-    g.L.JournalIdentity.first c.tell.new.self.known.seen c.self.inside.count
-    (λ acts. synced_as D.renews (D.stored g.L.JournalIdentity.file) g.L.JournalIdentity.first
+    let identity = g.L.JournalIdentity in
+    durable_at_once (Synced D.acts_as_file D.renews (D.stored identity.file) identity.first)
+    c.tell.new.self.known.seen c.self.inside.count
+    (λ acts. synced_as D.renews (D.stored identity.file) identity.first
     c.replace-note.result c.self.inside.note
     c.meet.new.self.known.seen c.tell.new.self.known.seen c.self.inside.count
     c.replace-note.ensures.value c.meet.ensures.meets.note_seen
