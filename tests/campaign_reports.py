@@ -41,7 +41,7 @@ CREATE TABLE job (place INTEGER PRIMARY KEY, name TEXT NOT NULL, address TEXT NO
 verb TEXT NOT NULL) STRICT;
 CREATE TABLE campaign (version INTEGER PRIMARY KEY, jobs INTEGER NOT NULL) STRICT;
 """
-# The table of the answers of meters that were asked later, as crates/ledger_answers has it.
+# The table of the answers of meters that were asked later, as crates/sqlite_ledger has it.
 ANSWER_TABLE = """
 CREATE TABLE answer (number INTEGER PRIMARY KEY, name TEXT NOT NULL, address TEXT NOT NULL, \
 state INTEGER NOT NULL, asked_at INTEGER NOT NULL) STRICT;

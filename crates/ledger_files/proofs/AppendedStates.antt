@@ -9,8 +9,8 @@ use Rattle.sqlite.specs.Effect.{Database}
 use Rattle.sqlite.specs.State.{State, HasCleanDisk, IsUnchanged}
 use Rattle.sqlite_ledger.proofs.InsertStates.{IsSettled}
 use Rattle.ledger_reports.specs.declared.answer.StateAnswer.{StateAnswer}
-use Rattle.ledger_answers.specs.Answers.{IsRecorded, IsSafe}
-use Rattle.ledger_answers.specs.Schema.{answers_schema}
+use Rattle.sqlite_ledger.specs.Answers.{IsRecorded, IsSafe}
+use Rattle.sqlite_ledger.specs.AnswersSchema.{answers_schema}
 use Rattle.ledger_files.specs.Answered.{AreAppended, AreAppendedTo, AreRecorded}
 
 module _ (old new : State) (same : IsUnchanged old new) where

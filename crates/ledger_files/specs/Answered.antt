@@ -12,8 +12,8 @@ use Rattle.sqlite.specs.Recovery.{Image}
 use Rattle.sqlite.specs.Start.{FindsIn}
 use Rattle.sqlite.specs.State.{State, HasCleanDisk}
 use Rattle.ledger_reports.specs.declared.answer.StateAnswer.{StateAnswer}
-use Rattle.ledger_answers.specs.Answers.{IsSafe}
-use Rattle.ledger_answers.specs.Schema.{answers_schema}
+use Rattle.sqlite_ledger.specs.Answers.{IsSafe}
+use Rattle.sqlite_ledger.specs.AnswersSchema.{answers_schema}
 
 -- Whether these answers were appended between two states of a connection. If the disk returned what
 -- was written, whatever a crash leaves then has each of them. If the database was a file of answers

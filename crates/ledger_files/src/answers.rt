@@ -6,11 +6,12 @@ ghost use Rattle.ledger_files.specs.Answered.{AreAppended, AreAppendedTo, AreRec
 
 use crate::make_private;
 use crate::reading::has_file;
-use ledger_answers::{add_answers, last_number, open_answers, read_answers_if_made};
 use ledger_reports::StateAnswer;
 use sqlite::{Alter, Connection, Error, FileFrom, FileStore, Start, Unknown};
 use sqlite_disk::Disk;
-use sqlite_ledger::LedgerOpenFault;
+use sqlite_ledger::{
+    LedgerOpenFault, add_answers, last_number, open_answers, read_answers_if_made,
+};
 use std::alloc::{AllocError, Global};
 use std::fs;
 use std::io::ErrorKind;

@@ -1,9 +1,9 @@
 //! Files of answers in memory: what is read back, and databases that are refused.
 use crate::memory::database;
 use crate::samples::{AnswerSample, answers};
-use ledger_answers::{add_answers, last_number, open_answers, read_answers};
 use ledger_reports::{MeterState, StateAnswer};
 use sqlite::{Connection, Error, MemStore, Row};
+use sqlite_ledger::{add_answers, last_number, open_answers, read_answers};
 use std::alloc::Global;
 use std::rt::HostRuntime;
 use std::test::Fail;

@@ -1,3 +1,7 @@
+pub mod AddedStates
+pub mod AnswerLemmas
+pub mod AnswerReads
+pub mod AnswerStates
 pub mod InsertLemmas
 pub mod InsertStates
 pub mod MarkLemmas

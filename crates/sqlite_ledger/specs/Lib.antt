@@ -1,4 +1,7 @@
--- What the contracts of a ledger in an SQLite database refer to: its tables, marks and outcomes.
+-- What the contracts of a ledger in an SQLite database, and of a file of answers, refer to: the
+-- tables, the marks, the outcomes and the answers.
+pub mod Answers
+pub mod AnswersSchema
 pub mod Marks
 pub mod Outcomes
 pub mod Schema

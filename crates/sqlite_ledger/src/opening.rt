@@ -1,5 +1,5 @@
 //! `open_book`: opens the ledger of a campaign over a connection.
-ghost use Rattle.std.specs.Prelude.{◌≡◌, [], length, OnOk, IfOk, IsTrue, false};
+ghost use Rattle.std.specs.Prelude.{◌≡◌, length, OnOk, IfOk, false};
 ghost use Rattle.sqlite.specs.State.{HasCleanDisk, IsUnchanged};
 ghost use Rattle.sqlite.specs.Held.{state};
 ghost use Rattle.sqlite_ledger.specs.Marks.{LeavesCommit};
@@ -9,20 +9,12 @@ use crate::book::SqliteBook;
 use crate::creation::create_ledger;
 use crate::open_fault::LedgerOpenFault;
 use crate::reading::{has_jobs, read_marks, read_outcomes};
-use crate::schema::is_ledger_schema;
+use crate::schema::{is_empty, is_ledger_schema};
 use campaign_ledger::{Ledger, LedgerEntry};
 use client_core::Job;
 use sqlite::{Alter, Connection};
-use sqlite_schema::schema::Schema;
 use std::alloc::Global;
 use std::rt::HostRuntime;
-
-// Returns whether the database has no tables yet.
-fn is_empty(schema: &Schema) -> bool
-    ensures { IsTrue result → schema.now.tables ≡ [] }
-{
-    schema.tables.is_empty() && schema.indexes.is_empty() && schema.views.is_empty()
-}
 
 // Makes the ledger if the database is empty.
 fn create_if_empty<S: Alter>(conn: &mut Connection<S>, jobs: &[Job]) -> Result<(), LedgerOpenFault>

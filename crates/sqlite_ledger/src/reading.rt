@@ -121,9 +121,9 @@ pub(crate) fn read_outcomes<S: Alter>(
     enter_outcomes(entries, &rows)
 }
 
-// Returns the time of a column `at`, in seconds since 1970. Returns `None` for 0, which a book
-// writes if its clock can't be read, and for what is no `u32`.
-fn time_of(at: i64) -> Option<u32>
+// Returns the time of a column `at` or `asked_at`, in seconds since 1970. Returns `None` for 0,
+// which is written if the clock can't be read, and for what is no `u32`.
+pub(crate) fn time_of(at: i64) -> Option<u32>
     ensures none { at ≡ pos 0 → result ≡ None }
     ensures value { (second : ℕ) → 0 < second → second < 2 ^ 32 → at ≡ pos second
         → result ≡ Some second }

@@ -9,6 +9,13 @@ use sqlite_schema::schema::{Column, Kind, Schema, Stamps, Table};
 use sqlite_value::keys::Collation;
 use sqlite_value::value::Value;
 
+// Returns whether the database has no tables yet.
+pub(crate) fn is_empty(schema: &Schema) -> bool
+    ensures { IsTrue result → schema.now.tables ≡ [] }
+{
+    schema.tables.is_empty() && schema.indexes.is_empty() && schema.views.is_empty()
+}
+
 /// Returns whether a column is that of a STRICT table, without a default.
 pub fn is_strict_column(column: &Column, name: &str, kind: Kind, not_null: bool) -> bool
     ensures { IsTrue result → column.now ≡ strict_column name.now kind not_null }

@@ -2,7 +2,7 @@ use Rattle.std.proofs.Common.{sym, subst}
 use Rattle.sqlite.specs.Held.{Held, state}
 use Rattle.sqlite.specs.State.{HasCleanDisk}
 use Rattle.sqlite_ledger.proofs.InsertStates.{IsSettled}
-use Rattle.ledger_answers.specs.Answers.{IsSafe}
+use Rattle.sqlite_ledger.specs.Answers.{IsSafe}
 use Rattle.ledger_files.proofs.AppendedStates.{appends}
 use Rattle.ledger_files.proofs.answers.append.Goals as goal
 

@@ -1,4 +1,0 @@
-pub mod AddedStates
-pub mod AnswerLemmas
-pub mod AnswerStates
-pub mod ReadLemmas

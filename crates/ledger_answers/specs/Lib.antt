@@ -1,3 +1,0 @@
--- What the contracts of a file of answers refer to.
-pub mod Answers
-pub mod Schema

@@ -1,0 +1,29 @@
+-- The answers of a file.
+--     answer_row        the row of an answer
+--     IsRecorded        the trees have the answer
+--     IsSafe            all trees that a crash may leave have it
+use Rattle.std.specs.Prelude.{ℕ, ℤ, pos, List, [], ◌∷◌, Option, Some, None}
+use Rattle.sqlite.specs.declared.types.Value.TheVariants.{Null, Int, Text as Words}
+use Rattle.sqlite.specs.Order.{Row}
+use Rattle.sqlite.specs.Tree.{Trees}
+use Rattle.sqlite_rules.specs.Lists.{Has}
+use Rattle.ledger_reports.specs.declared.answer.StateAnswer.{StateAnswer}
+use Rattle.sqlite_ledger.specs.AnswersSchema.{answer_tree}
+
+-- the second of an asking as the file has it: 0 if it is not known
+abbrev pub second_of : Option ℕ → ℕ
+second_of None = 0
+second_of (Some second) = second
+
+-- a row is its key, and then its columns, of which the one of the key is NULL
+abbrev pub answer_row : ℤ → StateAnswer → Row
+answer_row number answer = Int number ∷ Null ∷ Words answer.name ∷ Words answer.address
+    ∷ Int (pos answer.answer.state) ∷ Int (pos (second_of answer.answer.asked_at)) ∷ []
+
+-- whether the trees have this answer, with any number
+abbrev pub IsRecorded : Trees → StateAnswer → Type 0
+IsRecorded db answer = (number : ℤ) × Has (db answer_tree) (answer_row number answer)
+
+-- whether this answer is in all trees that a crash may leave
+abbrev pub IsSafe : (Trees → Type 0) → StateAnswer → Type 0
+IsSafe may_leave answer = (db : Trees) → may_leave db → IsRecorded db answer

@@ -1,0 +1,43 @@
+//! `open_answers`: makes the table of the answers, or tests that it is there.
+ghost use Rattle.std.specs.Prelude.{◌≡◌, OnOk};
+ghost use Rattle.sqlite_ledger.specs.AnswersSchema.{answers_schema};
+
+use crate::answers::schema::is_answers_schema;
+use crate::open_fault::LedgerOpenFault;
+use crate::schema::is_empty;
+use sqlite::{Alter, Connection, Error, ErrorCode};
+
+// The table of the answers; the README describes it.
+const TABLE: &str = "\
+CREATE TABLE answer (number INTEGER PRIMARY KEY, name TEXT NOT NULL, address TEXT NOT NULL, \
+state INTEGER NOT NULL, asked_at INTEGER NOT NULL) STRICT";
+
+// Makes the table if the database is empty.
+fn create_if_empty<S: Alter>(conn: &mut Connection<S>) -> Result<(), Error>
+    ensures { conn.old.schema ≡ answers_schema → conn.new ≡ conn.old }
+{
+    if !is_empty(conn.schema()) {
+        return Ok(());
+    }
+    // (an open transaction would hold back what is written)
+    if !conn.is_autocommit() {
+        return Err(Error::SqliteFailure(ErrorCode::TransactionState));
+    }
+    conn.execute_batch(TABLE)
+}
+
+/// Makes the table of the answers in an empty database, or tests that another one has it and
+/// nothing else.
+///
+/// Errors: `Answers` for a database with other tables, `File` and `Memory`.
+pub fn open_answers<S: Alter>(conn: &mut Connection<S>) -> Result<(), LedgerOpenFault>
+    ensures schema { OnOk result (conn.new.schema ≡ answers_schema) }
+    ensures unchanged { conn.old.schema ≡ answers_schema → conn.new ≡ conn.old }
+{
+    create_if_empty(conn)?;
+    if is_answers_schema(conn.schema()) {
+        Ok(())
+    } else {
+        Err(LedgerOpenFault::Answers)
+    }
+}
