@@ -4,6 +4,7 @@ ghost use Rattle.sqlite.specs.Held.{state};
 ghost use Rattle.sqlite.specs.WalFiles.{image_at};
 ghost use Rattle.ledger_files.specs.Answered.{AreAppended, AreAppendedTo, AreRecorded};
 
+use crate::disks::{append_on_disk, read_answers_on_disk};
 use crate::make_private;
 use crate::reading::has_file;
 use ledger_reports::StateAnswer;
@@ -48,25 +49,26 @@ fn append<T: Alter>(
     add_answers(conn, last, answers)
 }
 
-// Appends answers as `append` does, and returns the connection, also with a fault.
-fn append_all<T: Alter + Drop>(
+// Appends answers as `append` does, and returns the connection. Drops it if that fails.
+pub(crate) fn append_all<T: Alter + Drop>(
     conn: Connection<T>,
     answers: &[StateAnswer],
-) -> Result<Connection<T>, (LedgerOpenFault, Connection<T>)>
+) -> Result<Connection<T>, LedgerOpenFault>
     ensures { IfOk result (λ now.
         AreAppended (state T.Store conn) (state T.Store now) answers.now) }
 {
     let mut conn = conn;
     match append(&mut conn, answers) {
         Ok(()) => Ok(conn),
-        Err(fault) => Err((fault, conn)),
+        Err(fault) => {
+            drop(conn);
+            Err(fault)
+        }
     }
 }
 
 // Closes the connection to a file of answers: the file then has all answers, without its log.
-fn close_answers<S: Start>(
-    conn: Connection<FileStore<FileFrom<S>>>,
-) -> Result<(), LedgerOpenFault> {
+fn close_answers<D: Disk + Drop>(conn: Connection<FileStore<D>>) -> Result<(), LedgerOpenFault> {
     match conn.close() {
         Ok(()) => Ok(()),
         Err(_) => Err(LedgerOpenFault::File),
@@ -86,12 +88,9 @@ fn append_to_file<S: Start>(
 {
     make_private(rt, path);
     match Connection::open_from(rt, path, false, start) {
-        Ok(conn) => match append_all(conn, answers) {
+        Ok(conn) => match append_on_disk(conn, answers) {
             Ok(conn) => close_answers(conn),
-            Err((fault, conn)) => {
-                drop(conn);
-                Err(fault)
-            }
+            Err(fault) => Err(fault),
         },
         Err((error, left)) => {
             drop(left);
@@ -135,9 +134,9 @@ fn has_answers(rt: &HostRuntime, path: &str) -> Result<bool, LedgerOpenFault> {
     }
 }
 
-// Reads all answers, and closes the connection. It is generic, so that no proof reads how a store
+// Reads all answers, and drops the connection. It is generic, so that no proof reads how a store
 // works.
-fn read_and_close<T: Alter + Drop>(
+pub(crate) fn read_all<T: Alter + Drop>(
     rt: &HostRuntime,
     conn: Connection<T>,
 ) -> Result<Vec<StateAnswer>, LedgerOpenFault> {
@@ -159,7 +158,7 @@ pub fn read_answers_of(rt: &HostRuntime, path: &str) -> Result<Vec<StateAnswer>,
         return Ok(Vec::new(rt.alloc()));
     }
     match Connection::open_from(rt, name.as_str(), false, Unknown) {
-        Ok(conn) => read_and_close(rt, conn),
+        Ok(conn) => read_answers_on_disk(rt, conn),
         Err((error, left)) => {
             drop(left);
             Err(answers_fault(error))

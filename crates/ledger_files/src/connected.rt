@@ -1,4 +1,4 @@
-//! Runs the jobs of a campaign on a ledger over an SQLite connection.
+//! Runs the jobs of a campaign on a ledger over an SQLite connection, and takes the ledger apart.
 ghost use Rattle.std.specs.Prelude.{◌≡◌, length, pos, IfOk};
 ghost use Rattle.sqlite.specs.State.{HasCleanDisk};
 ghost use Rattle.sqlite.specs.Held.{state};
@@ -8,7 +8,7 @@ ghost use Rattle.ledger_campaigns.specs.Texts.{IsRunOnLedger};
 use campaign_ledger::Ledger;
 use head_end::{Connector, Watcher};
 use ledger_campaigns::{LedgerTexts, LedgeredPlan, run_on_ledger};
-use sqlite::Alter;
+use sqlite::{Alter, Connection};
 use sqlite_ledger::SqliteBook;
 use std::alloc::{AllocError, Global};
 use std::sync::Wait;
@@ -41,4 +41,10 @@ pub(crate) fn run_on_connection<
         (C.tells connector.now) plan.now.jobs.now plan.now.passwords.now ledger ended.1 ended.0) }
 {
     run_on_ledger(threads, alloc, plan, ledger, connector)
+}
+
+// Returns whether a ledger has failed, and its connection.
+pub(crate) fn take_apart<T: Alter + Drop>(ledger: Ledger<SqliteBook<T>>) -> (bool, Connection<T>) {
+    let has_failed = ledger.has_failed();
+    (has_failed, ledger.into_book().into_connection())
 }

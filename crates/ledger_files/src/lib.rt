@@ -7,6 +7,7 @@
 mod answers;
 mod asking;
 mod connected;
+mod disks;
 mod laws;
 mod reading;
 mod runs;
@@ -22,11 +23,12 @@ pub use answers::{append_answers, read_answers_of};
 pub use asking::{AskedLedger, ask_with_ledger, read_questions};
 use campaign_ledger::{Ledger, LedgerFault};
 use client_core::Job;
+use disks::{close_on_disk, open_on_disk};
 pub use laws::the_next_run_finds_what_was_left;
 pub use reading::read_ledger;
 pub use runs::{LedgerReport, run_with_ledger};
 use sqlite::{Connection, FileFrom, FileStore, Start, Unknown};
-use sqlite_ledger::{LedgerOpenFault, SqliteBook, open_book};
+use sqlite_ledger::{LedgerOpenFault, SqliteBook};
 use std::fs::OpenOptions;
 use std::os::unix::fs::OpenOptionsExt;
 use std::rt::HostRuntime;
@@ -63,12 +65,9 @@ pub fn open_ledger_from<S: Start>(
             return Err(LedgerOpenFault::from(error));
         }
     };
-    match open_book(rt, conn, jobs) {
+    match open_on_disk(rt, conn, jobs) {
         Ok(ledger) => Ok(ledger),
-        Err((fault, conn)) => {
-            drop(conn);
-            Err(fault)
-        }
+        Err(fault) => Err(fault),
     }
 }
 
@@ -99,9 +98,5 @@ pub fn open_ledger(
 
 /// Closes a ledger: the file then has all of it, without its log.
 pub fn close_ledger<S: Start>(ledger: Ledger<BookFrom<S>>) -> Result<(), LedgerFault> {
-    let conn = ledger.into_book().into_connection();
-    match conn.close() {
-        Ok(()) => Ok(()),
-        Err(_) => Err(LedgerFault::Failed),
-    }
+    close_on_disk(ledger).1
 }

@@ -1,4 +1,5 @@
 //! Reads the ledger of a campaign in a file.
+use crate::disks::read_on_disk;
 use ledger_reports::LedgerLine;
 use sqlite::{Alter, Connection, Unknown};
 use sqlite_ledger::{LedgerOpenFault, read_lines};
@@ -28,9 +29,9 @@ fn check_file(rt: &HostRuntime, path: &str) -> Result<(), LedgerOpenFault> {
     }
 }
 
-// Reads the lines of a ledger, and closes its connection. It is generic, so that no proof reads how
+// Reads the lines of a ledger, and drops its connection. It is generic, so that no proof reads how
 // a store works.
-fn read_and_close<T: Alter + Drop>(
+pub(crate) fn read_and_drop<T: Alter + Drop>(
     rt: &HostRuntime,
     conn: Connection<T>,
 ) -> Result<Vec<LedgerLine>, LedgerOpenFault> {
@@ -48,7 +49,7 @@ fn read_and_close<T: Alter + Drop>(
 pub fn read_ledger(rt: &HostRuntime, path: &str) -> Result<Vec<LedgerLine>, LedgerOpenFault> {
     check_file(rt, path)?;
     match Connection::open_from(rt, path, false, Unknown) {
-        Ok(conn) => read_and_close(rt, conn),
+        Ok(conn) => read_on_disk(rt, conn),
         Err((error, left)) => {
             drop(left);
             Err(LedgerOpenFault::from(error))

@@ -3,8 +3,8 @@ ghost use Rattle.std.specs.Prelude.{IfOk};
 ghost use Rattle.sqlite.specs.WalFiles.{image_at};
 ghost use Rattle.ledger_files.specs.Runs.{IsRunOnFile};
 
-use crate::connected::run_on_connection;
-use crate::{BookFrom, close_ledger, open_ledger_from};
+use crate::disks::{close_on_disk, run_on_disk};
+use crate::{BookFrom, open_ledger_from};
 use campaign_ledger::Ledger;
 use head_end::{Connector, Watcher};
 use ledger_campaigns::{LedgerTexts, LedgeredPlan};
@@ -29,8 +29,8 @@ pub struct LedgerReport {
 fn close<S: Start>(ledger: Option<Ledger<BookFrom<S>>>) -> bool {
     match ledger {
         Some(ledger) => {
-            let has_failed = ledger.has_failed();
-            close_ledger(ledger).is_ok() && !has_failed
+            let (has_failed, closed) = close_on_disk(ledger);
+            closed.is_ok() && !has_failed
         }
         None => false,
     }
@@ -52,7 +52,7 @@ pub fn run_with_ledger<S: Start + Send, R: Threads + Wait + Sync, C: Connector, 
         (C.tells connector.now) plan.now.jobs.now plan.now.passwords.now report.texts) }
 {
     match open_ledger_from(rt, path, plan.jobs.as_slice(), start) {
-        Ok(ledger) => match run_on_connection(threads, rt.alloc(), plan, ledger, connector) {
+        Ok(ledger) => match run_on_disk(threads, rt.alloc(), plan, ledger, connector) {
             Ok((texts, ledger)) => Ok(LedgerReport {
                 texts,
                 has_failed: !close(ledger),

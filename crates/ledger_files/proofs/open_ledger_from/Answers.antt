@@ -4,15 +4,15 @@ use Rattle.sqlite.specs.Files.{file_state}
 use Rattle.sqlite_ledger.specs.Schema.{ledger_schema}
 use Rattle.ledger_files.proofs.open_ledger_from.Goals as goal
 
-pub returns-in-Ok-open_book-clause-found : goal.returns-in-Ok-open_book-clause-found
-returns-in-Ok-open_book-clause-found g c clean =
+pub returns-in-Ok-open_on_disk-clause-found : goal.returns-in-Ok-open_on_disk-clause-found
+returns-in-Ok-open_on_disk-clause-found g c clean =
     let was = c.in-Ok.conn in
     let early : was.schema ≡ ledger_schema → HasCleanDisk (file_state was) = λ ledger.
-    c.in-Ok-open_book.ensures.clean ledger clean in
+    c.in-Ok-open_on_disk.ensures.clean ledger clean in
     record {
       was = was;
       opened = λ ledger. c.in-Ok.ensures.opened (early ledger);
       found = λ ledger. c.in-Ok.ensures.found (early ledger);
-      unchanged = λ ledger. c.in-Ok-open_book.ensures.unchanged ledger clean;
-      settled = c.in-Ok-open_book.ensures.settled;
+      unchanged = λ ledger. c.in-Ok-open_on_disk.ensures.unchanged ledger clean;
+      settled = c.in-Ok-open_on_disk.ensures.settled;
     }
