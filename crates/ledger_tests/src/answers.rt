@@ -1,8 +1,9 @@
-//! Files of answers in memory: what is read back, and databases that are refused.
+//! Files of answers in memory: what is read back, and databases that are refused. What works on a
+//! file of answers is generic, so that no proof reads how a store works.
 use crate::memory::database;
 use crate::samples::{AnswerSample, answers};
 use ledger_reports::{MeterState, StateAnswer};
-use sqlite::{Connection, Error, MemStore, Row};
+use sqlite::{Alter, Connection, Error, Row};
 use sqlite_ledger::{add_answers, last_number, open_answers, read_answers};
 use std::alloc::Global;
 use std::rt::HostRuntime;
@@ -63,7 +64,7 @@ fn is_row(row: &Row, expected: &(i64, &str, &str, i64, i64)) -> Result<bool, Err
 }
 
 /// Returns whether the table has these rows.
-fn has_rows(conn: &mut Connection<MemStore>, expected: &[(i64, &str, &str, i64, i64)]) -> bool {
+fn has_rows<T: Alter>(conn: &mut Connection<T>, expected: &[(i64, &str, &str, i64, i64)]) -> bool {
     let Ok(rows) = conn.query_all(SELECT_ROWS, &[]) else {
         return false;
     };
@@ -76,7 +77,7 @@ fn has_rows(conn: &mut Connection<MemStore>, expected: &[(i64, &str, &str, i64, 
 
 /// Opens a database as a file of answers and appends these. Returns the number of the last answer
 /// before and after, if all succeeds.
-fn ask(conn: &mut Connection<MemStore>, answers: &[StateAnswer]) -> Option<(u32, u32)> {
+fn ask<T: Alter>(conn: &mut Connection<T>, answers: &[StateAnswer]) -> Option<(u32, u32)> {
     open_answers(conn).ok()?;
     let last = last_number(conn).ok()?;
     add_answers(conn, last, answers).ok()?;
@@ -85,9 +86,9 @@ fn ask(conn: &mut Connection<MemStore>, answers: &[StateAnswer]) -> Option<(u32,
 
 /// Returns whether two askings over an empty database leave their answers, and an asking with a
 /// number that is taken changes nothing.
-fn asks_twice(
+fn asks_twice<T: Alter>(
     alloc: Global,
-    conn: &mut Connection<MemStore>,
+    conn: &mut Connection<T>,
     first: &[StateAnswer],
     second: &[StateAnswer],
 ) -> bool {
@@ -110,7 +111,7 @@ fn first_number(rows: &[Row]) -> Option<i64> {
 
 /// Returns whether a database with a table `note` is refused as a file of answers, and its row is
 /// left.
-fn refuses_note(alloc: Global, conn: &mut Connection<MemStore>) -> bool {
+fn refuses_note<T: Alter>(alloc: Global, conn: &mut Connection<T>) -> bool {
     let is_refused = open_answers(conn).is_err() && read_answers(alloc, conn).is_err();
     let is_left = match conn.query_all("SELECT id FROM note", &[]) {
         Ok(rows) => rows.len() == 1 && first_number(&rows) == Some(7),
@@ -118,6 +119,16 @@ fn refuses_note(alloc: Global, conn: &mut Connection<MemStore>) -> bool {
     };
     let has_no_answer = conn.query_all(SELECT_ROWS, &[]).is_err();
     is_refused && is_left && has_no_answer
+}
+
+/// Returns whether no answers are read of a new file.
+fn reads_none<T: Alter>(alloc: Global, conn: &mut Connection<T>) -> bool {
+    let is_open = open_answers(conn).is_ok();
+    let is_empty = match read_answers(alloc, conn) {
+        Ok(found) => found.is_empty(),
+        Err(_) => false,
+    };
+    is_open && is_empty
 }
 
 #[test]
@@ -140,13 +151,9 @@ fn answers_are_appended_and_read_in_order(rt: HostRuntime) -> Result<(), Fail> {
 fn no_answers_are_read_of_a_new_file(rt: HostRuntime) -> Result<(), Fail> {
     let is_empty = match database(&rt, "") {
         Some(mut conn) => {
-            let is_open = open_answers(&mut conn).is_ok();
-            let is_empty = match read_answers(rt.alloc(), &mut conn) {
-                Ok(found) => found.is_empty(),
-                Err(_) => false,
-            };
+            let is_empty = reads_none(rt.alloc(), &mut conn);
             drop(conn);
-            is_open && is_empty
+            is_empty
         }
         None => false,
     };

@@ -1,15 +1,16 @@
-//! Ledgers in memory: what a run leaves for the next, and databases that are refused.
+//! Ledgers in memory: what a run leaves for the next, and databases that are refused. What runs on
+//! a ledger is generic, so that no proof reads how a store works.
 use crate::samples::three_jobs;
 use campaign_ledger::{Book, Ledger, LedgerEntry};
 use client_core::{Job, Outcome};
-use sqlite::{Connection, MemStore};
+use sqlite::{Alter, Connection, MemStore};
 use sqlite_ledger::{LedgerOpenFault, SqliteBook, open_book};
 use std::rt::HostRuntime;
 use std::test::Fail;
 
 /// Marks the first two places, and records an outcome of the second. Returns whether each permit
 /// was given once.
-fn mark_two(ledger: &mut Ledger<SqliteBook<MemStore>>) -> bool {
+fn mark_two<T: Alter + Drop>(ledger: &mut Ledger<SqliteBook<T>>) -> bool {
     let first = matches!(ledger.begin(0), Ok(Some(_)));
     let second = matches!(ledger.begin(1), Ok(Some(_)));
     let again = matches!(ledger.begin(1), Ok(None));
@@ -18,11 +19,11 @@ fn mark_two(ledger: &mut Ledger<SqliteBook<MemStore>>) -> bool {
 }
 
 /// Runs a part of a campaign. Returns the connection, if each permit was given once.
-fn first_run(
+fn first_run<T: Alter + Drop>(
     rt: &HostRuntime,
-    conn: Connection<MemStore>,
+    conn: Connection<T>,
     jobs: &[Job],
-) -> Option<Connection<MemStore>> {
+) -> Option<Connection<T>> {
     match open_book(rt, conn, jobs) {
         Ok(mut ledger) => {
             let is_right = mark_two(&mut ledger);
@@ -42,7 +43,7 @@ fn first_run(
 }
 
 /// Returns whether the ledger has what the first run left, and marks of its file are not new.
-fn is_left(mut ledger: Ledger<SqliteBook<MemStore>>) -> bool {
+fn is_left<T: Alter + Drop>(mut ledger: Ledger<SqliteBook<T>>) -> bool {
     let found = ledger.entry(0) == LedgerEntry::MaybeSent
         && ledger.entry(1) == LedgerEntry::Came(Outcome::Refused(4))
         && ledger.entry(2) == LedgerEntry::NotSent;
@@ -55,7 +56,11 @@ fn is_left(mut ledger: Ledger<SqliteBook<MemStore>>) -> bool {
 }
 
 /// Returns the fault of an open, and drops what it returns.
-fn fault_of(rt: &HostRuntime, conn: Connection<MemStore>, jobs: &[Job]) -> Option<LedgerOpenFault> {
+fn fault_of<T: Alter + Drop>(
+    rt: &HostRuntime,
+    conn: Connection<T>,
+    jobs: &[Job],
+) -> Option<LedgerOpenFault> {
     match open_book(rt, conn, jobs) {
         Ok(ledger) => {
             drop(ledger);
@@ -92,29 +97,36 @@ fn fault_after(rt: &HostRuntime, text: &str, jobs: &[Job]) -> Option<LedgerOpenF
 }
 
 /// Runs twice over a new database. Returns whether the second run found what the first left.
-fn runs_twice(rt: &HostRuntime, jobs: &[Job]) -> bool {
-    match database(rt, "") {
-        Some(conn) => match first_run(rt, conn, jobs) {
-            Some(conn) => match open_book(rt, conn, jobs) {
-                Ok(ledger) => is_left(ledger),
-                Err((_, conn)) => {
-                    drop(conn);
-                    false
-                }
-            },
-            None => false,
+fn runs_twice<T: Alter + Drop>(rt: &HostRuntime, conn: Connection<T>, jobs: &[Job]) -> bool {
+    match first_run(rt, conn, jobs) {
+        Some(conn) => match open_book(rt, conn, jobs) {
+            Ok(ledger) => is_left(ledger),
+            Err((_, conn)) => {
+                drop(conn);
+                false
+            }
         },
         None => false,
     }
 }
 
-/// Opens the ledger of one list with another. Returns the fault.
-fn other_list(rt: &HostRuntime, jobs: &[Job], others: &[Job]) -> Option<LedgerOpenFault> {
+/// Opens the ledger of one list, over a new database, with another. Returns the fault.
+fn other_list<T: Alter + Drop>(
+    rt: &HostRuntime,
+    conn: Connection<T>,
+    jobs: &[Job],
+    others: &[Job],
+) -> Option<LedgerOpenFault> {
+    match first_run(rt, conn, jobs) {
+        Some(conn) => fault_of(rt, conn, others),
+        None => None,
+    }
+}
+
+/// Returns the fault of an open, in memory, of the ledger of one list with another.
+fn other_list_in_memory(rt: &HostRuntime, jobs: &[Job], others: &[Job]) -> Option<LedgerOpenFault> {
     match database(rt, "") {
-        Some(conn) => match first_run(rt, conn, jobs) {
-            Some(conn) => fault_of(rt, conn, others),
-            None => None,
-        },
+        Some(conn) => other_list(rt, conn, jobs, others),
         None => None,
     }
 }
@@ -122,7 +134,11 @@ fn other_list(rt: &HostRuntime, jobs: &[Job], others: &[Job]) -> Option<LedgerOp
 #[test]
 fn a_run_finds_what_the_last_one_left(rt: HostRuntime) -> Result<(), Fail> {
     let jobs = three_jobs(rt.alloc(), b"m3")?;
-    assert!(rt; runs_twice(&rt, &jobs));
+    let is_right = match database(&rt, "") {
+        Some(conn) => runs_twice(&rt, conn, &jobs),
+        None => false,
+    };
+    assert!(rt; is_right);
     Ok(())
 }
 
@@ -130,10 +146,9 @@ fn a_run_finds_what_the_last_one_left(rt: HostRuntime) -> Result<(), Fail> {
 fn another_list_is_refused(rt: HostRuntime) -> Result<(), Fail> {
     let jobs = three_jobs(rt.alloc(), b"m3")?;
     let others = three_jobs(rt.alloc(), b"m4")?;
-    assert!(rt; other_list(&rt, &jobs, &others) == Some(LedgerOpenFault::OtherList));
-    assert!(rt;
-        other_list(&rt, &jobs, &others[..others.len() / 2]) == Some(LedgerOpenFault::OtherList)
-    );
+    let half = &others[..others.len() / 2];
+    assert!(rt; other_list_in_memory(&rt, &jobs, &others) == Some(LedgerOpenFault::OtherList));
+    assert!(rt; other_list_in_memory(&rt, &jobs, half) == Some(LedgerOpenFault::OtherList));
     Ok(())
 }
 
