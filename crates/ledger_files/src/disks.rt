@@ -1,8 +1,8 @@
 //! Calls over a connection to files on any disk.
 //!
-//! A call that passes on the store of a file makes the proof read how that store works: some 17
-//! seconds for a store over any disk, and 26 to 34 for one over a certain disk. So these calls are
-//! here, once each, and the rest of the crate calls them.
+//! A call that passes on the store of a file makes the proof read how that store works, which costs
+//! less over any disk than over a certain one. So these calls are here, once each, and the rest of
+//! the crate calls them.
 ghost use Rattle.std.specs.Prelude.{◌≡◌, length, pos, IfOk, OnOk, false};
 ghost use Rattle.sqlite.specs.State.{HasCleanDisk, IsUnchanged};
 ghost use Rattle.sqlite.specs.Files.{file_state};
