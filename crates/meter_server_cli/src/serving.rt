@@ -25,11 +25,13 @@ use server_files::{
 use server_io::{Closing, Sockets, Stopped, StreamLimits};
 use session_log::LogTime;
 use std::alloc::{AllocError, Global};
+use std::fs::{File, Files};
 use std::io::{BufReader, IsTerminal, Stdin, Stdout, Write};
 use std::net::{SocketAddr, TcpListener};
 use std::sync::atomic::AtomicBool;
 use std::sync::{Arc, Wait};
 use std::thread::{JoinHandle, Threads};
+use std::time::Clock;
 
 // The parameters of the clients.
 #[derive(Drop)]
@@ -360,6 +362,7 @@ pub(crate) fn begin(rt: &HostRuntime, options: &ServeOptions) -> Result<Server, 
 // how files are stored.
 fn run_on_journal<
     F: DurableFile + Send + 'static,
+    S: Clock + Eprint + Files<File = File> + Drop + Send + 'static,
     R: Threads + Wait + Copy + Drop + Send + 'static,
 >(
     rt: &HostRuntime,
@@ -367,13 +370,15 @@ fn run_on_journal<
     output: &mut Stdout,
     sockets: &mut Sockets<HostRuntime>,
     recorder: Recorder,
-    parts: JournaledParts<R, RelayedJournal<F, HostRuntime>>,
+    parts: JournaledParts<R, RelayedJournal<F, S>>,
     meter: &ClientParameters,
 ) -> (
     Result<Served, ServeFault>,
     Result<(), Fault>,
     Result<(), Fault>,
 )
+where
+    S::Dir: Send + 'static,
     requires unused { length recorder.events ≡ 0 }
     requires unclaimed { F.acts_as_file → ⊥ }
 {
@@ -381,34 +386,46 @@ fn run_on_journal<
 }
 
 // Runs the meter with its relay alone as `run_journaled` does.
-fn run_on_relay<F: DurableFile + Send + 'static, R: Threads + Wait + Copy + Drop + Send + 'static>(
+fn run_on_relay<
+    F: DurableFile + Send + 'static,
+    S: Clock + Eprint + Files<File = File> + Drop + Send + 'static,
+    R: Threads + Wait + Copy + Drop + Send + 'static,
+>(
     rt: &HostRuntime,
     threads: &R,
     output: &mut Stdout,
     sockets: &mut Sockets<HostRuntime>,
     recorder: Recorder,
-    parts: JournaledParts<R, RelayAlone<F, HostRuntime>>,
+    parts: JournaledParts<R, RelayAlone<F, S>>,
     meter: &ClientParameters,
 ) -> (
     Result<Served, ServeFault>,
     Result<(), Fault>,
     Result<(), Fault>,
 )
+where
+    S::Dir: Send + 'static,
     requires unused { length recorder.events ≡ 0 }
 {
     run_journaled(rt, threads, output, sockets, recorder, parts, meter)
 }
 
 // Runs the meter, with its journal and its relay if it has one, and prints its trace. Returns the
-// results of serving, of the journal or the relay, and of printing.
-fn serve_and_print<R: Threads + Wait + Copy + Drop + Send + 'static>(
+// results of serving, of the journal or the relay, and of printing. It is generic over what stores
+// files: over a certain one its proof takes minutes.
+fn serve_and_print<
+    S: Clock + Eprint + Files<File = File> + Drop + Send + 'static,
+    R: Threads + Wait + Copy + Drop + Send + 'static,
+>(
     rt: &HostRuntime,
     threads: &R,
     server: (Sockets<HostRuntime>, ConsoleSources<R>, ServerEnd<R>),
     recorder: Recorder,
-    events: EventOutput<HostRuntime>,
+    events: EventOutput<S>,
     meter: &ClientParameters,
 ) -> (Result<(), Fault>, Result<(), Fault>, Result<(), Fault>)
+where
+    S::Dir: Send + 'static,
     requires { length recorder.events ≡ 0 }
 {
     let (mut sockets, sources, end) = server;
