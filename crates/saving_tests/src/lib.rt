@@ -1,5 +1,8 @@
-//! Tests of the worker of a journal: what a file has after a save and after a crash, and what a
-//! session learns that waits for its lines.
+//! Tests of journals: the worker, with what a file has after a save and after a crash, and what a
+//! session learns that waits for its lines; the files, which are renewed also while their meter
+//! runs, with what a crash at each moment leaves, in memory. Also tests the relay that is given
+//! what a file has (`meter_relay`). tests/journal.py plays journals of the operating system:
+//! begun, left by a killed server, resumed, refused, and renewed.
 //!
 //! Tests are in a crate of their own because a check of tests proves their whole crate again.
 #![tactic(auto)]
@@ -9,10 +12,18 @@ mod fronts;
 #[cfg(test)]
 mod meters;
 #[cfg(test)]
+mod relays;
+#[cfg(test)]
+mod renewals;
+#[cfg(test)]
 mod renewing;
+#[cfg(test)]
+mod runs;
 #[cfg(test)]
 mod saving;
 #[cfg(test)]
 mod settling;
+#[cfg(test)]
+mod texts;
 #[cfg(test)]
 mod waiting;
