@@ -21,8 +21,8 @@ pub trait Durability: Drop {
     /// Ghost predicate: the first lines of these calls, of this number, are on the disk.
     ghost is_durable: { Calls → ℕ → Type 0 };
 
-    /// Waits until this number of lines is on the disk. Returns false if the journal has failed.
-    /// After true the port has seen the calls whose lines they are.
+    /// Waits until this number of lines is on the disk. Returns false if the journal has ended
+    /// before, stopped or failed. After true the port has seen the calls whose lines they are.
     fn wait<W: Wait>(&self, rt: &W, port: &mut Port<Kept>, lines: u64) -> bool
         requires { fits port.old.lock }
         ensures same { IsSame port.old port.new }
@@ -65,7 +65,7 @@ impl Durability for NoJournal {
 }
 
 /// Waits until at least this number of lines of the port's history is on the disk. Returns false if
-/// the journal has failed.
+/// the journal has ended before: it was stopped, or has failed.
 ///
 /// `known` is a number of lines that were seen to be on the disk, or `None`. If it is no less than
 /// `lines`, the journal is not looked at.
