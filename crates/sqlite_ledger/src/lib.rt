@@ -30,4 +30,3 @@ pub use book::SqliteBook;
 pub use open_fault::LedgerOpenFault;
 pub use opening::open_book;
 pub use reading::read_lines;
-pub use schema::{is_keyed_table, is_strict_column};

@@ -16,8 +16,8 @@ pub(crate) fn is_empty(schema: &Schema) -> bool
     schema.tables.is_empty() && schema.indexes.is_empty() && schema.views.is_empty()
 }
 
-/// Returns whether a column is that of a STRICT table, without a default.
-pub fn is_strict_column(column: &Column, name: &str, kind: Kind, not_null: bool) -> bool
+// Returns whether a column is that of a STRICT table, without a default.
+pub(crate) fn is_strict_column(column: &Column, name: &str, kind: Kind, not_null: bool) -> bool
     ensures { IsTrue result → column.now ≡ strict_column name.now kind not_null }
 {
     column.name.as_slice() == name.as_bytes()
@@ -61,9 +61,9 @@ fn is_first_place(places: &[usize]) -> bool
     matches!(places, [0])
 }
 
-/// Returns whether a table has this name and number, the first column as its key, and no other
-/// rule.
-pub fn is_keyed_table(table: &Table, name: &str, tree: u32) -> bool
+// Returns whether a table has this name and number, the first column as its key, and no other
+// rule.
+pub(crate) fn is_keyed_table(table: &Table, name: &str, tree: u32) -> bool
     ensures { IsTrue result → table.now ≡ keyed_table name.now tree table.now.columns }
 {
     table.name.as_slice() == name.as_bytes()
