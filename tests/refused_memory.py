@@ -3,7 +3,7 @@
 afterwards. Prints the number of failed allocations of each, and the results.
 
 Every allocation is refused in the six calls whose state after it is promised, which takes less than
-a minute: the tests of `refusal_tests` (the recorder's `apply`, a port's `call`, `serve_session`,
+a minute: the refusals in `run_tests` (the recorder's `apply`, a port's `call`, `serve_session`,
 `serve_all`, `play`) and a campaign of four jobs; and in a test of the sampler. In the programs, and
 in a meter that serves two clients, the first, the last and some between are refused; for that meter
 also the start of each thread.
@@ -28,7 +28,6 @@ from serving import (DISCONNECT, MODE, PASSWORD, PLAYER, REFUSED, SERVER, STATE,
                      Server, Vanished, check, is_part_of, play_trace, test)
 from campaigns import HEAD_END
 
-CALLS = os.environ.get("REFUSAL_TESTS") or TOP / "crates" / "refusal_tests" / "out" / "refusal_tests_tests"
 RUNS = os.environ.get("RUN_TESTS") or TOP / "crates" / "run_tests" / "out" / "run_tests_tests"
 # The test of the sampler, which checks the scan of each block.
 SAMPLER = "sampling::blocks_are_scanned_with_the_thresholds_read_last"
@@ -51,7 +50,7 @@ def each_refusal(run, count, is_each=False):
 
 
 def verdict(ran):
-    """The result of a test of `refusal_tests`."""
+    """The result of a test of calls that are refused memory."""
     text = ran.output + ran.errors
     if ran.status == 0:
         return "went unnoticed"
@@ -61,12 +60,12 @@ def verdict(ran):
 
 
 def calls_are_refused_memory(name):
-    listed = refusing.run([CALLS, "--list"]).output.decode().splitlines()
-    names = [line.removesuffix(": test") for line in listed if line.endswith(": test")]
+    listed = refusing.run([RUNS, "--list"]).output.decode().splitlines()
+    names = [line.removesuffix(": test") for line in listed if line.startswith("refusals::") and line.endswith(": test")]
     check(f"{name}: five calls", len(names) == 5, names)
     for one in names:
-        ample = refusing.run([CALLS, one])
-        found = each_refusal(lambda number: verdict(refusing.run([CALLS, one], refuse_memory=number)), ample.allocations, is_each=True)
+        ample = refusing.run([RUNS, one])
+        found = each_refusal(lambda number: verdict(refusing.run([RUNS, one], refuse_memory=number)), ample.allocations, is_each=True)
         print_counts(one, found)
         check(f"{name}: {one}: ample memory", ample.status == 0, ample)
         check(f"{name}: {one}", found["in the call, and nothing changed"] > 0 and not found["WRONG"], found)
@@ -280,7 +279,7 @@ def main():
     parser = argparse.ArgumentParser()
     parser.add_argument("--long", action="store_true", help="each allocation everywhere")
     is_long = parser.parse_args().long
-    for executable in (CALLS, RUNS, SERVER, PLAYER, HEAD_END):
+    for executable in (RUNS, SERVER, PLAYER, HEAD_END):
         if not os.access(executable, os.X_OK):
             print(f"{executable} is missing: run bin/test, or `rt run` in its crate")
             print("0 passed, 1 failed")

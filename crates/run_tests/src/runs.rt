@@ -5,6 +5,7 @@ ghost use Rattle.run_tests.specs.ListedRuns.{IsListedRun};
 ghost use Rattle.session_io.specs.declared.fault.ServeFault.TheVariants.{Listen};
 
 use crate::clients::{Client, ClientListener, Line, client};
+use crate::meters::new_recorder;
 use crate::sources::{ListedBlocks, ListedMoments, ListedPresses};
 use crate::traces::{Lines, is_merged};
 use cosem_axdr::Octets;
@@ -61,17 +62,6 @@ fn run_lists<R: Threads + Wait + Copy + Send + 'static>(
     )
 }
 
-/// Returns a recorder of a new meter RELAY1 that has taken no event.
-pub(crate) fn new_recorder(rt: &impl Abort, alloc: Global) -> Result<Recorder, AllocError>
-    ensures { IfOk result (λ recorder. recorder.events ≡ []) }
-{
-    let device = Octets::from_slice(alloc, b"RELAY1")?;
-    assert!(*rt; device.len() == 6);
-    let recorder = Recorder::new(alloc, &device, 256);
-    drop(device);
-    recorder
-}
-
 /// How a run ended, and whether its trace has the lines of these lists.
 type RunResult = (Result<Served, ServeFault>, bool);
 
@@ -100,7 +90,7 @@ fn run<R: Threads + Wait + Abort + Copy + Send + 'static>(
     requires { 0 < limit }
 {
     match (
-        new_recorder(rt, alloc),
+        new_recorder(rt, alloc, 256),
         Octets::from_slice(alloc, b"12345678"),
     ) {
         (Ok(recorder), Ok(password)) => {

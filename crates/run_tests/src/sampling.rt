@@ -2,7 +2,8 @@
 //! value, so no contract sees it.
 ghost use Rattle.std.specs.Prelude.{◌≡◌, [], IfOk};
 
-use crate::runs::new_recorder;
+use crate::meters::new_lock;
+use crate::refusals::RefusedAndStood;
 use cosem_axdr::Data;
 use cosem_names::{AttrRef, ClassId, Level, Obis};
 use lane_sampler::Block;
@@ -209,20 +210,6 @@ fn found_after(shared: Shared<Kept>, port: Port<Kept>) -> Option<Found>
     }
 }
 
-/// Makes a lock around a value, for 1,000 calls, and its first port.
-fn lock_over<T: Turned>(alloc: Global, value: T) -> Result<(Shared<T>, Port<T>), AllocError>
-    requires { T.stands value [] }
-    ensures { IfOk result (λ r. r.1.lock ≡ r.0) }
-{
-    match Shared::new(alloc, value, 1000) {
-        Ok(made) => Ok(made),
-        Err((error, value)) => {
-            drop(value);
-            Err(error)
-        }
-    }
-}
-
 /// Runs the worker until all blocks are passed on.
 fn sample<W: Wait>(
     rt: &W,
@@ -253,17 +240,12 @@ fn sample<W: Wait>(
 
 /// Runs the worker with a new meter. Returns `None` if out of memory.
 fn sample_new<R: Wait + Abort>(rt: &R, alloc: Global) -> Option<Found> {
-    let recorder = new_recorder(rt, alloc).ok()?;
-    let (shared, port) = lock_over(alloc, Kept::new(recorder)).ok()?;
+    let (shared, port) = new_lock(rt, alloc, 1000).ok()?;
     sample(rt, alloc, shared, port)
 }
 
-/// A read of the thresholds ran out of memory, and each block is scanned with the thresholds read
-/// last.
-#[derive(Debug, Drop)]
-struct RefusedAndStood;
-
 // `tests/refused_memory.py` runs it once for each of its allocations, and refuses that allocation.
+// If a read of the thresholds ran out of memory, it fails with `RefusedAndStood`.
 #[test]
 fn blocks_are_scanned_with_the_thresholds_read_last(rt: HostRuntime) -> Result<(), Fail> {
     let found = sample_new(&rt, rt.alloc()).ok_or(AllocError)?;

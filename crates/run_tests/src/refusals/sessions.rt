@@ -2,8 +2,8 @@
 //! continues.
 ghost use Rattle.acse_ber.specs.Password.{IsPassword};
 
-use crate::RefusedAndStood;
-use crate::page::Page;
+use super::RefusedAndStood;
+use super::page::Page;
 use cosem_axdr::Octets;
 use counted_io::Counted;
 use relay_core::RelayCore;

@@ -4,22 +4,14 @@
 //! With enough memory each test succeeds. If the tested call runs out of memory, the test checks
 //! the state, continues as if nothing had happened, and fails with `RefusedAndStood`. If an
 //! allocation outside the tested call is refused, it fails with `AllocError`.
-#![tactic(auto)]
 
-#[cfg(test)]
 mod page;
-#[cfg(test)]
 mod ports;
-#[cfg(test)]
 mod recorders;
-#[cfg(test)]
 mod servers;
-#[cfg(test)]
 mod sessions;
-#[cfg(test)]
 mod traces;
 
 /// The tested call ran out of memory, and the state afterwards was the required one.
-#[cfg(test)]
 #[derive(Debug, Drop)]
 pub(crate) struct RefusedAndStood;

@@ -1,6 +1,6 @@
 //! A player that runs out of memory has written nothing.
-use crate::RefusedAndStood;
-use crate::page::Page;
+use super::RefusedAndStood;
+use super::page::Page;
 use counted_io::Counted;
 use std::alloc::Global;
 use std::test::Fail;

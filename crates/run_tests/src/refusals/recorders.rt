@@ -1,7 +1,8 @@
 //! A recorder that runs out of memory is unchanged.
 ghost use Rattle.std.specs.Prelude.{◌≡◌, ◌≤◌, [], IfOk};
 
-use crate::RefusedAndStood;
+use super::RefusedAndStood;
+use crate::meters::new_recorder;
 use cosem_axdr::Octets;
 use relay_core::{Event, Reply};
 use relay_recorder::Recorder;
@@ -27,22 +28,6 @@ fn code(reply: &Reply) -> u8 {
         Reply::Code(code) => code.code(),
         _ => 255,
     }
-}
-
-/// Returns the recorder of a new meter, which keeps the given number of events.
-pub(crate) fn new_recorder(
-    rt: &impl Abort,
-    alloc: Global,
-    capacity: u16,
-) -> Result<Recorder, AllocError>
-    requires { (1 ≤ capacity) × (capacity ≤ 1024) }
-    ensures { IfOk result (λ recorder. recorder.events ≡ []) }
-{
-    let device = Octets::from_slice(alloc, b"RELAY1")?;
-    assert!(rt; device.len() == 6);
-    let recorder = Recorder::new(alloc, &device, capacity);
-    drop(device);
-    recorder
 }
 
 /// Returns the text of a recorder's trace.

@@ -2,8 +2,9 @@
 //! afterwards.
 ghost use Rattle.std.specs.Prelude.{◌≡◌, ◌<◌, ◌≤◌, [], IfOk};
 
-use crate::RefusedAndStood;
-use crate::recorders::{event_of, new_recorder};
+use super::RefusedAndStood;
+use super::recorders::event_of;
+use crate::meters::new_lock;
 use cosem_axdr::Data;
 use relay_core::Reply;
 use shared_meter::Kept;
@@ -15,31 +16,6 @@ use turn_lock::{CallFault, Port, Shared, Turned};
 
 /// The public client's GET of the device name.
 const READ_NAME: &[u8] = b"get 16 1 00002A0000FF 2 0";
-
-/// Returns a lock for two calls over a new meter, and its first port.
-pub(crate) fn new_lock(
-    rt: &impl Abort,
-    alloc: Global,
-) -> Result<(Shared<Kept>, Port<Kept>), AllocError>
-    ensures { IfOk result (λ r. r.1.lock ≡ r.0) }
-{
-    let recorder = new_recorder(rt, alloc, 9)?;
-    lock_over(alloc, Kept::new(recorder))
-}
-
-/// Returns a lock for two calls over a value, and its first port.
-fn lock_over<T: Turned>(alloc: Global, value: T) -> Result<(Shared<T>, Port<T>), AllocError>
-    requires { T.stands value [] }
-    ensures { IfOk result (λ r. r.1.lock ≡ r.0) }
-{
-    match Shared::new(alloc, value, 2) {
-        Ok(made) => Ok(made),
-        Err((error, value)) => {
-            drop(value);
-            Err(error)
-        }
-    }
-}
 
 /// Returns whether a reply is the device name.
 fn is_name(reply: &Reply) -> bool {
@@ -91,7 +67,7 @@ pub(crate) fn kept_count(shared: Shared<Kept>, port: Port<Kept>) -> Option<u16>
 #[test]
 fn call_reads_the_name(rt: HostRuntime) -> Result<(), Fail> {
     let alloc = rt.alloc();
-    let (shared, mut port) = new_lock(&rt, alloc)?;
+    let (shared, mut port) = new_lock(&rt, alloc, 2)?;
     let first = ask(&rt, alloc, &mut port);
     let second = ask(&rt, alloc, &mut port);
     let calls = kept_count(shared, port);

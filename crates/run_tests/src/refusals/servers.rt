@@ -3,8 +3,9 @@
 ghost use Rattle.std.specs.Prelude.{◌≡◌};
 ghost use Rattle.acse_ber.specs.Password.{IsPassword};
 
-use crate::RefusedAndStood;
-use crate::ports::{kept_count, new_lock};
+use super::RefusedAndStood;
+use super::ports::kept_count;
+use crate::meters::new_lock;
 use cosem_axdr::Octets;
 use lane_sampler::Block;
 use meter_server::{
@@ -161,7 +162,7 @@ fn serve_new<R: Threads + Wait + Abort + Copy + Send + 'static>(
 ) -> Result<Evening, AllocError>
     requires { IsPassword password.now }
 {
-    let (shared, port) = new_lock(rt, alloc)?;
+    let (shared, port) = new_lock(rt, alloc, 2)?;
     let (port, served) = serve(rt, alloc, listener, port, password);
     Ok((served, kept_count(shared, port)))
 }
