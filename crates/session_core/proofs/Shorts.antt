@@ -9,11 +9,13 @@ use Rattle.relay_events.specs.declared.event.Event.{Event}
 use Rattle.relay_events.specs.declared.reply.Reply.{Reply}
 use Rattle.relay_events.specs.declared.reply.Reply.TheVariants.{Value}
 use Rattle.session_core.proofs.Tasks.{hears_any, takes_any, gives_any}
-use Rattle.session_core.specs.Calls.{IsShortRequest, call_by, call_of, is_negotiated, request_form, short_event}
+use Rattle.session_core.specs.Calls.{IsShortRequest, call_by, call_of, is_negotiated, request_form, short_event, short_form}
 use Rattle.session_core.specs.Answers.{answer_text, due_text}
 use Rattle.session_core.specs.Outgoing.{has_room, outgoing_by, reply_code, reply_response, reply_transfer}
 use Rattle.session_core.specs.declared.answer.Answer.TheVariants.{Service}
 use Rattle.cosem_axdr.specs.declared.value.Data.{Data}
+use Rattle.cosem_axdr.specs.declared.value.Data.TheVariants.{Boolean, Enum}
+use Rattle.cosem_names.specs.declared.level.Level.{Level}
 use Rattle.cosem_names.specs.declared.service.GetResult.TheVariants as result
 use Rattle.std.specs.Prelude.{Result, IfOk, IfSome, ◌≢◌, ◌↔◌, ◌+◌}
 use Rattle.wrapper_frame.specs.declared.fault.WrapperFault.{WrapperFault}
@@ -22,8 +24,8 @@ use Rattle.xdlms_apdu.specs.declared.invoke_id.InvokeId.{InvokeId}
 use Rattle.session_core.specs.Progress.{AnswersBy, AsksShort, WorksBy}
 use Rattle.session_core.specs.Remaining.{is_asking, is_asking_short, load_of, task_load}
 use Rattle.session_core.specs.Rules.{HearsShort, heard_frame, incoming_after, link_after, outgoing_after, reply_text, turn_of}
-use Rattle.session_core.specs.ShortAnswers.{is_short_answer, is_two_bytes, IsShortIn}
-use Rattle.session_core.specs.Standard.{management_device, least_pdu}
+use Rattle.session_core.specs.ShortAnswers.{is_short_answer, is_short_reply, is_two_bytes, short_frame, IsShortIn}
+use Rattle.session_core.specs.Standard.{management_device, least_pdu, get_tag, set_tag, action_tag}
 use Rattle.session_core.specs.declared.asked.Asked.{Asked}
 use Rattle.session_core.specs.declared.asked.ReplyForm.{ReplyForm}
 use Rattle.session_core.specs.declared.asked.ReplyForm.TheVariants as asked_form
@@ -46,6 +48,24 @@ use Rattle.xdlms_apdu.specs.declared.response.Exception.TheVariants.{Unknown}
 use Rattle.xdlms_apdu.specs.declared.response.Response.{Response}
 use Rattle.xdlms_apdu.specs.declared.response.Response.TheVariants as response
 use Rattle.xdlms_blocks.specs.Transfer.{Sending}
+
+-- ---- its service
+
+-- the conformance bit that each of the three services needs
+pub negotiated_get : (conformance : ℕ)
+    → is_negotiated conformance get_tag 1 ≡ (bit_and conformance 0x10 == 0x10)
+unfolding is_negotiated request_form
+negotiated_get conformance = refl
+
+pub negotiated_set : (conformance : ℕ)
+    → is_negotiated conformance set_tag 1 ≡ (bit_and conformance 0x08 == 0x08)
+unfolding is_negotiated request_form
+negotiated_set conformance = refl
+
+pub negotiated_action : (conformance : ℕ)
+    → is_negotiated conformance action_tag 1 ≡ (bit_and conformance 0x01 == 0x01)
+unfolding is_negotiated request_form
+negotiated_action conformance = refl
 
 -- ---- its payload
 
@@ -399,6 +419,17 @@ pub short_action : (asked : Asked) (reply : Reply) (id : InvokeId)
     → asked.form ≡ asked_form.Action id → is_short_answer asked.form reply ≡ true
 short_action asked reply id form = rw form refl
 
+-- the length of the frame with the answer to a reply
+long_reply : (asked : Asked) (reply : Reply) (payload : List ℕ)
+    → payload ≡ answer_text (Service (reply_response asked reply))
+    → length (reply_text asked reply) ≡ header_size + length payload
+unfolding due_text frame_text
+long_reply asked reply payload spells =
+    let long : length (due_text asked.link.source payload) ≡ header_size + length payload =
+    length-append (header_text management_device asked.link.source (length payload)) payload in
+    subst (λ (p : List ℕ). length (due_text asked.link.source p) ≡ header_size + length payload)
+    spells long
+
 -- a frame with a short answer is written exactly if it fits in the buffer
 pub fits_answer : (asked : Asked) (reply : Reply) (payload buffer : List ℕ) (placed : Option ℕ)
     → payload ≡ answer_text (Service (reply_response asked reply)) → length payload ≤ max_payload
@@ -406,16 +437,51 @@ pub fits_answer : (asked : Asked) (reply : Reply) (payload buffer : List ℕ) (p
     → ((placed ≢ None) ↔ ((length payload ≤ max_payload)
     × (header_size + length payload ≤ length buffer)))
     → (placed ≢ None) ↔ IsShortIn buffer asked reply
-unfolding due_text frame_text
 fits_answer asked reply payload buffer placed spells small short fits =
-    let long : length (due_text asked.link.source payload) ≡ header_size + length payload =
-    length-append (header_text management_device asked.link.source (length payload)) payload in
-    let longs : length (reply_text asked reply) ≡ header_size + length payload =
-    subst (λ (p : List ℕ). length (due_text asked.link.source p) ≡ header_size + length payload)
-    spells long in (
+    let longs = long_reply asked reply payload spells in (
       (λ given. (short, omega (arith, longs, (fits.0 given).1))),
       (λ is. fits.1 (small, omega (arith, longs, is.1))),
     )
+
+-- the answer to a GET of a value of two bytes has six
+six_bytes : (id : InvokeId) (value : Data) → is_two_bytes value ≡ true
+    → length (answer_text (Service (response.Get id (result.Value value)))) ≡ 6
+unfolding answer_text response_text
+six_bytes id (Boolean is_on) two = refl
+six_bytes id (Enum number) two = refl
+six_bytes id _ two = absurd cc
+
+-- a short answer fits in a buffer as long as the longest frame with one
+short_fits : (asked : Asked) (level : Level) (id : InvokeId) (request : ShortRequest)
+    (reply : Reply) (buffer : List ℕ) → asked.form ≡ short_form id request
+    → least_pdu ≤ asked.link.limit → is_short_reply (short_event level request) reply ≡ true
+    → short_frame ≤ length buffer → IsShortIn buffer asked reply
+unfolding answer_text response_text
+short_fits asked level id (short.Get attr) (Value value) buffer form enough is room =
+    let six = six_bytes id value is in
+    let spells = value_payload asked (Value value) id value _ form refl refl (omega (arith, six))
+    enough in (
+      short_value asked (Value value) id value form refl is,
+      omega (arith, six, room, long_reply asked (Value value) _ spells),
+    )
+short_fits asked level id (short.Get attr) _ buffer form enough is room = absurd cc
+short_fits asked level id (short.Set attr value) reply buffer form enough is room = (
+  short_set asked reply id form,
+  omega (arith, room, long_reply asked reply _ (set_payload asked reply id form)),
+)
+short_fits asked level id (short.Action method value) reply buffer form enough is room = (
+  short_action asked reply id form,
+  omega (arith, room, long_reply asked reply _ (action_payload asked reply id form)),
+)
+
+-- the answer to a request that was read fits, if it is short
+pub answers_in : (conformance : ℕ) (payload : List ℕ) (asked : Asked)
+    (level : Level) (request : ShortRequest) (reply : Reply) (buffer : List ℕ)
+    → IsShortRequest conformance payload asked.form request → least_pdu ≤ asked.link.limit
+    → is_short_reply (short_event level request) reply ≡ true → short_frame ≤ length buffer
+    → IsShortIn buffer asked reply
+answers_in conformance payload asked level request reply buffer read enough is room =
+    short_fits asked level read.id request reply buffer read.answered enough is room
 
 -- what holds anyway holds if a frame was written
 pub if_placed : (placed : Option ℕ) (P : Type 0) → P → IfSome placed (λ count. P)

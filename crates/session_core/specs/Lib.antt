@@ -16,5 +16,6 @@ pub mod Unframed
 pub mod Remaining
 pub mod Ends
 pub mod Progress
+pub mod ShortRequests
 pub mod ShortAnswers
 pub mod Numbers

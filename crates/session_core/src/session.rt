@@ -1,5 +1,5 @@
 //! `Session`: the bytes of a client in, events for the meter and frames for the client out.
-ghost use Rattle.std.specs.Prelude.{◌≡◌, ◌≢◌, ◌≤◌, ◌↔◌, ◌+◌, length, None, true, false, Some, IfSome, IfNone, IfOk, IfErr, IsOk, OnOk, OnErr, Ok};
+ghost use Rattle.std.specs.Prelude.{◌≡◌, ◌≢◌, ◌≤◌, ◌↔◌, ◌+◌, ℕ, List, length, None, true, false, Some, IfSome, IfNone, IfOk, IfErr, IsOk, OnOk, OnErr, Ok};
 ghost use Rattle.acse_ber.specs.Password.{IsPassword};
 ghost use Rattle.session_core.specs.declared.task.SessionTask.TheVariants.{Listen, Over};
 ghost use Rattle.wrapper_frame.specs.Header.{header_size, head_of};
@@ -49,8 +49,10 @@ impl Session {
     ghost use Rattle.session_core.specs.Remaining.{is_asking, is_asking_short, reported_end, is_finished, is_idle, load_of};
     ghost use Rattle.session_core.specs.Progress.{Owes, IsQuiet, Feeds, Finishes, StepsBy};
     ghost use Rattle.session_core.specs.Progress.{Leaves, Takes};
+    ghost use Rattle.relay_events.specs.declared.reply.Reply.{Reply};
     ghost use Rattle.session_core.specs.Calls.{short_event};
-    ghost use Rattle.session_core.specs.ShortAnswers.{PutsAnswer, AnswersIn};
+    ghost use Rattle.session_core.specs.ShortRequests.{HasShort};
+    ghost use Rattle.session_core.specs.ShortAnswers.{PutsAnswer, AnswersIn, is_short_reply, short_frame};
     ghost use Rattle.session_core.specs.Progress.{AnswersBy, AsksShort, WorksBy};
     ghost use Rattle.session_core.specs.Progress.{task_by, next_by};
 
@@ -164,13 +166,18 @@ impl Session {
 
     /// Takes the frame at the front if it is whole and is a short request from the client of the
     /// association, and returns its level and the request. The caller then asks the meter the
-    /// request's event for this level, and passes the reply to `answer_short`. If it returns
-    /// `None`, nothing has changed, and `next` says what the session needs.
+    /// request's event for this level, and passes the reply to `answer_short`. Returns `None` if
+    /// there is no such frame or another step comes first, such as a frame to send; nothing has
+    /// changed then, and `next` says what the session needs. Does not allocate.
     #[inline(always)]
     pub fn next_short(&mut self) -> Option<(Level, ShortRequest)>
         ensures asks { IfSome result
             (λ short. AsksShort self.old (short_event short.0 short.1) self.new) }
         ensures none { IfNone result (self.new ≡ self.old) }
+        ensures is_short { (result ≢ None) ↔ HasShort self.old }
+        ensures answers { IfSome result (λ short. (reply : Reply)
+            → is_short_reply (short_event short.0 short.1) reply ≡ true → (buffer : List ℕ)
+            → short_frame ≤ length buffer → AnswersIn buffer self.new reply) }
     {
         let SessionTask::Listen = &self.task else {
             return None;
@@ -180,6 +187,8 @@ impl Session {
         };
         let (source, destination) = self.deframer.ports();
         let link = self.state.link?;
+        // (no effect: the contract needs this law)
+        link.limit.holds_least_pdu();
         if destination != SERVER_PORT || source != link.source {
             return None;
         }

@@ -1,7 +1,10 @@
 //! Reads the most frequent requests without allocating: a GET of one attribute, a SET of one to an
 //! enum, and an ACTION with an integer (IEC 62056-5-3).
-ghost use Rattle.std.specs.Prelude.{◌≡◌, IfSome};
-ghost use Rattle.session_core.specs.Calls.{IsShortRequest, short_event};
+ghost use Rattle.std.specs.Prelude.{◌≡◌, ◌≢◌, ◌↔◌, None, true, IfSome};
+ghost use Rattle.session_core.specs.Calls.{IsShortRequest, is_negotiated, short_event};
+ghost use Rattle.session_core.specs.ShortRequests.{IsShortAction, IsShortGet, IsShortSet};
+ghost use Rattle.session_core.specs.ShortRequests.{IsShortText};
+ghost use Rattle.session_core.specs.Standard.{action_tag, get_tag, set_tag};
 
 use crate::asked::ReplyForm;
 use acse_ber::Conformance;
@@ -71,7 +74,8 @@ pub(crate) fn read_short_request(
     conformance: Conformance,
     payload: &[u8],
 ) -> Option<(ReplyForm, ShortRequest)>
-    ensures { IfSome result (λ read. IsShortRequest conformance.0 payload.now read.0 read.1) }
+    ensures read { IfSome result (λ read. IsShortRequest conformance.0 payload.now read.0 read.1) }
+    ensures is_short { (result ≢ None) ↔ IsShortText conformance.0 payload.now }
 {
     match payload.len() {
         GET_SIZE => read_get(conformance, payload),
@@ -84,7 +88,9 @@ pub(crate) fn read_short_request(
 // Reads a GET.
 #[inline(always)]
 fn read_get(conformance: Conformance, payload: &[u8]) -> Option<(ReplyForm, ShortRequest)>
-    ensures { IfSome result (λ read. IsShortRequest conformance.0 payload.now read.0 read.1) }
+    ensures read { IfSome result (λ read. IsShortRequest conformance.0 payload.now read.0 read.1) }
+    ensures is_short { (result ≢ None)
+        ↔ (IsShortGet payload.now × (is_negotiated conformance.0 get_tag 1 ≡ true)) }
 {
     let [
         tag,
@@ -121,7 +127,9 @@ fn read_get(conformance: Conformance, payload: &[u8]) -> Option<(ReplyForm, Shor
 // Reads a SET to an enum.
 #[inline(always)]
 fn read_set(conformance: Conformance, payload: &[u8]) -> Option<(ReplyForm, ShortRequest)>
-    ensures { IfSome result (λ read. IsShortRequest conformance.0 payload.now read.0 read.1) }
+    ensures read { IfSome result (λ read. IsShortRequest conformance.0 payload.now read.0 read.1) }
+    ensures is_short { (result ≢ None)
+        ↔ (IsShortSet payload.now × (is_negotiated conformance.0 set_tag 1 ≡ true)) }
 {
     let [
         tag,
@@ -163,7 +171,9 @@ fn read_set(conformance: Conformance, payload: &[u8]) -> Option<(ReplyForm, Shor
 // Reads an ACTION with an integer.
 #[inline(always)]
 fn read_action(conformance: Conformance, payload: &[u8]) -> Option<(ReplyForm, ShortRequest)>
-    ensures { IfSome result (λ read. IsShortRequest conformance.0 payload.now read.0 read.1) }
+    ensures read { IfSome result (λ read. IsShortRequest conformance.0 payload.now read.0 read.1) }
+    ensures is_short { (result ≢ None)
+        ↔ (IsShortAction payload.now × (is_negotiated conformance.0 action_tag 1 ≡ true)) }
 {
     let [
         tag,
