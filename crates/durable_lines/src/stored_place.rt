@@ -1,6 +1,6 @@
 //! `StoredPlace`: a name in a folder of the operating system.
 ghost use Rattle.std.specs.Prelude.{◌≡◌, ◌↔◌, [], false, IsErrOf};
-ghost use Rattle.durable_lines.specs.StoredPlace.{HasFailed};
+ghost use Rattle.durable_lines.specs.StoredPlace.{with_file, HasFailed};
 
 use crate::durable_file::DurableFile;
 use crate::fault::FileFault;
@@ -59,9 +59,10 @@ impl<R: Files<File = File> + Drop> StoredPlace<R> {
         }
     }
 
-    /// Gives the place its file, which was opened under its path.
+    /// Gives the place its file, which was opened under its path. A place that has failed remains
+    /// failed.
     pub fn set_file(&mut self, file: StoredFile)
-        ensures { HasFailed self.new → HasFailed self.old }
+        ensures { self.new ≡ with_file self.old file }
     {
         self.file = Some(file);
     }
