@@ -1,6 +1,7 @@
 -- The entries of a ledger for the places of its campaign.
 --     HasGone           the command of a place may have been sent
 --     entry_at          the entry of a place in a list of entries
+--     entry_after_begin the entry of a place after its permit was asked for
 use Rattle.std.specs.Prelude.{ℕ, List, slice_index_or, ⊤}
 use Rattle.campaign_ledger.specs.declared.entry.LedgerEntry.{LedgerEntry}
 use Rattle.campaign_ledger.specs.declared.entry.LedgerEntry.TheVariants.{NotSent, MaybeSent, Came}
@@ -15,3 +16,10 @@ HasGone (Came outcome) = ⊤
 -- as one whose command may have been sent.
 abbrev pub entry_at : List LedgerEntry → ℕ → LedgerEntry
 entry_at entries place = slice_index_or entries place MaybeSent
+
+-- The entry of a place after its permit was asked for: its command may have been sent now, and an
+-- outcome that is known stays known.
+abbrev pub entry_after_begin : LedgerEntry → LedgerEntry
+entry_after_begin NotSent = MaybeSent
+entry_after_begin MaybeSent = MaybeSent
+entry_after_begin (Came outcome) = Came outcome

@@ -1,10 +1,10 @@
 //! `Ledger`: gives the permits for the commands of one run of a campaign.
 ghost use Rattle.std.specs.Prelude.{◌≡◌, ◌≢◌, ◌<◌, ℕ, [], false, length, IsTrue, IfOk, IfErr};
-ghost use Rattle.std.specs.Prelude.{IfSome, IfNone, IsErrOf, OnOk, OnErr};
+ghost use Rattle.std.specs.Prelude.{IfSome, IfNone, IsErrOf, OnOk, OnErr, Ok, None};
 ghost use Rattle.campaign_ledger.specs.declared.entry.LedgerEntry.TheVariants.{NotSent, MaybeSent};
 ghost use Rattle.campaign_ledger.specs.declared.entry.LedgerEntry.TheVariants.{Came};
 ghost use Rattle.campaign_ledger.specs.declared.fault.LedgerFault.TheVariants.{Failed};
-ghost use Rattle.campaign_ledger.specs.Entries.{HasGone, entry_at};
+ghost use Rattle.campaign_ledger.specs.Entries.{HasGone, entry_at, entry_after_begin};
 ghost use Rattle.campaign_ledger.specs.Grants.{LedgerState, permits_in, Grants};
 
 use crate::book::Book;
@@ -94,8 +94,8 @@ impl<B: Book> Ledger<B> {
     ///
     /// The book has marked the place before the permit is returned. Returns `None` if the command
     /// may have been sent before, or the campaign has no such place. Of a place whose entry says
-    /// `NotSent` that means that the book had its mark. After an error no entry is changed, but the
-    /// place may be marked in the book.
+    /// `NotSent` that means that the book had its mark; for any other place nothing changes. After
+    /// an error no entry is changed, but the place may be marked in the book.
     pub fn begin(&mut self, place: u32) -> Result<Option<Permit>, LedgerFault>
         ensures grants { Grants B.is_honest B.is_marked self.old self.new (permits_in result) }
         ensures permit { IfOk result (λ given. IfSome given (λ permit. permit ≡ place)) }
@@ -103,6 +103,11 @@ impl<B: Book> Ledger<B> {
             (HasGone (entry_at self.new.entries place))) }
         ensures taken { B.is_honest self.new.book → IfOk result (λ given. IfNone given
             (entry_at self.old.entries place ≡ NotSent → B.is_marked self.old.book place)) }
+        ensures entry { OnOk result (entry_at self.new.entries place
+            ≡ entry_after_begin (entry_at self.old.entries place)) }
+        ensures known { self.old.has_failed ≡ false → entry_at self.old.entries place ≢ NotSent
+            → (result ≡ Ok None) × (self.new ≡ self.old) }
+        ensures unfailed { OnOk result (self.new.has_failed ≡ false) }
         ensures others { (other : ℕ) → other ≢ place
             → entry_at self.new.entries other ≡ entry_at self.old.entries other }
         ensures len { length self.new.entries ≡ length self.old.entries }
@@ -138,6 +143,7 @@ impl<B: Book> Ledger<B> {
         requires { place < length self.old.entries }
         ensures grants { Grants B.is_honest B.is_marked self.old self.new [] }
         ensures entry { OnOk result (entry_at self.new.entries place ≡ Came outcome) }
+        ensures unfailed { OnOk result (self.new.has_failed ≡ false) }
         ensures others { (other : ℕ) → other ≢ place
             → entry_at self.new.entries other ≡ entry_at self.old.entries other }
         ensures len { length self.new.entries ≡ length self.old.entries }
