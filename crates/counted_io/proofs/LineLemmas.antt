@@ -8,7 +8,7 @@ use Rattle.std.proofs.Transfers.{StopsAt-append}
 use Rattle.std.specs.Io.{StopsAt}
 use Rattle.std.specs.Io.BufRead.{take_through}
 use Rattle.std.specs.Io.KnownBytes.{Consumes}
-use Rattle.counted_io.specs.Lines.{AddsPiece, ReadsLine}
+use Rattle.counted_io.specs.Lines.{AddsPart, AddsPiece, ReadsLine}
 
 -- Bytes that were read, none of which is 0A.
 pub record ReadsPart (left : Option (List ℕ)) (line : List ℕ) (left' : Option (List ℕ))
@@ -65,9 +65,23 @@ line_done left one left' line mid line' is_done count part piece done counted =
         ap (λ (xs : List ℕ). length xs) grown,
         length-append line (part.bytes ++ piece.piece),
       );
+      stops = StopsAt-append part.bytes piece.piece 10 part.inside piece.stops;
       through = through.0;
       rest = through.1;
     }
+
+-- ---- a line that was not read to its end
+
+-- one more piece was appended, which may end the line
+pub part_grown : (left one left' : Option (List ℕ)) (line mid line' : List ℕ) (is_done : Bool)
+    → ReadsPart left line one mid → AddsPiece one mid is_done left' line'
+    → AddsPart left line left' line'
+part_grown left one left' line mid line' is_done part piece = record {
+  bytes = part.bytes ++ piece.piece;
+  added = added_on line mid line' part.bytes piece.piece part.added piece.added;
+  read = Consumes-trans left one left' part.bytes piece.piece part.read piece.read;
+  stops = StopsAt-append part.bytes piece.piece 10 part.inside piece.stops;
+}
 
 -- ---- a line that is too long
 

@@ -2,6 +2,7 @@
 --     left_in           the bytes that the stream has left, if they are known
 --     has_failed_in     whether a read of the stream has failed
 --     AddsPiece         a piece of a line was appended
+--     AddsPart          a part of a line was appended
 --     ReadsLine         a line was appended
 --     IsLineFault       why no line was appended
 use Rattle.std.specs.Prelude.{◌≡◌, ◌≢◌, ℕ, ◌+◌, ◌<◌, Bool, true, false, List, ◌++◌, All, Option, IfSome, OnSome, length, ⊤}
@@ -39,6 +40,14 @@ pub record AddsPiece (left : Option (List ℕ)) (line : List ℕ) (is_done : Boo
   pub ends : is_done ≡ true → IsEmptyOrEndsWith piece 10
   pub at_end : is_done ≡ true → length piece ≡ 0 → OnSome left (IsAtEnd left')
 
+-- whether a part of a line was appended: bytes that were read, of which only the last can be 0A
+pub record AddsPart (left : Option (List ℕ)) (line : List ℕ) (left' : Option (List ℕ))
+    (line' : List ℕ) : Type 0 where
+  pub bytes : List ℕ
+  pub added : line' ≡ line ++ bytes
+  pub read : Consumes left left' bytes
+  pub stops : StopsAt bytes 10
+
 -- Whether a line was appended: the bytes up to and including the first 0A, or all bytes if there is
 -- none. `count` is their number.
 pub record ReadsLine (left : Option (List ℕ)) (line : List ℕ) (count : ℕ) (left' : Option (List ℕ))
@@ -47,6 +56,7 @@ pub record ReadsLine (left : Option (List ℕ)) (line : List ℕ) (count : ℕ) 
   pub added : line' ≡ line ++ bytes
   pub read : Consumes left left' bytes
   pub counted : count ≡ length bytes
+  pub stops : StopsAt bytes 10
   pub through : IfSome left (λ all. bytes ≡ take_through 10 all)
   pub rest : DropsThrough left left' 10
 

@@ -1,6 +1,7 @@
 //! Reads one line of a buffered input, up to a limit of bytes.
-ghost use Rattle.std.specs.Prelude.{◌≡◌, ◌≢◌, ◌-◌, ◌<◌, ◌≤◌, ◌^◌, All, length, take, true, IfErr, IfOk, IsErrOf};
-ghost use Rattle.counted_io.specs.Lines.{AddsPiece, IsLineFault, ReadsLine, has_failed_in, left_in};
+ghost use Rattle.std.specs.Prelude.{◌≡◌, ◌≢◌, ◌-◌, ◌<◌, ◌≤◌, ◌^◌, All, length, take, true, IfErr, IfOk, IsErrOf, OnErr};
+ghost use Rattle.std.specs.Io.KnownBytes.{Keeps};
+ghost use Rattle.counted_io.specs.Lines.{AddsPart, AddsPiece, IsLineFault, ReadsLine, has_failed_in, left_in};
 
 use crate::fault::InputFault;
 use crate::monitored::Monitored;
@@ -21,11 +22,13 @@ fn line_len(bytes: &[u8]) -> usize
 }
 
 // Appends the buffered bytes of the reader, up to and including the first 0A. Returns whether the
-// line or the input ends there.
+// line or the input ends there. After an error `line` and the bytes of the reader are unchanged.
 fn add_piece<B: BufRead>(input: &mut B, line: &mut Vec<u8>) -> Result<bool, InputFault>
-    ensures { IfOk result
+    ensures added { IfOk result
         (λ is_done. AddsPiece (B.remaining input.old) line.old.items is_done (B.remaining input.new)
         line.new.items) }
+    ensures unchanged { OnErr result (line.new.items ≡ line.old.items) }
+    ensures none_lost { OnErr result (Keeps (B.remaining input.old) (B.remaining input.new)) }
 {
     let available = match input.fill_buf() {
         Ok(available) => available,
@@ -55,7 +58,8 @@ fn piece_fault(fault: InputFault, has_failed: bool) -> InputFault
 /// the input.
 ///
 /// Errors: `TooLong` if `line` would then have more than `limit` bytes, `Read` if a read fails,
-/// `Memory`. After an error some bytes of the line were read, and `line` may have some of them.
+/// `Memory`. After an error the bytes that were read, a part of the next line, are at the end of
+/// `line`; after `TooLong` it has more than `limit` bytes.
 pub fn read_line_within<T: Read>(
     input: &mut BufReader<Monitored<T>>,
     line: &mut Vec<u8>,
@@ -69,6 +73,10 @@ pub fn read_line_within<T: Read>(
     ensures err { IfErr result
         (IsLineFault limit (left_in T.remaining input.old) line.old.items
         (has_failed_in input.new)) }
+    ensures too_long { IsErrOf result InputFault.TooLong → limit < length line.new.items }
+    ensures part { OnErr result
+        (AddsPart (left_in T.remaining input.old) line.old.items (left_in T.remaining input.new)
+        line.new.items) }
 {
     let start = line.len();
     'pieces: for _ in 0..limit + 1 {

@@ -7,8 +7,8 @@ use Rattle.counted_io.proofs.LineLemmas.{one_answer}
 use Rattle.counted_io.proofs.lines.add_piece.Goals.{then-end-eq0, else-end-eq0}
 use Rattle.counted_io.proofs.lines.add_piece.Goals as goal
 
-pub returns : goal.returns
-returns g c =
+pub returns-clause-added : goal.returns-clause-added
+returns-clause-added g c =
     let end = c.line_len-end in
     let shown = c.in-Ok.available.now in
     let rested = c.fill_buf.follows.lender-at-none in
