@@ -59,7 +59,7 @@ fn letter(event: &Event) -> char {
 }
 
 /// Returns the letter of the event of a line, or a blank if it has none.
-fn brought(alloc: Global, line: &[u8]) -> Result<char, AllocError> {
+fn event_letter(alloc: Global, line: &[u8]) -> Result<char, AllocError> {
     match console_event(alloc, line)? {
         Some(event) => {
             let letter = letter(&event);
@@ -84,7 +84,7 @@ const LINES: [(&[u8], char); 7] = [
 #[test]
 fn lines_bring_events(rt: HostRuntime) -> Result<(), Fail> {
     for (line, letter) in &LINES {
-        assert!(rt; brought(rt.alloc(), line)? == *letter, "{line:?}");
+        assert!(rt; event_letter(rt.alloc(), line)? == *letter, "{line:?}");
     }
     Ok(())
 }

@@ -28,14 +28,14 @@ fn listen_to(
     Ok((sockets, address))
 }
 
-// Returns how long the first read from a silent client takes, which must fail, and whether a
-// second read fails.
+// Returns the time from before a silent client connects until the first read from it fails, and
+// whether a second read fails.
 fn failed_reads(rt: HostRuntime, limits: StreamLimits) -> Result<(Duration, bool), Fail> {
     let (mut sockets, address) = listen_to(rt, limits, false)?;
+    let began = Instant::now(&rt)?;
     let client = TcpStream::connect(&rt, address)?;
     let accepted = sockets.accept().map_err(|_| "no client")?;
     let (mut input, output) = accepted.ok_or("no stream")?;
-    let began = Instant::now(&rt)?;
     let mut buffer = [0; 8];
     let first = input.read(&mut buffer);
     let lasted = began.elapsed(&rt)?;
@@ -48,6 +48,12 @@ fn failed_reads(rt: HostRuntime, limits: StreamLimits) -> Result<(Duration, bool
     Ok((lasted, second.is_err()))
 }
 
+// Returns whether a limit of 200 ms may last this long: up to 10 ms less, as clocks have steps, and
+// much longer on a busy machine.
+fn is_right(lasted: Duration) -> bool {
+    lasted >= Duration::from_millis(190) && lasted < Duration::from_secs(10)
+}
+
 #[test]
 fn a_read_takes_as_long_as_a_call_may(rt: HostRuntime) -> Result<(), Fail> {
     let limits = StreamLimits {
@@ -55,7 +61,7 @@ fn a_read_takes_as_long_as_a_call_may(rt: HostRuntime) -> Result<(), Fail> {
         session: Some(Duration::from_secs(20)),
     };
     let (lasted, fails_again) = failed_reads(rt, limits)?;
-    assert!(rt; lasted < Duration::from_secs(10));
+    assert!(rt; is_right(lasted), "{lasted:?}");
     assert!(rt; fails_again);
     Ok(())
 }
@@ -67,7 +73,7 @@ fn a_session_has_an_end(rt: HostRuntime) -> Result<(), Fail> {
         session: Some(Duration::from_millis(200)),
     };
     let (lasted, fails_again) = failed_reads(rt, limits)?;
-    assert!(rt; lasted < Duration::from_secs(10));
+    assert!(rt; is_right(lasted), "{lasted:?}");
     assert!(rt; fails_again);
     Ok(())
 }

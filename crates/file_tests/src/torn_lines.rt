@@ -223,9 +223,9 @@ fn a_stored_file_keeps_its_lines_up_to_its_limit(rt: HostRuntime) -> Result<(), 
     let written = fs::write(&rt, path, b"a\nbc\nde\nf".as_slice());
     let long = file.read(rt.alloc()).err();
     drop(file);
+    let removed = fs::remove_file(&rt, path);
     assert!(rt; is_kept && bytes?.as_slice() == b"a\nbc\nde\n".as_slice());
     assert!(rt; locked == Some(LockFault::Held));
-    assert!(rt; written.is_ok() && long == Some(FileFault::TooLong));
-    fs::remove_file(&rt, path)?;
+    assert!(rt; written.is_ok() && long == Some(FileFault::TooLong) && removed.is_ok());
     Ok(())
 }

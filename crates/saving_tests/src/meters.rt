@@ -67,7 +67,8 @@ fn ask_three<W: Wait>(rt: &W, alloc: Global, port: &mut Port<Kept>) -> bool {
         && port.call(rt, alloc, Event::Moment(5)).is_ok()
 }
 
-/// Returns the port of a new meter with a journal that replied to three events.
+/// Returns the port of a new meter with a journal that replied to three events; `None` if one of
+/// them got no reply.
 pub(crate) fn asked_port<W: Wait>(rt: &W, alloc: Global) -> Result<Option<Port<Kept>>, AllocError> {
     let (shared, mut port) = new_journal(alloc)?;
     let are_replies = ask_three(rt, alloc, &mut port);

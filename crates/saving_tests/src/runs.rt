@@ -1,7 +1,7 @@
 //! Journals that are renewed while their meter runs: what a crash at each moment leaves, resumed.
 use crate::texts::BEGUN;
 use cosem_axdr::Octets;
-use disconnect_control::ControlState;
+use disconnect_control::{ControlMode, ControlState};
 use durable_lines::{
     ByteFate, FileFault, MemoryFile, MemoryPlace, append_and_renew, is_text, recover,
 };
@@ -19,15 +19,22 @@ static LINES: [&[u8]; 5] = [
     b"button\n",
 ];
 
-// The states of the supply before the lines and after each of them, by the standard's table of
-// mode 1.
-static STATES: [ControlState; 6] = [
-    ControlState::Connected,
-    ControlState::Connected,
-    ControlState::Disconnected,
-    ControlState::Disconnected,
-    ControlState::ReadyForReconnection,
-    ControlState::Connected,
+// The state of the supply, the mode and the last moment of a meter.
+type Point = (ControlState, ControlMode, Option<u32>);
+
+// The points of the run, before the lines and after each of them, by the standard's table of mode
+// 1. All differ, so that a meter shows how many lines its journal has.
+static POINTS: [Point; 6] = [
+    (ControlState::Connected, ControlMode::Mode0, None),
+    (ControlState::Connected, ControlMode::Mode1, None),
+    (ControlState::Disconnected, ControlMode::Mode1, None),
+    (ControlState::Disconnected, ControlMode::Mode1, Some(5)),
+    (
+        ControlState::ReadyForReconnection,
+        ControlMode::Mode1,
+        Some(5),
+    ),
+    (ControlState::Connected, ControlMode::Mode1, Some(5)),
 ];
 
 // The fates of the bytes of a line: the first is zeroed, 7 are kept and one is zeroed, or all are
@@ -47,32 +54,33 @@ static FATES: [&[ByteFate]; 3] = [
     &[ByteFate::Kept; 64],
 ];
 
-// Returns the state of the supply of a meter that is resumed from these bytes.
-fn state_of(alloc: Global, device: &Octets, bytes: Vec<u8>) -> Option<ControlState> {
+// Returns the point of a meter that is resumed from these bytes.
+fn point_of(alloc: Global, device: &Octets, bytes: Vec<u8>) -> Option<Point> {
     let mut file = MemoryFile::new(alloc, bytes);
     let resumed = resume_journal(alloc, &mut file, device, 16);
     drop(file);
     match resumed {
         Ok(Resumed { recorder, cut: _ }) => {
-            let state = recorder.core().state();
+            let core = recorder.core();
+            let point = (core.state(), core.mode(), core.last_moment());
             drop(recorder);
-            Some(state)
+            Some(point)
         }
         Err(_) => None,
     }
 }
 
-// Returns whether these bytes are a journal of a meter in one of the states after the first `least`
+// Returns whether these bytes are a journal of a meter at one of the points after the first `least`
 // lines or more.
 fn is_front(alloc: Global, device: &Octets, bytes: Vec<u8>, least: usize) -> bool {
-    match state_of(alloc, device, bytes) {
-        Some(state) => STATES.iter().skip(least).any(|other| *other == state),
+    match point_of(alloc, device, bytes) {
+        Some(point) => POINTS.iter().skip(least).any(|other| *other == point),
         None => false,
     }
 }
 
-// Returns whether a crash at each moment of a place from this one on leaves a journal of a meter in
-// one of the states after the first `least` lines or more.
+// Returns whether a crash at each moment of a place from this one on leaves a journal of a meter at
+// one of the points after the first `least` lines or more.
 fn leaves_a_front(
     alloc: Global,
     device: &Octets,

@@ -8,9 +8,7 @@ use std::test::Fail;
 #[test]
 fn a_save_appends_the_lines_of_three_events(rt: HostRuntime) -> Result<(), Fail> {
     let alloc = rt.alloc();
-    let Some(mut port) = asked_port(&rt, alloc)? else {
-        return Ok(());
-    };
+    let mut port = asked_port(&rt, alloc)?.ok_or("an event got no reply")?;
     let mut file = first_file(alloc)?;
     recover(alloc, &mut file)?;
     let saved = save(&rt, alloc, &mut port, &mut file, 0, Vec::new(alloc));

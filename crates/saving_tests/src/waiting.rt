@@ -116,14 +116,10 @@ fn waits_after<L: JournalIdentity + Send + Sync, W: Wait>(
 #[test]
 fn a_wait_returns_true_for_saved_lines(rt: HostRuntime) -> Result<(), Fail> {
     let alloc = rt.alloc();
-    let Some(port) = asked_port(&rt, alloc)? else {
-        return Ok(());
-    };
+    let port = asked_port(&rt, alloc)?.ok_or("an event got no reply")?;
     let mut file = first_file(alloc)?;
     recover(alloc, &mut file)?;
-    let Some(waits) = waits_after::<Brand, _>(&rt, alloc, file, port) else {
-        return Ok(());
-    };
+    let waits = waits_after::<Brand, _>(&rt, alloc, file, port).ok_or("no journal")?;
     assert!(rt; waits.end == Some(Ok(())));
     assert!(rt; waits.has_none && waits.has_one && waits.has_three);
     assert!(rt; !waits.has_four && !waits.has_failed);
@@ -134,14 +130,10 @@ fn a_wait_returns_true_for_saved_lines(rt: HostRuntime) -> Result<(), Fail> {
 #[test]
 fn a_wait_returns_false_if_the_sync_fails(rt: HostRuntime) -> Result<(), Fail> {
     let alloc = rt.alloc();
-    let Some(port) = asked_port(&rt, alloc)? else {
-        return Ok(());
-    };
+    let port = asked_port(&rt, alloc)?.ok_or("an event got no reply")?;
     let mut file = MemoryFile::failing_after(alloc, FIRST.to_vec(alloc)?, 2);
     recover(alloc, &mut file)?;
-    let Some(waits) = waits_after::<Brand, _>(&rt, alloc, file, port) else {
-        return Ok(());
-    };
+    let waits = waits_after::<Brand, _>(&rt, alloc, file, port).ok_or("no journal")?;
     assert!(rt; waits.end == Some(Err(CallFault::Journal)));
     assert!(rt; waits.has_none && !waits.has_one && !waits.has_three && !waits.has_four);
     assert!(rt; waits.has_failed && waits.lines == 0);

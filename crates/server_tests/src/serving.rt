@@ -23,7 +23,7 @@ use turn_lock::Port;
 
 /// The result of serving, and the number of events that the meter kept, or `None` if its lock is
 /// busy.
-type Evening = (Result<Served, ServeFault>, Option<u16>);
+type ServingResult = (Result<Served, ServeFault>, Option<u16>);
 
 fn serve_by<L: Listener, R: Threads + Wait + Copy + Send + 'static>(
     rt: &R,
@@ -51,7 +51,7 @@ fn serve_new<L: Listener, R: Threads + Wait + Copy + Send + 'static>(
     listener: &mut L,
     password: &Octets,
     limit: u64,
-) -> Result<Evening, AllocError>
+) -> Result<ServingResult, AllocError>
     requires { IsPassword password.now }
 {
     let (shared, port) = new_lock(alloc, 1000)?;
@@ -65,11 +65,11 @@ fn serve<L: Listener, R: Threads + Wait + Copy + Send + 'static>(
     alloc: Global,
     listener: &mut L,
     limit: u64,
-) -> Result<Evening, AllocError> {
+) -> Result<ServingResult, AllocError> {
     let password = Octets::from_slice(alloc, b"12345678")?;
-    let evening = serve_new(rt, alloc, listener, &password, limit);
+    let served = serve_new(rt, alloc, listener, &password, limit);
     drop(password);
-    evening
+    served
 }
 
 /// A frame of no payload, from port 16 to port 1.
@@ -215,7 +215,7 @@ fn serve_five<R: Threads + Wait + Copy + Send + 'static>(
     rt: &R,
     alloc: Global,
     limit: u64,
-) -> Result<(Evening, [u8; CLIENTS]), Fail> {
+) -> Result<(ServingResult, [u8; CLIENTS]), Fail> {
     let ends = Arc::new(alloc, Ends::new())?;
     let mut queue = Queue {
         ends: Arc::try_clone(&ends)?,
@@ -237,14 +237,14 @@ fn an_observer_receives_the_end_of_its_session(rt: HostRuntime) -> Result<(), Fa
         served: 5,
         turned_away: 0,
     };
-    let (evening, numbers) = serve_five(&rt, rt.alloc(), 5)?;
-    assert!(rt; evening == (Ok(five), Some(0)) && numbers == NUMBERS);
+    let (served, numbers) = serve_five(&rt, rt.alloc(), 5)?;
+    assert!(rt; served == (Ok(five), Some(0)) && numbers == NUMBERS);
     Ok(())
 }
 
 #[test]
 fn ends_where_the_listener_fails(rt: HostRuntime) -> Result<(), Fail> {
-    let (evening, numbers) = serve_five(&rt, rt.alloc(), 6)?;
-    assert!(rt; evening == (Err(ServeFault::Listen), Some(0)) && numbers == NUMBERS);
+    let (served, numbers) = serve_five(&rt, rt.alloc(), 6)?;
+    assert!(rt; served == (Err(ServeFault::Listen), Some(0)) && numbers == NUMBERS);
     Ok(())
 }

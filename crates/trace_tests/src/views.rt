@@ -34,6 +34,11 @@ fn a_view_is_written(rt: HostRuntime) {
     assert!(rt; shows(rt.alloc(), TRACE, &view, WITH_EVENTS));
 }
 
+// The lines of `LATE_CHANGES`: the supply is made ready, and switched on.
+static CHANGES: &[u8] = b"4: code 0; state 2; supply off
+5: code 0; state 1; supply on
+";
+
 // A view of the changes among events 3 to 9.
 static LATE_CHANGES: TraceView = TraceView {
     first: Some(3),
@@ -63,5 +68,5 @@ fn a_view_of_a_trace_is_its_text(rt: HostRuntime) {
         Err(_) => Ok(Vec::new(alloc)),
     };
     drop(trace);
-    assert!(rt; shown.is_ok_and(|shown| shown.len() == 61));
+    assert!(rt; shown.is_ok_and(|shown| shown.as_slice() == CHANGES));
 }

@@ -151,7 +151,7 @@ fn serve<R: Threads + Wait + Copy + Send + 'static>(
 }
 
 /// The result of serving two clients of a new meter, and the number of events that the meter kept.
-type Evening = (Result<Served, ServeFault>, Option<u16>);
+type ServingResult = (Result<Served, ServeFault>, Option<u16>);
 
 /// Serves two clients of a new meter.
 fn serve_new<R: Threads + Wait + Abort + Copy + Send + 'static>(
@@ -159,7 +159,7 @@ fn serve_new<R: Threads + Wait + Abort + Copy + Send + 'static>(
     alloc: Global,
     listener: &mut ClientListener,
     password: &Octets,
-) -> Result<Evening, AllocError>
+) -> Result<ServingResult, AllocError>
     requires { IsPassword password.now }
 {
     let (shared, port) = new_lock(rt, alloc, 2)?;
@@ -173,15 +173,15 @@ fn open<R: Threads + Wait + Abort + Copy + Send + 'static>(
     alloc: Global,
     clients: &Arc<Clients, Global>,
     password: &Octets,
-) -> Result<Evening, AllocError>
+) -> Result<ServingResult, AllocError>
     requires { IsPassword password.now }
 {
     let mut listener = ClientListener {
         clients: Arc::try_clone(clients)?,
     };
-    let evening = serve_new(rt, alloc, &mut listener, password);
+    let served = serve_new(rt, alloc, &mut listener, password);
     drop(listener);
-    evening
+    served
 }
 
 /// Returns whether no client was accepted and the fault is out of memory, or one was served as with
