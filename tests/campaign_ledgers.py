@@ -4,8 +4,9 @@ they receive are stopped and killed at random times, by GNU parallel, by ssh wit
 machine, and by a Slurm cluster of one node that the test starts, and run again until they are
 whole: no meter may get a second command, and the report must be whole and right. Also tested:
 ledgers that are missing, elsewhere or of another list, two campaigns at once, a machine that does
-not answer, and 20,000 jobs through Slurm that are stopped once. Every wait has a time limit. What a
-missing program would test is skipped; without a `head_end run --ledger` all of it is.
+not answer, a write that fails in mid campaign, and 20,000 jobs through Slurm that are stopped once.
+Every wait has a time limit. What a missing program would test is skipped; without a
+`head_end run --ledger` all of it is.
 
 usage: tests/campaign_ledgers.py [--long] [--short] [--seed N]
 
@@ -498,6 +499,45 @@ def a_campaign_by_machines(name, folder, shell):
         meters.stop()
 
 
+# An ssh to this machine: its first word is the host, its second one the command.
+NO_SSH = '#!/bin/sh\nexec sh -c "$2"\n'
+
+# A head end. The first part ends once the second one runs, and leaves a folder at the path of a file
+# that the campaign writes before the third part begins.
+OBSTRUCTING = """#!/bin/sh
+case $(cat) in
+    first*)
+        while [ ! -s "{folder}/process" ]; do sleep 0.1; done
+        mkdir "{folder}/jobs.ledgers/ledger.3.at"
+        echo "first done 0" ;;
+    second*) echo $$ > "{folder}/process"; exec sleep 600 ;;
+    *) echo "third done 0" ;;
+esac
+"""
+
+
+@in_folder
+def a_failed_write_ends_the_parts(name, folder):
+    """A campaign by machines that can't write a file is stopped: the part that runs is ended, and
+    the rows of the one that has ended are printed."""
+    ssh, program, path, process = (folder / it for it in ("ssh", "program", "jobs", "process"))
+    for it, text in (ssh, NO_SSH), (program, OBSTRUCTING.format(folder=folder)):
+        it.write_text(text)
+        it.chmod(0o700)
+    path.write_text(("\n" * LINES).join(f"{it} {it}:1 state" for it in ("first", "second", "third")))
+    words = ["--ledgers", "--machine-folder", str(folder / "far"), "--program", str(program),
+             "--sshlogin", f"{ssh} one,{ssh} other", str(path)]
+    ran = subprocess.run([str(CAMPAIGN), *words], stdin=subprocess.DEVNULL, capture_output=True,
+                         text=True, timeout=LONGEST)
+    check(f"{name}: report", (ran.returncode, ran.stdout) == (1, "first done 0\n"), ran)
+    wanted = (f"{folder}/jobs.ledgers/ledger.3.at: Is a directory: started no more parts and stopped "
+              "those that ran", "part 2 failed ", "part 3 failed (no exit status): it was not begun",
+              "1 of 3 jobs have a row")
+    check(f"{name}: what it says", all(f"campaign: {it}" in ran.stderr for it in wanted), ran.stderr)
+    number = process.read_text().strip()
+    check(f"{name}: no part is left", wait_until(lambda: not os.path.exists(f"/proc/{number}"), 10), number)
+
+
 def machine_refusals(name, campaign, record):
     """What is refused with status 2 and before anything is sent."""
 
@@ -522,7 +562,8 @@ def machine_refusals(name, campaign, record):
 
 
 TESTS = (a_campaign_is_run_again, what_is_known_is_printed, what_parallel_reserved_is_ended,
-         killed_campaigns_command_nobody_twice, machines_command_nobody_twice,
+         killed_campaigns_command_nobody_twice, a_failed_write_ends_the_parts,
+         machines_command_nobody_twice,
          arrays_command_nobody_twice, long_arrays_command_nobody_twice)
 
 

@@ -622,6 +622,34 @@ def a_campaign_is_stopped(name, folder):
             drain(silent)
 
 
+# A head end that reports the job first, and takes ten minutes for any other part.
+LASTING = """#!/bin/sh
+[ "$1" = run ] || exit 0
+case $(cat) in first*) echo "first done 0" ;; *) echo $$ > "{folder}/process"; exec sleep 600 ;; esac
+"""
+
+
+def a_lost_terminal_stops_no_report(name, folder):
+    """A campaign whose terminal is lost goes on, and a signal stops it: its part that runs is ended,
+    and the rows of the other one are printed."""
+    program, path, joblog, process = (folder / it for it in ("lasting", "lost", "lost.log", "process"))
+    program.write_text(LASTING.format(folder=folder))
+    program.chmod(0o700)
+    path.write_text("first h:1 state\n" + "\n" * 999 + "second h:2 state\n")
+    terminal, standard_error = pty.openpty()
+    made = start_campaign(path, "--program", str(program), "--jobs", "2", "--joblog", str(joblog), "--progress", errors=standard_error)
+    os.close(standard_error)
+    check(f"{name}: a part ends", wait_until(lambda: process.exists() and process.read_text() and joblog.read_text().count("\n") == 2))
+    os.close(terminal)
+    time.sleep(1.5)  # (once a second a line of progress fails)
+    check(f"{name}: it goes on", made.poll() is None, made.poll())
+    made.send_signal(signal.SIGHUP)
+    text, _ = made.communicate(timeout=60)
+    check(f"{name}: report", (made.returncode, text) == (129, "first done 0\n"), made.returncode, text)
+    number = process.read_text().strip()
+    check(f"{name}: no part is left", wait_until(lambda: not pathlib.Path("/proc", number).exists(), 10), number)
+
+
 def what_is_known_is_printed(name, crowd, folder):
     """A campaign that is stopped prints the reports of the parts that have ended, even if an
     earlier part has not."""
@@ -915,6 +943,7 @@ def campaigns_of_a_crowd(name, count):
             jobs_of_an_address_are_in_one_part(f"{name}: one address", folder)
             a_file_of_passwords_is_passed_on(f"{name}: passwords", folder)
             a_campaign_is_stopped(f"{name}: a signal", folder)
+            a_lost_terminal_stops_no_report(f"{name}: a lost terminal", folder)
             what_is_known_is_printed(f"{name}: a signal and a part that has ended", crowd, folder)
             campaigns_report_progress(f"{name}: progress", folder)
             campaigns_by_ssh(f"{name}: by ssh", crowd, folder, count)
