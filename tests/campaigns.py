@@ -477,8 +477,9 @@ def a_wrong_list_sends_nothing(name, crowd, folder):
     path.write_text(jobs + "wrong1 127.0.0.1:1 close\nwrong2 127.0.0.1:1 open\n" + "\n" * 997 + "\nwrong3 127.0.0.1:1\n")
     status, text, errors, _ = run_campaign(path, "--jobs", "2")
     check(f"{name}: status", (status, text) == (2, ""), status, text)
-    lines = [line.split(":")[1] for line in own_lines(errors) if "findings:" not in line]
-    check(f"{name}: all wrong lines", lines == [" line 1002", " line 1003", " line 2002", " nothing was sent"], errors)
+    lines = [line.split(":")[1] for line in own_lines(errors)]
+    check(f"{name}: all wrong lines", lines == [" line 1002", " line 1003", " line 2002", " findings", " nothing was sent"], errors)
+    check(f"{name}: their number", "campaign: findings: 3\n" in errors, errors)
     check(f"{name}: no command", crowd.counts() == expected_counts(none))
 
 def a_list_is_warned_of(name, crowd, folder):
@@ -525,23 +526,24 @@ def jobs_of_an_address_are_in_one_part(name, folder):
     check(f"{name}: too many jobs of one address", (status, text) == (2, "") and "line 1001: h:1: a part has at most 1,000 jobs" in errors, status, errors)
 
 
-# A head end that knows --passwords, and reports its words and the password of its environment.
+# A head end that knows the options of files of passwords, and reports its words and the password of
+# its environment.
 TELLING = """#!/bin/sh
-case "$*" in run*--help) echo --passwords ;; run*) echo "$* [$METER_PASSWORD]" >&2; sed '/^$/d; s/ .*/ done 0/' ;; esac
+case "$*" in run*--help) echo --passwords --password-file ;; run*) echo "$* [$METER_PASSWORD]" >&2; sed '/^$/d; s/ .*/ done 0/' ;; esac
 """
 
 
-def a_file_of_passwords_is_passed_on(name, folder):
-    program, path, passwords = (folder / it for it in ("telling", "two", "passwords"))
+def files_of_passwords_are_passed_on(name, folder):
+    program, path, passwords, password = (folder / it for it in ("telling", "two", "passwords", "password"))
     program.write_text(TELLING)
     program.chmod(0o700)
     path.write_text("m1 h:1 state\nm2 h:2 state\n")
     passwords.write_text("m1 one\n")
 
-    def run(password):
-        environment = {it: text for it, text in os.environ.items() if it != "METER_PASSWORD"} | {"PARALLEL_HOME": str(folder), **password}
-        return subprocess.run([str(CAMPAIGN), "--program", str(program), "--passwords", str(passwords), str(path)], stdin=subprocess.DEVNULL, capture_output=True,
-                              text=True, timeout=LONGEST, env=environment)
+    def run(variables, *words):
+        environment = {it: text for it, text in os.environ.items() if it != "METER_PASSWORD"} | {"PARALLEL_HOME": str(folder), **variables}
+        return subprocess.run([str(CAMPAIGN), "--program", str(program), *(words or ("--passwords", str(passwords))), str(path)], stdin=subprocess.DEVNULL,
+                              capture_output=True, text=True, timeout=LONGEST, env=environment, cwd=folder)
 
     made = run({})
     check(f"{name}: a job without one", (made.returncode, made.stdout) == (2, "") and "job m2: it has no line in" in made.stderr, made)
@@ -551,6 +553,12 @@ def a_file_of_passwords_is_passed_on(name, folder):
     passwords.write_text("m1 one\nm2 two\n")
     made = run({})
     check(f"{name}: one for each", (made.returncode, made.stderr) == (0, wanted[1].replace("common", "")), made)
+    made = run({}, "--password-file", "password")
+    check(f"{name}: a file that is missing", (made.returncode, made.stdout) == (2, "") and f"{password}: No such file" in made.stderr, made)
+    password.write_text("common\n")
+    passwords.write_text("m1 one\n")
+    made = run({}, "--passwords", "passwords", "--password-file", "password")
+    check(f"{name}: the common one in a file", (made.returncode, made.stderr) == (0, f"run --password-file {password} --passwords {passwords} []\n"), made)
 
 
 def is_running(program):
@@ -941,7 +949,7 @@ def campaigns_of_a_crowd(name, count):
             a_wrong_list_sends_nothing(f"{name}: a wrong list", crowd, folder)
             a_list_is_warned_of(f"{name}: warnings", crowd, folder)
             jobs_of_an_address_are_in_one_part(f"{name}: one address", folder)
-            a_file_of_passwords_is_passed_on(f"{name}: passwords", folder)
+            files_of_passwords_are_passed_on(f"{name}: passwords", folder)
             a_campaign_is_stopped(f"{name}: a signal", folder)
             a_lost_terminal_stops_no_report(f"{name}: a lost terminal", folder)
             what_is_known_is_printed(f"{name}: a signal and a part that has ended", crowd, folder)

@@ -6,6 +6,7 @@ complete -c campaign -l jobs -r -d 'number of parts to run in parallel on each m
 complete -c campaign -l workers -r -d 'number of meters that each part contacts in parallel, 1 to 16'
 complete -c campaign -l timeout -r -d 'time limit for an open connection; 0 means no limit'
 complete -c campaign -l connect-timeout -r -d 'time limit for connecting to a meter; 0 means no limit'
+complete -c campaign -l password-file -r -d 'file whose one line is the password of all meters without one of their own; it is at the same path on all machines'
 complete -c campaign -l passwords -r -d 'file of the meters\' own passwords, each line NAME PASSWORD; it is at the same path on all machines'
 complete -c campaign -l joblog -r -d 'write the log of GNU parallel to FILE: a line for each part'
 complete -c campaign -l sshlogin -r -d 'run the parts on these machines, separated by commas'
