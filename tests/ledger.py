@@ -5,8 +5,7 @@ the same ledger until they are whole: no meter may get a second command, each co
 mark in the ledger, no outcome may be lost, and SQLite must find each ledger that a kill left whole.
 Also tested: ledgers and lists that are refused, two runs at once, meters that were down, the order
 of one meter's jobs, meters with passwords of their own, meters that are asked for their states, a
-full disk, and each failing read, write and sync. Every wait has a time limit. If the program has no
-option --ledger, all of it is skipped.
+full disk, and each failing read, write and sync. Every wait has a time limit.
 
 usage: tests/ledger.py [--long] [--seed N]
 
@@ -724,13 +723,6 @@ TESTS = (a_ledger_changes_no_row, killed_campaigns_command_nobody_twice, another
          a_failed_call_commands_nobody_twice)
 
 
-def has_ledger():
-    """Whether `head_end` has the option --ledger."""
-    ran = subprocess.run([str(HEAD_END), "run", "--help"], capture_output=True, text=True,
-                         timeout=PATIENCE)
-    return "--ledger" in ran.stdout
-
-
 def main():
     global is_long, seed
     parser = argparse.ArgumentParser(description=__doc__,
@@ -741,9 +733,6 @@ def main():
     is_long, seed = given.long, given.seed
     if not serving.are_built(HEAD_END):
         return 1
-    if not has_ledger():
-        print("skipped: no --ledger\n0 passed, 0 failed")
-        return 0
     begun = time.monotonic()
     for function in TESTS:
         test(function)
