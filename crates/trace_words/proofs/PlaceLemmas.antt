@@ -1,6 +1,6 @@
 -- The lines of a text, read one after the other.
-use Rattle.std.proofs.Common.{◌≡◌, ℕ, suc, ◌+◌, ◌<◌, ◌≤◌, ◌^◌, List, [], ◌∷◌, ◌++◌, length, Result, Ok, Err, refl, sym, ap, ◌∙◌, arith, length-append, inl, inr}
-use Rattle.std.specs.Prelude.{IfOk}
+use Rattle.std.proofs.Common.{◌≡◌, ℕ, suc, ◌+◌, ◌<◌, ◌≤◌, ◌^◌, List, [], ◌∷◌, ◌++◌, length, Result, Ok, Err, refl, sym, subst, ap, ◌∙◌, arith, length-append, inl, inr}
+use Rattle.std.specs.Prelude.{IfOk, IsErrOf}
 use Rattle.wire_bytes.proofs.OutcomeLemmas.{ok_is}
 use Rattle.wire_bytes.specs.Outcome.{Fails, Gives}
 use Rattle.trace_words.specs.declared.fault.RowFault.{RowFault}
@@ -124,6 +124,14 @@ answer_at_line P number (Ok x) p = p
 answer_at_line P number (Err Wrong) p = tt
 answer_at_line P number (Err row_fault.Memory) p = tt
 
+-- a line is out of memory only if its words are
+pub memory_at_line : {X : Type 0} (P : Result X RowFault → Type 0) (number : ℕ)
+    (read : Result X RowFault) → P read → at_line number read ≡ Err Memory
+    → P (Err row_fault.Memory)
+memory_at_line P number (Ok x) p e = absurd cc
+memory_at_line P number (Err Wrong) p e = absurd cc
+memory_at_line P number (Err row_fault.Memory) p e = p
+
 -- a line that is missing, or not ended, is a fault for every reader
 missing_at : {X : Type 0} (value_from : Row → Result X RowFault) (number : ℕ) (rows : List Row)
     (unended : List ℕ) (fault : TraceFault)
@@ -146,6 +154,18 @@ pub answer_is : {X : Type 0} (P : Result X RowFault → Type 0) (read : Result X
     → IfOk read (λ x. P (Ok x))
 answer_is P (Ok x) p = p
 answer_is P (Err fault) p = tt
+
+-- a fault that was read is what is returned
+pub fault_is : {X : Type 0} (P : Result X RowFault → Type 0) (read : Result X RowFault)
+    (fault : RowFault) → P read → read ≡ Err fault → P (Err fault)
+fault_is P read fault p e = subst P e p
+
+-- a fault of one result as the fault of another
+pub same_fault : {X Y : Type 0} (fault other : TraceFault) → IsErrOf {T = X} (Err fault) other
+    → IsErrOf {T = Y} (Err fault) other
+same_fault fault other e =
+    let same : fault ≡ other = cc in
+    ap Err same
 
 abbrev pub place : ℕ → List Row → List ℕ → Place
 place number rows unended = record { number = number; rows = rows; unended = unended }

@@ -61,7 +61,8 @@ impl HeldLines {
     }
 
     /// Reads the next line, a value by `parse`. Errors: `Line` with the number of the line if it
-    /// is missing, not ended or refused by `parse`; `Memory`.
+    /// is missing, not ended or refused by `parse`; `Memory`. A line that is refused has been read:
+    /// the next call reads the one after it.
     pub fn read<X: Drop, F: FnOnce(&[u8]) -> Result<X, RowFault>>(
         &mut self,
         parse: F,

@@ -1,5 +1,5 @@
 //! `TraceLines`: reads a trace line by line, and reports each fault with the line's number.
-ghost use Rattle.std.specs.Prelude.{◌≡◌, Result, Ok, IfOk, length};
+ghost use Rattle.std.specs.Prelude.{◌≡◌, Result, Ok, Err, IfOk, IsErrOf, length};
 ghost use Rattle.std.specs.Fn.{FnOnceReturnsAtMut};
 ghost use Rattle.trace_words.specs.Places.{ReadsLines, IsRowReader, line_as, at_line, ended_at, place_at, place_of};
 ghost use Rattle.trace_words.specs.Rows.{Row};
@@ -65,7 +65,9 @@ impl<'a> TraceLines<'a> {
     // ended.
     #[tactic(auto, unfolding(crate::specs::Places::line_as), using(crate::proofs::PlaceLemmas::row_taken, crate::proofs::PlaceLemmas::none_taken))]
     fn next_words(&mut self) -> Result<Words<'a>, TraceFault>
-        ensures { ReadsLines (λ words. words) result self.new (line_as (λ row. Ok row) self.old) }
+        ensures reads { ReadsLines (λ words. words) result self.new
+            (line_as (λ row. Ok row) self.old) }
+        ensures no_memory { ¬ IsErrOf result TraceFault.Memory }
     {
         match self.lines.next() {
             Some(line) => {
@@ -77,7 +79,8 @@ impl<'a> TraceLines<'a> {
     }
 
     /// Reads the next line, a value from its words by `row`. Errors: `Line` with the number of the
-    /// line if it is missing or refused by `row`; `Memory`.
+    /// line if it is missing or refused by `row`; `Memory` if `row` is out of memory. A line that
+    /// is refused has been read: the next call reads the one after it.
     pub fn read<X: Drop, F: FnOnce(&mut Words<'a>) -> Result<X, RowFault>>(
         &mut self,
         row: F,
@@ -87,6 +90,8 @@ impl<'a> TraceLines<'a> {
             → ReadsLines (λ x. x) result self.new (line_as value_from self.old) }
         ensures answered { IfOk result (λ x. (words after : Row)
             × FnOnceReturnsAtMut F.FnOnce row words (Ok x) after) }
+        ensures memory { IsErrOf result TraceFault.Memory → (words after : Row)
+            × FnOnceReturnsAtMut F.FnOnce row words (Err RowFault.Memory) after }
     {
         let number = self.number();
         let mut words = self.next_words()?;

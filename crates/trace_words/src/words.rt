@@ -1,5 +1,5 @@
 //! Reads words of a line as numbers, flags and bytes, and checks that no word is left.
-ghost use Rattle.std.specs.Prelude.{◌≡◌, ◌≤◌, IfOk};
+ghost use Rattle.std.specs.Prelude.{◌≡◌, ◌≤◌, IfOk, IsErrOf};
 ghost use Rattle.wire_bytes.specs.Outcome.{Gives};
 ghost use Rattle.trace_words.specs.Rows.{Reads, if_last, word_at, last_word};
 ghost use Rattle.trace_words.specs.Reading.{number_in, flag_in, bytes_in, next_as};
@@ -12,7 +12,8 @@ use text_lines::{Words, read_hex, read_number};
 
 /// Returns the next word. Errors: `Wrong` if no word is left.
 pub fn next_word<'a>(words: &mut Words<'a>) -> Result<&'a [u8], RowFault>
-    ensures { Reads (λ word. word.now) result words.new (word_at words.old) }
+    ensures reads { Reads (λ word. word.now) result words.new (word_at words.old) }
+    ensures no_memory { ¬ IsErrOf result RowFault.Memory }
 {
     words.next().ok_or(RowFault::Wrong)
 }
@@ -30,7 +31,8 @@ pub fn expect_end(words: &mut Words) -> Result<(), RowFault>
 /// Returns the next word, which must be the last. Errors: `Wrong` if no word is left, or more than
 /// one.
 pub fn last_word<'a>(words: &mut Words<'a>) -> Result<&'a [u8], RowFault>
-    ensures { Gives Memory (λ word. word.now) result (last_word words.old) }
+    ensures gives { Gives Memory (λ word. word.now) result (last_word words.old) }
+    ensures no_memory { ¬ IsErrOf result RowFault.Memory }
 {
     let word = next_word(words)?;
     expect_end(words)?;
@@ -75,7 +77,9 @@ pub fn parse_long(word: &[u8]) -> Result<u16, RowFault>
 /// Reads the next word as a decimal number of at most 65,535. Errors: `Wrong` if the word is
 /// missing or any other.
 pub fn next_long(words: &mut Words) -> Result<u16, RowFault>
-    ensures { Reads (λ number. number) result words.new (next_as (number_in 65535) words.old) }
+    ensures reads { Reads (λ number. number) result words.new
+        (next_as (number_in 65535) words.old) }
+    ensures no_memory { ¬ IsErrOf result RowFault.Memory }
 {
     parse_long(next_word(words)?)
 }

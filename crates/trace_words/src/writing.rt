@@ -1,5 +1,5 @@
 //! Appends a flag or a Data as a word, or a line of a label and a number.
-ghost use Rattle.std.specs.Prelude.{◌≡◌, ◌++◌, ◌∷◌, [], OnOk, decimal};
+ghost use Rattle.std.specs.Prelude.{◌≡◌, ◌++◌, ◌∷◌, [], OnOk, OnErr, decimal};
 ghost use Rattle.hex.specs.Hex.{encode_upper};
 ghost use Rattle.text_lines.specs.Lines.{rows_text, IsPlain};
 ghost use Rattle.trace_words.specs.Labels.{number_row};
@@ -9,18 +9,20 @@ use cosem_axdr::{Data, Octets, write};
 use std::alloc::{AllocError, Global};
 use text_lines::{add_hex, add_number, end_line};
 
-/// Appends the word `1` for true, `0` for false.
+/// Appends the word `1` for true, `0` for false. On an error nothing is appended.
 pub fn add_flag(out: &mut Vec<u8>, flag: bool) -> Result<(), AllocError>
-    ensures { OnOk result (out.new.items ≡ out.old.items
+    ensures ok { OnOk result (out.new.items ≡ out.old.items
         ++ words_after_blanks (decimal (flag_number flag) ∷ [])) }
+    ensures err { OnErr result (out.new.items ≡ out.old.items) }
 {
     add_number(out, if flag { 1 } else { 0 })
 }
 
-/// Appends a Data as a word: its A-XDR encoding in hexadecimal.
+/// Appends a Data as a word: its A-XDR encoding in hexadecimal. On an error nothing is appended.
 pub fn add_data(alloc: Global, out: &mut Vec<u8>, value: &Data) -> Result<(), AllocError>
     ensures ok { OnOk result (out.new.items ≡ out.old.items
         ++ words_after_blanks (data_word value.now ∷ [])) }
+    ensures err { OnErr result (out.new.items ≡ out.old.items) }
     ensures plain { OnOk result (IsPlain (data_word value.now)) }
 {
     let mut text = Octets::new(alloc);
