@@ -203,6 +203,19 @@ def sampler_rows(room):
     yield "the sampler's read is told apart", [it for it in texts(svg) if number_of(it)] == wanted
 
 
+def label_rows(room):
+    """Writes to the attributes of the second to fourth schedule and of both limiters have their
+    names (the logical names: docs/CLIENTS.md)."""
+    trace = room / "labels.trace"
+    writes = {"22 00010F0001FF 2 0 0202090600000A006AFF120001": "schedule 1 script 02020906..", "22 00020F0001FF 3 0 1602": "schedule 2 type 2",
+              "22 00030F0001FF 4 0 0100": "schedule 3 entries 0100", "71 0000110000FF 6 0 0600000002": "import min_over_threshold_duration 2",
+              "71 0001110000FF 7 0 0600000003": "export min_under_threshold_duration 3"}
+    trace.write_text(rows.trace_text(rows.NEW_METER, [f"set 1 {it}" for it in writes]))
+    svg = part_of(trace, room / "labels.svg")
+    wanted = [f"{number} set {it}" for number, it in enumerate(writes.values(), 1)]
+    yield "writes have the names of attributes", [it for it in texts(svg) if number_of(it)] == wanted
+
+
 def command_rows(room):
     """Checks of the command line of bin/trace_chart."""
     script = TOP / "bin" / "trace_chart"
@@ -257,7 +270,7 @@ def all_rows(room, browser):
     trace = room / "long.trace"
     trace.write_text(rows.trace_text(rows.NEW_METER, long_trace()))
     yield from check_chart("long", trace, room, long_rows, browser)
-    for rows_of in (part_rows, range_rows, last_rows, sampler_rows, command_rows):
+    for rows_of in (part_rows, range_rows, last_rows, sampler_rows, label_rows, command_rows):
         yield from rows_of(room)
     yield from wrong_rows(room)
 
