@@ -1,7 +1,8 @@
 #!/usr/bin/env python3
 """Tests bin/install over the proved executables that the gate left: what it copies with and without
 DESTDIR, that --remove removes exactly that, versions, manual pages and completions of all commands,
-and programs and scripts that are called through symbolic links.
+programs and scripts that are called through symbolic links, and programs without a proved
+executable.
 
 What a missing tool would test (man, GNU parallel, matplotlib) is skipped with a message.
 
@@ -173,8 +174,8 @@ def versions(root):
 
 def options_of(root, name):
     """The options that the help of a command and of its subcommands describes."""
-    commands = {"meter_server": ("apdu", "hex", "serve"), "head_end": ("check", "run"),
-                "meter_fleet": ("serve",)}
+    commands = {"meter_server": ("apdu", "hex", "serve"), "meter_fleet": ("serve",),
+                "head_end": ("check", "run", "status", "ask")}
     texts = [run(root / "bin" / name, *it, "--help").stdout
              for it in ((), *((it,) for it in commands.get(name, ())))]
     return sorted(set(re.findall(r"(?m)^ +(?:-\w, )?(--[a-z-]+)", "\n".join(texts))))
@@ -191,7 +192,9 @@ def pages(root):
         completion = (root / "share/bash-completion/completions" / name).read_text()
         for it in PAGES[name]:
             yield f"the page of {name}: {it}", it in text
-        for it in options_of(root, name):
+        options = options_of(root, name)
+        yield f"{name} has options", bool(options)
+        for it in options:
             yield f"the page of {name}: {it}", it in text
             yield f"the completion of {name}: {it}", it in completion
         for it in (f"zsh/site-functions/_{name}", f"fish/vendor_completions.d/{name}.fish"):
@@ -251,6 +254,42 @@ def linked_scripts(folder):
            ran.returncode == 2 and "--depth" in ran.stderr)
 
 
+# An rt that prints its words.
+RT = '#!/bin/sh\nfor it; do echo "$it"; done\n'
+
+
+def unproved(room):
+    """Checks of the words with which bin/.run runs a program that has no proved executable."""
+    top, tools = room / "unproved", room / "tools"
+    (top / "bin").mkdir(parents=True)
+    tools.mkdir()
+    (tools / "rt").write_text(RT)
+    (tools / "rt").chmod(0o700)
+    for it in PROGRAMS:
+        (top / "crates" / f"{it}_cli").mkdir(parents=True)
+        for name in (it, ".run"):
+            shutil.copy(TOP / "bin" / name, top / "bin" / name)
+    (room / "run.trace").touch()
+    environment = {**os.environ, "PATH": f"{tools}:{os.environ['PATH']}"}
+    for words, wanted in (
+            ("head_end status --ledger some/ledger --format csv",
+             f"status --ledger {room}/some/ledger --format csv"),
+            ("head_end status --ledger=ledger", f"status --ledger={room}/ledger"),
+            ("meter_server hex --password-file password --device RELAY2",
+             f"hex --password-file {room}/password --device RELAY2"),
+            ("trace_player --from 2 run.trace", f"--from 2 {room}/run.trace"),
+            ("head_end run --passwords passwords --help", f"run --passwords {room}/passwords --help"),
+            ("meter_fleet serve -h", "serve -h"),
+            ("head_end run --ledger ledger", None), ("head_end ask --ledger ledger", None),
+            ("meter_server serve --password --helpless", None), ("meter_fleet serve", None)):
+        name, *words = words.split()
+        ran = run(top / "bin" / name, *words, cwd=room, env=environment)
+        found = ran.stdout.splitlines()[2:] if ran.stdout.startswith("try\n--\n") else None
+        found = ran.stdout.removeprefix("try\n--\n").replace("\n", " ").strip()
+        yield (f"unproved: {name} {' '.join(words)}",
+               (ran.returncode, found) == ((0, wanted) if wanted else (2, "")))
+
+
 def all_rows(room):
     """All checks, each with its name and whether it holds."""
     yield from arguments()
@@ -263,6 +302,7 @@ def all_rows(room):
     yield from pages(root)
     yield from completions(root)
     yield from links(root, room)
+    yield from unproved(room)
 
 
 def main():
