@@ -205,16 +205,36 @@ def records_are_those_of_the_rows(name, folder):
     check(f"{name}: another format", ran.returncode == 2 and not ran.stdout, ran)
 
 
+# What no ledger has: jobs, marks, outcomes and campaigns that are none.
+DAMAGES = {
+    "a place is missing": "DELETE FROM job WHERE place = 3",
+    "a verb": "UPDATE job SET verb = 'open' WHERE place = 3",
+    "a mark of no job": f"INSERT INTO begun VALUES (99, {START})",
+    "an outcome of no job": f"INSERT INTO outcome VALUES (99, 'done', 0, {START})",
+    "a kind": "UPDATE outcome SET kind = 'opened' WHERE place = 0",
+    "a kind that is no text": "UPDATE outcome SET kind = CAST(x'646F6E65FF' AS TEXT) "
+                              "WHERE place = 0",
+    "no number": "UPDATE outcome SET number = NULL WHERE place = 0",
+    "a number above 255": "UPDATE outcome SET number = 256 WHERE place = 0",
+    "a number below 0": "UPDATE outcome SET number = -1 WHERE place = 0",
+    "a number of an unknown outcome": "UPDATE outcome SET number = 0 WHERE kind = 'unknown'",
+    "another version": "UPDATE campaign SET version = 2",
+    "another number of jobs": "UPDATE campaign SET jobs = jobs + 1",
+    "no campaign": "DELETE FROM campaign",
+    "two campaigns": "INSERT INTO campaign SELECT 2, jobs FROM campaign",
+}
+
+
 @in_folder
 def other_rows_are_refused(name, folder):
-    """Ledgers whose jobs are none: a place that is missing, another verb."""
-    for what, statement in {"a place": "DELETE FROM job WHERE place = 3",
-                            "a verb": "UPDATE job SET verb = 'open' WHERE place = 3"}.items():
-        ledger = folder / f"{what[2:]}.ledger"
+    """Ledgers with rows that no ledger has, which Python's sqlite3 wrote."""
+    for number, (what, statement) in enumerate(DAMAGES.items()):
+        ledger = folder / f"{number}.ledger"
         make_ledger(ledger, JOBS)
         with contextlib.closing(sqlite3.connect(ledger)) as database:
-            database.execute(statement)
+            changed = database.execute(statement).rowcount
             database.commit()
+        check(f"{name}: {what}: is damaged", changed > 0, changed)
         ran = run(HEAD_END, "status", "--ledger", ledger, "--format", "json")
         found = ran.returncode, ran.stdout, ran.stderr.decode()
         check(f"{name}: {what}", found == (2, b"", "ledger: not a ledger\nfault: input\n"), found)

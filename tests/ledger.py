@@ -331,6 +331,46 @@ def what_is_no_ledger_is_refused(name, folder):
             check(f"{name}: {what}: unchanged", before == after)
 
 
+# What no ledger has: marks, outcomes and campaigns that are none.
+DAMAGES = {
+    "a mark of no job": "INSERT INTO begun VALUES (4, 1)",
+    "an outcome of no job": "INSERT INTO outcome VALUES (4, 'done', 0, 1)",
+    "a kind": "UPDATE outcome SET kind = 'opened' WHERE place = 0",
+    "no number": "UPDATE outcome SET kind = 'done', number = NULL WHERE place = 0",
+    "a number above 255": "UPDATE outcome SET kind = 'done', number = 300 WHERE place = 0",
+    "a number of an unknown outcome": "UPDATE outcome SET kind = 'unknown', number = 0 "
+                                      "WHERE place = 0",
+    "another version": "UPDATE campaign SET version = 2",
+    "another number of jobs": "UPDATE campaign SET jobs = 3",
+    "no campaign": "DELETE FROM campaign",
+}
+
+
+@in_folder
+def damaged_ledgers_are_refused(name, folder):
+    """Ledgers of runs with rows that no run writes, which Python's sqlite3 wrote into copies."""
+    with running_meters(4) as meters:
+        campaign, ledger = Campaign(meters, lambda place: "disconnect"), folder / "ledger"
+        first = run(ledger, campaign.text)
+        campaign.take_commands()
+        for number, (what, statement) in enumerate(DAMAGES.items()):
+            copy = folder / str(number) / "ledger"
+            copy.parent.mkdir()
+            for file in (it for it in folder.glob("ledger*") if not it.name.endswith(".lock")):
+                shutil.copy(file, copy.parent)
+            with contextlib.closing(sqlite3.connect(copy)) as database:
+                changed = database.execute(statement).rowcount
+                database.commit()
+            check(f"{name}: {what}: is damaged", changed == 1, changed)
+            for command in (run, status):
+                ran = command(copy, campaign.text) if command is run else command(copy)
+                check(f"{name}: {what}: {command.__name__}",
+                      ran == (2, "", "ledger: not a ledger\nfault: input\n"), ran)
+            check(f"{name}: {what}: no command", not any(campaign.take_commands()))
+        ran = run(ledger, campaign.text)
+        check(f"{name}: the ledger itself", ran.status == 0 and ran.report == first.report, ran)
+
+
 @in_folder
 def two_runs_at_once_are_refused(name, folder):
     with running_meters(12) as meters, socket.create_server(("127.0.0.1", 0)) as silent:
@@ -714,7 +754,7 @@ def running_meters(count=JOBS):
 
 
 TESTS = (a_ledger_changes_no_row, killed_campaigns_command_nobody_twice, another_list_is_refused,
-         what_is_no_ledger_is_refused, two_runs_at_once_are_refused,
+         what_is_no_ledger_is_refused, damaged_ledgers_are_refused, two_runs_at_once_are_refused,
          a_meter_that_was_down_is_commanded_later, jobs_of_a_meter_run_in_order,
          each_meter_has_its_password, the_state_is_that_of_the_ledger,
          meters_without_an_answer_are_asked, nothing_to_ask_changes_nothing,

@@ -5,6 +5,7 @@ use campaign_ledger::{Book, Ledger, LedgerEntry};
 use client_core::{Job, Outcome};
 use sqlite::{Alter, Connection, MemStore};
 use sqlite_ledger::{LedgerOpenFault, SqliteBook, open_book};
+use std::alloc::AllocError;
 use std::rt::HostRuntime;
 use std::test::Fail;
 
@@ -167,5 +168,55 @@ CREATE TABLE campaign (version INTEGER PRIMARY KEY, jobs INTEGER NOT NULL) STRIC
     ] {
         assert!(rt; fault_after(&rt, text, &jobs) == Some(LedgerOpenFault::NotALedger));
     }
+    Ok(())
+}
+
+/// A ledger of three jobs, the last with the name `m3`, as Python's sqlite3 writes it.
+const LEDGER: &str = "\
+CREATE TABLE begun (place INTEGER PRIMARY KEY, at INTEGER NOT NULL) STRICT;
+CREATE TABLE outcome (place INTEGER PRIMARY KEY, kind TEXT NOT NULL, number INTEGER,
+at INTEGER NOT NULL) STRICT;
+CREATE TABLE job (place INTEGER PRIMARY KEY, name TEXT NOT NULL, address TEXT NOT NULL,
+verb TEXT NOT NULL) STRICT;
+CREATE TABLE campaign (version INTEGER PRIMARY KEY, jobs INTEGER NOT NULL) STRICT;
+INSERT INTO job VALUES (0, 'm1', 'localhost:4059', 'disconnect');
+INSERT INTO job VALUES (1, 'm2', 'localhost:4059', 'reconnect');
+INSERT INTO job VALUES (2, 'm3', 'localhost:4059', 'state');
+INSERT INTO campaign VALUES (1, 3);
+INSERT INTO begun VALUES (0, 1795856405);
+INSERT INTO outcome VALUES (0, 'refused', 2, 1795856405);";
+
+/// Returns the fault of an open of this ledger, on which a text has run.
+fn damage_fault(
+    rt: &HostRuntime,
+    text: &str,
+    jobs: &[Job],
+) -> Result<Option<LedgerOpenFault>, AllocError> {
+    let whole = format!(in rt.alloc(); "{LEDGER}{text}")?;
+    Ok(fault_after(rt, whole.as_str(), jobs))
+}
+
+#[test]
+fn rows_that_no_ledger_has_are_refused(rt: HostRuntime) -> Result<(), Fail> {
+    let jobs = three_jobs(rt.alloc(), b"m3")?;
+    let others = three_jobs(rt.alloc(), b"m4")?;
+    for text in [
+        "INSERT INTO begun VALUES (3, 1)",
+        "INSERT INTO outcome VALUES (3, 'done', 0, 1)",
+        "UPDATE outcome SET kind = 'opened'",
+        "UPDATE outcome SET kind = 'done', number = NULL",
+        "UPDATE outcome SET number = 256",
+        "UPDATE outcome SET number = -1",
+        "UPDATE outcome SET kind = 'unknown'",
+        "UPDATE campaign SET version = 2",
+        "UPDATE campaign SET jobs = 2",
+        "DELETE FROM campaign",
+        "INSERT INTO campaign VALUES (2, 3)",
+    ] {
+        assert!(rt; damage_fault(&rt, text, &jobs)? == Some(LedgerOpenFault::NotALedger));
+    }
+    // (the ledger itself is read, and so its list is compared)
+    assert!(rt; damage_fault(&rt, "", &jobs)? == None);
+    assert!(rt; damage_fault(&rt, "", &others)? == Some(LedgerOpenFault::OtherList));
     Ok(())
 }

@@ -1,5 +1,5 @@
 -- What an INSERT of an answer does to the answers that a crash leaves.
-use Rattle.std.proofs.Common.{◌≡◌, inl, inr, ℕ, ℤ, append-nil, false, None, Some, Ok, Err, Result}
+use Rattle.std.proofs.Common.{◌≡◌, inl, inr, ℕ, ℤ, append-nil, false, None, Ok, Err, Result}
 use Rattle.std.proofs.Common.{OnOk, IsTrue, sym, ap, subst, ◌∙◌, arith}
 use Rattle.sqlite.specs.Tree.{Trees}
 use Rattle.sqlite.specs.Command.TheVariants.{Insert}

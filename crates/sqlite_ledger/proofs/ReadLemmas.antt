@@ -22,6 +22,9 @@ ok_then (Err e) P Q h f = tt
 abbrev pub select_jobs : List ℕ
 select_jobs = codes "SELECT place, name, address, verb FROM job ORDER BY place"
 
+abbrev pub select_campaign : List ℕ
+select_campaign = codes "SELECT version, jobs FROM campaign"
+
 abbrev pub select_begun : List ℕ
 select_begun = codes "SELECT place FROM begun"
 
@@ -37,6 +40,10 @@ select_outcome_times = codes "SELECT place, at FROM outcome"
 pub jobs_plain : IsPlain (understood ledger_schema select_jobs)
 unfolding understood everything
 jobs_plain = (refl, refl)
+
+pub campaign_plain : IsPlain (understood ledger_schema select_campaign)
+unfolding understood everything
+campaign_plain = (refl, refl)
 
 pub begun_plain : IsPlain (understood ledger_schema select_begun)
 unfolding understood everything

@@ -2,7 +2,9 @@
 -- tables, the marks, the outcomes and the answers.
 pub mod Answers
 pub mod AnswersSchema
+pub mod Campaigns
 pub mod Marks
+pub mod OpenFaults
 pub mod Outcomes
 pub mod Schema
 pub mod Taken

@@ -1,10 +1,8 @@
 //! `create_ledger`: makes the tables of a new ledger, with the campaign's jobs.
+use crate::campaign_row::VERSION;
 use crate::jobs::insert_job;
 use client_core::Job;
 use sqlite::{Alter, Connection, Error, ErrorCode, Transaction, params};
-
-// The version of the tables of a ledger.
-const VERSION: u32 = 1;
 
 // The tables of a ledger; docs/CAMPAIGNS.md describes them.
 const TABLES: &str = "\

@@ -14,6 +14,7 @@
 
 mod answers;
 mod book;
+mod campaign_row;
 mod clock;
 mod creation;
 mod fault;

@@ -52,8 +52,9 @@ fn read_ledger<S: Alter>(
 /// Opens the ledger of a campaign with these jobs over a connection. An empty database gets the
 /// tables and the jobs, in one transaction.
 ///
-/// Errors, each with the connection: `NotALedger` for a database with other tables, `OtherList` for
-/// the ledger of another list of jobs, `File` and `Memory`.
+/// Errors, each with the connection: `NotALedger` for a database with other tables, of another
+/// version, or with a mark or an outcome that is none; `OtherList` for the ledger of another list
+/// of jobs, `File` and `Memory`.
 pub fn open_book<S: Alter + Drop>(
     rt: &HostRuntime,
     mut conn: Connection<S>,

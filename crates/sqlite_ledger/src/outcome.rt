@@ -1,5 +1,5 @@
-//! `insert_outcome`: writes the outcome of a place.
-ghost use Rattle.std.specs.Prelude.{◌≡◌, ℤ, pos, OnOk};
+//! The outcomes of a ledger's file: `insert_outcome` writes one, `read_outcome` reads one.
+ghost use Rattle.std.specs.Prelude.{◌≡◌, ℤ, pos, Some, IfOk, IfSome, OnOk};
 ghost use Rattle.sqlite.specs.State.{HasCleanDisk};
 ghost use Rattle.sqlite.specs.Held.{state};
 ghost use Rattle.sqlite.specs.declared.types.Value.{Value};
@@ -7,10 +7,13 @@ ghost use Rattle.sqlite_ledger.specs.Schema.{ledger_schema};
 ghost use Rattle.sqlite_ledger.specs.Marks.{IsMarked};
 ghost use Rattle.sqlite_ledger.specs.Outcomes.{kind_of, number_of, IsSafe};
 ghost use Rattle.sqlite.specs.Values.{or_null};
-ghost use Rattle.sqlite.specs.declared.types.Value.TheVariants.{Int};
+ghost use Rattle.sqlite.specs.declared.types.Value.TheVariants.{Int, Text as Words};
+ghost use Rattle.sqlite.specs.Order.{column};
+ghost use Rattle.client_core.specs.declared.job.Outcome.{Outcome};
 
+use crate::open_fault::LedgerOpenFault;
 use client_core::Outcome;
-use sqlite::{Alter, Connection, Error, ErrorCode, params};
+use sqlite::{Alter, Connection, Error, ErrorCode, Row, params};
 
 // Writes the outcome of a place: its kind, its number or NULL, and the second.
 const INSERT_OUTCOME: &str =
@@ -66,4 +69,47 @@ pub(crate) fn insert_outcome<S: Alter>(
         conn,
         params![place, kind_of(outcome), number_of(outcome), at],
     )
+}
+
+// Returns the outcome of this kind and this number, or `None` if there is none.
+fn outcome_of(kind: &str, number: Option<u8>) -> Option<Outcome>
+    ensures found { IfSome result (λ outcome. (kind.now ≡ kind_of outcome)
+        × (or_null (λ n. Int (pos n)) number ≡ number_of outcome)) }
+    ensures every_outcome { (outcome : Outcome) → kind.now ≡ kind_of outcome
+        → or_null (λ n. Int (pos n)) number ≡ number_of outcome → result ≡ Some outcome }
+{
+    match (kind, number) {
+        ("done", Some(state)) => Some(Outcome::Done(state)),
+        ("refused", Some(code)) => Some(Outcome::Refused(code)),
+        ("rejected", Some(diagnostic)) => Some(Outcome::Rejected(diagnostic)),
+        ("unknown", None) => Some(Outcome::Unknown),
+        _ => None,
+    }
+}
+
+// Returns the number in a row of the table `outcome`. Fails with `NotALedger` if it is not 0 to 255
+// or NULL.
+fn read_number(row: &Row) -> Result<Option<u8>, LedgerOpenFault>
+    ensures { IfOk result (λ number. column row.now 2 ≡ or_null (λ n. Int (pos n)) number) }
+{
+    let number: Option<i64> = row.get(2)?;
+    match number.map(u8::try_from) {
+        None => Ok(None),
+        Some(Ok(number)) => Ok(Some(number)),
+        Some(Err(_)) => Err(LedgerOpenFault::NotALedger),
+    }
+}
+
+// Returns the outcome of a row of the table `outcome`, whose columns 1 and 2 are the kind and the
+// number. Fails with `NotALedger` if they are those of no outcome.
+pub(crate) fn read_outcome(row: &Row) -> Result<Outcome, LedgerOpenFault>
+    ensures { IfOk result (λ outcome. (column row.now 1 ≡ Words (kind_of outcome))
+        × (column row.now 2 ≡ number_of outcome)) }
+{
+    let kind: String = row.get(1)?;
+    let number = read_number(row)?;
+    match outcome_of(kind.as_str(), number) {
+        Some(outcome) => Ok(outcome),
+        None => Err(LedgerOpenFault::NotALedger),
+    }
 }

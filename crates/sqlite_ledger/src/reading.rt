@@ -1,4 +1,4 @@
-//! What a ledger's file has: its jobs, its marks and its outcomes.
+//! What a ledger's file has: its campaign, its jobs, its marks and its outcomes.
 ghost use Rattle.std.specs.Prelude.{◌≡◌, ◌<◌, ◌^◌, ℕ, pos, Some, None, length, IfOk, OnOk, vec_len};
 ghost use Rattle.sqlite.specs.State.{HasCleanDisk, IsUnchanged};
 ghost use Rattle.sqlite.specs.Given.{IsPlain};
@@ -6,17 +6,22 @@ ghost use Rattle.sqlite.specs.Listing.{understood};
 ghost use Rattle.sqlite.specs.Held.{state};
 ghost use Rattle.sqlite_ledger.specs.Schema.{ledger_schema};
 
+use crate::campaign_row::check_campaign_rows;
 use crate::jobs::{are_rows_of, read_job};
 use crate::open_fault::LedgerOpenFault;
+use crate::outcome::read_outcome;
 use crate::schema::is_ledger_schema;
 use campaign_ledger::LedgerEntry;
-use client_core::{Job, Outcome};
+use client_core::Job;
 use ledger_reports::{LedgerLine, LedgerTimes};
 use sqlite::{Alter, Connection, Error, Row};
 use std::alloc::Global;
 
 // The jobs in the order of their places.
 const SELECT_JOBS: &str = "SELECT place, name, address, verb FROM job ORDER BY place";
+
+// The version of the tables and the number of jobs.
+const SELECT_CAMPAIGN: &str = "SELECT version, jobs FROM campaign";
 
 // The places with a mark.
 const SELECT_BEGUN: &str = "SELECT place FROM begun";
@@ -49,47 +54,67 @@ fn select_jobs<S: Alter>(conn: &mut Connection<S>) -> Result<Vec<Row>, Error>
     select(conn, SELECT_JOBS)
 }
 
-// Returns whether the file has these jobs.
-pub(crate) fn has_jobs<S: Alter>(conn: &mut Connection<S>, jobs: &[Job]) -> Result<bool, Error>
+// Fails with `NotALedger` unless the table `campaign` has one row, with the version of these tables
+// and this number of jobs.
+fn check_campaign<S: Alter>(conn: &mut Connection<S>, jobs: usize) -> Result<(), LedgerOpenFault>
+    ensures clean { HasCleanDisk (state S.Store conn.new) → HasCleanDisk (state S.Store conn.old) }
+    ensures unchanged { HasCleanDisk (state S.Store conn.new) → conn.old.schema ≡ ledger_schema
+        → OnOk result (IsUnchanged (state S.Store conn.old) (state S.Store conn.new)) }
+{
+    let rows = select(conn, SELECT_CAMPAIGN)?;
+    check_campaign_rows(&rows, jobs)
+}
+
+// Returns the rows of the table `job`, in the order of the places. Fails with `NotALedger` if the
+// table `campaign` says another number of them, or another version of the tables.
+fn read_jobs<S: Alter>(conn: &mut Connection<S>) -> Result<Vec<Row>, LedgerOpenFault>
     ensures clean { HasCleanDisk (state S.Store conn.new) → HasCleanDisk (state S.Store conn.old) }
     ensures unchanged { HasCleanDisk (state S.Store conn.new) → conn.old.schema ≡ ledger_schema
         → OnOk result (IsUnchanged (state S.Store conn.old) (state S.Store conn.new)) }
 {
     let rows = select_jobs(conn)?;
-    are_rows_of(&rows, jobs)
+    check_campaign(conn, rows.len())?;
+    Ok(rows)
 }
 
-// Sets the entries of the marked places.
-fn enter_marks(entries: &mut [LedgerEntry], rows: &[Row]) -> Result<(), Error> {
+// Returns whether the file has these jobs. Fails with `NotALedger` if its tables have another
+// version, or another number of jobs than they say.
+pub(crate) fn has_jobs<S: Alter>(
+    conn: &mut Connection<S>,
+    jobs: &[Job],
+) -> Result<bool, LedgerOpenFault>
+    ensures clean { HasCleanDisk (state S.Store conn.new) → HasCleanDisk (state S.Store conn.old) }
+    ensures unchanged { HasCleanDisk (state S.Store conn.new) → conn.old.schema ≡ ledger_schema
+        → OnOk result (IsUnchanged (state S.Store conn.old) (state S.Store conn.new)) }
+{
+    let rows = read_jobs(conn)?;
+    match are_rows_of(&rows, jobs) {
+        Ok(are) => Ok(are),
+        Err(error) => Err(LedgerOpenFault::from(error)),
+    }
+}
+
+// Sets the entries of the marked places. Fails with `NotALedger` if one has no job.
+fn enter_marks(entries: &mut [LedgerEntry], rows: &[Row]) -> Result<(), LedgerOpenFault> {
     for row in rows {
         let place: u32 = row.get(0)?;
-        if let Some(entry) = entries.get_mut(place as usize) {
-            *entry = LedgerEntry::MaybeSent;
+        match entries.get_mut(place as usize) {
+            Some(entry) => *entry = LedgerEntry::MaybeSent,
+            None => return Err(LedgerOpenFault::NotALedger),
         }
     }
     Ok(())
 }
 
-// Returns the outcome that a row of the table `outcome` says: `Unknown` for a kind that is none.
-fn read_outcome(row: &Row) -> Result<Outcome, Error> {
-    let kind: String = row.get(1)?;
-    let number: Option<u32> = row.get(2)?;
-    let number = u8::try_from(number.unwrap_or(0)).unwrap_or(u8::MAX);
-    Ok(match kind.as_str() {
-        "done" => Outcome::Done(number),
-        "refused" => Outcome::Refused(number),
-        "rejected" => Outcome::Rejected(number),
-        _ => Outcome::Unknown,
-    })
-}
-
-// Sets the entries of the places with an outcome.
-fn enter_outcomes(entries: &mut [LedgerEntry], rows: &[Row]) -> Result<(), Error> {
+// Sets the entries of the places with an outcome. Fails with `NotALedger` if a row has a place
+// without a job, or is that of no outcome.
+fn enter_outcomes(entries: &mut [LedgerEntry], rows: &[Row]) -> Result<(), LedgerOpenFault> {
     for row in rows {
         let place: u32 = row.get(0)?;
         let outcome = read_outcome(row)?;
-        if let Some(entry) = entries.get_mut(place as usize) {
-            *entry = LedgerEntry::Came(outcome);
+        match entries.get_mut(place as usize) {
+            Some(entry) => *entry = LedgerEntry::Came(outcome),
+            None => return Err(LedgerOpenFault::NotALedger),
         }
     }
     Ok(())
@@ -99,7 +124,7 @@ fn enter_outcomes(entries: &mut [LedgerEntry], rows: &[Row]) -> Result<(), Error
 pub(crate) fn read_marks<S: Alter>(
     conn: &mut Connection<S>,
     entries: &mut [LedgerEntry],
-) -> Result<(), Error>
+) -> Result<(), LedgerOpenFault>
     ensures clean { HasCleanDisk (state S.Store conn.new) → HasCleanDisk (state S.Store conn.old) }
     ensures unchanged { HasCleanDisk (state S.Store conn.new) → conn.old.schema ≡ ledger_schema
         → OnOk result (IsUnchanged (state S.Store conn.old) (state S.Store conn.new)) }
@@ -112,7 +137,7 @@ pub(crate) fn read_marks<S: Alter>(
 pub(crate) fn read_outcomes<S: Alter>(
     conn: &mut Connection<S>,
     entries: &mut [LedgerEntry],
-) -> Result<(), Error>
+) -> Result<(), LedgerOpenFault>
     ensures clean { HasCleanDisk (state S.Store conn.new) → HasCleanDisk (state S.Store conn.old) }
     ensures unchanged { HasCleanDisk (state S.Store conn.new) → conn.old.schema ≡ ledger_schema
         → OnOk result (IsUnchanged (state S.Store conn.old) (state S.Store conn.new)) }
@@ -210,7 +235,7 @@ fn read_known<S: Alter>(
     ensures unchanged { HasCleanDisk (state S.Store conn.new) → conn.old.schema ≡ ledger_schema
         → OnOk result (IsUnchanged (state S.Store conn.old) (state S.Store conn.new)) }
 {
-    let rows = select_jobs(conn)?;
+    let rows = read_jobs(conn)?;
     let mut entries = vec![in alloc; LedgerEntry::NotSent; rows.len()]?;
     read_marks(conn, &mut entries)?;
     read_outcomes(conn, &mut entries)?;
@@ -223,8 +248,8 @@ fn read_known<S: Alter>(
 
 /// Returns the lines of the ledger of a connection, in the order of its jobs, and changes nothing.
 ///
-/// Errors: `NotALedger` for a database with other tables, or with a job that is none; `File` and
-/// `Memory`.
+/// Errors: `NotALedger` for a database with other tables, of another version, or with a job or an
+/// outcome that is none; `File` and `Memory`.
 pub fn read_lines<S: Alter>(
     alloc: Global,
     conn: &mut Connection<S>,

@@ -16,7 +16,8 @@ use std::alloc::Global;
 // The answers, the first one first.
 const SELECT_ANSWERS: &str = "SELECT name, address, state, asked_at FROM answer ORDER BY number";
 
-// Returns the answer of a row of the table `answer`. Fails with `Answers` if its state is none.
+// Returns the answer of a row of the table `answer`. Fails with `Answers` if its state is none, and
+// with `NotALedger` if another value of the row is not that of an answer.
 fn read_answer(alloc: Global, row: &Row) -> Result<StateAnswer, LedgerOpenFault> {
     let name: String = row.get(0)?;
     let address: String = row.get(1)?;
@@ -39,7 +40,11 @@ fn read_answer(alloc: Global, row: &Row) -> Result<StateAnswer, LedgerOpenFault>
 fn answers_of(alloc: Global, rows: &[Row]) -> Result<Vec<StateAnswer>, LedgerOpenFault> {
     let mut answers = Vec::with_capacity(alloc, rows.len())?;
     for row in rows {
-        let answer = read_answer(alloc, row)?;
+        let answer = match read_answer(alloc, row) {
+            Ok(answer) => answer,
+            Err(LedgerOpenFault::NotALedger) => return Err(LedgerOpenFault::Answers),
+            Err(fault) => return Err(fault),
+        };
         if answers.push(answer).is_err() {
             return Err(LedgerOpenFault::Memory);
         }
