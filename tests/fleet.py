@@ -6,6 +6,7 @@ events to meters, whose traces `trace_player` plays if that is built. Meters hav
 client and a campaign of `bin/campaign` see. Every wait has a time limit."""
 
 import concurrent.futures
+import functools
 import os
 import pathlib
 import random
@@ -18,7 +19,8 @@ import tempfile
 import threading
 import time
 
-from serving import wait_until
+import serving
+from serving import check, wait_until
 
 TOP = pathlib.Path(__file__).resolve().parent.parent
 CRATES = TOP / "crates"
@@ -92,17 +94,6 @@ LIMITED = (OPENING.replace("normal 4294967295", "normal 1000").replace("minover 
 # The modes in which the button disconnects (IEC 62056-6-2, class 70, control_mode).
 BUTTON_DISCONNECTS = (1, 2, 5)
 TRACE = OPENING + "events 1\nexecute 1 70 000060030AFF 1 0F00\n"
-
-passed = failed = 0
-
-
-def check(name, holds):
-    """Counts a check, and prints its name if it fails."""
-    global passed, failed
-    passed, failed = passed + holds, failed + (not holds)
-    if not holds:
-        print(f"FAILED {name}", flush=True)
-
 
 def environment(password):
     """The environment of a fleet, with this password or without one."""
@@ -583,7 +574,9 @@ def traces_are_written():
             ran = subprocess.run([str(PLAYER), str(path)], capture_output=True, text=True,
                                  timeout=PATIENCE, check=False)
             check("trace_player plays it", ran.stdout ==
-                  "1: code 0; state 2; supply off\n2: ran 0; state 2; supply off\n")
+                  "1: code 0; state 2; supply off\n2: ran 0; state 2; supply off\n", ran)
+        else:
+            print(f"SKIPPED a trace of a fleet in trace_player: {PLAYER} is not built")
         fleet.answers(f"18 trace {path}")
         events = path.read_text().split("events ")[1]
         check("the trace of another meter has its own", events == "1\nmoment 5\n")
@@ -857,6 +850,11 @@ def campaigns_report_faults():
     """The rows of a campaign over meters with faults: those that are silent, vanish or close are
     unknown, those with another password reject, those in mode 0 refuse, and all others are done.
     The console finds which meters were switched."""
+    missing = [f"{HEAD_END} is not built"] * (not os.path.exists(HEAD_END))
+    missing += ["GNU parallel is not installed"] * (not shutil.which("parallel"))
+    if missing:
+        print(f"SKIPPED the campaign over meters with faults: {', '.join(missing)}")
+        return
     seed, shares = 11, (("silent", 1), ("slow", 1), ("vanishes", 3), ("closes", 4),
                         ("wrong-password", 5), ("refuses", 6))
     faults = [fault_of(seed, meter, shares) for meter in range(1, JOBS + 1)]
@@ -871,7 +869,9 @@ def campaigns_report_faults():
                              capture_output=True, text=True, timeout=6 * PATIENCE, check=False,
                              env=environment(PASSWORD) | {"PARALLEL_HOME": folder})
         rows = [f"m{meter} {ROWS.get(fault, 'unknown')}" for meter, fault in enumerate(faults, 1)]
-        check("a campaign reports the faults", ran.stdout.splitlines() == rows)
+        wrong = [it for it in zip(ran.stdout.splitlines(), rows) if it[0] != it[1]]
+        check("a campaign reports the faults", ran.stdout.splitlines() == rows, ran.returncode,
+              wrong[:5], ran.stderr[-500:])
         states = [f"{meter} {state_after(fault)}" for meter, fault in enumerate(faults, 1)]
         check("the console finds what was switched", fleet.answers("all state", JOBS) == states)
 
@@ -882,36 +882,13 @@ def cpu_seconds(process):
     return (int(words[11]) + int(words[12])) / os.sysconf("SC_CLK_TCK")
 
 
-def main():
-    if not os.path.exists(FLEET):
-        sys.exit(f"{FLEET} is not built")
-    wrong_words_are_refused()
-    reasons_are_reported()
-    passwords_are_found()
-    idle_connections_are_closed()
-    long_sessions_are_closed()
-    meters_resume()
-    buttons_are_pressed()
-    limiters_act()
-    traces_are_written()
-    wrong_lines_change_nothing()
-    a_console_may_be_a_file()
-    many_meters_are_reached()
-    clients_are_answered_meanwhile()
-    wrong_faults_are_refused()
-    faults_are_drawn()
-    faults_are_whole()
-    silent_meters_act()
-    slow_meters_answer_late()
-    passwords_are_other_ones()
-    meters_that_refuse_may_be_set()
-    meters_with_faults_resume()
-    if os.path.exists(HEAD_END) and shutil.which("parallel"):
-        campaigns_report_faults()
-    else:
-        print("skipped: the campaign over meters with faults")
+def a_range_of_meters_has_events():
     with Fleet() as fleet:
         events_reach_their_meters(fleet)
+
+
+def meters_of_one_fleet():
+    """Tests that follow each other at the meters of one fleet."""
     with Fleet() as fleet:
         meters_are_apart(fleet)
         a_ninth_is_closed(fleet)
@@ -922,9 +899,30 @@ def main():
         if os.path.exists(HEAD_END):
             campaigns_agree(fleet)
         else:
-            print(f"skipped: the campaigns, since {HEAD_END} is not built")
-    print(f"{passed} passed, {failed} failed")
-    return 1 if failed else 0
+            print(f"SKIPPED the campaigns over a fleet: {HEAD_END} is not built")
+
+
+TESTS = (wrong_words_are_refused, reasons_are_reported, passwords_are_found,
+         idle_connections_are_closed, long_sessions_are_closed, meters_resume, buttons_are_pressed,
+         limiters_act, traces_are_written, wrong_lines_change_nothing, a_console_may_be_a_file,
+         many_meters_are_reached, clients_are_answered_meanwhile, wrong_faults_are_refused,
+         faults_are_drawn, faults_are_whole, silent_meters_act, slow_meters_answer_late,
+         passwords_are_other_ones, meters_that_refuse_may_be_set, meters_with_faults_resume,
+         campaigns_report_faults, a_range_of_meters_has_events, meters_of_one_fleet)
+
+
+def without_name(function):
+    """A test as `run_tests` calls it, with its name: those of a fleet need none."""
+    @functools.wraps(function)
+    def run_test(_):
+        function()
+    return run_test
+
+
+def main():
+    if not serving.are_built(FLEET):
+        return 1
+    return serving.run_tests(map(without_name, TESTS))
 
 
 if __name__ == "__main__":

@@ -8,7 +8,6 @@ usage: tests/relay.py"""
 import os
 import pathlib
 import resource
-import subprocess
 import sys
 import tempfile
 
@@ -28,10 +27,7 @@ class RelayedServer(Server):
     def __init__(self, *options, console=b""):
         self.port = serving.free_port()
         words = [str(SERVER), "serve", "--listen", f"127.0.0.1:{self.port}", "--verbose", "--password", PASSWORD, *options]
-        self.process = subprocess.Popen(words, stdin=subprocess.PIPE, stdout=subprocess.PIPE, stderr=subprocess.PIPE, restore_signals=False)
-        self.errors = b""
-        self.reader = serving.threading.Thread(target=self.read_errors, daemon=True)
-        self.reader.start()
+        self.start(words, restore_signals=False)
         if console:
             self.say_bytes(console)
         self.wait_for(b"at the start, relay")

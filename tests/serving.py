@@ -13,6 +13,7 @@ import sys
 import tempfile
 import threading
 import time
+import traceback
 
 TOP = pathlib.Path(__file__).resolve().parent.parent
 SERVER = os.environ.get("METER_SERVER") or TOP / "crates" / "meter_server_cli" / "out" / "meter_server_cli"
@@ -179,6 +180,9 @@ class Client:
         return self.record(f"execute {self.line(place)} {parameter or '-'}", f"code {int(answer[6:8], 16)}")
 
 
+servers = []  # that the test which runs has started
+
+
 class Server:
     """A running `meter_server serve` and its console."""
 
@@ -192,9 +196,10 @@ class Server:
             self.say_bytes(console)
         self.wait_for(b"listening on")
 
-    def start(self, words, environment=None, console=subprocess.PIPE):
+    def start(self, words, environment=None, console=subprocess.PIPE, **more):
         self.process = subprocess.Popen(words, stdin=console, stdout=subprocess.PIPE, stderr=subprocess.PIPE,
-                                        env={**os.environ, **(environment or {})})
+                                        env={**os.environ, **(environment or {})}, **more)
+        servers.append(self)
         self.errors = b""
         self.reader = threading.Thread(target=self.read_errors, daemon=True)
         self.reader.start()
@@ -299,13 +304,18 @@ def check(name, holds, *found):
 
 
 def test(function):
-    """Runs one test, and counts an error as a failed check."""
+    """Runs one test, counts an error as a failed check, and stops the servers that the test left."""
     global failed
+    name = function.__name__.replace("_", " ")
     try:
-        function(function.__name__.replace("_", " "))
-    except (AssertionError, Vanished, OSError, subprocess.TimeoutExpired) as error:
+        function(name)
+    except Exception as error:
         failed += 1
-        print(f"FAILED {function.__name__.replace('_', ' ')}: {type(error).__name__} {error}")
+        place = traceback.extract_tb(error.__traceback__)[-1]
+        print(f"FAILED {name}: {type(error).__name__} {error} ({place.filename}:{place.lineno})")
+    finally:
+        while servers:
+            servers.pop().stop()
 
 
 def are_built(*executables):
