@@ -397,7 +397,7 @@ def main():
     parser.add_argument("--long", action="store_true", help="every refused call, 1,000 sessions instead of 200, and 50 times the pairs of power cuts")
     is_long = parser.parse_args().long
     if not shutil.which("cc"):
-        print("SKIPPED: no C compiler is installed (no command cc)\n1 passed, 0 failed")
+        print("SKIPPED: no C compiler is installed (no command cc)\n0 passed, 0 failed")
         return 0
     with tempfile.TemporaryDirectory() as folder:
         place = pathlib.Path(folder)

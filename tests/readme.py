@@ -1,18 +1,23 @@
 #!/usr/bin/env python3
 """Runs each block of commands in README.md as a script, and compares the output with what README.md
-shows.
+shows. The blocks run in a temporary folder that has links to bin/ and crates/, and what they leave
+running is killed.
 
 usage: tests/readme.py     (needs the built programs, and port 4059 of the loopback interface)"""
+import contextlib
 import os
+import signal
 import socket
 import subprocess
 import sys
+import tempfile
 from pathlib import Path
 
 TOP = Path(__file__).resolve().parent.parent
 SECTIONS = ("First commands", "A session over a socket")
 PORT = 4059
-FILES = ("run.trace", "run.log")  # the files that the blocks write
+LINKS = ("bin", "crates")  # what the blocks use
+LONGEST = 300  # the time limit of a block, in seconds
 
 
 def block_of(text, heading):
@@ -31,23 +36,35 @@ def is_free(port):
     return True
 
 
-def run_block(lines):
-    """Runs the commands of a block as a script. Returns the lines of standard output, and standard
-    error."""
+def run_block(lines, folder):
+    """Runs the commands of a block as a script in a folder, and kills what they leave running.
+    Returns the lines of standard output, and standard error."""
     script = "\n".join(it[2:] for it in lines if it.startswith("$ "))
-    ran = subprocess.run(["bash", "-c", script], cwd=TOP, capture_output=True, text=True, timeout=600, env={**os.environ})
-    return ran.stdout.splitlines(), ran.stderr
+    process = subprocess.Popen(["bash", "-c", script], cwd=folder, stdin=subprocess.DEVNULL,
+                               stdout=subprocess.PIPE, stderr=subprocess.PIPE, text=True,
+                               start_new_session=True)
+    late = ""
+    try:
+        printed, errors = process.communicate(timeout=LONGEST)
+    except subprocess.TimeoutExpired:
+        late = f"it does not end within {LONGEST} s"
+    finally:
+        with contextlib.suppress(ProcessLookupError):
+            os.killpg(process.pid, signal.SIGKILL)
+    if late:
+        printed, errors = process.communicate()
+    return printed.splitlines(), errors + late
 
 
 def expected_output(lines):
     return [it for it in lines if not it.startswith("$ ")]
 
 
-def check(heading):
+def check(heading, folder):
     """Whether the block of a section prints what it shows, without the paths that `bin/build`
     prints."""
     lines = block_of((TOP / "README.md").read_text(), heading)
-    printed, errors = run_block(lines)
+    printed, errors = run_block(lines, folder)
     printed = [it for it in printed if not it.startswith(f"{TOP}/crates/")]
     if printed == expected_output(lines):
         return True
@@ -60,11 +77,10 @@ def main():
         print(f"FAILED readme: port {PORT} is in use")
         print("0 passed, 1 failed")
         return 1
-    old = [it for it in FILES if (TOP / it).exists()]
-    results = [check(it) for it in SECTIONS]
-    for it in FILES:
-        if it not in old:
-            (TOP / it).unlink(missing_ok=True)
+    with tempfile.TemporaryDirectory(prefix="readme-") as folder:
+        for it in LINKS:
+            Path(folder, it).symlink_to(TOP / it)
+        results = [check(it, folder) for it in SECTIONS]
     print(f"{sum(results)} passed, {len(results) - sum(results)} failed")
     return 0 if all(results) else 1
 
