@@ -1,6 +1,6 @@
 //! Reads and writes the line of the number of events of a trace: a number, or `-` if the events are
 //! all whole lines of the text.
-ghost use Rattle.std.specs.Prelude.{◌≡◌, ◌≤◌, ◌++◌, ◌∷◌, [], codes, IfOk, OnOk};
+ghost use Rattle.std.specs.Prelude.{◌≡◌, ◌≤◌, ◌++◌, ◌∷◌, [], codes, IfOk, IsErrOf, OnOk};
 ghost use Rattle.wire_bytes.specs.Outcome.{Gives};
 ghost use Rattle.text_lines.specs.Lines.{rows_text};
 ghost use Rattle.trace_words.specs.Labels.{number_row};
@@ -22,6 +22,7 @@ pub const MAX_EVENTS: u32 = 65_536;
 fn read_count(words: &mut Words) -> Result<u32, RowFault>
     ensures count { Gives Memory (λ count. count) result (events_from words.old) }
     ensures within_max { IfOk result (λ count. count ≤ 65536) }
+    ensures no_memory { ¬ IsErrOf result RowFault.Memory }
 {
     read_labelled(b"events", words, |word| parse_number(word, MAX_EVENTS))
 }
@@ -31,13 +32,15 @@ fn read_count(words: &mut Words) -> Result<u32, RowFault>
 pub fn read_event_count(lines: &mut TraceLines) -> Result<u32, TraceFault>
     ensures reads { ReadsLines (λ count. count) result lines.new (line_as events_from lines.old) }
     ensures within_max { IfOk result (λ count. count ≤ 65536) }
+    ensures no_memory { ¬ IsErrOf result TraceFault.Memory }
 {
     lines.read(read_count)
 }
 
 // Reads a number of events, or `-` for none.
 fn parse_count(word: &[u8]) -> Result<Option<u32>, RowFault>
-    ensures { Gives Memory (λ count. count) result (count_in word.now) }
+    ensures count { Gives Memory (λ count. count) result (count_in word.now) }
+    ensures no_memory { ¬ IsErrOf result RowFault.Memory }
 {
     if word == b"-".as_slice() {
         return Ok(None);
@@ -47,7 +50,8 @@ fn parse_count(word: &[u8]) -> Result<Option<u32>, RowFault>
 
 // Reads the words of the line of the number of events, or of the line `events -`.
 fn read_stated(words: &mut Words) -> Result<Option<u32>, RowFault>
-    ensures { Gives Memory (λ count. count) result (count_from words.old) }
+    ensures count { Gives Memory (λ count. count) result (count_from words.old) }
+    ensures no_memory { ¬ IsErrOf result RowFault.Memory }
 {
     read_labelled(b"events", words, parse_count)
 }
@@ -56,7 +60,8 @@ fn read_stated(words: &mut Words) -> Result<Option<u32>, RowFault>
 /// it returns `None`: the events are then all whole lines of the rest of the text before its first
 /// byte 0. Errors: `Line` with the number of the line if it is missing or any other.
 pub fn read_stated_count(lines: &mut TraceLines) -> Result<Option<u32>, TraceFault>
-    ensures { ReadsLines (λ count. count) result lines.new (line_as count_from lines.old) }
+    ensures reads { ReadsLines (λ count. count) result lines.new (line_as count_from lines.old) }
+    ensures no_memory { ¬ IsErrOf result TraceFault.Memory }
 {
     lines.read(read_stated)
 }
@@ -65,7 +70,8 @@ pub fn read_stated_count(lines: &mut TraceLines) -> Result<Option<u32>, TraceFau
 /// the line is `events -`, what follows the last whole line is dropped from `lines`.
 #[tactic(auto, unfolding(crate::specs::OpenCount::count_at))]
 pub fn count_events(lines: &mut TraceLines) -> Result<u64, TraceFault>
-    ensures { ReadsLines (λ count. count) result lines.new (count_at lines.old) }
+    ensures reads { ReadsLines (λ count. count) result lines.new (count_at lines.old) }
+    ensures no_memory { ¬ IsErrOf result TraceFault.Memory }
 {
     match read_stated_count(lines)? {
         Some(count) => Ok(u64::from(count)),

@@ -2,13 +2,11 @@
 //! output.
 ghost use Rattle.std.specs.Prelude.{◌≡◌, ◌++◌, ◌∷◌, [], codes, decimal, IfOk, OnOk, OnErr};
 ghost use Rattle.cosem_names.specs.ResultCode.{code_of};
-ghost use Rattle.disconnect_control.specs.Transitions.{state_number};
 ghost use Rattle.trace_lines.specs.Replies.{result_words, reply_row, line_text};
 ghost use Rattle.trace_words.specs.Writing.{data_word, words_after_blanks, all_words};
 
 use cosem_axdr::Data;
 use cosem_names::{GetResult, ResultCode};
-use disconnect_control::ControlState;
 use relay_events::{Line, Reply};
 use std::alloc::{AllocError, Global};
 use text_lines::{add_number, add_word, write_number};
@@ -120,17 +118,6 @@ fn add_reply(alloc: Global, out: &mut Vec<u8>, reply: &Reply) -> Result<(), Allo
     }
 }
 
-// Returns the number of a control state.
-fn state_number(state: ControlState) -> u64
-    ensures { result ≡ state_number state }
-{
-    match state {
-        ControlState::Disconnected => 0,
-        ControlState::Connected => 1,
-        ControlState::ReadyForReconnection => 2,
-    }
-}
-
 // The initial capacity of a line, in bytes. It suffices for most lines; a longer line is
 // reallocated.
 const USUAL_BYTES: usize = 64;
@@ -145,7 +132,7 @@ fn line_text(alloc: Global, number: u64, line: &Line) -> Result<Vec<u8>, AllocEr
     text.push(b':')?;
     add_reply(alloc, &mut text, &line.reply)?;
     text.extend_from_slice(b"; state ")?;
-    write_number(&mut text, state_number(line.state))?;
+    write_number(&mut text, u64::from(u8::from(line.state)))?;
     text.extend_from_slice(b"; supply ")?;
     let supply: &[u8] = if line.output { b"on" } else { b"off" };
     text.extend_from_slice(supply)?;

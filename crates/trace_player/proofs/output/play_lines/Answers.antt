@@ -14,7 +14,7 @@ play_held-played-requires-clause-within c =
     c.new-lines.result
     c.read_opening.new.lines c.read_stated_count-stated.new.lines
     c.requires c.new-lines.ensures c.as_slice.ensures.value c.in_ok-version.ensures.reads
-    c.in-Ok.ensures c.number-number.ensures c.rest.ensures in
+    c.in-Ok.ensures.reads c.number-number.ensures c.rest.ensures in
     held.within
 
 pub play_held-played-requires-clause-counted : goal.play_held-played-requires-clause-counted
@@ -24,7 +24,7 @@ play_held-played-requires-clause-counted c =
     c.new-lines.result
     c.read_opening.new.lines c.read_stated_count-stated.new.lines
     c.requires c.new-lines.ensures c.as_slice.ensures.value c.in_ok-version.ensures.reads
-    c.in-Ok.ensures c.number-number.ensures c.rest.ensures in
+    c.in-Ok.ensures.reads c.number-number.ensures c.rest.ensures in
     held.few
 
 pub returns-clause-ok : goal.returns-clause-ok
@@ -36,7 +36,7 @@ returns-clause-ok c =
           c.new-lines.result
           c.read_opening.new.lines c.read_stated_count-stated.new.lines
           c.requires c.new-lines.ensures c.as_slice.ensures.value c.in_ok-version.ensures.reads
-          w.in-Ok.ensures c.number-number.ensures c.rest.ensures in
+          w.in-Ok.ensures.reads c.number-number.ensures c.rest.ensures in
           rw w.played-is (subst (λ given. IfOk w.play_held-played.result
           (λ output. PlaysTrace given output.lines.items output.count)) held.is
           w.play_held-played.ensures.ok)
@@ -52,7 +52,7 @@ returns-clause-err c =
           c.new-lines.result
           c.read_opening.new.lines c.read_stated_count-stated.new.lines
           c.requires c.new-lines.ensures c.as_slice.ensures.value c.in_ok-version.ensures.reads
-          w.in-Ok.ensures c.number-number.ensures c.rest.ensures in
+          w.in-Ok.ensures.reads c.number-number.ensures c.rest.ensures in
           rw w.played-is (subst (λ given. IfErr w.play_held-played.result
           (λ fault. Fails trace_fault.Memory fault given)) held.is
           w.play_held-played.ensures.err)
@@ -60,5 +60,5 @@ returns-clause-err c =
           rw w.played-is (count_fails c.args.text.items c.as_slice.result.now
           c.in_ok-version.version c.in_ok-version.opening c.new-lines.result
           c.read_opening.new.lines w.in-Err.fault c.new-lines.ensures
-          c.as_slice.ensures.value c.in_ok-version.ensures.reads w.in-Err.ensures)
+          c.as_slice.ensures.value c.in_ok-version.ensures.reads w.in-Err.ensures.reads)
     ]
