@@ -547,6 +547,8 @@ CASES = [
      b"line 7: note: line 6 has the same address\n"
      b"line 8: expected `NAME ADDRESS VERB`: unexpected extra word\n"
      b"findings: 8\n" + FAULT_INPUT, 2),
+    ("where a letter begins as a byte order mark does", "head_end_cli", ["check", "--verbose"], b"\xEF\xBD\x8D1 127.0.0.1:4059 state\n", b"",
+     b"line 1: expected `NAME ADDRESS VERB`: NAME has the byte 0xEF, which is not visible ASCII\nfindings: 1\n" + FAULT_INPUT, 2),
     ("all findings without --verbose", "head_end_cli", ["check"], b"m1\t127.0.0.1:4059 state\r\n", b"", FAULT_INPUT, 2),
     ("where an address is too long", "head_end_cli", ["check", "--verbose"], b"m1 " + b"a" * 65 + b" state\n", b"",
      b"line 1: expected `NAME ADDRESS VERB`: ADDRESS has more than 64 bytes\nfindings: 1\n" + FAULT_INPUT, 2),

@@ -2,6 +2,7 @@
 //! may not see.
 use crate::messages::{LineFault, check_job_line};
 use crate::text_filter::TextFilter;
+use memchr::memchr;
 use text_lines::Words;
 use thiserror::Error;
 
@@ -61,12 +62,19 @@ fn report_bytes(rt: &HostRuntime, number: u64, line: &[u8]) -> u64 {
 // of lines written.
 fn report_words(rt: &HostRuntime, number: u64, line: &[u8]) -> u64 {
     match check_job_line(line) {
-        Ok(()) | Err(LineFault::Empty(_)) | Err(LineFault::Invisible(_, b'\r' | b'\t' | 0xEF)) => 0,
+        Ok(()) | Err(LineFault::Empty(_)) | Err(LineFault::Invisible(_, b'\r' | b'\t')) => 0,
+        Err(LineFault::Invisible(_, 0xEF)) if has_mark(line) => 0,
         Err(fault) => {
             let _ = eprintln!(rt; "line {number}: expected `NAME ADDRESS VERB`: {fault}");
             1
         }
     }
+}
+
+// Returns whether the first byte EF of a line begins a byte order mark.
+fn has_mark(line: &[u8]) -> bool {
+    let from_first = memchr(0xEF, line).and_then(|place| line.get(place..));
+    from_first.is_some_and(|rest| rest.starts_with(MARK))
 }
 
 // Returns the finding that begins at a place of a line, if there is one.
