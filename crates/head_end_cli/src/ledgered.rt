@@ -4,6 +4,7 @@ ghost use Rattle.std.specs.Io.KnownBytes.{Appends};
 ghost use Rattle.sqlite.specs.WalFiles.{image_at};
 ghost use Rattle.clap.specs.Matches.{found_of};
 ghost use Rattle.head_end_cli.specs.Ledgered.{PrintsRun, PrintsTexts};
+ghost use Rattle.head_end_commands.specs.Lists.{AreJobsOf};
 ghost use Rattle.head_end_commands.specs.Options.{AreLimits, AreWorkers};
 ghost use Rattle.head_end_commands.specs.Passwords.{HasPasswords};
 
@@ -17,7 +18,7 @@ use program::{Fault, print_text};
 use sqlite::{FileFrom, Start};
 use sqlite_disk::Disk;
 use sqlite_ledger::LedgerOpenFault;
-use std::io::Write;
+use std::io::{Read, Write};
 use std::sync::Wait;
 use std::thread::Threads;
 
@@ -30,13 +31,15 @@ pub(crate) struct LedgeredCampaign {
     pub(crate) path: String,
 }
 
-// Validates the options and reads the jobs on standard input, and then the passwords of the jobs.
-// If `--verbose` is given, a line on standard error describes the fault.
-pub(crate) fn plan_ledgered(
+// Validates the options and reads the jobs of the list in an input, and then the passwords of the
+// jobs. If `--verbose` is given, a line on standard error describes the fault.
+pub(crate) fn plan_ledgered<I: Read + Drop>(
     rt: &HostRuntime,
     matches: &ArgMatches<'_>,
     path: &str,
+    input: I,
 ) -> Result<LedgeredCampaign, Fault>
+    ensures jobs { IfOk result (λ plan. AreJobsOf (I.remaining input) plan.campaign.jobs) }
     ensures limits { IfOk result (λ plan. AreLimits (found_of matches.now) plan.campaign.limits) }
     ensures workers { IfOk result (λ plan. AreWorkers (found_of matches.now)
         plan.campaign.workers) }
@@ -47,7 +50,7 @@ pub(crate) fn plan_ledgered(
     let Ok(path) = String::from_str(rt.alloc(), path) else {
         return Err(Fault::Memory);
     };
-    match plan_campaign(rt, matches) {
+    match plan_campaign(rt, matches, input) {
         Ok(campaign) => Ok(LedgeredCampaign { campaign, path }),
         Err(fault) => {
             drop(path);

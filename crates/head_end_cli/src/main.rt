@@ -41,8 +41,8 @@ enum HeadEndCommand {
 // Prepares the campaign of `run`, on its ledger if the option `--ledger` names one.
 fn begin_run(rt: &HostRuntime, matches: &ArgMatches<'_>) -> Result<HeadEndCommand, Fault> {
     match matches.get_str("ledger") {
-        Some(path) => Ok(HeadEndCommand::Ledgered(plan_ledgered(rt, matches, path)?)),
-        None => Ok(HeadEndCommand::Campaign(plan_campaign(rt, matches)?)),
+        Some(path) => Ok(HeadEndCommand::Ledgered(plan_ledgered(rt, matches, path, rt.stdin())?)),
+        None => Ok(HeadEndCommand::Campaign(plan_campaign(rt, matches, rt.stdin())?)),
     }
 }
 

@@ -1,5 +1,7 @@
--- What the contracts of the command line of `head_end` refer to: its options, passwords and faults.
+-- What the contracts of the command line of `head_end` refer to: its lists of jobs,
+-- options, passwords and faults.
 pub mod Counted
 pub mod Faults
+pub mod Lists
 pub mod Options
 pub mod Passwords

@@ -1,6 +1,8 @@
 //! `check`, and the list of jobs on standard input.
-ghost use Rattle.std.specs.Prelude.{OnOk};
+ghost use Rattle.std.specs.Prelude.{◌≡◌, IfErr, IfOk, OnOk};
 ghost use Rattle.head_end_commands.specs.Counted.{PrintsCount};
+ghost use Rattle.head_end_commands.specs.Faults.{jobs_fault};
+ghost use Rattle.head_end_commands.specs.Lists.{AreJobsOf, HasNoList, IsTextOf};
 
 use crate::findings::report_findings;
 use crate::messages::{ListFault, input_fault, jobs_fault};
@@ -13,9 +15,13 @@ use std::io::{Read, Write};
 // The maximum number of bytes of a list of jobs.
 const MAX_INPUT: usize = 1_048_576;
 
-// Reads the text on standard input. On an error, if `is_verbose`, writes a line on standard error
+// Reads the whole text of an input. On an error, if `is_verbose`, writes a line on standard error
 // that says where and why.
-fn text_of<I: Read + Drop>(rt: &HostRuntime, input: I, is_verbose: bool) -> Result<Vec<u8>, Fault> {
+#[tactic(auto, using(crate::proofs::Inputs::whole_text, crate::proofs::Inputs::too_long))]
+fn text_of<I: Read + Drop>(rt: &HostRuntime, input: I, is_verbose: bool) -> Result<Vec<u8>, Fault>
+    ensures text { IfOk result (λ text. IsTextOf (I.remaining input) text.items) }
+    ensures err { IfErr result (λ fault. fault ≡ Fault.Input → HasNoList (I.remaining input)) }
+{
     let mut reader = Counted::new(input);
     match read_to_end_within(rt.alloc(), &mut reader, MAX_INPUT) {
         Ok(text) => Ok(text),
@@ -30,19 +36,25 @@ fn text_of<I: Read + Drop>(rt: &HostRuntime, input: I, is_verbose: bool) -> Resu
 
 // Returns the fault of a text that is not a list of jobs. If `is_verbose`, writes a line on
 // standard error that says where and why.
-fn report_list_fault(rt: &HostRuntime, text: &[u8], fault: JobsFault, is_verbose: bool) -> Fault {
+fn report_list_fault(rt: &HostRuntime, text: &[u8], fault: JobsFault, is_verbose: bool) -> Fault
+    ensures { result ≡ jobs_fault fault }
+{
     if is_verbose {
         let _ = eprintln!(rt; "{}", ListFault::from_jobs(text, fault));
     }
     jobs_fault(fault)
 }
 
-// Reads the jobs on standard input, and writes the warnings about them.
+// Reads the jobs of the list in an input, and writes the warnings about them.
+#[tactic(auto, using(crate::proofs::Inputs::no_list))]
 pub(crate) fn load_jobs<I: Read + Drop>(
     rt: &HostRuntime,
     input: I,
     is_verbose: bool,
-) -> Result<Jobs, Fault> {
+) -> Result<Jobs, Fault>
+    ensures jobs { IfOk result (AreJobsOf (I.remaining input)) }
+    ensures err { IfErr result (λ fault. fault ≡ Fault.Input → HasNoList (I.remaining input)) }
+{
     let text = text_of(rt, input, is_verbose)?;
     match read_jobs(rt.alloc(), text.as_slice()) {
         Ok(jobs) => {
@@ -63,7 +75,9 @@ fn warn_of_text(rt: &HostRuntime, text: &[u8]) {
 
 // Returns the fault of a text that `check` read and that is not a list of jobs. If `is_verbose`,
 // writes all findings in its lines on standard error.
-fn report_check_fault(rt: &HostRuntime, text: &[u8], fault: JobsFault, is_verbose: bool) -> Fault {
+fn report_check_fault(rt: &HostRuntime, text: &[u8], fault: JobsFault, is_verbose: bool) -> Fault
+    ensures { result ≡ jobs_fault fault }
+{
     if is_verbose && matches!(fault, JobsFault::Line(_)) {
         report_findings(rt, text);
         return jobs_fault(fault);
@@ -71,16 +85,20 @@ fn report_check_fault(rt: &HostRuntime, text: &[u8], fault: JobsFault, is_verbos
     report_list_fault(rt, text, fault, is_verbose)
 }
 
-/// Runs `check`: prints the number of jobs of a list, and writes the warnings about them on
-/// standard error. If `is_verbose`, a list that is wrong has all its findings reported there.
+/// Runs `check`: prints the number of jobs of the list in an input, and writes the warnings about
+/// them on standard error. If `is_verbose`, a list that is wrong has all its findings reported
+/// there.
 /// Errors: `Input` if it is no list of jobs, `Read`, `Write`, `Memory`.
+#[tactic(auto, using(crate::proofs::Inputs::no_list))]
 pub fn check<I: Read + Drop, W: Write>(
     rt: &HostRuntime,
     input: I,
     is_verbose: bool,
     output: &mut W,
 ) -> Result<(), Fault>
-    ensures { OnOk result (PrintsCount (W.contents output.old) (W.contents output.new)) }
+    ensures printed { OnOk result (PrintsCount (I.remaining input) (W.contents output.old)
+        (W.contents output.new)) }
+    ensures err { IfErr result (λ fault. fault ≡ Fault.Input → HasNoList (I.remaining input)) }
 {
     let text = text_of(rt, input, is_verbose)?;
     warn_of_text(rt, text.as_slice());

@@ -1,11 +1,12 @@
 //! `plan_campaign` and `plan_jobs`: what a campaign starts with: its options, and its jobs, which
-//! are those on standard input or are given.
+//! are those of the list in an input or are given.
 ghost use Rattle.std.specs.Prelude.{◌≡◌, ◌≤◌, ℕ, List, Some, codes, length, string_bytes};
 ghost use Rattle.std.specs.Prelude.{IfOk, IfSome};
 ghost use Rattle.std.specs.List.{All};
 ghost use Rattle.acse_ber.specs.Password.{IsPassword};
 ghost use Rattle.clap.specs.Matches.{first_value, found_of};
 ghost use Rattle.program.specs.Passwords.{HasNoLineEnd};
+ghost use Rattle.head_end_commands.specs.Lists.{AreJobsOf};
 ghost use Rattle.head_end_commands.specs.Options.{AreLimits, AreWorkers, IsLimit, IsNumber};
 ghost use Rattle.head_end_commands.specs.Passwords.{ArePasswords, HasPasswords, IsCommonPassword};
 
@@ -19,7 +20,7 @@ use program::{Fault, read_password_file};
 use std::alloc::Global;
 use std::env;
 use std::env::VarError;
-use std::io::IsTerminal;
+use std::io::{IsTerminal, Read};
 use std::time::Duration;
 use wire_bytes::Listed;
 
@@ -241,14 +242,19 @@ pub fn plan_jobs(
     }
 }
 
-/// Validates the options and reads the jobs on standard input, and then the passwords of the jobs.
-/// Writes the warnings about the jobs on standard error. If `--verbose` is given, a line there
-/// describes the fault.
+/// Validates the options and reads the jobs of the list in an input, and then the passwords of the
+/// jobs. Writes the warnings about the jobs on standard error. If `--verbose` is given, a line
+/// there describes the fault.
 ///
 /// Errors: first those of the common password, then those of the list of jobs (`Input` if it is not
 /// one, `Read`, `Memory`), then those of the file of `--passwords`; [`plan_jobs`] lists the first
 /// and the last.
-pub fn plan_campaign(rt: &HostRuntime, matches: &ArgMatches<'_>) -> Result<CampaignPlan, Fault>
+pub fn plan_campaign<I: Read + Drop>(
+    rt: &HostRuntime,
+    matches: &ArgMatches<'_>,
+    input: I,
+) -> Result<CampaignPlan, Fault>
+    ensures jobs { IfOk result (λ plan. AreJobsOf (I.remaining input) plan.jobs) }
     ensures limits { IfOk result (λ plan. AreLimits (found_of matches.now) plan.limits) }
     ensures workers { IfOk result (λ plan. AreWorkers (found_of matches.now) plan.workers) }
     ensures passwords { IfOk result (λ plan. HasPasswords (found_of matches.now) plan.jobs
@@ -256,7 +262,7 @@ pub fn plan_campaign(rt: &HostRuntime, matches: &ArgMatches<'_>) -> Result<Campa
 {
     let is_verbose = matches.get_flag("verbose");
     let common = common_password(rt, matches, is_verbose)?;
-    let jobs = load_jobs(rt, rt.stdin(), is_verbose)?;
+    let jobs = load_jobs(rt, input, is_verbose)?;
     let planned = plan_with(rt, matches, jobs, &common);
     drop(common);
     planned

@@ -1,0 +1,46 @@
+-- What a text that was read, or a fault, says of the whole input.
+use Rattle.std.proofs.Common.{◌≡◌, ◌<◌, ◌∙◌, ℕ, List, [], length, Option, Some, None, Err, inl, inr, refl, sym, ap, arith}
+use Rattle.std.specs.Io.KnownBytes.{Consumes, IsAtEnd}
+use Rattle.std.proofs.KnownBytes.{Consumes-all}
+use Rattle.std.proofs.lemmas.List.{length-append}
+use Rattle.counted_io.specs.Input.{StopsReading}
+use Rattle.counted_io.specs.declared.fault.InputFault.{InputFault}
+use Rattle.counted_io.specs.declared.fault.InputFault.TheVariants as input
+use Rattle.head_end.specs.Jobs.{ReadsJobs, jobs_of}
+use Rattle.head_end.specs.declared.fault.JobsFault.{JobsFault}
+use Rattle.head_end.specs.declared.fault.JobsFault.TheVariants as jobs
+use Rattle.program.specs.declared.fault.Fault.TheVariants as program
+use Rattle.head_end_commands.specs.Faults.{input_fault, jobs_fault}
+use Rattle.head_end_commands.specs.Lists.{HasNoList, IsTextOf}
+
+-- a text that was read from an input that then has no byte left is the whole input
+pub whole_text : (before after : Option (List ℕ)) (text : List ℕ) → Consumes before after text
+    → IsAtEnd after → IsTextOf before text
+whole_text before after text read ended = Consumes-all before after text [] text read ended refl
+
+-- an input of which more bytes were read than the limit has more
+longer : (before after : Option (List ℕ)) (bytes : List ℕ) → Consumes before after bytes
+    → 1_048_576 < length bytes → HasNoList before
+longer None after bytes read long = tt
+longer (Some whole) None bytes read long = absurd read
+longer (Some whole) (Some rest) bytes read long =
+    inl (rw read (let both = length-append bytes rest in omega (arith, long, both)))
+
+-- the fault of an input that was not read is `Input` only if the input is too long
+pub too_long : (before after : Option (List ℕ)) (failed failed' : ℕ) (fault : InputFault)
+    → StopsReading 1_048_576 before failed fault after failed'
+    → input_fault fault ≡ program.Input → HasNoList before
+too_long before after failed failed' input.TooLong stops is =
+    longer before after stops.bytes stops.read stops.cause
+too_long before after failed failed' input.Read stops is = absurd cc
+too_long before after failed failed' input.Memory stops is = absurd cc
+
+-- the fault of the whole input is `Input` only if it is not a list of jobs
+pub no_list : (input : Option (List ℕ)) (text : List ℕ) (fault : JobsFault) → IsTextOf input text
+    → ReadsJobs text (Err fault) → jobs_fault fault ≡ program.Input → HasNoList input
+no_list None text fault of reads is = tt
+no_list (Some whole) text (jobs.Line number) of reads is =
+    inr (let same : jobs_of whole ≡ Err (jobs.Line number) = ap jobs_of (sym of) ∙ reads in rw same refl)
+no_list (Some whole) text jobs.TooMany of reads is =
+    inr (let same : jobs_of whole ≡ Err jobs.TooMany = ap jobs_of (sym of) ∙ reads in rw same refl)
+no_list (Some whole) text jobs.Memory of reads is = absurd cc
