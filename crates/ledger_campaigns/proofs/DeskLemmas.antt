@@ -1,6 +1,6 @@
 -- A ledger after one more call.
 use Rattle.std.proofs.Common.{rules, ◌≡◌, ℕ, List, [], ◌∷◌, ◌++◌, refl, ap, sym, ◌∙◌, inl, inr}
-use Rattle.std.specs.Prelude.{Option, Result, IfOk, OnOk, OnSome}
+use Rattle.std.specs.Prelude.{Option, Result, IfOk, IfSome, OnOk, OnSome}
 use Rattle.turn_lock.specs.declared.known.Known.{Known}
 use Rattle.turn_lock.specs.History.{entry}
 use Rattle.turn_lock.specs.Calls.{Called}
@@ -17,6 +17,7 @@ use Rattle.ledger_campaigns.specs.declared.request.LedgerAnswer.TheVariants.{Rec
 use Rattle.ledger_campaigns.specs.Desks.{LedgerCall, LedgerCalls, DeskState, IsAnswer, AreAnswered}
 use Rattle.ledger_campaigns.specs.Desks.{permit_result, stored_result, EndsStored, permits_of}
 use Rattle.ledger_campaigns.specs.Desks.{permits_given, IsLegalHistory, Stands}
+use Rattle.ledger_campaigns.specs.Desks.{ledger_after, last_ledger}
 
 -- a place of the second of two lists
 pub in_second : (place : ℕ) (xs ys : List ℕ) → IsIn place ys → IsIn place (xs ++ ys)
@@ -45,44 +46,70 @@ module _ {B : Type 0} where
       ∙ search rules
 
 module _ {B : Type 0} (is_honest : B → Type 0) (is_marked : B → ℕ → Type 0) where
-  answered_more : (calls : LedgerCalls B) (call : LedgerCall B)
-      → AreAnswered is_honest is_marked calls → IsAnswer is_honest is_marked call.event call.reply
-      → AreAnswered is_honest is_marked (calls ++ call ∷ [])
-  answered_more [] call all is = (is, tt)
-  answered_more (first ∷ calls) call (head, tail) is =
-      (head, answered_more calls call tail is)
+  answered_more : (before : LedgerState B) (calls : LedgerCalls B) (call : LedgerCall B)
+      → AreAnswered is_honest is_marked before calls
+      → IsAnswer is_honest is_marked (last_ledger before calls) call.event call.reply
+      → AreAnswered is_honest is_marked before (calls ++ call ∷ [])
+  answered_more before [] call all is = (is, tt)
+  answered_more before (first ∷ calls) call (head, tail) is =
+      (head, answered_more (ledger_after first.reply) calls call tail is)
+
+  -- the ledger after one more call
+  last_more : (before : LedgerState B) (calls : LedgerCalls B) (call : LedgerCall B)
+      → last_ledger before (calls ++ call ∷ []) ≡ ledger_after call.reply
+  last_more before [] call = refl
+  last_more before (first ∷ calls) call = last_more (ledger_after first.reply) calls call
 
   -- a ledger that results from calls, and then answers one more
   pub stands_more : (old new : DeskState B) (calls : LedgerCalls B)
       (by : List ℕ) (request : LedgerRequest) (answer : LedgerAnswer B)
-      → new.start ≡ old.start → IsAnswer is_honest is_marked request answer
+      → new.start ≡ old.start → IsAnswer is_honest is_marked old.ledger request answer
+      → ledger_after answer ≡ new.ledger
       → Grants is_honest is_marked old.ledger new.ledger (permits_of answer)
       → Stands is_honest is_marked old calls
       → Stands is_honest is_marked new (calls ++ entry by request answer ∷ [])
-  stands_more old new calls by request answer same is grants stands = record {
-    answers = answered_more calls (entry by request answer) stands.answers is;
+  stands_more old new calls by request answer same is now grants stands = record {
+    answers = rw same (answered_more old.start calls (entry by request answer) stands.answers
+        (rw (← stands.last_is) is));
+    last_is = sym (last_more new.start calls (entry by request answer) ∙ now);
     grants = rw (same, given_more calls by request answer)
         (both is_honest is_marked old.start old.ledger new.ledger (permits_given calls)
         (permits_of answer) stands.grants grants);
   }
 
   -- the last call of answered calls has an answer that its request may have
-  answered_last : (before : LedgerCalls B) (call : LedgerCall B)
-      → AreAnswered is_honest is_marked (before ++ call ∷ [])
-      → IsAnswer is_honest is_marked call.event call.reply
-  answered_last [] call all = all.0
-  answered_last (first ∷ before) call all = answered_last before call all.1
+  answered_last : (start : LedgerState B) (before : LedgerCalls B) (call : LedgerCall B)
+      → AreAnswered is_honest is_marked start (before ++ call ∷ [])
+      → IsAnswer is_honest is_marked (last_ledger start before) call.event call.reply
+  answered_last start [] call all = all.0
+  answered_last start (first ∷ before) call all =
+      answered_last (ledger_after first.reply) before call all.1
 
-  place_given : (by : List ℕ) (before : LedgerCalls B) (place : ℕ)
-      (answer : LedgerAnswer B) → IsAnswer is_honest is_marked (Begin place) answer
+  place_given : (was : LedgerState B) (by : List ℕ) (before : LedgerCalls B) (place : ℕ)
+      (answer : LedgerAnswer B) → IsAnswer is_honest is_marked was (Begin place) answer
       → IfOk (permit_result answer) (λ given. OnSome given (IsIn place (permits_given (before
       ++ entry by (Begin place) answer ∷ []))))
-  place_given by before place (Given permit book) is =
-      rw (given_more before by (Begin place) (Given permit book))
+  place_given was by before place (Given permit ledger) is =
+      rw (given_more before by (Begin place) (Given permit ledger))
       (in_second place (permits_given before) (permit ∷ []) (inl (sym is.0)))
-  place_given by before place Refused is = tt
-  place_given by before place Recorded is = tt
-  place_given by before place (Failed fault) is = tt
+  place_given was by before place (Refused ledger) is = tt
+  place_given was by before place (Recorded ledger) is = tt
+  place_given was by before place (Failed fault ledger) is = tt
+
+  -- the answer to a port's question for a permit is one that the question may have
+  answer_is : (before after : Known LedgerRequest (LedgerAnswer B) (LedgerState B)) (place : ℕ)
+      (answer : LedgerAnswer B)
+      → (called : Called (IsLegalHistory is_honest is_marked) before (Begin place) answer after)
+      → IsAnswer is_honest is_marked
+      (last_ledger called.lawful.origin (before.seen ++ called.seen.0)) (Begin place) answer
+  answer_is before after place answer called =
+      let seen = called.seen.1 in
+      let lawful = called.lawful in
+      let answers : AreAnswered is_honest is_marked lawful.origin ((before.seen ++ called.seen.0)
+      ++ entry before.number (Begin place) answer ∷ []) =
+      rw (← seen) lawful.legal_history.answers in
+      answered_last lawful.origin (before.seen ++ called.seen.0)
+      (entry before.number (Begin place) answer) answers
 
   -- a permit that a port was given is one of those that it has seen given
   pub asked : (before after : Known LedgerRequest (LedgerAnswer B) (LedgerState B)) (place : ℕ)
@@ -91,23 +118,36 @@ module _ {B : Type 0} (is_honest : B → Type 0) (is_marked : B → ℕ → Type
       → Called (IsLegalHistory is_honest is_marked) before (Begin place) answer after
       → IfOk result (λ given. OnSome given (IsIn place (permits_given after.seen)))
   asked before after place answer result is called =
-      let seen = called.seen.1 in
-      let lawful = called.lawful in
-      let answers : AreAnswered is_honest is_marked ((before.seen ++ called.seen.0)
-      ++ entry before.number (Begin place) answer ∷ []) =
-      rw (← seen) lawful.legal_history.answers in
-      rw (is, seen) (place_given before.number (before.seen ++ called.seen.0) place answer
-      (answered_last (before.seen ++ called.seen.0) (entry before.number (Begin place) answer)
-      answers))
+      rw (is, called.seen.1) (place_given
+      (last_ledger called.lawful.origin (before.seen ++ called.seen.0)) before.number
+      (before.seen ++ called.seen.0) place answer (answer_is before after place answer called))
+
+  place_of : (was : LedgerState B) (place : ℕ) (answer : LedgerAnswer B)
+      → IsAnswer is_honest is_marked was (Begin place) answer
+      → IfOk (permit_result answer) (λ given. IfSome given (λ permit. permit ≡ place))
+  place_of was place (Given permit ledger) is = is.0
+  place_of was place (Refused ledger) is = tt
+  place_of was place (Recorded ledger) is = tt
+  place_of was place (Failed fault ledger) is = tt
+
+  -- a permit that a port was given is for the place that it asked for
+  pub asked_place : (before after : Known LedgerRequest (LedgerAnswer B) (LedgerState B))
+      (place : ℕ) (answer : LedgerAnswer B) (result : Result (Option ℕ) LedgerFault)
+      → result ≡ permit_result answer
+      → Called (IsLegalHistory is_honest is_marked) before (Begin place) answer after
+      → IfOk result (λ given. IfSome given (λ permit. permit ≡ place))
+  asked_place before after place answer result is called =
+      rw is (place_of (last_ledger called.lawful.origin (before.seen ++ called.seen.0)) place answer
+      (answer_is before after place answer called))
 
   stored_by : (before : LedgerCalls B) (by : List ℕ) (place : ℕ)
       (outcome : Outcome) (answer : LedgerAnswer B)
       → OnOk (stored_result answer) (EndsStored place outcome (before
       ++ entry by (Record place outcome) answer ∷ []))
-  stored_by before by place outcome (Given permit book) = tt
-  stored_by before by place outcome Refused = tt
-  stored_by before by place outcome Recorded = (before, by, refl)
-  stored_by before by place outcome (Failed fault) = tt
+  stored_by before by place outcome (Given permit ledger) = tt
+  stored_by before by place outcome (Refused ledger) = tt
+  stored_by before by place outcome (Recorded ledger) = (before, by, ledger, refl)
+  stored_by before by place outcome (Failed fault ledger) = tt
 
   -- an outcome that was stored
   pub reported : (before after : Known LedgerRequest (LedgerAnswer B) (LedgerState B)) (place : ℕ)

@@ -1,26 +1,28 @@
 -- The histories of requests to a shared ledger.
 --     DeskState         the view that contracts have of a shared ledger
 --     LedgerCalls       the calls on a shared ledger
---     IsAnswer          an answer that a request may have
+--     ledger_after      the ledger after a call, and last_ledger after many
+--     IsAnswer          an answer that a request may have, and AreAnswered of many
 --     permit_result     the answer to the question for a permit
 --     stored_result     the answer to a request to store an outcome
 --     EndsStored        the last of the calls stored an outcome
+--     HasAsked          the last call of a port, and its result
 --     IsAskedToStore    the ledger was asked to store an outcome
 --     permits_of        the places of the permits that an answer gives, and permits_given of all
 --                       calls
 --     IsLegalHistory    the calls of a ledger that had this state at the start
 --     Stands            a ledger that results from these calls
-use Rattle.std.specs.Prelude.{◌≡◌, ◌⊎◌, ℕ, ◌≤◌, List, [], ◌∷◌, ◌++◌, Option, Some, None, Result, Ok}
-use Rattle.std.specs.Prelude.{Err, ⊤}
-use Rattle.std.specs.List.{AllByRecursion}
+use Rattle.std.specs.Prelude.{◌≡◌, ◌⊎◌, ℕ, ◌≤◌, List, [], ◌∷◌, ◌++◌, length, Option, Some, None}
+use Rattle.std.specs.Prelude.{Result, Ok, Err, IsTrue, ⊤}
+use Rattle.std.specs.declared.snapshot.Snapshot.{Snapshot}
 use Rattle.turn_lock.specs.declared.turned.Entry.{Entry}
-use Rattle.campaign_ledger.specs.declared.entry.LedgerEntry.TheVariants.{NotSent}
+use Rattle.campaign_ledger.specs.declared.entry.LedgerEntry.TheVariants.{NotSent, Came}
 use Rattle.turn_lock.specs.History.{entry}
 use Rattle.turn_lock.specs.Shown.{ShownPort}
 use Rattle.client_core.specs.declared.job.Outcome.{Outcome}
 use Rattle.campaign_ledger.specs.declared.fault.LedgerFault.{LedgerFault}
 use Rattle.campaign_ledger.specs.declared.fault.LedgerFault.TheVariants as fault
-use Rattle.campaign_ledger.specs.Entries.{entry_at}
+use Rattle.campaign_ledger.specs.Entries.{HasGone, entry_at}
 use Rattle.campaign_ledger.specs.Grants.{LedgerState, Grants}
 use Rattle.campaign_ledger.specs.Runs.{IsIn, AreApart}
 use Rattle.ledger_campaigns.specs.declared.request.LedgerRequest.{LedgerRequest}
@@ -43,31 +45,44 @@ abbrev pub LedgerCalls : Type 0 → Type 0
 LedgerCalls B = List (LedgerCall B)
 
 module _ {B : Type 0} where
+  -- the ledger after a call, as its answer shows it
+  abbrev pub ledger_after : LedgerAnswer B → LedgerState B
+  ledger_after (Given permit ledger) = ledger.value
+  ledger_after (Refused ledger) = ledger.value
+  ledger_after (Recorded ledger) = ledger.value
+  ledger_after (Failed fault ledger) = ledger.value
+
+  -- the ledger after these calls on one that had this state
+  abbrev pub last_ledger : LedgerState B → LedgerCalls B → LedgerState B
+  last_ledger start [] = start
+  last_ledger start (call ∷ calls) = last_ledger (ledger_after call.reply) calls
+
   -- the places of the permits that an answer gives
   abbrev pub permits_of : LedgerAnswer B → List ℕ
-  permits_of (Given permit book) = permit ∷ []
-  permits_of Refused = []
-  permits_of Recorded = []
-  permits_of (Failed fault) = []
+  permits_of (Given permit ledger) = permit ∷ []
+  permits_of (Refused ledger) = []
+  permits_of (Recorded ledger) = []
+  permits_of (Failed fault ledger) = []
 
   -- the answer to the question for a permit
   abbrev pub permit_result : LedgerAnswer B → Result (Option ℕ) LedgerFault
-  permit_result (Given permit book) = Ok (Some permit)
-  permit_result Refused = Ok None
-  permit_result Recorded = Ok None
-  permit_result (Failed fault) = Err fault
+  permit_result (Given permit ledger) = Ok (Some permit)
+  permit_result (Refused ledger) = Ok None
+  permit_result (Recorded ledger) = Ok None
+  permit_result (Failed fault ledger) = Err fault
 
   -- the answer to a request to store an outcome
   abbrev pub stored_result : LedgerAnswer B → Result (Unit {0}) LedgerFault
-  stored_result (Given permit book) = Err fault.Failed
-  stored_result Refused = Err fault.Failed
-  stored_result Recorded = Ok tt
-  stored_result (Failed fault) = Err fault
+  stored_result (Given permit ledger) = Err fault.Failed
+  stored_result (Refused ledger) = Err fault.Failed
+  stored_result (Recorded ledger) = Ok tt
+  stored_result (Failed fault ledger) = Err fault
 
   -- the last of the calls stored this outcome of a place
   abbrev pub EndsStored : ℕ → Outcome → LedgerCalls B → Type 0
   EndsStored place outcome calls = (before : LedgerCalls B) × (by : List ℕ)
-      × (calls ≡ before ++ entry by (Record place outcome) Recorded ∷ [])
+      × (ledger : Snapshot (LedgerState B))
+      × (calls ≡ before ++ entry by (Record place outcome) (Recorded ledger) ∷ [])
 
   -- whether one of the calls has this request
   abbrev pub HasRequest : LedgerRequest → LedgerCalls B → Type 0
@@ -81,39 +96,59 @@ module _ {B : Type 0} where
   IsAskedToStore place outcome port = HasRequest (Record place outcome) port.known.seen
       ⊎ (port.bound ≤ port.known.drawn)
 
+  -- Whether a port has made a call with this request, the last one that it has seen, and returned
+  -- the result of its answer; or all turns were drawn, and the port returned `Failed`.
+  abbrev pub HasAsked : {A O : Type 0} → LedgerRequest → (LedgerAnswer B → Result A LedgerFault)
+      → Result A LedgerFault → ShownPort LedgerRequest (LedgerAnswer B) O
+      → ShownPort LedgerRequest (LedgerAnswer B) O → Type 0
+  HasAsked request result_of result old new = ((between : LedgerCalls B) × (answer : LedgerAnswer B)
+      × (new.known.seen ≡ (old.known.seen ++ between)
+      ++ entry old.known.number request answer ∷ []) × (result ≡ result_of answer))
+      ⊎ ((new.bound ≤ new.known.drawn) × (result ≡ Err fault.Failed))
+
   -- the places of the permits that calls gave, in order
   abbrev pub permits_given : LedgerCalls B → List ℕ
   permits_given [] = []
   permits_given (call ∷ calls) = permits_of call.reply ++ permits_given calls
 
 module _ {B : Type 0} (is_honest : B → Type 0) (is_marked : B → ℕ → Type 0) where
-  -- whether a request may have this answer. A permit is for the place that was asked for, which is
-  -- marked in the book as it then was, if that was honest
-  abbrev pub IsAnswer : LedgerRequest → LedgerAnswer B → Type 0
-  IsAnswer (Begin place) (Given permit book) = (permit ≡ place)
-      × (is_honest book.value → is_marked book.value place)
-  IsAnswer (Record place outcome) (Given permit book) = ⊥
-  IsAnswer request Refused = ⊤
-  IsAnswer (Begin place) Recorded = ⊥
-  IsAnswer (Record place outcome) Recorded = ⊤
-  IsAnswer request (Failed fault) = ⊤
+  -- Whether a request may have this answer, if `before` is the ledger before the call. A permit is
+  -- for the place that was asked for, which is marked in the book after the call. It is refused
+  -- only if its command may have been sent, by its entry or by its mark in the book before the
+  -- call. What the book says holds if it was honest. An outcome that is stored is the entry of its
+  -- place, and it is refused only for a place that the campaign lacks.
+  abbrev pub IsAnswer : LedgerState B → LedgerRequest → LedgerAnswer B → Type 0
+  IsAnswer before (Begin place) (Given permit now) = (permit ≡ place)
+      × (is_honest now.value.book → is_marked now.value.book place)
+  IsAnswer before (Begin place) (Refused now) = HasGone (entry_at now.value.entries place)
+      × (is_honest now.value.book → entry_at before.entries place ≡ NotSent
+      → is_marked before.book place)
+  IsAnswer before (Begin place) (Recorded now) = ⊥
+  IsAnswer before (Record place outcome) (Given permit now) = ⊥
+  IsAnswer before (Record place outcome) (Refused now) = length now.value.entries ≤ place
+  IsAnswer before (Record place outcome) (Recorded now) =
+      entry_at now.value.entries place ≡ Came outcome
+  IsAnswer before request (Failed fault now) = IsTrue now.value.has_failed
 
-  -- whether each call has an answer that its request may have
-  abbrev pub AreAnswered : LedgerCalls B → Type 0
-  AreAnswered calls = AllByRecursion (λ (call : LedgerCall B).
-      IsAnswer call.event call.reply) calls
+  -- whether each of these calls, made on a ledger that had this state, has an answer that its
+  -- request may have, by the ledger that the calls before it left
+  abbrev pub AreAnswered : LedgerState B → LedgerCalls B → Type 0
+  AreAnswered before [] = ⊤
+  AreAnswered before (call ∷ calls) = IsAnswer before call.event call.reply
+      × AreAnswered (ledger_after call.reply) calls
 
   -- Whether each call has an answer that its request may have. The calls gave each place at most
   -- one permit, and none to a place whose entry said at the start that its command may have been
   -- sent.
   pub record IsLegalHistory (start : LedgerState B) (calls : LedgerCalls B)
       : Type 0 where
-    pub answers : AreAnswered calls
+    pub answers : AreAnswered start calls
     pub apart : AreApart (permits_given calls)
     pub not_sent : (place : ℕ) → IsIn place (permits_given calls)
         → entry_at start.entries place ≡ NotSent
 
   -- whether the ledger results from these calls
   pub record Stands (desk : DeskState B) (calls : LedgerCalls B) : Type 0 where
-    pub answers : AreAnswered calls
+    pub answers : AreAnswered desk.start calls
+    pub last_is : desk.ledger ≡ last_ledger desk.start calls
     pub grants : Grants is_honest is_marked desk.start desk.ledger (permits_given calls)

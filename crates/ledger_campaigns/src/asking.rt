@@ -3,8 +3,9 @@ ghost use Rattle.std.specs.Prelude.{◌≡◌, IfOk, IfSome, OnOk, OnSome};
 ghost use Rattle.turn_lock.specs.History.{StartsWith};
 ghost use Rattle.turn_lock.specs.Shown.{IsSame};
 ghost use Rattle.campaign_ledger.specs.Runs.{IsIn};
+ghost use Rattle.ledger_campaigns.specs.declared.request.LedgerRequest.TheVariants.{Begin, Record};
 ghost use Rattle.ledger_campaigns.specs.Desks.{permit_result, permits_given, stored_result};
-ghost use Rattle.ledger_campaigns.specs.Desks.{EndsStored, IsAskedToStore};
+ghost use Rattle.ledger_campaigns.specs.Desks.{EndsStored, HasAsked, IsAskedToStore};
 
 use crate::desk::Desk;
 use crate::request::{LedgerAnswer, LedgerRequest};
@@ -30,6 +31,7 @@ pub fn ask_to_send<B: Book, W: Wait>(
     ensures permit { IfOk result (λ given. IfSome given (λ permit. permit ≡ place)) }
     ensures given { IfOk result (λ given. OnSome given
         (IsIn place (permits_given port.new.known.seen))) }
+    ensures last_call { HasAsked (Begin place) permit_result result port.old port.new }
 {
     match port.call(rt, alloc, LedgerRequest::Begin(place)) {
         Ok(answer) => permit_in(answer),
@@ -50,6 +52,7 @@ pub fn report_outcome<B: Book, W: Wait>(
     ensures seen { StartsWith port.new.known.seen port.old.known.seen }
     ensures stored { OnOk result (EndsStored place outcome port.new.known.seen) }
     ensures asked_to_store { IsAskedToStore place outcome port.new }
+    ensures last_call { HasAsked (Record place outcome) stored_result result port.old port.new }
 {
     match port.call(rt, alloc, LedgerRequest::Record(place, outcome)) {
         Ok(answer) => stored_result(answer),
@@ -62,10 +65,10 @@ fn stored_result<B: Book>(answer: LedgerAnswer<B>) -> Result<(), LedgerFault>
     ensures { result ≡ stored_result answer }
 {
     match answer {
-        LedgerAnswer::Given(_permit, _book) => Err(LedgerFault::Failed),
-        LedgerAnswer::Refused => Err(LedgerFault::Failed),
-        LedgerAnswer::Recorded => Ok(()),
-        LedgerAnswer::Failed(fault) => Err(fault),
+        LedgerAnswer::Given(_permit, _ledger) => Err(LedgerFault::Failed),
+        LedgerAnswer::Refused(_ledger) => Err(LedgerFault::Failed),
+        LedgerAnswer::Recorded(_ledger) => Ok(()),
+        LedgerAnswer::Failed(fault, _ledger) => Err(fault),
     }
 }
 
@@ -74,9 +77,9 @@ fn permit_in<B: Book>(answer: LedgerAnswer<B>) -> Result<Option<Permit>, LedgerF
     ensures { result ≡ permit_result answer }
 {
     match answer {
-        LedgerAnswer::Given(permit, _book) => Ok(Some(permit)),
-        LedgerAnswer::Refused => Ok(None),
-        LedgerAnswer::Recorded => Ok(None),
-        LedgerAnswer::Failed(fault) => Err(fault),
+        LedgerAnswer::Given(permit, _ledger) => Ok(Some(permit)),
+        LedgerAnswer::Refused(_ledger) => Ok(None),
+        LedgerAnswer::Recorded(_ledger) => Ok(None),
+        LedgerAnswer::Failed(fault, _ledger) => Err(fault),
     }
 }

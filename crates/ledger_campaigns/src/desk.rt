@@ -3,7 +3,7 @@ ghost use Rattle.std.specs.Prelude.{◌≡◌, [], ⊤, false};
 ghost use Rattle.campaign_ledger.specs.Grants.{Grants};
 ghost use Rattle.ledger_campaigns.specs.declared.request.LedgerRequest.TheVariants.{Begin, Record};
 ghost use Rattle.ledger_campaigns.specs.Desks.{DeskState, IsAnswer, IsLegalHistory, Stands};
-ghost use Rattle.ledger_campaigns.specs.Desks.{permits_of};
+ghost use Rattle.ledger_campaigns.specs.Desks.{ledger_after, permits_of};
 
 use crate::request::{LedgerAnswer, LedgerRequest};
 use campaign_ledger::{Book, Ledger};
@@ -50,37 +50,41 @@ impl<B: Book> Desk<B> {
     // Asks the ledger for the permit of a place.
     fn begin(&mut self, place: u32) -> LedgerAnswer<B>
         ensures start { self.new.start ≡ self.old.start }
-        ensures answer { IsAnswer B.is_honest B.is_marked (Begin place) result }
+        ensures answer { IsAnswer B.is_honest B.is_marked self.old.ledger (Begin place) result }
+        ensures now { ledger_after result ≡ self.new.ledger }
         ensures grants { Grants B.is_honest B.is_marked self.old.ledger self.new.ledger
             (permits_of result) }
     {
         match self.ledger.begin(place) {
-            Ok(Some(permit)) => LedgerAnswer::Given(permit, Snapshot::of(self.ledger.book())),
-            Ok(None) => LedgerAnswer::Refused,
-            Err(fault) => LedgerAnswer::Failed(fault),
+            Ok(Some(permit)) => LedgerAnswer::Given(permit, Snapshot::of(&self.ledger)),
+            Ok(None) => LedgerAnswer::Refused(Snapshot::of(&self.ledger)),
+            Err(fault) => LedgerAnswer::Failed(fault, Snapshot::of(&self.ledger)),
         }
     }
 
     // Stores the outcome of a place.
     fn record(&mut self, place: u32, outcome: Outcome) -> LedgerAnswer<B>
         ensures start { self.new.start ≡ self.old.start }
-        ensures answer { IsAnswer B.is_honest B.is_marked (Record place outcome) result }
+        ensures answer { IsAnswer B.is_honest B.is_marked self.old.ledger (Record place outcome)
+            result }
+        ensures now { ledger_after result ≡ self.new.ledger }
         ensures grants { Grants B.is_honest B.is_marked self.old.ledger self.new.ledger
             (permits_of result) }
     {
         if place as usize >= self.ledger.len() {
-            return LedgerAnswer::Refused;
+            return LedgerAnswer::Refused(Snapshot::of(&self.ledger));
         }
         match self.ledger.record(place, outcome) {
-            Ok(()) => LedgerAnswer::Recorded,
-            Err(fault) => LedgerAnswer::Failed(fault),
+            Ok(()) => LedgerAnswer::Recorded(Snapshot::of(&self.ledger)),
+            Err(fault) => LedgerAnswer::Failed(fault, Snapshot::of(&self.ledger)),
         }
     }
 
     // Answers a request of a worker: gives a permit, or stores an outcome.
     fn answer(&mut self, request: LedgerRequest) -> LedgerAnswer<B>
         ensures start { self.new.start ≡ self.old.start }
-        ensures answer { IsAnswer B.is_honest B.is_marked request result }
+        ensures answer { IsAnswer B.is_honest B.is_marked self.old.ledger request result }
+        ensures now { ledger_after result ≡ self.new.ledger }
         ensures grants { Grants B.is_honest B.is_marked self.old.ledger self.new.ledger
             (permits_of result) }
     {

@@ -29,7 +29,7 @@ pub use asking::{ask_to_send, report_outcome};
 pub use desk::Desk;
 pub use laws::questions_switch_nothing;
 pub use meter_answers::answers_of;
-pub use place::{LedgeredPlace, ledgered_places_for};
+pub use place::LedgeredPlace;
 pub use plan::LedgeredPlan;
 pub use request::{LedgerAnswer, LedgerRequest};
 pub use run::{LedgeredRun, run_ledgered_campaign};

@@ -21,9 +21,9 @@ pub struct LedgeredPlace<'a, C: Connector, B: Book> {
     pub port: Port<Desk<B>>,
 }
 
-/// Returns the places for a campaign of `jobs` jobs, each with an unused attempt and a port that is
-/// split off from this port.
-pub fn ledgered_places_for<'a, C: Connector, B: Book>(
+// Returns the places for a campaign of `jobs` jobs, each with an unused attempt and a port that is
+// split off from this port.
+pub(crate) fn ledgered_places_for<'a, C: Connector, B: Book>(
     alloc: Global,
     connector: &'a C,
     port: &mut Port<Desk<B>>,

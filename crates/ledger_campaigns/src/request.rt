@@ -1,5 +1,5 @@
 //! What is asked of a shared ledger, and its answers.
-use campaign_ledger::{LedgerFault, Permit};
+use campaign_ledger::{Book, Ledger, LedgerFault, Permit};
 use client_core::Outcome;
 use std::snapshot::Snapshot;
 
@@ -12,15 +12,17 @@ pub enum LedgerRequest {
     Record(u32, Outcome),
 }
 
-/// The answer of a shared ledger.
+/// The answer of a shared ledger, with the ledger after the request, for contracts only: a snapshot
+/// occupies no memory.
 #[derive(Drop)]
-pub enum LedgerAnswer<B> {
-    /// The permit, and the book as it then was, for contracts only: it occupies no memory.
-    Given(Permit, Snapshot<B>),
-    /// No permit: the command of the place may have been sent before.
-    Refused,
+pub enum LedgerAnswer<B: Book> {
+    /// The permit.
+    Given(Permit, Snapshot<Ledger<B>>),
+    /// No permit: the command of the place may have been sent before. Or no outcome is stored: the
+    /// campaign has no such place.
+    Refused(Snapshot<Ledger<B>>),
     /// The outcome is stored.
-    Recorded,
+    Recorded(Snapshot<Ledger<B>>),
     /// The ledger has failed.
-    Failed(LedgerFault),
+    Failed(LedgerFault, Snapshot<Ledger<B>>),
 }

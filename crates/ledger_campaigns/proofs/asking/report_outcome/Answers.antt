@@ -8,3 +8,11 @@ returns-in-Ok-clause-stored g c = reported g.B.Book.is_honest g.B.Book.is_marked
 
 pub returns-in-Ok-clause-asked_to_store : goal.returns-in-Ok-clause-asked_to_store
 returns-in-Ok-clause-asked_to_store g c = inl (_, [], _, c.in-Ok.answer, c.in-Ok.ensures.ok.seen.1)
+
+pub returns-in-Ok-clause-last_call : goal.returns-in-Ok-clause-last_call
+returns-in-Ok-clause-last_call g c = inl (
+  c.in-Ok.ensures.ok.seen.0,
+  c.in-Ok.answer,
+  c.in-Ok.ensures.ok.seen.1,
+  c.stored_result.ensures,
+)

@@ -1,4 +1,4 @@
-use Rattle.std.proofs.Common.{◌≡◌, ◌++◌, ℕ, length}
+use Rattle.std.proofs.Common.{◌≡◌, ◌++◌, length}
 use Rattle.ledger_campaigns.specs.AskedMeters.{answers_of}
 use Rattle.ledger_campaigns.proofs.meter_answers.answers_of.Given as goal
 

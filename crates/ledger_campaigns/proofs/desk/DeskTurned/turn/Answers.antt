@@ -5,4 +5,4 @@ pub returns-clause-ok : goal.returns-clause-ok
 returns-clause-ok g c = λ by calls stands. stands_more g.B.Book.is_honest g.B.Book.is_marked _ _
     calls
     by c.args.event c.answer.result c.answer.ensures.start c.answer.ensures.answer
-    c.answer.ensures.grants stands
+    c.answer.ensures.now c.answer.ensures.grants stands
