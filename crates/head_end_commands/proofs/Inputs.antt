@@ -1,5 +1,5 @@
 -- What a text that was read, or a fault, says of the whole input.
-use Rattle.std.proofs.Common.{◌≡◌, ◌<◌, ◌∙◌, ℕ, List, [], length, Option, Some, None, Err, inl, inr, refl, sym, ap, arith}
+use Rattle.std.proofs.Common.{◌≡◌, ◌<◌, ◌∙◌, ℕ, List, [], length, Option, Some, None, Err, IsErr, inl, inr, refl, sym, ap, arith}
 use Rattle.std.specs.Io.KnownBytes.{Consumes, IsAtEnd}
 use Rattle.std.proofs.KnownBytes.{Consumes-all}
 use Rattle.std.proofs.lemmas.List.{length-append}
@@ -35,12 +35,16 @@ too_long before after failed failed' input.TooLong stops is =
 too_long before after failed failed' input.Read stops is = absurd cc
 too_long before after failed failed' input.Memory stops is = absurd cc
 
+-- the same text has the same fault
+no_jobs : (whole text : List ℕ) (fault : JobsFault) → text ≡ whole → jobs_of text ≡ Err fault
+    → IsErr (jobs_of whole)
+no_jobs whole text fault same of =
+    let whole_of : jobs_of whole ≡ Err fault = ap jobs_of (sym same) ∙ of in rw whole_of refl
+
 -- the fault of the whole input is `Input` only if it is not a list of jobs
 pub no_list : (input : Option (List ℕ)) (text : List ℕ) (fault : JobsFault) → IsTextOf input text
     → ReadsJobs text (Err fault) → jobs_fault fault ≡ program.Input → HasNoList input
 no_list None text fault of reads is = tt
-no_list (Some whole) text (jobs.Line number) of reads is =
-    inr (let same : jobs_of whole ≡ Err (jobs.Line number) = ap jobs_of (sym of) ∙ reads in rw same refl)
-no_list (Some whole) text jobs.TooMany of reads is =
-    inr (let same : jobs_of whole ≡ Err jobs.TooMany = ap jobs_of (sym of) ∙ reads in rw same refl)
+no_list (Some whole) text (jobs.Line number) of reads is = inr (no_jobs whole text _ of reads)
+no_list (Some whole) text jobs.TooMany of reads is = inr (no_jobs whole text _ of reads)
 no_list (Some whole) text jobs.Memory of reads is = absurd cc
