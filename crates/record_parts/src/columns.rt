@@ -1,5 +1,5 @@
 //! Lines of comma-separated values.
-ghost use Rattle.std.specs.Prelude.{◌≡◌, ◌++◌, IfOk, OnOk, decimal, map, option_map};
+ghost use Rattle.std.specs.Prelude.{◌≡◌, ◌++◌, IfOk, OnOk, OnErr, decimal, map, option_map};
 ghost use Rattle.csv.specs.Writing.{default_writer, row_text};
 ghost use Rattle.record_parts.specs.Columns.{column};
 
@@ -7,10 +7,12 @@ use csv::WriterBuilder;
 use std::alloc::{AllocError, Global};
 use text_lines::write_number;
 
-/// Appends a line of these fields (RFC 4180). Fails only if out of memory.
+/// Appends a line of these fields (RFC 4180). Fails only if out of memory; then nothing is
+/// appended.
 pub fn write_row(alloc: Global, out: &mut Vec<u8>, fields: &[&[u8]]) -> Result<(), AllocError>
-    ensures { OnOk result (out.new.items ≡ out.old.items
+    ensures ok { OnOk result (out.new.items ≡ out.old.items
         ++ row_text default_writer (map (λ field. field.now) fields.now)) }
+    ensures err { OnErr result (out.new.items ≡ out.old.items) }
 {
     let mut writer = WriterBuilder::new().from_writer(Vec::new(alloc));
     if writer.write_fields(fields).is_err() {
