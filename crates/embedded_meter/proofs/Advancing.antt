@@ -28,6 +28,7 @@ advances_same old new r same = record {
   asks = same.asks;
   sends = same.sends;
   ends = same.ends;
+  ended = same.ended;
 }
 
 pub advances_none : (d : Dialogue) (r : Recording) → Advances d r [] d r
@@ -35,6 +36,7 @@ advances_none d r = advances_same d d r (record {
   asks = λ more. refl;
   sends = λ more replies. refl;
   ends = λ more. refl;
+  ended = refl;
 })
 
 -- some steps, followed by others
@@ -61,6 +63,7 @@ advances_on old d new r r' r'' given first then_ = record {
       ∙ first.sends more (replies_of then_.told ++ later)
       ∙ then_.sends more later;
   ends = λ more. first.ends more ∙ then_.ends more;
+  ended = then_.ended ∙ first.ended;
 }
 
 -- the meter applied the event that was requested
@@ -75,6 +78,7 @@ advances_asked s event reply r r' continues capacity = record {
   asks = λ more. refl;
   sends = λ more later. refl;
   ends = λ more. refl;
+  ended = refl;
 }
 
 -- the pending frame was returned
@@ -89,6 +93,7 @@ advances_framed s frame r = record {
   asks = λ more. refl;
   sends = λ more later. refl;
   ends = λ more. refl;
+  ended = refl;
 }
 
 -- out of memory nothing has changed

@@ -6,8 +6,9 @@ use Rattle.relay_recorder.specs.Histories.{Continues}
 use Rattle.relay_recorder.specs.Recording.{Recording}
 use Rattle.session_core.specs.Progress.{AsksShort, IsQuiet}
 use Rattle.session_core.specs.Progress as session
+use Rattle.session_core.specs.Remaining.{still_asks}
 use Rattle.session_core.specs.declared.session.Session.{Session}
-use Rattle.embedded_meter.specs.Dialogues.{Dialogue}
+use Rattle.embedded_meter.specs.Dialogues.{Dialogue, asks_ahead}
 use Rattle.embedded_meter.specs.Progress.{Advances, IsIdle, GivesNext, GivesNextBy}
 use Rattle.embedded_meter.specs.Working.{SameAhead, PlacesFrame}
 use Rattle.embedded_meter.specs.declared.given.Given.{Given}
@@ -32,6 +33,7 @@ asked_ahead s asked event asks = record {
   asks = asks.steps.asks;
   sends = asks.steps.sends;
   ends = asks.steps.ends;
+  ended = asks.steps.finished;
 }
 
 -- the frame of the answer is pending
@@ -43,6 +45,7 @@ framed_ahead asked answered reply frame answers = record {
   asks = λ more. sym (answers.takes.asks more) ∙ answers.sends.asks more;
   sends = λ more replies. sym (answers.takes.sends more replies) ∙ answers.sends.sends more replies;
   ends = λ more. sym (answers.takes.ends more) ∙ answers.sends.ends more;
+  ended = answers.sends.finished ∙ answers.takes.finished;
 }
 
 -- the meter did not apply the event
@@ -108,7 +111,12 @@ pub idle_by : (old : Dialogue) (s : Session) (u : Pending)
     → record { session = s; pending = u } ≡ old → u ≡ Nothing → IsQuiet s → IsIdle old
 idle_by old s u is nothing quiet =
     subst IsIdle is (subst (λ (v : Pending). IsIdle (record { session = s; pending = v }))
-    (sym nothing) (record { asks = quiet.asks; sends = quiet.sends }))
+    (sym nothing) (record {
+      asks = quiet.asks;
+      sends = quiet.sends;
+      ends = quiet.ends;
+      goes_on = quiet.goes_on;
+    }))
 
 -- `next` ran out of memory
 pub stopped_short : {E : Type 0} (old new : Dialogue) (r r' : Recording) (buffer buffer' : List ℕ)
@@ -116,3 +124,13 @@ pub stopped_short : {E : Type 0} (old new : Dialogue) (r r' : Recording) (buffer
     → Advances old r [] new r' × (buffer' ≡ buffer) → GivesNextBy old r buffer result new r' buffer'
 stopped_short old new r r' buffer buffer' (Ok _) P is far = absurd is
 stopped_short old new r r' buffer buffer' (Err error) P is far = far
+
+-- the event that a session asks first is that of its short request
+pub same_event : (old : Dialogue) (s asked : Session) (u : Pending) (event first : Event)
+    (others : List Event) → record { session = s; pending = u } ≡ old → old.pending ≡ Nothing
+    → asks_ahead old [] ≡ first ∷ others → AsksShort s event asked → event ≡ first
+same_event old s asked u event first others is nothing ahead asks =
+    let front : still_asks s [] ≡ first ∷ others =
+    ap (λ (d : Dialogue). asks_ahead d []) (nothing_pending s u old is nothing) ∙ ahead in
+    let both : event ∷ still_asks asked [] ≡ first ∷ others = sym (asks.steps.asks []) ∙ front in
+    cc

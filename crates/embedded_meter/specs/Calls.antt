@@ -166,7 +166,8 @@ SamplesBy old samples (Ok fired) new = TakesSamples old samples fired new
 SamplesBy old samples (Err TooManySamples) new = AreEven samples
     × (max_values < length samples.import) × (new ≡ old)
 SamplesBy old samples (Err Uneven) new = (¬ (AreEven samples)) × (new ≡ old)
-SamplesBy old samples (Err Memory) new = new ≡ old
+SamplesBy old samples (Err Memory) new = AreEven samples × (length samples.import ≤ max_values)
+    × (new ≡ old)
 SamplesBy old samples (Err NoSession) new = ⊥
 SamplesBy old samples (Err SessionTaken) new = ⊥
 

@@ -3,11 +3,12 @@
 --     asks_ahead     the events still to be applied, for every rest of the input
 --     sends_ahead    the frames still to be sent, for every rest of the input and all replies
 --     ends_ahead     how the session will end, for every rest of the input
+--     has_ended      whether the input has ended
 --     IsDialogue     the session awaits a reply exactly if an event or its reply is pending
 use Rattle.std.specs.Prelude.{◌≡◌, ℕ, Bool, true, false, List, ◌∷◌}
 use Rattle.relay_events.specs.declared.event.Event.{Event}
 use Rattle.relay_events.specs.declared.reply.Reply.{Reply}
-use Rattle.session_core.specs.Remaining.{still_asks, still_sends, still_ends, is_asking}
+use Rattle.session_core.specs.Remaining.{still_asks, still_sends, still_ends, is_asking, is_finished}
 use Rattle.session_core.specs.declared.end.SessionEnd.{SessionEnd}
 use Rattle.session_core.specs.declared.session.Session.{Session}
 use Rattle.embedded_meter.specs.declared.pending.Pending.{Pending}
@@ -43,6 +44,10 @@ sends_ahead d more = sends_first d.pending (still_sends d.session more)
 -- how the session will end
 abbrev pub ends_ahead : Dialogue → List ℕ → SessionEnd
 ends_ahead d more = still_ends d.session more
+
+-- whether the input of the session has ended
+abbrev pub has_ended : Dialogue → Bool
+has_ended d = is_finished d.session
 
 -- whether the session awaits a reply
 abbrev pub awaits_reply : Pending → Bool

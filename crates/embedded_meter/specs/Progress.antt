@@ -3,17 +3,18 @@
 --     Feeds        bytes arrived
 --     Finishes     the input ended
 --     Advances     the meter applied events, and frames were returned
---     IsIdle       nothing is to be asked or sent until more input arrives
+--     IsIdle       nothing is to be asked or sent until more input arrives, which may come
 --     IsOver       the session is over
 --     GivesNext    what `next` did and returned
-use Rattle.std.specs.Prelude.{◌≡◌, ◌<◌, ◌++◌, ℕ, List, [], ◌∷◌, length, drop, Result, Ok, Err}
+use Rattle.std.specs.Prelude.{◌≡◌, ◌<◌, ◌++◌, ℕ, true, false, List, [], ◌∷◌, length, drop, Result, Ok, Err}
 use Rattle.relay_core.specs.World.{World}
 use Rattle.relay_events.specs.declared.reply.Reply.{Reply}
 use Rattle.relay_recorder.specs.Histories.{Exchange, StandsForHistory, events_of, replies_of}
 use Rattle.relay_recorder.specs.Recording.{Recording}
 use Rattle.session_core.specs.Backwards.{Asks, Answers, end_of}
+use Rattle.session_core.specs.Ends.{EndsWithInput}
 use Rattle.session_core.specs.declared.end.SessionEnd.{SessionEnd}
-use Rattle.embedded_meter.specs.Dialogues.{Dialogue, asks_ahead, sends_ahead, ends_ahead}
+use Rattle.embedded_meter.specs.Dialogues.{Dialogue, asks_ahead, sends_ahead, ends_ahead, has_ended}
 use Rattle.embedded_meter.specs.declared.given.Given.{Given}
 use Rattle.embedded_meter.specs.declared.given.Given.TheVariants.{Frame, NoRoom, Wait, End}
 use Rattle.embedded_meter.specs.declared.pending.Pending.TheVariants.{Due}
@@ -24,6 +25,7 @@ pub record Owes (password : List ℕ) (d : Dialogue) : Type 0 where
   pub sends : (input : List ℕ) (replies : List Reply)
       → sends_ahead d input replies ≡ Answers password input replies
   pub ends : (input : List ℕ) → ends_ahead d input ≡ end_of input
+  pub goes_on : has_ended d ≡ false
 
 -- whether a session received bytes: they are the first of its remaining input
 pub record Feeds (old : Dialogue) (bytes : List ℕ) (new : Dialogue) : Type 0 where
@@ -31,6 +33,7 @@ pub record Feeds (old : Dialogue) (bytes : List ℕ) (new : Dialogue) : Type 0 w
   pub sends : (more : List ℕ) (replies : List Reply)
       → sends_ahead new more replies ≡ sends_ahead old (bytes ++ more) replies
   pub ends : (more : List ℕ) → ends_ahead new more ≡ ends_ahead old (bytes ++ more)
+  pub ended : has_ended new ≡ has_ended old
 
 -- whether the input of a session ended: no bytes remain
 pub record Finishes (old new : Dialogue) : Type 0 where
@@ -38,6 +41,7 @@ pub record Finishes (old new : Dialogue) : Type 0 where
   pub sends : (more : List ℕ) (replies : List Reply)
       → sends_ahead new more replies ≡ sends_ahead old [] replies
   pub ends : (more : List ℕ) → ends_ahead new more ≡ ends_ahead old []
+  pub ended : has_ended new ≡ true
 
 -- Whether the meter applied events of a session, and these frames were returned. The events are the
 -- first of the remaining ones, in order, each once and with the reply that the meter's history
@@ -53,11 +57,15 @@ pub record Advances (old : Dialogue) (r : Recording) (given : List (List ℕ)) (
   pub sends : (more : List ℕ) (later : List Reply)
       → sends_ahead old more (replies_of told ++ later) ≡ given ++ sends_ahead new more later
   pub ends : (more : List ℕ) → ends_ahead old more ≡ ends_ahead new more
+  pub ended : has_ended new ≡ has_ended old
 
--- whether a session has nothing to ask or to send until more input arrives
+-- whether a session has nothing to ask or to send until more input arrives, and its input may
+-- continue: it has not ended, and has no wrong header so far
 pub record IsIdle (d : Dialogue) : Type 0 where
   pub asks : asks_ahead d [] ≡ []
   pub sends : (replies : List Reply) → sends_ahead d [] replies ≡ []
+  pub ends : EndsWithInput (ends_ahead d [])
+  pub goes_on : has_ended d ≡ false
 
 -- whether a session is over with this end, and does nothing more
 pub record IsOver (end : SessionEnd) (d : Dialogue) : Type 0 where

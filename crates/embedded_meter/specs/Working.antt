@@ -9,7 +9,7 @@ use Rattle.relay_events.specs.declared.event.Event.{Event}
 use Rattle.relay_events.specs.declared.reply.Reply.{Reply}
 use Rattle.relay_recorder.specs.Recording.{Recording}
 use Rattle.session_core.specs.Remaining.{load_of}
-use Rattle.embedded_meter.specs.Dialogues.{Dialogue, asks_ahead, sends_ahead, ends_ahead}
+use Rattle.embedded_meter.specs.Dialogues.{Dialogue, asks_ahead, sends_ahead, ends_ahead, has_ended}
 use Rattle.embedded_meter.specs.Progress.{Advances, GivesNext, IsIdle, IsOver, KeepsFrame}
 use Rattle.embedded_meter.specs.declared.connection.NextNeed.{NextNeed}
 use Rattle.embedded_meter.specs.declared.connection.NextNeed.TheVariants as rest
@@ -24,6 +24,7 @@ pub record SameAhead (old new : Dialogue) : Type 0 where
   pub sends : (more : List ℕ) (replies : List Reply)
       → sends_ahead old more replies ≡ sends_ahead new more replies
   pub ends : (more : List ℕ) → ends_ahead old more ≡ ends_ahead new more
+  pub ended : has_ended new ≡ has_ended old
 
 -- whether an event is pending
 pub record IsAsked (d : Dialogue) : Type 0 where

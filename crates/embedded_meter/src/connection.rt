@@ -1,5 +1,5 @@
 //! A client's session at a meter without threads. If out of memory, what is pending stays pending.
-ghost use Rattle.std.specs.Prelude.{◌≡◌, true, false, IfOk, OnOk, OnErr};
+ghost use Rattle.std.specs.Prelude.{◌≡◌, true, false, IfOk, IsOk, IsOkAnd, IsSome, OnOk, OnErr};
 ghost use Rattle.acse_ber.specs.Password.{IsPassword};
 ghost use Rattle.session_core.specs.Calls.{short_event};
 ghost use Rattle.embedded_meter.specs.Dialogues.{awaits_reply};
@@ -100,6 +100,7 @@ impl Model for ClientSession {
 }
 
 impl ClientSession {
+    ghost use Rattle.embedded_meter.specs.Memory.{NeedsNoMemory};
     ghost use Rattle.embedded_meter.specs.Progress.{Owes, Feeds, Finishes, IsIdle, GivesNextBy};
     ghost use Rattle.embedded_meter.specs.Working.{AsksBy, GivesShortBy, WorksBy, SettlesBy, AppliesBy, AnswersBy, IsAsked, IsAnswered, HasFrameDue, GivesDue};
 
@@ -140,8 +141,9 @@ impl ClientSession {
         recorder: &mut Recorder,
         buffer: &mut [u8],
     ) -> Result<Given, AllocError>
-        ensures { GivesNextBy self.old recorder.old buffer.old result self.new recorder.new
+        ensures gives { GivesNextBy self.old recorder.old buffer.old result self.new recorder.new
             buffer.new }
+        ensures sure { NeedsNoMemory self.old recorder.old buffer.old → IsOk result }
     {
         if self.is_idle() {
             return Ok(Given::Wait);
@@ -169,8 +171,9 @@ impl ClientSession {
         recorder: &mut Recorder,
         buffer: &mut [u8],
     ) -> Result<Given, AllocError>
-        ensures { GivesNextBy self.old recorder.old buffer.old result self.new recorder.new
+        ensures gives { GivesNextBy self.old recorder.old buffer.old result self.new recorder.new
             buffer.new }
+        ensures sure { NeedsNoMemory self.old recorder.old buffer.old → IsOk result }
     {
         match &self.pending {
             Pending::Nothing => match self.give_short(alloc, recorder, buffer)? {
@@ -195,8 +198,9 @@ impl ClientSession {
         buffer: &mut [u8],
     ) -> Result<Option<Given>, AllocError>
         requires { self.now.pending ≡ Nothing }
-        ensures { GivesShortBy self.old recorder.old buffer.old result self.new recorder.new
+        ensures gives { GivesShortBy self.old recorder.old buffer.old result self.new recorder.new
             buffer.new }
+        ensures sure { NeedsNoMemory self.old recorder.old buffer.old → IsOkAnd result IsSome }
     {
         let Some((level, request)) = self.session.next_short() else {
             return Ok(None);

@@ -34,6 +34,7 @@ pub struct Fired {
 pub enum Tick {
     /// The number of schedules that were due.
     Ran(u8),
-    /// The moment is earlier than the last one, which this variant holds. Nothing changed.
+    /// The moment is earlier than the last one, which this variant holds. The meter's state is
+    /// unchanged; the moment is kept as an event.
     Stale(u32),
 }

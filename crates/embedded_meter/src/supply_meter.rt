@@ -12,6 +12,7 @@ ghost use Rattle.relay_core.specs.World.{World, IsDeviceName};
 ghost use Rattle.relay_events.specs.declared.event.Event.TheVariants.{Button};
 ghost use Rattle.relay_events.specs.declared.reply.Reply.TheVariants.{Code};
 ghost use Rattle.embedded_meter.specs.Calls.{IsNew, OpensBy, FeedsBy, FinishesBy, NextBy, ClosesBy, SamplesBy, TakesMoment};
+ghost use Rattle.embedded_meter.specs.Memory.{HasSureNext};
 ghost use Rattle.embedded_meter.specs.MeterStates.{Takes, dialogue_at};
 
 use crate::connection::ClientSession;
@@ -176,13 +177,18 @@ impl SupplyMeter {
     /// `buffer`, and returns what the caller must do. A frame that is longer than the buffer stays
     /// pending. Errors: `NoSession`; `Memory`, after which the effects so far remain, and the same
     /// call continues from there.
+    ///
+    /// Never runs out of memory for a short request (a SET of one attribute to an enum, an ACTION
+    /// with an integer, a GET of a boolean or an enum) whose event is sure, such as each for the
+    /// disconnect control, if the buffer has 14 bytes.
     pub fn next(
         &mut self,
         alloc: Global,
         number: u8,
         buffer: &mut [u8],
     ) -> Result<Given, MeterFault>
-        ensures { NextBy self.old number buffer.old result self.new buffer.new }
+        ensures next { NextBy self.old number buffer.old result self.new buffer.new }
+        ensures sure { HasSureNext self.old number buffer.old → IsOk result }
     {
         if !self.has_place(number) {
             return Err(MeterFault::NoSession);
