@@ -4,15 +4,24 @@ files, functions, definitions, edits, tests.
 
 - A link leads to a file, and to a heading or an anchor in it.
 - A path in code or prose (docs/TRACE.md, bin/build, crates/NAME/..) is that of a file or folder.
-- `CRATE::NAME` is declared in that crate's sources; the toolchain's crates are not checked.
+- `CRATE::NAME` is declared in that crate's sources; the toolchain's crates are not checked. In
+  `TYPE::NAME` a crate declares both.
+- Names in the text of a link to a source or a file of specs/, and names `in` such a link, are
+  declared in that file.
+- Names of a crate's README under "Calls" are those of functions or types of that crate, or of its
+  definitions if the entry names specs/ or proofs/.
+- Any other name of several words in code (`some_name`, `SomeName`) is declared in some source,
+  script or C file, or is a word of specs/ or proofs/.
 - `CRATE/EDIT` and each name in docs/WRONG_BODIES.md's last column is an edit, or a test; its tables
   are what bin/wrong_page writes, so no edit is missing there.
 - A definition that docs/DEFINITIONS.md names is in a file of its row, and each file of specs/ is
   linked there.
 - A name in code in the first comment of a source is declared, or is a crate.
-- Each crate has a README. Its example names a test that exists and makes the same calls, or is a
-  file that the gate runs.
+- Each crate has a README. It names a test that exists and makes the calls of its example, or a
+  script or a file of tests/ or of a crate of tests, or says that the gate runs the files of its
+  folder.
 """
+import functools
 import re
 import subprocess
 import sys
@@ -24,6 +33,19 @@ CRATES = {it.name: it for it in sorted((TOP / "crates").iterdir()) if (it / "src
 PLACEHOLDER = re.compile(r"\b(NAME|CRATE|PATH|TEXT|FILE|EDIT|PROGRAM|PREFIX|TRACE|JOBS|FOLDER)\b|\*|<|\.\.")
 CODE = re.compile(r"`([^`\n]+)`")
 LINK = re.compile(r"\[[^\]]*\]\(([^)\s]+)\)")
+# A link with its text; and a link after names in code and the word `in`.
+LABELLED = re.compile(r"\[([^\]]*)\]\(([^)\s#]+)")
+NAMES_IN = re.compile(r"((?:`[^`\n]+`(?:,\s+|\s+and\s+)?)+)\s+in\s+\[[^\]]*\]\(([^)\s#]+)")
+NAME = re.compile(r"(\w+(?:::\w+)*)(?:\(\))?")
+# A name of several words, and no text in hexadecimal.
+LONG_NAME = re.compile(r"(?!(?:[0-9A-F]{2})+$)(?:[a-z]\w*_\w+|[A-Z][a-z0-9]+[A-Z]\w*)")
+# Names of other systems, and one that a recipe has the reader write.
+OTHERS = {"local_lock", "MaxArraySize", "serve_with_four"}
+DECLARATION = re.compile(r"\b(?:fn|struct|enum|trait|const|static|mod|type|ghost) (\w+)")
+FIELD = re.compile(r"\b(\w+)\s*:(?!:)")
+CLAUSE = re.compile(r"\b(?:ensures|requires)\*? (\w+) \{")
+ENUM = re.compile(r"(?ms)^( *)(?:pub(?:\(\w+\))? )?enum \w+(.*?)^\1\}")
+VARIANT = re.compile(r"(?m)^\s*(\w+)")
 
 
 def pages():
@@ -31,19 +53,52 @@ def pages():
     return [TOP / it for it in ("README.md", "CONTRIBUTING.md", "CHANGELOG.md")] + sorted((TOP / "docs").glob("*.md")) + sorted(TOP.glob("crates/*/README.md"))
 
 
-def sources(crate):
-    """The sources of a crate as one text."""
-    return "\n".join(it.read_text() for it in sorted((CRATES[crate] / "src").rglob("*.rt")))
+def code_of(path):
+    """A source without its comments."""
+    mark = {".antt": "--", ".rt": "//", ".bench": "//", ".rs": "//"}.get(path.suffix, "#")
+    return re.sub(rf"(?m)(?:^|\s){mark}.*$", "", path.read_text())
 
 
-SOURCES = {it: sources(it) for it in CRATES}
-ALL_SOURCES = "\n".join(SOURCES.values())
-WORDS_OF_CODE = set(re.findall(r"\w+", re.sub(r"(?m)//.*$", "", ALL_SOURCES)))
-# A function, a type, a constant, a module, or the variant of an enum.
-DECLARED = r"\b(?:fn|struct|enum|trait|const|mod|type) {0}\b|^ +{0}\b(?:[,( {{]|$)"
+def declared_in(code):
+    """The functions, types, constants, modules, variants of enums, clauses, fields and parameters
+    that a Rattle source declares."""
+    found = {*DECLARATION.findall(code), *FIELD.findall(code), *CLAUSE.findall(code)}
+    return found.union(*(VARIANT.findall(it) for _, it in ENUM.findall(code)))
+
+
+FILES_OF = {name: {it: code_of(it) for it in sorted((folder / "src").rglob("*.rt"))} for name, folder in CRATES.items()}
+FILES = {path: code for files in FILES_OF.values() for path, code in files.items()}
+SOURCES = {name: "\n".join(files.values()) for name, files in FILES_OF.items()}
+WORDS_OF_CODE = set(re.findall(r"\w+", "\n".join(SOURCES.values())))
+DECLARED = {it: declared_in(code) for it, code in SOURCES.items()}
+ALL_DECLARED = set().union(*DECLARED.values())
+ALL_TYPES = {it for it in ALL_DECLARED if it[0].isupper()}
+SPECS = {name: {word for it in folder.glob("specs/*.antt") for word in re.findall(r"\w+", code_of(it))} for name, folder in CRATES.items()}
 EDITS = {crate: {it.stem for part in ("wrong", "wrong/long", "must-fail") for it in (folder / part).glob("*.edit")} for crate, folder in CRATES.items()}
 ALL_EDITS = set().union(*EDITS.values())
-TESTS = {it for text in SOURCES.values() for it in re.findall(r"#\[test\]\s*(?:#\[[^\n]*\]\s*)*(?:pub )?fn (\w+)", text)}
+# Each test with the sources of its crate.
+TESTS = {it: text for text in SOURCES.values() for it in re.findall(r"#\[test\]\s*(?:#\[[^\n]*\]\s*)*(?:pub )?fn (\w+)", text)}
+
+
+def other_names():
+    """The names of crates, edits, files and of the toolchain's libraries, and those that benchmarks,
+    scripts and C files declare; the words of proofs/."""
+    yield from (*CRATES, *ALL_EDITS)
+    yield from re.findall(r"\w+", (TOP / "crates.txt").read_text())
+    for it in TOP.glob("crates/*/proofs/*.antt"):
+        yield from re.findall(r"\w+", code_of(it))
+    for folder in ("tests", "bin", "bench", "examples", "firmware", "share", "crates/meter/include"):
+        for it in (it for it in (TOP / folder).rglob("*") if it.is_file()):
+            yield it.stem
+            if it.suffix in (".c", ".h", ".lua"):
+                yield from re.findall(r"\w+", it.read_text())
+            elif it.suffix in (".bench", ".rs"):
+                yield from declared_in(code_of(it))
+            elif it.suffix in ("", ".py"):
+                yield from re.findall(r"(?m)^ *(?:def|class) (\w+)", it.read_text(errors="replace"))
+
+
+KNOWN = ALL_DECLARED.union(*SPECS.values(), other_names(), OTHERS)
 
 
 def prose(text):
@@ -51,6 +106,7 @@ def prose(text):
     return re.sub(r"(?ms)^```.*?^```$", "", text)
 
 
+@functools.cache
 def anchors(path):
     """The places of a document that a link may name."""
     text = prose(path.read_text())
@@ -75,7 +131,7 @@ def paths(page, text):
     """The paths in code and prose that lead to no file, from the top of the repository, or in a
     crate's README from its own folder."""
     plain = LINK.sub("", text)
-    found = set(re.findall(r"(?<![\w/.-])(?:docs|bin|tests|bench|crates|share)/[\w./*<>-]*[\w/]", plain))
+    found = set(re.findall(r"(?<![\w/.-])(?:docs|bin|tests|bench|crates|share|examples|firmware)/[\w./*<>-]*[\w/]", plain))
     found |= {it for it in CODE.findall(plain) if re.fullmatch(r"(?:src|specs|proofs|wrong)/[\w./-]+", it)}
     for it in sorted(found):
         if not PLACEHOLDER.search(it) and not any((place / it).exists() for place in (TOP, page.parent)) and not is_shortened(it):
@@ -93,22 +149,59 @@ def functions(text):
         words = re.fullmatch(r"(\w+)((?:::\w+)+)(?:\(\))?", it)
         if words and words[1] in CRATES:
             for name in words[2].split("::")[1:]:
-                if not re.search(DECLARED.format(name), SOURCES[words[1]], re.M):
+                if name not in DECLARED[words[1]]:
                     yield f"no {name} in {words[1]}: {it}"
 
 
 def types(text):
-    """The names `TYPE::NAME` that no crate declares."""
+    """The names `TYPE::NAME` of which no crate declares both."""
     for it in CODE.findall(text):
         words = re.fullmatch(r"([A-Z]\w+)::(\w+)", it)
-        if words and not all(re.search(DECLARED.format(name), ALL_SOURCES, re.M) for name in words.groups()):
+        if words and not any(names.issuperset(words.groups()) for names in DECLARED.values()):
             yield f"no {it}"
+
+
+def linked_names(page, text):
+    """The names in the text of a link to a source or a file of specs/, or `in` such a link, that
+    the file does not declare."""
+    for names, target in (*LABELLED.findall(text), *NAMES_IN.findall(text)):
+        path = (page.parent / target).resolve()
+        if path.suffix not in (".rt", ".antt") or not path.exists():
+            continue
+        code = FILES.get(path) or code_of(path)
+        words = set(re.findall(r"\w+", code))
+        declared = declared_in(code) if path.suffix == ".rt" else words
+        for found in map(NAME.fullmatch, CODE.findall(names)):
+            parts = [it for it in found[1].split("::") if it not in CRATES] if found else []
+            if parts and not (parts[-1] in declared and words.issuperset(parts)):
+                yield f"no {found[1]} in {path.relative_to(TOP)}"
+
+
+def calls(page, text):
+    """The names that a crate's README lists as its calls and that the crate does not declare."""
+    section = re.search(r"(?ms)^## Calls\n(.*?)(?=^## |\Z)", text)
+    crate = page.parent.name
+    known = {*DECLARATION.findall(SOURCES.get(crate, ""))} | ALL_TYPES
+    for entry in re.split(r"(?m)^- ", section[1])[1:] if section else ():
+        names = known | SPECS[crate] if re.search(r"`(?:specs|proofs)/", entry) else known
+        for found in map(NAME.fullmatch, CODE.findall(re.split(r"(?<!:):(?!:)", entry)[0])):
+            parts = [it for it in found[1].split("::") if it not in CRATES] if found else []
+            if not names.issuperset(parts) and not LONG_NAME.fullmatch(parts[-1]):
+                yield f"no {found[1]} in {crate}"
+
+
+def long_names(text):
+    """The names of several words in code that nothing declares."""
+    for found in map(NAME.fullmatch, CODE.findall(text)):
+        for name in found[1].split("::") if found else ():
+            if LONG_NAME.fullmatch(name) and name not in KNOWN:
+                yield f"no {name}"
 
 
 def steps(text):
     """The single names in code that no crate declares."""
     for it in CODE.findall(text):
-        if re.fullmatch(r"[a-zA-Z_]+", it) and it not in CRATES and not re.search(DECLARED.format(it), ALL_SOURCES, re.M) and it not in TESTS:
+        if re.fullmatch(r"[a-zA-Z_]+", it) and it not in CRATES and it not in ALL_DECLARED:
             yield f"no {it}"
 
 
@@ -127,7 +220,7 @@ def wrong_bodies(text):
         if len(cells) == 2 and row.startswith("| "):
             for it in CODE.findall(cells[1]):
                 name = it.rpartition("/")[2]
-                if re.fullmatch(r"\w+_\w+_\w+", name) and name not in ALL_EDITS | TESTS:
+                if re.fullmatch(r"\w+_\w+_\w+", name) and name not in ALL_EDITS | TESTS.keys():
                     yield f"no edit or test {it}"
     told = subprocess.run([TOP / "bin" / "wrong_page", "--check"], capture_output=True, text=True)
     if told.returncode:
@@ -152,7 +245,7 @@ def definitions(text):
 
 
 def examples():
-    """The crates whose README names a test that does not exist, or is missing."""
+    """The crates whose README is missing, or names no test, or one that does not exist."""
     for name, folder in CRATES.items():
         if name.endswith("_tests"):
             continue
@@ -161,7 +254,10 @@ def examples():
             yield f"{name} has no README"
             continue
         text = page.read_text()
-        for test in re.findall(r"[Tt]ests? `(\w+)`", text):
+        tests = re.findall(r"[Tt]ests?\s`(\w+)`", text)
+        if not tests and not re.search(r"\btests/\w+\.py\b|_tests/src/|The gate runs this", text):
+            yield f"{name}: its README names no test"
+        for test in tests:
             if test not in TESTS:
                 yield f"{name}: no test {test}"
             else:
@@ -171,9 +267,8 @@ def examples():
 def missing_calls(text, test):
     """The calls of a README's example that the crate of its test does not make."""
     code = re.sub(r"//.*", "", "".join(re.findall(r"(?ms)^```rust\n(.*?)^```", text)))
-    source = next(it for it in SOURCES.values() if re.search(rf"\bfn {test}\b", it))
-    calls = set(re.findall(r"\b([a-z_]\w+)\(", code)) - {"assert"}
-    return sorted(it for it in calls if not re.search(rf"\b{it}\b", source))
+    made = set(re.findall(r"\w+", TESTS[test]))
+    return sorted(set(re.findall(r"\b([a-z_]\w+)\(", code)) - made - {"assert"})
 
 
 def crates_in_heads():
@@ -191,7 +286,7 @@ def missing_names():
     """All that documents name and that does not exist."""
     for page in pages():
         text = prose(page.read_text())
-        for what in (links(page, text), paths(page, text), functions(text), types(text), edits(text)):
+        for what in (links(page, text), paths(page, text), functions(text), types(text), edits(text), linked_names(page, text), calls(page, text), long_names(text)):
             for it in what:
                 yield f"{page.relative_to(TOP)}: {it}"
     yield from (f"docs/A_GET.md: {it}" for it in steps((TOP / "docs" / "A_GET.md").read_text()))
