@@ -152,6 +152,12 @@ class Fleet:
         self.write(line + "\n")
         return [self.read_line(self.process.stdout) for _ in range(count)]
 
+    def check(self, name, line, wanted):
+        """Checks the lines with which the console answers one."""
+        found = self.answers(line, len(wanted))
+        wrong = [it for it in zip(found, wanted) if it[0] != it[1]]
+        check(name, found == wanted, *wrong[:5])
+
     def connect(self, meter):
         """Connects to a meter of the fleet."""
         return socket.create_connection((address_of(meter), self.port), timeout=PATIENCE)
@@ -514,25 +520,25 @@ def buttons_are_pressed():
     for mode in range(7):
         state = "ready" if mode in BUTTON_DISCONNECTS else "connected"
         with Fleet("--mode", str(mode)) as fleet:
-            check(f"mode {mode}: a button is pressed", fleet.answers("7 button") == ["1"])
-            check(f"mode {mode}: its meter is {state}", fleet.answers("7 state") == [f"7 {state}"])
+            fleet.check(f"mode {mode}: a button is pressed", "7 button", ["1"])
+            fleet.check(f"mode {mode}: its meter is {state}", "7 state", [f"7 {state}"])
             if state == "ready":
                 seen = talk(fleet, 7, (STATE, READY))
                 check(f"mode {mode}: a client finds it ready", seen)
                 fleet.answers("7 button")
-            check(f"mode {mode}: it is connected", fleet.answers("7 state") == ["7 connected"])
+            fleet.check(f"mode {mode}: it is connected", "7 state", ["7 connected"])
 
 
 def events_reach_their_meters(fleet):
     """Each meter of a range is given an event, and no other; clients and the console see the
     same."""
-    check("no meter is ready", fleet.answers("count ready") == ["0"])
-    check("a range is counted", fleet.answers("100-199 button") == ["100"])
-    check("its meters are ready", fleet.answers("count ready") == ["100"])
+    fleet.check("no meter is ready", "count ready", ["0"])
+    fleet.check("a range is counted", "100-199 button", ["100"])
+    fleet.check("its meters are ready", "count ready", ["100"])
     edges = ["99 connected", "100 ready", "101 ready"]
-    check("those below it are connected", fleet.answers("99-101 state", 3) == edges)
+    fleet.check("those below it are connected", "99-101 state", edges)
     edges = ["199 ready", "200 connected"]
-    check("those above it are connected", fleet.answers("199-200 state", 2) == edges)
+    fleet.check("those above it are connected", "199-200 state", edges)
     agree = all(talk(fleet, meter, (STATE, READY if 100 <= meter < 200 else CONNECTED))
                 for meter in (1, 99, 100, 150, 199, 200, METERS))
     check("clients find the same states", agree)
@@ -542,11 +548,10 @@ def events_reach_their_meters(fleet):
         fleet.answers("150 button")
         check("a client sees an event of the console", before and ask(client, STATE, CONNECTED))
     check("a client disconnects", talk(fleet, 150, (DISCONNECT, DONE)))
-    check("the console finds it", fleet.answers("count disconnected") == ["1"])
-    check("a range ends with the fleet", fleet.answers("299-5000 state", 2)
-          == ["299 connected", "300 connected"])
+    fleet.check("the console finds it", "count disconnected", ["1"])
+    fleet.check("a range ends with the fleet", "299-5000 state", ["299 connected", "300 connected"])
     for event in ("moment 5", "samples", "samples 10 20", "pairs 1 2 3 4"):
-        check(f"all have {event}", fleet.answers(f"all {event}") == [str(METERS)])
+        fleet.check(f"all have {event}", f"all {event}", [str(METERS)])
 
 
 def limiters_act():
@@ -558,7 +563,7 @@ def limiters_act():
             fleet.answers("8 samples" + 10 * " 1001")
             fleet.answers("9 samples" + 9 * " 1001" + " 1000")
             states = ["7 connected", "8 ready", "9 connected"]
-            check("a limiter disconnects its meter", fleet.answers("7-9 state", 3) == states)
+            fleet.check("a limiter disconnects its meter", "7-9 state", states)
 
 
 def traces_are_written():
@@ -567,7 +572,7 @@ def traces_are_written():
         path = pathlib.Path(folder, "a meter.trace")
         fleet.answers("17 button")
         fleet.answers("all moment 5")
-        check("a trace is written", fleet.answers(f"17 trace {path}") == [f"17 {path}"])
+        fleet.check("a trace is written", f"17 trace {path}", [f"17 {path}"])
         events = path.read_text().split("events ")[1]
         check("it has the events of its meter", events == "2\nbutton\nmoment 5\n")
         if os.path.exists(PLAYER):
@@ -602,10 +607,10 @@ def wrong_lines_change_nothing():
             fleet.write(line + "\n")
             found = fleet.read_line(fleet.process.stderr)
             check(f"{line[:20]!r} is wrong", found == f"console: line {number}: {reason}")
-        check("no meter has changed", fleet.answers("count connected") == [str(METERS)])
+        fleet.check("no meter has changed", "count connected", [str(METERS)])
         fleet.write("5 but")
         time.sleep(0.1)
-        check("a line may arrive in pieces", fleet.answers("ton") == ["1"])
+        fleet.check("a line may arrive in pieces", "ton", ["1"])
         fleet.write("5 state\n" * 2_000)
         read = [fleet.read_line(fleet.process.stdout) for _ in range(2_000)]
         check("many lines at once are answered", read == 2_000 * ["5 ready"])
@@ -633,14 +638,13 @@ def a_console_may_be_a_file():
 def many_meters_are_reached():
     """Commands for more than the 1,000 meters that are reached at a time."""
     with Fleet(meters=2_500) as fleet:
-        check("all buttons are pressed", fleet.answers("all button") == ["2500"])
-        check("all meters are ready", fleet.answers("count ready") == ["2500"])
-        check("1,001 buttons are pressed", fleet.answers("700-1700 button") == ["1001"])
-        check("1,000 buttons are pressed", fleet.answers("1701-2700 button") == ["800"])
+        fleet.check("all buttons are pressed", "all button", ["2500"])
+        fleet.check("all meters are ready", "count ready", ["2500"])
+        fleet.check("1,001 buttons are pressed", "700-1700 button", ["1001"])
+        fleet.check("1,000 buttons are pressed", "1701-2700 button", ["800"])
         states = [f"{it} {'connected' if it >= 700 else 'ready'}" for it in range(1, 2_501)]
-        check("all states are shown", fleet.answers("all state", 2_500) == states)
-        check("a later command has its answer", fleet.answers("2500-9000 state")
-              == ["2500 connected"])
+        fleet.check("all states are shown", "all state", states)
+        fleet.check("a later command has its answer", "2500-9000 state", ["2500 connected"])
 
 
 def clients_are_answered_meanwhile():
@@ -804,9 +808,9 @@ def meters_that_refuse_may_be_set():
     with with_faults(0, [("refuses", 100)]) as fleet:
         check("it refuses, and is connected already",
               talk(fleet, 4, (DISCONNECT, REFUSED), (STATE, CONNECTED), (RECONNECT, DONE)))
-        check("its button does nothing", fleet.answers("4 button") == ["1"])
-        check("it is connected", fleet.answers("4 state") == ["4 connected"])
-        check("all are connected", fleet.answers("count connected") == [str(METERS)])
+        fleet.check("its button does nothing", "4 button", ["1"])
+        fleet.check("it is connected", "4 state", ["4 connected"])
+        fleet.check("all are connected", "count connected", [str(METERS)])
         check("it is set to mode 1, and switched",
               talk(fleet, 4, (SET_MODE_1, SET_DONE), (DISCONNECT, DONE), (STATE, DISCONNECTED)))
 
@@ -873,7 +877,7 @@ def campaigns_report_faults():
         check("a campaign reports the faults", ran.stdout.splitlines() == rows, ran.returncode,
               wrong[:5], ran.stderr[-500:])
         states = [f"{meter} {state_after(fault)}" for meter, fault in enumerate(faults, 1)]
-        check("the console finds what was switched", fleet.answers("all state", JOBS) == states)
+        fleet.check("the console finds what was switched", "all state", states)
 
 
 def cpu_seconds(process):
