@@ -1,5 +1,5 @@
 //! Appends records as comma-separated values.
-ghost use Rattle.std.specs.Prelude.{◌≡◌, ◌++◌, OnOk, codes, map, option_map};
+ghost use Rattle.std.specs.Prelude.{◌≡◌, ◌++◌, OnOk, OnErr, codes, map, option_map};
 ghost use Rattle.csv.specs.Writing.{default_writer, row_text};
 ghost use Rattle.trace_records.specs.Csv.{csv_head, csv_line, last_column};
 
@@ -16,9 +16,10 @@ fn add_columns(
     columns: [&[u8]; 6],
     last: Option<&[u8]>,
 ) -> Result<(), AllocError>
-    ensures { OnOk result (out.new.items ≡ out.old.items ++ row_text default_writer
+    ensures ok { OnOk result (out.new.items ≡ out.old.items ++ row_text default_writer
         (map (λ field. field.now) columns.entry
         ++ last_column (option_map (λ field. field.now) last.entry))) }
+    ensures err { OnErr result (out.new.items ≡ out.old.items) }
 {
     let [number, reply, state, supply, moment, time] = columns;
     match last {
@@ -32,9 +33,10 @@ fn add_columns(
 }
 
 /// Appends the line of the names of the columns, the last of them `event` if `with_events`. Fails
-/// only if out of memory.
+/// only if out of memory; then nothing is appended.
 pub fn write_csv_head(alloc: Global, out: &mut Vec<u8>, with_events: bool) -> Result<(), AllocError>
-    ensures { OnOk result (out.new.items ≡ out.old.items ++ csv_head with_events) }
+    ensures ok { OnOk result (out.new.items ≡ out.old.items ++ csv_head with_events) }
+    ensures err { OnErr result (out.new.items ≡ out.old.items) }
 {
     let last: Option<&[u8]> = if with_events { Some(b"event") } else { None };
     let columns: [&[u8]; 6] = [b"number", b"reply", b"state", b"supply", b"moment", b"time"];
@@ -44,9 +46,10 @@ pub fn write_csv_head(alloc: Global, out: &mut Vec<u8>, with_events: bool) -> Re
 /// Appends the line of the values of a record: its number, the words of its reply, the number of
 /// the control state, `on` or `off`, the moment of the clock in seconds and as a civil date and
 /// time (both empty before the first moment), and the line of the event if the record has it. Fails
-/// only if out of memory.
+/// only if out of memory; then nothing is appended.
 pub fn write_csv(alloc: Global, out: &mut Vec<u8>, row: &Record) -> Result<(), AllocError>
-    ensures { OnOk result (out.new.items ≡ out.old.items ++ csv_line row.now) }
+    ensures ok { OnOk result (out.new.items ≡ out.old.items ++ csv_line row.now) }
+    ensures err { OnErr result (out.new.items ≡ out.old.items) }
 {
     let moment = number_column(alloc, row.moment)?;
     let time = civil_time(alloc, row.moment)?;

@@ -54,7 +54,7 @@ fn json_object(alloc: Global, row: &Record) -> Result<Value, AllocError>
 /// Appends a record as a JSON object and the byte 0A that ends its line. The members are `moment`
 /// (seconds) and `time` (a civil date and time), both null before the first moment of the clock,
 /// `number`, `reply`, `state`, `supply`, and `event` if the record has it. Fails only if out of
-/// memory.
+/// memory; then the object may have been appended without that byte.
 pub fn write_json(alloc: Global, out: &mut Vec<u8>, row: &Record) -> Result<(), AllocError>
     ensures { OnOk result (out.new.items ≡ out.old.items ++ json_line row.now) }
 {

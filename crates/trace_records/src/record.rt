@@ -1,9 +1,7 @@
 //! `Record`: the values of an event of a run.
 ghost use Rattle.std.specs.Prelude.{◌≡◌, IfOk, IfSome, option_map, string_bytes};
-ghost use Rattle.disconnect_control.specs.Transitions.{state_number};
 ghost use Rattle.trace_records.specs.Records.{event_text, fields_of, len_after_reply, reply_text};
 
-use disconnect_control::ControlState;
 use record_parts::text_of;
 use relay_events::{Event, Line};
 use std::alloc::{AllocError, Global};
@@ -36,17 +34,6 @@ impl Model for Record {
       moment = r.moment;
       event = option_map string_bytes r.event;
     } };
-}
-
-// Returns the number of a control state.
-fn state_number(state: ControlState) -> u8
-    ensures { result ≡ state_number state }
-{
-    match state {
-        ControlState::Disconnected => 0,
-        ControlState::Connected => 1,
-        ControlState::ReadyForReconnection => 2,
-    }
 }
 
 // Returns the number of bytes after the reply in the line of an event.
@@ -106,7 +93,7 @@ impl Record {
         Ok(Record {
             number,
             reply,
-            state: state_number(line.state),
+            state: u8::from(line.state),
             output: line.output,
             moment,
             event,
