@@ -1,4 +1,5 @@
 pub mod AnswerLemmas
+pub mod CommandLines
 pub mod Decoded
 pub mod Digits
 pub mod Faults

@@ -4,8 +4,6 @@
 --     IsFlag       whether an option without a value is given
 --     is_written   whether the words of the command line give an option
 --     IsBounds     the limits and flags of `serve`
---     default_in   the default of an option, after its name
---     defaults_of  the defaults of the options of a table
 use Rattle.std.specs.Prelude.{◌≡◌, ◌<◌, ◌^◌, ℕ, Bool, true, false, codes, List, [], ◌∷◌, ◌++◌, Option, Some, None, unwrap_or}
 use Rattle.std.specs.Option.{option_and_then}
 use Rattle.std.specs.Str.Parse.{IsNumeral, digits_value, without_leading_plus}
@@ -13,8 +11,6 @@ use Rattle.clap.specs.Matches.{first_value, matched_of, one_text}
 use Rattle.clap.specs.declared.parser.matches.Found.{Found}
 use Rattle.clap.specs.declared.parser.matches.ValueSource.{ValueSource}
 use Rattle.clap.specs.declared.parser.matches.ValueSource.TheVariants.{CommandLine, DefaultValue}
-use Rattle.program.specs.Options.{default_text}
-use Rattle.program.specs.declared.options.OptionText.{OptionText}
 use Rattle.server_commands.specs.declared.options.Bounds.{Bounds}
 
 -- whether this is the text of the option of this name; empty if there is none
@@ -56,14 +52,3 @@ pub record IsBounds (found : Found) (bounds : Bounds) : Type 0 where
   pub stops_with_input : IsFlag found (codes "stop-with-input") bounds.stops_with_input
   pub resumes : IsFlag found (codes "resume") bounds.resumes
   pub is_verbose : IsFlag found (codes "verbose") bounds.is_verbose
-
--- the name of an option and its default; empty if it has none
-abbrev pub default_in : List ℕ → Option (List ℕ) → List (List ℕ × List ℕ)
-default_in name (Some text) = (name, text) ∷ []
-default_in name None = []
-
--- the options of a table that have a default, in order: the name and the default of each
-abbrev pub defaults_of : List OptionText → List (List ℕ × List ℕ)
-defaults_of [] = []
-defaults_of (option ∷ options) =
-    default_in option.name.now (default_text option) ++ defaults_of options

@@ -1,6 +1,7 @@
 //! The command line and its help.
-ghost use Rattle.std.specs.Prelude.{◌≡◌, ◌∷◌, [], codes};
-ghost use Rattle.server_commands.specs.Options.{defaults_of};
+ghost use Rattle.std.specs.Prelude.{◌≡◌, [], codes, true, IfOk};
+ghost use Rattle.server_commands.specs.CommandLine.{IsCommandLine, IsCommandOf, defaults_of};
+ghost use Rattle.server_commands.specs.CommandLine.{hex_defaults, serve_defaults};
 
 use clap::Command;
 use program::options::{
@@ -156,34 +157,41 @@ static SERVE: [OptionText; 15] = [
     VERBOSE_SESSIONS,
 ];
 
+// Returns the options of `apdu`.
+fn table_of_apdu() -> &'static [OptionText]
+    ensures { defaults_of result.now ≡ [] }
+{
+    &APDU
+}
+
 // Returns the options of `hex`.
 fn table_of_hex() -> &'static [OptionText]
-    ensures { defaults_of result.now ≡ (codes "device", codes "RELAY1") ∷ [] }
+    ensures { defaults_of result.now ≡ hex_defaults }
 {
     &HEX
 }
 
 // Returns the options of `serve`.
 fn table_of_serve() -> &'static [OptionText]
-    ensures { defaults_of result.now
-        ≡ (codes "device", codes "RELAY1") ∷ (codes "listen", codes "127.0.0.1:4059")
-        ∷ (codes "depth", codes "256") ∷ (codes "journal-limit", codes "1048576")
-        ∷ (codes "keep-journals", codes "0") ∷ (codes "connections", codes "0")
-        ∷ (codes "inactivity", codes "180") ∷ (codes "session", codes "3600") ∷ [] }
+    ensures { defaults_of result.now ≡ serve_defaults }
 {
     &SERVE
 }
 
 // Returns the command `apdu`.
-fn apdu<'a>(alloc: Global) -> Result<Command<'a>, AllocError> {
+fn apdu<'a>(alloc: Global) -> Result<Command<'a>, AllocError>
+    ensures { IfOk result (IsCommandOf true (codes "apdu") []) }
+{
     let command = Command::new(alloc, "apdu").about(
         "Answers the xDLMS requests on standard input: a line each, in hexadecimal",
     );
-    with_options(alloc, command, &APDU, true)
+    with_options(alloc, command, table_of_apdu(), true)
 }
 
 // Returns the command `hex`. Its option `--password` is required unless `has_password`.
-fn hex<'a>(alloc: Global, has_password: bool) -> Result<Command<'a>, AllocError> {
+fn hex<'a>(alloc: Global, has_password: bool) -> Result<Command<'a>, AllocError>
+    ensures { IfOk result (IsCommandOf has_password (codes "hex") hex_defaults) }
+{
     let command = Command::new(alloc, "hex").about(
         "Serves one client: standard input is its stream in hexadecimal; each frame sent is a line",
     );
@@ -191,7 +199,9 @@ fn hex<'a>(alloc: Global, has_password: bool) -> Result<Command<'a>, AllocError>
 }
 
 // Returns the command `serve`. Its option `--password` is required unless `has_password`.
-fn serve<'a>(alloc: Global, has_password: bool) -> Result<Command<'a>, AllocError> {
+fn serve<'a>(alloc: Global, has_password: bool) -> Result<Command<'a>, AllocError>
+    ensures { IfOk result (IsCommandOf has_password (codes "serve") serve_defaults) }
+{
     let command = Command::new(alloc, "serve")
         .about("Serves clients over TCP and prints the trace of the meter when it ends")
         .after_help(CONSOLE);
@@ -211,10 +221,9 @@ fn program<'a>(alloc: Global) -> Result<Command<'a>, AllocError> {
 
 // Returns the program's command with its subcommands. `has_password`: the password of `serve` and
 // `hex` is in the environment or in a file that the command line names.
-pub(crate) fn command_line<'a>(
-    alloc: Global,
-    has_password: bool,
-) -> Result<Command<'a>, AllocError> {
+pub(crate) fn command_line<'a>(alloc: Global, has_password: bool) -> Result<Command<'a>, AllocError>
+    ensures { IfOk result (IsCommandLine has_password) }
+{
     let program = with_subcommand(program(alloc), apdu(alloc));
     let program = with_subcommand(program, hex(alloc, has_password));
     with_subcommand(program, serve(alloc, has_password))
