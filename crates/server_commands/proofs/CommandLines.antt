@@ -12,14 +12,14 @@ pub record Adds {E : Type 0} (program made added : Result Command E) : Type 0 wh
   pub adds : IfOk added (λ command. IfOk program (λ before. IfOk made
       (λ subcommand. AddsSubcommand before subcommand command)))
 
-pub made_of_three : {E : Type 0} (has_password : Bool)
+pub made_of_three : {E : Type 0} (given : Bool)
     (start apdu with_apdu hex with_hex serve made : Result Command E)
     → IfOk apdu (IsCommandOf true (codes "apdu") [])
-    → IfOk hex (IsCommandOf has_password (codes "hex") hex_defaults)
-    → IfOk serve (IsCommandOf has_password (codes "serve") serve_defaults)
+    → IfOk hex (IsCommandOf given (codes "hex") hex_defaults)
+    → IfOk serve (IsCommandOf given (codes "serve") serve_defaults)
     → Adds start apdu with_apdu → Adds with_apdu hex with_hex → Adds with_hex serve made
-    → IfOk made (IsCommandLine has_password)
-made_of_three has_password (Ok start) (Ok apdu) (Ok with_apdu) (Ok hex) (Ok with_hex) (Ok serve)
+    → IfOk made (IsCommandLine given)
+made_of_three given (Ok start) (Ok apdu) (Ok with_apdu) (Ok hex) (Ok with_hex) (Ok serve)
     (Ok made) is_apdu is_hex is_serve first second third = record {
       start = start;
       apdu = apdu;
@@ -34,20 +34,20 @@ made_of_three has_password (Ok start) (Ok apdu) (Ok with_apdu) (Ok hex) (Ok with
       is_hex = is_hex;
       is_serve = is_serve;
     }
-made_of_three has_password start apdu with_apdu hex with_hex serve (Err error) is_apdu is_hex is_serve
+made_of_three given start apdu with_apdu hex with_hex serve (Err error) is_apdu is_hex is_serve
     first second third = tt
-made_of_three has_password start apdu with_apdu hex with_hex (Err error) (Ok made) is_apdu is_hex
+made_of_three given start apdu with_apdu hex with_hex (Err error) (Ok made) is_apdu is_hex
     is_serve first second third = let wrong : false ≡ true = third.command_made in absurd cc
-made_of_three has_password start apdu with_apdu hex (Err error) serve (Ok made) is_apdu is_hex
+made_of_three given start apdu with_apdu hex (Err error) serve (Ok made) is_apdu is_hex
     is_serve first second third = let wrong : false ≡ true = third.program_made in absurd cc
-made_of_three has_password start apdu with_apdu (Err error) (Ok with_hex) serve (Ok made) is_apdu
+made_of_three given start apdu with_apdu (Err error) (Ok with_hex) serve (Ok made) is_apdu
     is_hex is_serve first second third =
     let wrong : false ≡ true = second.command_made in absurd cc
-made_of_three has_password start apdu (Err error) hex (Ok with_hex) serve (Ok made) is_apdu is_hex
+made_of_three given start apdu (Err error) hex (Ok with_hex) serve (Ok made) is_apdu is_hex
     is_serve first second third = let wrong : false ≡ true = second.program_made in absurd cc
-made_of_three has_password start (Err error) (Ok with_apdu) hex (Ok with_hex) serve (Ok made) is_apdu
+made_of_three given start (Err error) (Ok with_apdu) hex (Ok with_hex) serve (Ok made) is_apdu
     is_hex is_serve first second third =
     let wrong : false ≡ true = first.command_made in absurd cc
-made_of_three has_password (Err error) apdu (Ok with_apdu) hex (Ok with_hex) serve (Ok made) is_apdu
+made_of_three given (Err error) apdu (Ok with_apdu) hex (Ok with_hex) serve (Ok made) is_apdu
     is_hex is_serve first second third =
     let wrong : false ≡ true = first.program_made in absurd cc
