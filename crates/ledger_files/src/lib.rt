@@ -21,13 +21,13 @@ ghost use Rattle.ledger_files.specs.Opened.{IsOpenedFrom};
 
 pub use answers::{append_answers, read_answers_of};
 pub use asking::{AskedLedger, ask_with_ledger, read_questions};
-use campaign_ledger::{Ledger, LedgerFault};
+use campaign_ledger::Ledger;
 use client_core::Job;
-use disks::{close_on_disk, open_on_disk};
+use disks::open_on_disk;
 pub use laws::the_next_run_finds_what_was_left;
 pub use reading::read_ledger;
 pub use runs::{LedgerReport, run_with_ledger};
-use sqlite::{Connection, FileFrom, FileStore, Start, Unknown};
+use sqlite::{Connection, FileFrom, FileStore, Start};
 use sqlite_ledger::{LedgerOpenFault, SqliteBook};
 use std::fs::OpenOptions;
 use std::os::unix::fs::OpenOptionsExt;
@@ -35,9 +35,6 @@ use std::rt::HostRuntime;
 
 /// A book over the files at a path, where `S` stands for what they hold.
 pub type BookFrom<S> = SqliteBook<FileStore<FileFrom<S>>>;
-
-/// A book over the files at a path, whatever they hold.
-pub type FileBook = BookFrom<Unknown>;
 
 /// Opens the ledger of a campaign with these jobs at a path, where `S` stands for what the files
 /// hold. A file that is missing or empty is made, with the tables and the jobs; only its owner may
@@ -80,23 +77,4 @@ pub(crate) fn make_private(rt: &HostRuntime, path: &str) {
         .mode(0o600)
         .open(rt, path);
     drop(made);
-}
-
-/// Opens the ledger of a campaign with these jobs at a path, as [`open_ledger_from`] does, whatever
-/// the files hold.
-pub fn open_ledger(
-    rt: &HostRuntime,
-    path: &str,
-    jobs: &[Job],
-) -> Result<Ledger<FileBook>, LedgerOpenFault>
-    ensures schema { IfOk result (λ ledger. ledger.book.schema ≡ ledger_schema) }
-    ensures entries { IfOk result (λ ledger. length ledger.entries ≡ length jobs.now) }
-    ensures unfailed { IfOk result (λ ledger. ledger.has_failed ≡ false) }
-{
-    open_ledger_from(rt, path, jobs, Unknown)
-}
-
-/// Closes a ledger: the file then has all of it, without its log.
-pub fn close_ledger<S: Start>(ledger: Ledger<BookFrom<S>>) -> Result<(), LedgerFault> {
-    close_on_disk(ledger).1
 }
