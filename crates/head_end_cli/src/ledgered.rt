@@ -3,6 +3,7 @@ ghost use Rattle.std.specs.Prelude.{◌≡◌, string_bytes, IfOk, OnOk};
 ghost use Rattle.std.specs.Io.KnownBytes.{Appends};
 ghost use Rattle.sqlite.specs.WalFiles.{image_at};
 ghost use Rattle.clap.specs.Matches.{found_of};
+ghost use Rattle.ledger_files.specs.declared.end.LedgerEnd.TheVariants.{Closed};
 ghost use Rattle.head_end_cli.specs.Ledgered.{PrintsRun, PrintsTexts};
 ghost use Rattle.head_end_commands.specs.Lists.{AreJobsOf};
 ghost use Rattle.head_end_commands.specs.Options.{AreLimits, AreWorkers};
@@ -13,7 +14,7 @@ use clap::ArgMatches;
 use head_end::Connector;
 use head_end_commands::{CampaignPlan, plan_campaign};
 use ledger_campaigns::{LedgerTexts, LedgeredPlan};
-use ledger_files::{LedgerReport, run_with_ledger};
+use ledger_files::{LedgerEnd, LedgerReport, run_with_ledger};
 use program::{Fault, print_text};
 use sqlite::{FileFrom, Start};
 use sqlite_disk::Disk;
@@ -21,6 +22,12 @@ use sqlite_ledger::LedgerOpenFault;
 use std::io::{Read, Write};
 use std::sync::Wait;
 use std::thread::Threads;
+
+// The line on standard error if a call on the ledger failed.
+const LEDGER_FAILED: &str = "ledger: the file failed; jobs that were not reached were not run";
+
+// The line on standard error if no call on the ledger failed, but its file could not be closed.
+const LEDGER_NOT_CLOSED: &str = "ledger: the file was not closed; it has all outcomes";
 
 // A campaign whose jobs and options are all valid, and the path of its ledger.
 #[derive(Drop)]
@@ -104,19 +111,25 @@ fn print_report<W: Write>(
     report: LedgerReport,
     output: &mut W,
 ) -> Result<(), Fault>
-    ensures { OnOk result
-        (PrintsTexts report.texts (W.contents output.old) (W.contents output.new)) }
+    ensures { OnOk result ((report.end ≡ Closed)
+        × PrintsTexts report.texts (W.contents output.old) (W.contents output.new)) }
 {
-    let LedgerReport { texts, has_failed } = report;
+    let LedgerReport { texts, end } = report;
     let printed = match texts {
         Ok(texts) => print_texts(rt, texts, output),
         Err(_) => Err(Fault::Memory),
     };
-    if has_failed {
-        let _ = eprintln!(rt; "ledger: the file failed; jobs that were not reached were not run");
-        return Err(Fault::Write);
+    match end {
+        LedgerEnd::Closed => printed,
+        LedgerEnd::NotClosed => {
+            let _ = eprintln!(rt; "{LEDGER_NOT_CLOSED}");
+            Err(Fault::Write)
+        }
+        LedgerEnd::Failed => {
+            let _ = eprintln!(rt; "{LEDGER_FAILED}");
+            Err(Fault::Write)
+        }
     }
-    printed
 }
 
 // Prints the texts of a report.

@@ -3,18 +3,20 @@
 //! A call that passes on the store of a file makes the proof read how that store works, which costs
 //! less over any disk than over a certain one. So these calls are here, once each, and the rest of
 //! the crate calls them.
-ghost use Rattle.std.specs.Prelude.{◌≡◌, length, pos, IfOk, OnOk, false};
+ghost use Rattle.std.specs.Prelude.{◌≡◌, length, pos, Some, IfOk, OnOk, false};
 ghost use Rattle.sqlite.specs.State.{HasCleanDisk, IsUnchanged};
 ghost use Rattle.sqlite.specs.Files.{file_state};
 ghost use Rattle.sqlite_ledger.specs.Marks.{IsMarked, LeavesCommit, LeavesEntries};
 ghost use Rattle.sqlite_ledger.specs.Schema.{ledger_schema};
 ghost use Rattle.ledger_campaigns.specs.Texts.{IsRunOnLedger};
 ghost use Rattle.ledger_files.specs.Answered.{AreAppended};
+ghost use Rattle.ledger_files.specs.Runs.{IsEnd};
 
 use crate::answers::{append_all, read_all};
 use crate::connected::{run_on_connection, take_apart};
+use crate::end::LedgerEnd;
 use crate::reading::read_and_drop;
-use campaign_ledger::{Ledger, LedgerFault};
+use campaign_ledger::Ledger;
 use client_core::Job;
 use head_end::{Connector, Watcher};
 use ledger_campaigns::{LedgerTexts, LedgeredPlan};
@@ -79,14 +81,15 @@ pub(crate) fn run_on_disk<
     run_on_connection(threads, alloc, plan, ledger, connector)
 }
 
-// Closes a ledger. Returns whether it has failed, and the result of the close.
-pub(crate) fn close_on_disk<D: Disk + Drop>(
-    ledger: Ledger<DiskBook<D>>,
-) -> (bool, Result<(), LedgerFault>) {
+// Closes a ledger, and returns how it ended.
+pub(crate) fn close_on_disk<D: Disk + Drop>(ledger: Ledger<DiskBook<D>>) -> LedgerEnd
+    ensures { IsEnd (Some ledger) result }
+{
     let (has_failed, conn) = take_apart(ledger);
     match conn.close() {
-        Ok(()) => (has_failed, Ok(())),
-        Err(_) => (has_failed, Err(LedgerFault::Failed)),
+        _ if has_failed => LedgerEnd::Failed,
+        Ok(()) => LedgerEnd::Closed,
+        Err(_) => LedgerEnd::NotClosed,
     }
 }
 

@@ -1,9 +1,10 @@
 //! A campaign on a ledger in a file: opens the ledger, runs the jobs and closes the ledger.
 ghost use Rattle.std.specs.Prelude.{IfOk};
 ghost use Rattle.sqlite.specs.WalFiles.{image_at};
-ghost use Rattle.ledger_files.specs.Runs.{IsRunOnFile};
+ghost use Rattle.ledger_files.specs.Runs.{IsEnd, IsRunOnFile};
 
 use crate::disks::{close_on_disk, run_on_disk};
+use crate::end::LedgerEnd;
 use crate::{BookFrom, open_ledger_from};
 use campaign_ledger::Ledger;
 use head_end::{Connector, Watcher};
@@ -21,18 +22,17 @@ use std::thread::Threads;
 pub struct LedgerReport {
     /// The texts, unless out of memory: the ledger then has the outcomes.
     pub texts: Result<LedgerTexts, AllocError>,
-    /// Whether the ledger failed: no further command went out then.
-    pub has_failed: bool,
+    /// How the ledger ended.
+    pub end: LedgerEnd,
 }
 
-// Closes a ledger. Returns whether it was there, had not failed and was closed.
-fn close<S: Start>(ledger: Option<Ledger<BookFrom<S>>>) -> bool {
+// Closes a ledger, if there is one, and returns how it ended.
+fn close<S: Start>(ledger: Option<Ledger<BookFrom<S>>>) -> LedgerEnd
+    ensures { IsEnd ledger result }
+{
     match ledger {
-        Some(ledger) => {
-            let (has_failed, closed) = close_on_disk(ledger);
-            closed.is_ok() && !has_failed
-        }
-        None => false,
+        Some(ledger) => close_on_disk(ledger),
+        None => LedgerEnd::Failed,
     }
 }
 
@@ -49,13 +49,14 @@ pub fn run_with_ledger<S: Start + Send, R: Threads + Wait + Sync, C: Connector, 
     connector: &C,
 ) -> Result<LedgerReport, LedgerOpenFault>
     ensures { IfOk result (λ report. IsRunOnFile ⟦<FileFrom<S> as Disk>⟧ (image_at S.Start)
-        (C.tells connector.now) plan.now.jobs.now plan.now.passwords.now report.texts) }
+        (C.tells connector.now) plan.now.jobs.now plan.now.passwords.now report.texts
+        report.end) }
 {
     match open_ledger_from(rt, path, plan.jobs.as_slice(), start) {
         Ok(ledger) => match run_on_disk(threads, rt.alloc(), plan, ledger, connector) {
             Ok((texts, ledger)) => Ok(LedgerReport {
                 texts,
-                has_failed: !close(ledger),
+                end: close(ledger),
             }),
             Err(_) => Err(LedgerOpenFault::Memory),
         },
