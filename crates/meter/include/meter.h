@@ -41,7 +41,7 @@ enum {
     METER_CUT = 3,            /* meter_next: session over, the input ended within a frame */
     METER_BAD_VERSION = 4,    /* meter_next: session over, a header's version is not 1 */
     METER_TOO_LONG = 5,       /* meter_next: session over, a payload length is above 1,024 */
-    METER_STALE = 6,          /* meter_moment: earlier than the last moment, nothing changed */
+    METER_STALE = 6,          /* meter_moment: earlier than the last moment; kept as an event only */
     METER_NO_MOMENT = 7,      /* meter_last_moment: there has been no moment yet */
     METER_NO_MEMORY = 8,      /* out of memory; the same call can be repeated */
     METER_NOT_OPEN = 9,       /* the meter is not open */
@@ -116,6 +116,8 @@ meter_result meter_finish(struct meter *meter, uint8_t session);
  * METER_OK, METER_WAIT, METER_CLOSED, METER_CUT, METER_BAD_VERSION, METER_TOO_LONG,
  * METER_NO_ROOM, METER_NOT_OPEN, METER_NO_SESSION, METER_NO_MEMORY: some of the requests may have
  * been applied. If the call is repeated, no event is applied twice and no reply is lost.
+ * A SET, an ACTION or a GET of the disconnect control never ends with METER_NO_MEMORY, if room is
+ * at least 14.
  */
 meter_result meter_next(struct meter *meter, uint8_t session, uint8_t *frame, size_t room, size_t *length);
 

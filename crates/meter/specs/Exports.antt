@@ -42,15 +42,19 @@ OnOpen shut does (Some m) code (Some m') = does m code m'
 
 -- ---- opening
 
--- whether the arguments of opening are in their ranges: a name of 1 to 16 bytes, a password of 1 to
--- 32 bytes, and 1 to 1,024 kept events
-pub record AreFit (name password : List ℕ) (kept : ℕ) : Type 0 where
-  pub name_some : 1 ≤ length name
-  pub name_few : length name ≤ 16
+-- whether the arguments that each opening has are in their ranges: a password of 1 to 32 bytes, and
+-- 1 to 1,024 kept events
+pub record AreKept (password : List ℕ) (kept : ℕ) : Type 0 where
   pub password_some : 1 ≤ length password
   pub password_few : length password ≤ 32
   pub kept_some : 1 ≤ kept
   pub kept_few : kept ≤ 1024
+
+-- whether the arguments of opening a new meter are in their ranges: also a name of 1 to 16 bytes
+pub record AreFit (name password : List ℕ) (kept : ℕ) : Type 0 where
+  pub name_some : 1 ≤ length name
+  pub name_few : length name ≤ 16
+  pub others : AreKept password kept
 
 -- Whether opening a new meter on this handle has this outcome and leaves this meter. Memory may run
 -- out only if the arguments are in their ranges; a meter that is already open is unchanged.
@@ -83,8 +87,8 @@ abbrev pub ResumeOutcome : List ℕ → List ℕ → ℕ → Option MeterState �
     → Type 0
 ResumeOutcome text password kept None outcome.Done (Some m) = Resumes text password kept m
 ResumeOutcome text password kept None outcome.WrongArgument None =
-    (¬ (AreFit (0 ∷ []) password kept)) ⊎ IsNoTrace text
-ResumeOutcome text password kept None outcome.NoMemory None = AreFit (0 ∷ []) password kept
+    (¬ (AreKept password kept)) ⊎ IsNoTrace text
+ResumeOutcome text password kept None outcome.NoMemory None = AreKept password kept
 ResumeOutcome text password kept None _ new = ⊥
 ResumeOutcome text password kept (Some m) outcome.IsOpen new = new ≡ Some m
 ResumeOutcome text password kept (Some m) _ new = ⊥

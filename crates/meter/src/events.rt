@@ -13,13 +13,18 @@ use std::alloc::Global;
 #[repr(C)]
 #[derive(Clone, Copy, Debug, PartialEq, Eq)]
 pub struct Firings {
+    /// Over the threshold of the imported power.
     pub over: u16,
+    /// Under the threshold of the imported power.
     pub under: u16,
+    /// Over the threshold of the exported power; 0 if only imported power was passed.
     pub export_over: u16,
+    /// Under the threshold of the exported power; 0 if only imported power was passed.
     pub export_under: u16,
 }
 
-/// Applies a press of the meter's button. `code` is its result. Error: `NotOpen`, and `code` is 0.
+/// Applies a press of the meter's button. `code` is its result. Results: `NotOpen`, and `code` is
+/// 0; `Done`.
 #[unsafe(no_mangle)]
 pub extern "C" fn meter_press(alloc: Global, meter: &mut MeterHandle, code: &mut u8) -> u32
     ensures { OnOpen (code.new ≡ 0) (MeterPress code.new) meter.old.slot.held result
@@ -34,7 +39,9 @@ pub extern "C" fn meter_press(alloc: Global, meter: &mut MeterHandle, code: &mut
     CallResult::Done.code()
 }
 
-/// Applies samples of the imported power, in watts.
+/// Applies at most 256 samples of the imported power, in watts, ten a second. Results, in this
+/// order: `NotOpen`; `WrongArgument` if there are more; `NoMemory`; `Done`. All of `fired` is 0
+/// unless the result is `Done`.
 #[unsafe(no_mangle)]
 pub extern "C" fn meter_samples(
     alloc: Global,
@@ -56,7 +63,8 @@ pub extern "C" fn meter_samples(
     sampled_outcome(sampled).code()
 }
 
-/// Applies pairs of samples of the imported and of the exported power, in watts.
+/// Applies at most 256 samples of the imported power and as many of the exported power, in watts,
+/// ten of each a second. Results as of `meter_samples`; `WrongArgument` also if the numbers differ.
 #[unsafe(no_mangle)]
 pub extern "C" fn meter_sample_pairs(
     alloc: Global,
@@ -80,7 +88,9 @@ pub extern "C" fn meter_sample_pairs(
 }
 
 /// Applies a moment of the meter's clock, in seconds since 2000-01-01 00:00:00. `ran` is the number
-/// of schedules that were due.
+/// of schedules that were due; 0 unless the result is `Done`. Results: `NotOpen`; `Stale` if the
+/// moment is earlier than the last one: the meter's state is unchanged, and the moment is kept as
+/// an event; `Done`.
 #[unsafe(no_mangle)]
 pub extern "C" fn meter_moment(
     alloc: Global,

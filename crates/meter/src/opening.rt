@@ -1,6 +1,6 @@
 //! Opens and closes a meter.
 ghost use Rattle.std.specs.Prelude.{◌≡◌, None, IfOk, IsTrue, ◌↔◌};
-ghost use Rattle.meter.specs.Exports.{AreFit, OpenOutcome, MeterOpen};
+ghost use Rattle.meter.specs.Exports.{AreFit, AreKept, OpenOutcome, MeterOpen};
 ghost use Rattle.embedded_meter.specs.Calls.{IsNew};
 
 use crate::handle::MeterHandle;
@@ -11,7 +11,9 @@ use embedded_meter::SupplyMeter;
 use relay_core::MAX_DEVICE_NAME;
 use std::alloc::{AllocError, Global};
 
-/// Opens a new meter.
+/// Opens a new meter with a name of 1 to 16 bytes and a password of 1 to 32, which keeps 1 to 1,024
+/// events. Results, in this order: `IsOpen`, `WrongArgument`, `NoMemory`, `Done`. The handle is
+/// unchanged unless the result is `Done`.
 #[unsafe(no_mangle)]
 pub extern "C" fn meter_open(
     alloc: Global,
@@ -53,16 +55,18 @@ fn open(
     }
 }
 
-// Returns whether the lengths of the arguments are in their ranges.
-pub(crate) fn are_fit(name: &[u8], password: &[u8], kept_events: u16) -> bool
+// Returns whether the arguments that each opening has are in their ranges.
+pub(crate) fn are_kept(password: &[u8], kept_events: u16) -> bool
+    ensures { IsTrue result ↔ AreKept password.now kept_events }
+{
+    1 <= password.len() && password.len() <= MAX_PASSWORD && 1 <= kept_events && kept_events <= 1024
+}
+
+// Returns whether the arguments of opening a new meter are in their ranges.
+fn are_fit(name: &[u8], password: &[u8], kept_events: u16) -> bool
     ensures { IsTrue result ↔ AreFit name.now password.now kept_events }
 {
-    1 <= name.len()
-        && name.len() <= MAX_DEVICE_NAME
-        && 1 <= password.len()
-        && password.len() <= MAX_PASSWORD
-        && 1 <= kept_events
-        && kept_events <= 1024
+    1 <= name.len() && name.len() <= MAX_DEVICE_NAME && are_kept(password, kept_events)
 }
 
 // Returns a new meter in a box.
@@ -87,7 +91,7 @@ fn new_meter(
     }
 }
 
-/// Closes a meter, and frees all its memory.
+/// Closes a meter and its sessions, and frees all its memory. A closed meter stays closed.
 #[unsafe(no_mangle)]
 pub extern "C" fn meter_close(alloc: Global, meter: &mut MeterHandle)
     ensures { meter.new.slot.held ≡ None }

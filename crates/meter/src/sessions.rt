@@ -1,7 +1,9 @@
 //! The sessions of a meter.
-ghost use Rattle.std.specs.Prelude.{◌≡◌, ℕ};
+ghost use Rattle.std.specs.Prelude.{◌≡◌, ◌≢◌, ℕ, Some};
 ghost use Rattle.meter.specs.Exports.{OnOpen, MeterOpenSession, MeterFeed, MeterFinish, MeterNext, MeterCloseSession, next_outcome, next_length};
 ghost use Rattle.meter.specs.Outcomes.{code_of, outcome_of_call, of_end};
+ghost use Rattle.meter.specs.declared.outcome.CallResult.TheVariants.{NoMemory};
+ghost use Rattle.embedded_meter.specs.Memory.{HasSureNext};
 ghost use Rattle.embedded_meter.specs.MeterStates.{MeterState};
 
 use crate::handle::MeterHandle;
@@ -10,7 +12,8 @@ use embedded_meter::{Given, MeterFault};
 use session_core::SessionEnd;
 use std::alloc::Global;
 
-/// Opens a session with a number of 0 to 7.
+/// Opens a session with a number of 0 to 7. Results, in this order: `NotOpen`, `NoSession` if the
+/// number is above 7, `SessionTaken`, `NoMemory`, `Done`.
 #[unsafe(no_mangle)]
 pub extern "C" fn meter_open_session(alloc: Global, meter: &mut MeterHandle, session: u8) -> u32
     ensures { OnOpen Unit (MeterOpenSession session) meter.old.slot.held result
@@ -24,7 +27,8 @@ pub extern "C" fn meter_open_session(alloc: Global, meter: &mut MeterHandle, ses
     done_code(done)
 }
 
-/// Passes the next bytes to a session.
+/// Passes the next bytes to a session, split at any place. Results, in this order: `NotOpen`,
+/// `NoSession`, `NoMemory` (none of the bytes were copied), `Done`.
 #[unsafe(no_mangle)]
 pub extern "C" fn meter_feed(
     alloc: Global,
@@ -43,7 +47,7 @@ pub extern "C" fn meter_feed(
     done_code(done)
 }
 
-/// Ends the input of a session.
+/// Ends the input of a session. Results, in this order: `NotOpen`, `NoSession`, `Done`.
 #[unsafe(no_mangle)]
 pub extern "C" fn meter_finish(alloc: Global, meter: &mut MeterHandle, session: u8) -> u32
     ensures { OnOpen Unit (MeterFinish session) meter.old.slot.held result meter.new.slot.held }
@@ -57,7 +61,12 @@ pub extern "C" fn meter_finish(alloc: Global, meter: &mut MeterHandle, session: 
 }
 
 /// Applies the requests of a session to the meter, up to the next frame, and copies the frame to
-/// the buffer.
+/// the buffer. `length` is the frame's length in bytes for `Done` and `NoRoom`, otherwise 0.
+///
+/// Results: `NotOpen`; `NoSession`; `Done`; `NoRoom`, and the frame stays pending; `Wait`;
+/// `Closed`, `Cut`, `BadVersion` or `TooLong` if the session is over; `NoMemory`, after which the
+/// effects so far remain, and the same call continues from there. A short request whose event is
+/// sure, as of `SupplyMeter::next`, never gives `NoMemory` if the buffer has 14 bytes.
 #[unsafe(no_mangle)]
 pub extern "C" fn meter_next(
     alloc: Global,
@@ -66,9 +75,11 @@ pub extern "C" fn meter_next(
     frame: &mut [u8],
     length: &mut usize,
 ) -> u32
-    ensures { OnOpen ((frame.new ≡ frame.old)
+    ensures next { OnOpen ((frame.new ≡ frame.old)
         × (length.new ≡ 0)) (MeterNext session frame.old frame.new length.new) meter.old.slot.held
         result meter.new.slot.held }
+    ensures sure { (m : MeterState) → meter.old.slot.held ≡ Some m → HasSureNext m session frame.old
+        → result ≢ code_of NoMemory }
 {
     *length = 0;
     let Some(mut held) = meter.take(alloc) else {
@@ -80,7 +91,7 @@ pub extern "C" fn meter_next(
     given_outcome(given).code()
 }
 
-/// Closes a session.
+/// Closes a session, whatever its state. Results, in this order: `NotOpen`, `NoSession`, `Done`.
 #[unsafe(no_mangle)]
 pub extern "C" fn meter_close_session(alloc: Global, meter: &mut MeterHandle, session: u8) -> u32
     ensures { OnOpen Unit (MeterCloseSession session) meter.old.slot.held result

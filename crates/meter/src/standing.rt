@@ -6,7 +6,7 @@ use crate::handle::MeterHandle;
 use crate::outcome::CallResult;
 use std::alloc::Global;
 
-/// Reads the control state (class 70, attribute 3).
+/// Reads the control state (class 70, attribute 3). Results: `NotOpen`, and `state` is 0; `Done`.
 #[unsafe(no_mangle)]
 pub extern "C" fn meter_control_state(alloc: Global, meter: &mut MeterHandle, state: &mut u8) -> u32
     ensures { OnOpen (state.new ≡ 0) (MeterControlState state.new) meter.old.slot.held result
@@ -21,7 +21,8 @@ pub extern "C" fn meter_control_state(alloc: Global, meter: &mut MeterHandle, st
     CallResult::Done.code()
 }
 
-/// Reads the control mode (class 70, attribute 4).
+/// Reads the control mode (class 70, attribute 4), 0 to 6. Results: `NotOpen`, and `mode` is 0;
+/// `Done`.
 #[unsafe(no_mangle)]
 pub extern "C" fn meter_control_mode(alloc: Global, meter: &mut MeterHandle, mode: &mut u8) -> u32
     ensures { OnOpen (mode.new ≡ 0) (MeterControlMode mode.new) meter.old.slot.held result
@@ -36,7 +37,8 @@ pub extern "C" fn meter_control_mode(alloc: Global, meter: &mut MeterHandle, mod
     CallResult::Done.code()
 }
 
-/// Reads whether the supply is on.
+/// Reads whether the supply is on (class 70, attribute 2). Results: `NotOpen`, and `is_on` is
+/// false; `Done`.
 #[unsafe(no_mangle)]
 pub extern "C" fn meter_supply(alloc: Global, meter: &mut MeterHandle, is_on: &mut bool) -> u32
     ensures { OnOpen (is_on.new ≡ false) (MeterSupply is_on.new) meter.old.slot.held result
@@ -51,7 +53,8 @@ pub extern "C" fn meter_supply(alloc: Global, meter: &mut MeterHandle, is_on: &m
     CallResult::Done.code()
 }
 
-/// Reads the last moment of the clock.
+/// Reads the last moment of the clock, in seconds since 2000-01-01 00:00:00. Results: `NotOpen`,
+/// `NoMoment` if there was none, `Done`. `moment` is 0 unless the result is `Done`.
 #[unsafe(no_mangle)]
 pub extern "C" fn meter_last_moment(alloc: Global, meter: &mut MeterHandle, moment: &mut u32) -> u32
     ensures { OnOpen (moment.new ≡ 0) (MeterLastMoment moment.new) meter.old.slot.held result

@@ -3,13 +3,16 @@ ghost use Rattle.std.specs.Prelude.{◌≡◌};
 ghost use Rattle.meter.specs.Exports.{OnOpen, ResumeOutcome, MeterResume, MeterExport, WritesBy};
 
 use crate::handle::MeterHandle;
-use crate::opening::are_fit;
+use crate::opening::are_kept;
 use crate::outcome::CallResult;
 use cosem_axdr::Octets;
 use embedded_meter::{SupplyMeter, TraceFault};
 use std::alloc::{AllocError, Global};
 
-/// Opens a meter that continues from the end of a trace.
+/// Opens a meter that continues from the end of a trace, with a password of 1 to 32 bytes, and
+/// keeps 1 to 1,024 events. Results: `IsOpen`; `WrongArgument` if an argument is out of its range
+/// or the text is not a trace; `NoMemory`; `Done`. The handle is unchanged unless the result is
+/// `Done`.
 #[unsafe(no_mangle)]
 pub extern "C" fn meter_resume(
     alloc: Global,
@@ -39,7 +42,7 @@ fn resume(
         meter.put(held);
         return CallResult::IsOpen;
     }
-    if !are_fit(&[0], password, kept_events) {
+    if !are_kept(password, kept_events) {
         return CallResult::WrongArgument;
     }
     let password = match Octets::from_slice(alloc, password) {
@@ -63,7 +66,9 @@ fn resume(
     }
 }
 
-/// Writes the meter's trace as text.
+/// Writes the meter's trace as text. `length` is the text's length in bytes for `Done` and
+/// `NoRoom`, otherwise 0. Results: `NotOpen`, `NoMemory`, `NoRoom`, `Done`. The buffer is unchanged
+/// unless the result is `Done`.
 #[unsafe(no_mangle)]
 pub extern "C" fn meter_export(
     alloc: Global,
