@@ -1,5 +1,5 @@
 //! The journal of a server: its file, its lock, and the recorder that resumes where it ends.
-ghost use Rattle.std.specs.Prelude.{◌≡◌, true, IfOk, IfErr, IfSome, length, string_bytes};
+ghost use Rattle.std.specs.Prelude.{◌≡◌, ◌≤◌, true, IfOk, IfErr, IfSome, length, string_bytes};
 ghost use Rattle.server_files.specs.Faults.{is_of_opening};
 
 use crate::lock::lock_journal;
@@ -39,11 +39,20 @@ pub struct OpenJournal<R: Files<File = File> + Drop> {
     pub lock: LockFile,
 }
 
+// Returns how many events stay in a journal: the number of the options, or the nearest of 1 to
+// 1,024.
+fn depth_of(options: JournalOptions) -> u16
+    ensures within { (1 ≤ result) × (result ≤ 1024) }
+    ensures same { 1 ≤ options.depth → options.depth ≤ 1024 → result ≡ options.depth }
+{
+    options.depth.clamp(1, 1024)
+}
+
 // Returns when a journal is renewed, and how many events stay in it.
 fn terms_of(options: JournalOptions) -> RenewalTerms {
     RenewalTerms {
         limit: options.limit as usize,
-        depth: usize::from(options.depth),
+        depth: usize::from(depth_of(options)),
     }
 }
 
@@ -60,7 +69,8 @@ fn place_of<R: AllocGlobal + Files<File = File> + Copy + Drop>(
     Ok(StoredPlace::new(*rt, folder, paths, MAX_BYTES))
 }
 
-// Resumes the journal of an open file of a place, for the meter with the name of this recorder.
+// Resumes the journal of an open file of a place, for the meter with the name of this recorder,
+// which keeps at most `depth` events.
 fn resume_file<R: AllocGlobal + Files<File = File> + Drop>(
     rt: &R,
     place: &mut StoredPlace<R>,
@@ -68,6 +78,7 @@ fn resume_file<R: AllocGlobal + Files<File = File> + Drop>(
     recorder: &Recorder,
     depth: u16,
 ) -> Result<Resumed, StartFault>
+    requires { (1 ≤ depth) × (depth ≤ 1024) }
     ensures { IfOk result (λ resumed. length resumed.recorder.events ≡ 0) }
 {
     let opening = recorder.core().to_opening(rt.alloc())?;
@@ -76,7 +87,7 @@ fn resume_file<R: AllocGlobal + Files<File = File> + Drop>(
         return Err(StartFault::File);
     };
     place.set_file(file);
-    let resumed = resume_journal(rt.alloc(), place, &opening.device, depth.clamp(1, 1024));
+    let resumed = resume_journal(rt.alloc(), place, &opening.device, depth);
     drop(opening);
     resumed
 }
@@ -115,7 +126,8 @@ fn open_file<R: AllocGlobal + Eprint + Files<File = File> + Drop>(
     access.read(true).write(true);
     match access.open(rt, path) {
         Ok(file) => {
-            let Resumed { recorder, cut } = resume_file(rt, place, file, recorder, options.depth)?;
+            let depth = depth_of(options);
+            let Resumed { recorder, cut } = resume_file(rt, place, file, recorder, depth)?;
             if cut > 0 {
                 let _ = eprintln!(rt; "{path}: cut {cut} bytes of an interrupted write");
             }
