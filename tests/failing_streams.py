@@ -2,11 +2,13 @@
 """Makes each read and write in turn fail, transfer one byte, or be interrupted, in the proved
 executables that the gate left: the standard streams of the programs, the connections of a client
 (`head_end run`), and a meter that serves two clients. After a failure nothing more is written on
-that stream and the fault is reported; a short or an interrupted call changes nothing.
+that stream and the fault is reported; a short or an interrupted call changes nothing. An `accept`
+of the meter fails by each error that passes.
 
 usage: tests/failing_streams.py"""
 
 import collections
+import errno
 import os
 import sys
 
@@ -18,11 +20,14 @@ from refused_memory import METERS, PROGRAMS, print_counts, talk
 from refusing import Refusing
 from scripted_meters import AARQ as CLIENT_AARQ
 from scripted_meters import RELEASE, REQUESTS, ScriptedMeter
-from serving import PASSWORD, PLAYER, SERVER, Client, Server, check, is_part_of, play_trace, test
+from serving import NO_CLIENT, PASSWORD, PLAYER, SERVER, STATE, Client, Server, check, is_part_of, play_trace, test
 
 FAULTS = {b"fault: read\n", b"fault: write\n"}
 CONSOLE_FAILED = "console: reading failed, no further line is read\n"
 HARMLESS = ("short_stream", "interrupt_stream")
+# The errors after which accept(2) says to try again, and those of a lack of descriptors or memory.
+PASSING = (errno.EPERM, errno.ENOMEM, errno.ENFILE, errno.EMFILE, errno.ENONET, errno.EPROTO, errno.ENOPROTOOPT, errno.EOPNOTSUPP,
+           errno.ENETDOWN, errno.ENETUNREACH, errno.ECONNABORTED, errno.ENOBUFS, errno.EHOSTDOWN, errno.EHOSTUNREACH)
 refusing = None
 
 
@@ -136,6 +141,18 @@ def a_meter_has_failing_connections(name):
         check(f"{name}: {how}", set(found) == {everything}, found)
 
 
+def errors_of_accept_pass(name):
+    for number in PASSING:
+        server = Server("--connections", "1", environment=refusing.environment(fail_accept=1, accept_error=number))
+        client = server.client()
+        check(f"{name}: a client is served", client.get(STATE) == "value 1601")
+        client.close()
+        status, _, errors = server.end()
+        lines = [line for line in errors.encode().splitlines(keepends=True) if NO_CLIENT in line or b"Z clients are accepted again\n" in line]
+        wanted = 0 if number == errno.ECONNABORTED else 2
+        check(f"{name}: {errno.errorcode[number]}", status == 0 and "fault" not in errors and len(lines) == wanted, status, errors)
+
+
 def main():
     global refusing
     for executable in (SERVER, PLAYER, HEAD_END):
@@ -144,7 +161,8 @@ def main():
             print("0 passed, 1 failed")
             return 1
     refusing = Refusing()
-    for function in (programs_have_failing_streams, a_client_has_failing_connections, a_meter_has_failing_connections):
+    for function in (programs_have_failing_streams, a_client_has_failing_connections, a_meter_has_failing_connections,
+                     errors_of_accept_pass):
         test(function)
     refusing.stop()
     print(f"{serving.passed} passed, {serving.failed} failed")

@@ -1,10 +1,11 @@
 /* Preloaded between a program and the C library, for tests/refusing.py: refuses one allocation or
- * one thread, fails, shortens or interrupts one read or write, or fails one sync of a file. These
- * variables have the number of that call, from 1: REFUSE_MEMORY, REFUSE_THREAD, FAIL_STREAM,
- * SHORT_STREAM, INTERRUPT_STREAM, FAIL_SYNC. When standard input ends or fails, and when the
- * program ends, a line of numbers is written to the file REFUSING_REPORT: allocations, reads and
- * writes, writes to the failed stream or file after its failure, connections, started threads, and
- * syncs. Writes to standard error are not counted and never fail. */
+ * one thread, fails, shortens or interrupts one read or write, or fails one sync of a file or one
+ * accept. These variables have the number of that call, from 1: REFUSE_MEMORY, REFUSE_THREAD,
+ * FAIL_STREAM, SHORT_STREAM, INTERRUPT_STREAM, FAIL_SYNC, FAIL_ACCEPT; ACCEPT_ERROR has the error of
+ * the accept. When standard input ends or fails, and when the program ends, a line of numbers is
+ * written to the file REFUSING_REPORT: allocations, reads and writes, writes to the failed stream or
+ * file after its failure, connections, started threads, and syncs. Writes to standard error are not
+ * counted and never fail. */
 
 typedef unsigned long size;
 typedef long count;
@@ -17,12 +18,12 @@ extern int *__errno_location(void);
 extern char *getenv(const char *);
 extern void *dlsym(void *, const char *);
 
-enum { READ = 0, WRITE = 1, OPEN = 2, CLOSE = 3, WRITEV = 20, CONNECT = 42, SENDTO = 44, RECVFROM = 45, SENDMSG = 46, FSYNC = 74, FDATASYNC = 75, EXIT_GROUP = 231 };
+enum { READ = 0, WRITE = 1, OPEN = 2, CLOSE = 3, WRITEV = 20, CONNECT = 42, SENDTO = 44, RECVFROM = 45, SENDMSG = 46, FSYNC = 74, FDATASYNC = 75, EXIT_GROUP = 231, ACCEPT4 = 288 };
 enum { INTERRUPTED = 4, FAILED = 5, TRY_AGAIN = 11, NO_MEMORY = 12 };
 enum { STANDARD_INPUT = 0, STANDARD_ERROR = 2, NONE = -1 };
 
-static size refused, refused_thread, failing, shortened, interrupted, failing_sync;
-static size allocations, streams, late, connections, threads, syncs;
+static size refused, refused_thread, failing, shortened, interrupted, failing_sync, failing_accept, accept_error;
+static size allocations, streams, late, connections, threads, syncs, accepts;
 static int failed = NONE;
 
 static size number(const char *name) {
@@ -39,6 +40,8 @@ __attribute__((constructor)) static void begin(void) {
     shortened = number("SHORT_STREAM");
     interrupted = number("INTERRUPT_STREAM");
     failing_sync = number("FAIL_SYNC");
+    failing_accept = number("FAIL_ACCEPT");
+    accept_error = number("ACCEPT_ERROR");
 }
 
 static char *digits(char *end, size value) {
@@ -156,6 +159,12 @@ static int sync_by(count call, int file) {
 int fsync(int file) { return sync_by(FSYNC, file); }
 
 int fdatasync(int file) { return sync_by(FDATASYNC, file); }
+
+int accept4(int file, void *peer, unsigned *length, int flags) {
+    if (__sync_add_and_fetch(&accepts, 1) != failing_accept) return (int)syscall(ACCEPT4, file, peer, length, flags);
+    *__errno_location() = (int)accept_error;
+    return -1;
+}
 
 int connect(int file, const void *peer, unsigned length) {
     __sync_add_and_fetch(&connections, 1);

@@ -23,6 +23,7 @@ PASSWORD = "12345678"
 PATIENCE = 60  # the time limit of each wait, in seconds
 MANAGEMENT, PUBLIC = 1, 16
 SESSIONS = 8
+NO_CLIENT = b"Z no client can be accepted, trying again: "
 
 # Attributes and methods: class, logical name and number (IEC 62056-6-2).
 SWITCH = (70, "000060030AFF")
@@ -433,6 +434,37 @@ def a_client_whose_stream_cannot_be_set_up_is_turned_away(name):
     check(f"{name}: played", is_part_of(later.seen, play_trace(trace)))
 
 
+def wait_without_descriptors(server):
+    """Leaves no descriptor free for a server, and waits until it can't accept a client. Returns the
+    limits that it had."""
+    times = server.errors.count(NO_CLIENT)
+    limits = resource.prlimit(server.process.pid, resource.RLIMIT_NOFILE)
+    resource.prlimit(server.process.pid, resource.RLIMIT_NOFILE, (0, limits[1]))
+    # (an `accept` that waits may have its descriptor already: the next one has none)
+    Client(server.port).close()
+    assert server.wait_for(NO_CLIENT, times + 1), server.errors
+    return limits
+
+
+def a_lack_of_descriptors_passes(name):
+    server = Server("--stop-with-input")
+    client = server.client()
+    limits = wait_without_descriptors(server)
+    check(f"{name}: an open session goes on", client.get(STATE) == "value 1601")
+    waiting = Client(server.port)
+    time.sleep(1)
+    check(f"{name}: reported once, with the reason", server.errors.count(NO_CLIENT) == 1 and b"Too many open files" in server.errors, server.errors)
+    resource.prlimit(server.process.pid, resource.RLIMIT_NOFILE, limits)
+    check(f"{name}: the client that waited is served", waiting.associate().startswith(AARE) and waiting.get(STATE) == "value 1601")
+    check(f"{name}: reported", server.wait_for(b"Z clients are accepted again\n"), server.errors)
+    waiting.close()
+    wait_without_descriptors(server)
+    client.close()
+    status, trace, errors = server.end()
+    check(f"{name}: the end of input ends the server", status == 0 and "fault" not in errors, status, errors)
+    check(f"{name}: played", is_part_of(client.seen, play_trace(trace)))
+
+
 def connect_again(server):
     """Connects a client once a session is free: the server frees ended sessions when it accepts the
     next client."""
@@ -741,7 +773,7 @@ def main():
     if not are_built(SERVER, PLAYER):
         return 1
     return run_tests((requests_of_every_kind, a_long_answer_comes_in_blocks, clients_interleave, a_ninth_client_is_turned_away,
-                      a_client_whose_stream_cannot_be_set_up_is_turned_away,
+                      a_client_whose_stream_cannot_be_set_up_is_turned_away, a_lack_of_descriptors_passes,
                       console_lines_act_beside_clients, a_console_that_is_not_read_is_a_fault, a_limit_of_connections_ends_the_server, the_end_of_input_ends_the_server,
                       an_address_in_use_is_a_fault, a_meter_goes_on_from_its_trace, a_wrong_trace_is_not_gone_on_from, wrong_passwords_are_refused,
                       the_log_reports_each_client, a_server_without_a_journal_says_so,

@@ -1,5 +1,5 @@
 //! The end of a server: it stops accepting connections.
-use crate::listening::Stopped;
+use crate::listening::{ATTEMPT_PAUSE, Stopped};
 use meter_console::{ConsoleEnd, ConsoleObserver};
 use std::net::{Net, SocketAddr, TcpStream};
 use std::sync::atomic::Ordering;
@@ -26,7 +26,7 @@ fn wake<R: Net + Clock>(rt: &R, address: SocketAddr) {
         if TcpStream::connect(rt, address).is_ok() {
             return;
         }
-        thread::sleep(rt, Duration::from_millis(100));
+        thread::sleep(rt, Duration::from_millis(ATTEMPT_PAUSE));
     }
 }
 

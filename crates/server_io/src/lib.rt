@@ -4,6 +4,7 @@
 //! messages about each client on standard error. [`Closing`] ends the listening.
 #![tactic(auto)]
 
+mod accepting;
 mod client_log;
 mod closing;
 mod deadline_stream;
