@@ -3,7 +3,6 @@ ghost use Rattle.std.specs.Prelude.{◌≡◌, string_bytes, IfOk, OnOk};
 ghost use Rattle.std.specs.Io.KnownBytes.{Appends};
 ghost use Rattle.sqlite.specs.WalFiles.{image_at};
 ghost use Rattle.clap.specs.Matches.{found_of};
-ghost use Rattle.ledger_files.specs.declared.end.LedgerEnd.TheVariants.{Closed};
 ghost use Rattle.head_end_cli.specs.Ledgered.{PrintsRun, PrintsTexts};
 ghost use Rattle.head_end_commands.specs.Lists.{AreJobsOf};
 ghost use Rattle.head_end_commands.specs.Options.{AreLimits, AreWorkers};
@@ -111,8 +110,8 @@ fn print_report<W: Write>(
     report: LedgerReport,
     output: &mut W,
 ) -> Result<(), Fault>
-    ensures { OnOk result ((report.end ≡ Closed)
-        × PrintsTexts report.texts (W.contents output.old) (W.contents output.new)) }
+    ensures { OnOk result
+        (PrintsTexts report.texts (W.contents output.old) (W.contents output.new)) }
 {
     let LedgerReport { texts, end } = report;
     let printed = match texts {

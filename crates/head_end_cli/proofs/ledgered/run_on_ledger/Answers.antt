@@ -4,6 +4,7 @@ use Rattle.head_end_cli.proofs.ledgered.run_on_ledger.Goals as goal
 pub returns-in-Ok : goal.returns-in-Ok
 returns-in-Ok g c = on_ok c.print_report.result (λ printed. record {
   texts = c.in-Ok.report.texts;
-  ran = rw (c.as_slice.ensures, printed.0) at c.in-Ok.ensures;
-  printed = printed.1;
+  end = c.in-Ok.report.end;
+  ran = rw c.as_slice.ensures at c.in-Ok.ensures;
+  printed = printed;
 }) c.print_report.ensures
