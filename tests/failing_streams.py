@@ -3,7 +3,7 @@
 executables that the gate left: the standard streams of the programs, the connections of a client
 (`head_end run`), and a meter that serves two clients. After a failure nothing more is written on
 that stream and the fault is reported; a short or an interrupted call changes nothing. An `accept`
-of the meter fails by each error that passes.
+of the meter fails by each error that passes, and by one that ends it.
 
 usage: tests/failing_streams.py"""
 
@@ -11,6 +11,7 @@ import collections
 import errno
 import os
 import sys
+import tempfile
 
 sys.dont_write_bytecode = True  # importing the modules of tests/ leaves no files
 
@@ -20,7 +21,7 @@ from refused_memory import METERS, PROGRAMS, print_counts, talk
 from refusing import Refusing
 from scripted_meters import AARQ as CLIENT_AARQ
 from scripted_meters import RELEASE, REQUESTS, ScriptedMeter
-from serving import NO_CLIENT, PASSWORD, PLAYER, SERVER, STATE, Client, Server, check, is_part_of, play_trace, test
+from serving import NO_CLIENT, PASSWORD, PLAYER, SERVER, STATE, Client, Server, check, is_part_of, play_trace, test, wait_until
 
 FAULTS = {b"fault: read\n", b"fault: write\n"}
 CONSOLE_FAILED = "console: reading failed, no further line is read\n"
@@ -153,6 +154,21 @@ def errors_of_accept_pass(name):
         check(f"{name}: {errno.errorcode[number]}", status == 0 and "fault" not in errors and len(lines) == wanted, status, errors)
 
 
+def a_listener_that_fails_ends_the_server(name):
+    """Standard input stays open: the server ends by itself, once its session has ended."""
+    with tempfile.TemporaryDirectory() as folder:
+        for options in ((), ("--journal", f"{folder}/journal")):
+            server = Server(*options, environment=refusing.environment(fail_accept=2, accept_error=errno.EINVAL))
+            client = server.client()
+            check(f"{name}: reported at once", server.wait_for(b"Z listening failed, no further client is accepted: Invalid argument"), server.errors)
+            check(f"{name}: the open session goes on", client.get(STATE) == "value 1601")
+            client.close()
+            check(f"{name}: it ends by itself", wait_until(lambda: server.process.poll() is not None))
+            status, trace, errors = server.end()
+            check(f"{name}: the fault", status == 3 and errors.endswith("fault: listen\n"), status, errors)
+            check(f"{name}: played", is_part_of(client.seen, play_trace(trace)))
+
+
 def main():
     global refusing
     for executable in (SERVER, PLAYER, HEAD_END):
@@ -162,7 +178,7 @@ def main():
             return 1
     refusing = Refusing()
     for function in (programs_have_failing_streams, a_client_has_failing_connections, a_meter_has_failing_connections,
-                     errors_of_accept_pass):
+                     errors_of_accept_pass, a_listener_that_fails_ends_the_server):
         test(function)
     refusing.stop()
     print(f"{serving.passed} passed, {serving.failed} failed")

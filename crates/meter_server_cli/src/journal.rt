@@ -5,6 +5,7 @@ ghost use Rattle.meter_run.specs.Journaled.{IsJournaledRun};
 ghost use Rattle.meter_server_cli.specs.Endings.{PrintsText};
 
 use crate::ending::print_trace;
+use crate::listening::Listening;
 use crate::serving::{ClientParameters, meter_sources};
 use durable_lines::DurableFile;
 use meter_console::{ConsoleSources, SourcesEnd};
@@ -14,7 +15,7 @@ use meter_server::{ServeFault, Served};
 use program::Fault;
 use relay_recorder::Recorder;
 use server_files::EventFile;
-use server_io::{Closing, Sockets};
+use server_io::Closing;
 use std::io::Write;
 use std::sync::Wait;
 use std::thread::Threads;
@@ -82,7 +83,7 @@ pub(crate) fn run_journaled<
     rt: &HostRuntime,
     threads: &R,
     output: &mut W,
-    sockets: &mut Sockets<HostRuntime>,
+    listening: &mut Listening<R>,
     recorder: Recorder,
     parts: JournaledParts<R, F>,
     meter: &ClientParameters,
@@ -127,7 +128,7 @@ pub(crate) fn run_journaled<
         threads,
         rt.alloc(),
         recorder,
-        sockets,
+        listening,
         sources,
         MeterJournal { file, on_failure },
         &terms,

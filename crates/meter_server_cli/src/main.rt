@@ -9,6 +9,7 @@
 
 mod ending;
 mod journal;
+mod listening;
 mod messages;
 mod serving;
 

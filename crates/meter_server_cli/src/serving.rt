@@ -6,6 +6,7 @@ ghost use Rattle.meter_server_cli.specs.Endings.{PrintsText};
 
 use crate::ending::{Ends, print_trace, run_fault};
 use crate::journal::{JournaledParts, ServerEnd, run_journaled};
+use crate::listening::Listening;
 use crate::messages::why_not_listening;
 use cosem_axdr::Octets;
 use counted_io::Monitored;
@@ -80,7 +81,7 @@ fn run_and_print<R: Threads + Wait + Copy + Drop + Send + 'static, W: Write>(
     threads: &R,
     alloc: Global,
     output: &mut W,
-    sockets: &mut Sockets<HostRuntime>,
+    listening: &mut Listening<R>,
     sources: ConsoleSources<R>,
     recorder: Recorder,
     meter: &ClientParameters,
@@ -97,7 +98,7 @@ fn run_and_print<R: Threads + Wait + Copy + Drop + Send + 'static, W: Write>(
         threads,
         alloc,
         recorder,
-        sockets,
+        listening,
         sources,
         &meter.password,
         meter.connections,
@@ -108,10 +109,23 @@ fn run_and_print<R: Threads + Wait + Copy + Drop + Send + 'static, W: Write>(
 // The parts of a server before its console's thread is started.
 #[derive(Drop)]
 struct Prepared<R> {
-    sockets: Sockets<HostRuntime>,
+    listening: Listening<R>,
     sources: ConsoleSources<R>,
     reading: Reading<R, BufReader<Monitored<Stdin>>, HostRuntime, Closing<HostRuntime>>,
     end: ServerEnd<R>,
+}
+
+// Returns what ends the listening at an address, if there is one.
+fn closing_of(
+    rt: &HostRuntime,
+    stopped: Stopped,
+    address: Option<SocketAddr>,
+) -> Closing<HostRuntime> {
+    Closing {
+        rt: *rt,
+        stopped,
+        address,
+    }
 }
 
 // Prepares the sockets, the sources of the meter's own events, the input of the console's thread,
@@ -126,12 +140,12 @@ fn prepare<R: Wait + Copy + Drop>(
 ) -> Result<Prepared<R>, AllocError> {
     let (sockets, stopped, second) = make_sockets(rt, bounds, listener)?;
     let (console, sources) = Console::new(threads, rt.alloc())?;
+    let listening = Listening {
+        sockets,
+        sources: console.sources_end()?,
+    };
     let end = ServerEnd {
-        closing: Closing {
-            rt: *rt,
-            stopped: second,
-            address: Some(address),
-        },
+        closing: closing_of(rt, second, Some(address)),
         sources: console.sources_end()?,
     };
     let address = if bounds.stops_with_input {
@@ -144,14 +158,10 @@ fn prepare<R: Wait + Copy + Drop>(
         console,
         errors: *rt,
         is_verbose: bounds.is_verbose,
-        ended: Closing {
-            rt: *rt,
-            stopped,
-            address,
-        },
+        ended: closing_of(rt, stopped, address),
     };
     Ok(Prepared {
-        sockets,
+        listening,
         sources,
         reading,
         end,
@@ -161,7 +171,7 @@ fn prepare<R: Wait + Copy + Drop>(
 // A server whose console's thread is running.
 #[derive(Drop)]
 struct Running<R> {
-    sockets: Sockets<HostRuntime>,
+    listening: Listening<R>,
     sources: ConsoleSources<R>,
     console: JoinHandle<ConsoleEnd>,
     end: ServerEnd<R>,
@@ -181,14 +191,14 @@ fn start_server<R: Threads + Wait + Copy + Drop + Send + 'static>(
         return Err(Fault::Memory);
     };
     let Prepared {
-        sockets,
+        listening,
         sources,
         reading,
         end,
     } = prepared;
     match meter_console::start(threads, rt.alloc(), reading) {
         Some(console) => Ok(Running {
-            sockets,
+            listening,
             sources,
             console,
             end,
@@ -368,7 +378,7 @@ fn run_on_journal<
     rt: &HostRuntime,
     threads: &R,
     output: &mut Stdout,
-    sockets: &mut Sockets<HostRuntime>,
+    listening: &mut Listening<R>,
     recorder: Recorder,
     parts: JournaledParts<R, RelayedJournal<F, S>>,
     meter: &ClientParameters,
@@ -382,7 +392,7 @@ where
     requires unused { length recorder.events ≡ 0 }
     requires unclaimed { F.acts_as_file → ⊥ }
 {
-    run_journaled(rt, threads, output, sockets, recorder, parts, meter)
+    run_journaled(rt, threads, output, listening, recorder, parts, meter)
 }
 
 // Runs the meter with its relay alone as `run_journaled` does.
@@ -394,7 +404,7 @@ fn run_on_relay<
     rt: &HostRuntime,
     threads: &R,
     output: &mut Stdout,
-    sockets: &mut Sockets<HostRuntime>,
+    listening: &mut Listening<R>,
     recorder: Recorder,
     parts: JournaledParts<R, RelayAlone<F, S>>,
     meter: &ClientParameters,
@@ -407,7 +417,7 @@ where
     S::Dir: Send + 'static,
     requires unused { length recorder.events ≡ 0 }
 {
-    run_journaled(rt, threads, output, sockets, recorder, parts, meter)
+    run_journaled(rt, threads, output, listening, recorder, parts, meter)
 }
 
 // Runs the meter, with its journal and its relay if it has one, and prints its trace. Returns the
@@ -419,7 +429,7 @@ fn serve_and_print<
 >(
     rt: &HostRuntime,
     threads: &R,
-    server: (Sockets<HostRuntime>, ConsoleSources<R>, ServerEnd<R>),
+    server: (Listening<R>, ConsoleSources<R>, ServerEnd<R>),
     recorder: Recorder,
     events: EventOutput<S>,
     meter: &ClientParameters,
@@ -428,7 +438,7 @@ where
     S::Dir: Send + 'static,
     requires { length recorder.events ≡ 0 }
 {
-    let (mut sockets, sources, end) = server;
+    let (mut listening, sources, end) = server;
     let mut output = rt.stdout();
     let (served, kept, printed) = match events {
         EventOutput::Journal(journal) => {
@@ -437,7 +447,7 @@ where
                 rt,
                 threads,
                 &mut output,
-                &mut sockets,
+                &mut listening,
                 recorder,
                 parts,
                 meter,
@@ -449,7 +459,7 @@ where
                 rt,
                 threads,
                 &mut output,
-                &mut sockets,
+                &mut listening,
                 recorder,
                 parts,
                 meter,
@@ -461,7 +471,7 @@ where
                 threads,
                 rt.alloc(),
                 &mut output,
-                &mut sockets,
+                &mut listening,
                 sources,
                 recorder,
                 meter,
@@ -469,7 +479,46 @@ where
             (served, Ok(()), printed)
         }
     };
-    (run_fault(served, sockets.has_failed()), kept, printed)
+    (
+        run_fault(served, listening.sockets.has_failed()),
+        kept,
+        printed,
+    )
+}
+
+// Serves the clients of a server whose console's thread is running, and prints the trace of the
+// meter at the end.
+fn serve_running<R: Threads + Wait + Copy + Drop + Send + 'static>(
+    rt: &HostRuntime,
+    threads: &R,
+    running: Running<R>,
+    recorder: Recorder,
+    events: EventOutput<HostRuntime>,
+    meter: &ClientParameters,
+) -> Result<(), Fault>
+    requires { length recorder.events ≡ 0 }
+{
+    let Running {
+        listening,
+        sources,
+        console,
+        end,
+    } = running;
+    let server = (listening, sources, end);
+    let (served, kept, printed) = serve_and_print(rt, threads, server, recorder, events, meter);
+    // (if there was no fault, the sources have ended, and so has the console)
+    let console = if served.is_ok() && kept.is_ok() {
+        Some(console.join(threads))
+    } else {
+        None
+    };
+    Ends {
+        served,
+        journal: kept,
+        console,
+        printed,
+    }
+    .first_fault()
 }
 
 // Serves clients in parallel with the lines of the console, and prints the trace of the meter at
@@ -493,33 +542,11 @@ pub(crate) fn run<R: Threads + Wait + Copy + Drop + Send + 'static>(
     } = plan;
     match start_server(rt, threads, bounds, input, listener, address) {
         Ok(running) => {
-            let Running {
-                sockets,
-                sources,
-                console,
-                end,
-            } = running;
             let meter = ClientParameters {
                 password,
                 connections: bounds.connections,
             };
-            let server = (sockets, sources, end);
-            let (served, kept, printed) = serve_and_print(
-                rt, threads, server, recorder, events, &meter,
-            );
-            // (if there was no fault, the sources have ended, and so has the console)
-            let console = if served.is_ok() && kept.is_ok() {
-                Some(console.join(threads))
-            } else {
-                None
-            };
-            Ends {
-                served,
-                journal: kept,
-                console,
-                printed,
-            }
-            .first_fault()
+            serve_running(rt, threads, running, recorder, events, &meter)
         }
         Err(fault) => {
             drop(recorder);

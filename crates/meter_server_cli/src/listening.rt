@@ -1,0 +1,30 @@
+//! The listening of a server. If it fails, the server ends.
+
+use meter_console::SourcesEnd;
+use meter_server::{ListenFault, Listener};
+use server_io::{DeadlineStream, Sockets};
+use std::sync::Wait;
+
+// The sockets of a server. If they fail, the sources of the meter's own events end, and so does the
+// server once its open sessions have ended.
+#[derive(Drop)]
+pub(crate) struct Listening<R> {
+    pub(crate) sockets: Sockets<HostRuntime>,
+    pub(crate) sources: SourcesEnd<R>,
+}
+
+impl<R: Wait + Copy + Drop> Listener for Listening<R> {
+    type Input = DeadlineStream<HostRuntime>;
+
+    type Output = DeadlineStream<HostRuntime>;
+
+    fn accept(
+        &mut self,
+    ) -> Result<Option<(DeadlineStream<HostRuntime>, DeadlineStream<HostRuntime>)>, ListenFault> {
+        let accepted = self.sockets.accept();
+        if self.sockets.has_failed() {
+            self.sources.end();
+        }
+        accepted
+    }
+}
