@@ -132,7 +132,8 @@ pub runs_gives : (old new : FleetState) (command : Command) (text text' : List â
     â†’ GivesEvents old new
 runs_gives old new (Give meters event) text text' (Ok done) runs =
     from_gives old new (meters.first - 1) runs.0 event runs.1.2
-runs_gives old new (Give meters event) text text' (Err NoMeter) runs = gives_nothing old new runs.1
+runs_gives old new (Give meters event) text text' (Err NoMeter) runs =
+    gives_nothing old new runs.0.1
 runs_gives old new (Give meters event) text text' (Err Memory) runs =
     from_gives old new (meters.first - 1) runs.0 event runs.2
 runs_gives old new (State meters) text text' result runs = gives_nothing old new runs.0

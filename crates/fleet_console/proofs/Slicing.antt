@@ -333,7 +333,7 @@ slice_ends steps line first all left slice rest event old f g f' next is_done te
     (sym (over_now next steps g f'
     (goes ∙ ap (λ (b : Bool). if b && has_more rest (length g.places)
     then Some (underway_after (giving line slice event rest first) rest) else None) done) until))
-    (all_none all left slice rest event old f g so cut counted gives.0 gives.1)
+    (all_none all left slice rest event old f g so cut counted gives.0.0 gives.0.1)
 slice_ends steps line first all left slice rest event old f g f' next is_done text (Err Memory) so
     cut counted gives done goes until again =
     subst (λ (x : FleetState). GivesAll all event old x)

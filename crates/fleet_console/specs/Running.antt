@@ -96,8 +96,8 @@ abbrev pub GivesBy : FleetState → Meters → Event → List ℕ → Result Uni
     → List ℕ → Type 0
 GivesBy old meters event text (Ok done) new text' = (count : ℕ)
     × GivesEachBy old meters event (Ok count) new × (text' ≡ text ++ number_line count)
-GivesBy old meters event text (Err NoMeter) new text' = GivesEachBy old meters event (Err NoMeter)
-    new
+GivesBy old meters event text (Err NoMeter) new text' =
+    GivesEachBy old meters event (Err NoMeter) new × (text' ≡ text)
 GivesBy old meters event text (Err Memory) new text' = (count : ℕ)
     × (count ≤ size_in meters (length old.places))
     × GivesFrom old (meters.first - 1) count event new
@@ -114,7 +114,7 @@ CountsBy f state text (Err Memory) text' = ⊤
 abbrev pub TracesBy : FleetState → ℕ → List ℕ → Result Unit AccessFault → List ℕ → Type 0
 TracesBy f number text (Ok done) text' = (trace : List ℕ) × TraceBy f number (Ok trace)
     × (text' ≡ text ++ trace)
-TracesBy f number text (Err NoMeter) text' = TraceBy f number (Err NoMeter)
+TracesBy f number text (Err NoMeter) text' = TraceBy f number (Err NoMeter) × (text' ≡ text)
 TracesBy f number text (Err Memory) text' = ⊤
 
 -- Whether a command was carried out, with this text appended to the earlier one. Only `Give`

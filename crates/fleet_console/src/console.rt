@@ -1,5 +1,5 @@
 //! `FleetConsole`: the lines of an input, and their answers.
-ghost use Rattle.std.specs.Prelude.{◌≡◌, ◌≢◌, IfSome, None, Ok, is_ok};
+ghost use Rattle.std.specs.Prelude.{◌≡◌, ◌≢◌, IfSome, IsSome, IsTrue, None, Ok, is_ok};
 ghost use Rattle.fleet_meters.specs.Calls.{GivesEvents};
 ghost use Rattle.fleet_console.specs.Slices.{has_more};
 ghost use Rattle.fleet_console.specs.Steps.{CarriesOut, IsDone, IsRead, StepsBy};
@@ -30,6 +30,25 @@ pub enum ConsoleInput {
     Open,
     /// The input has ended, or reading it failed.
     Ended,
+}
+
+// Why a line was not kept.
+#[derive(Clone, Copy, Debug, PartialEq, Eq)]
+enum LineLoss {
+    // It is longer than the maximum.
+    TooLong,
+    // Out of memory.
+    Memory,
+}
+
+impl LineLoss {
+    // Returns the reason that is reported.
+    fn reason(self) -> &'static str {
+        match self {
+            LineLoss::TooLong => "a line of more than 8,192 bytes",
+            LineLoss::Memory => "out of memory",
+        }
+    }
 }
 
 // Where answers, messages and traces are written.
@@ -109,19 +128,19 @@ impl<O: Write + Drop, R: Eprint + Files<File = File> + Drop> Outlet<O, R> {
         }
     }
 
-    // Reads a line that has ended. Returns its command; `None` if it is too long or not a command,
-    // which is reported.
+    // Reads a line that has ended. Returns its command; `None` if it was not kept or is not a
+    // command, which is reported.
     fn read_line(
         &self,
         alloc: Global,
         number: u64,
         line: &[u8],
-        is_long: bool,
+        lost: Option<LineLoss>,
     ) -> Option<SlicedCommand>
         ensures { IfSome result IsRead }
     {
-        if is_long {
-            self.report(number, "a line of more than 8,192 bytes");
+        if let Some(loss) = lost {
+            self.report(number, loss.reason());
             return None;
         }
         match read_command(alloc, line) {
@@ -145,8 +164,8 @@ pub struct FleetConsole<I, O, R> {
     taken: usize,
     // The bytes of the line that is not ended, up to the maximum.
     line: Vec<u8>,
-    // Whether that line is longer.
-    is_long: bool,
+    // Why that line is not kept.
+    lost: Option<LineLoss>,
     // The number of lines that were ended.
     lines: u64,
     // The command that is being carried out.
@@ -176,7 +195,7 @@ impl<I: Read + Drop, O: Write + Drop, R: Eprint + Files<File = File> + Drop> Fle
             chunk: Vec::new(alloc),
             taken: 0,
             line: Vec::new(alloc),
-            is_long: false,
+            lost: None,
             lines: 0,
             command: None,
         }
@@ -186,8 +205,10 @@ impl<I: Read + Drop, O: Write + Drop, R: Eprint + Files<File = File> + Drop> Fle
     fn push(&mut self, byte: u8)
         ensures { self.new.command ≡ self.old.command }
     {
-        if self.line.len() >= MAX_LINE || self.line.push(byte).is_err() {
-            self.is_long = true;
+        if self.line.len() >= MAX_LINE {
+            self.lost = Some(LineLoss::TooLong);
+        } else if self.line.push(byte).is_err() {
+            self.lost = Some(LineLoss::Memory);
         }
     }
 
@@ -197,9 +218,9 @@ impl<I: Read + Drop, O: Write + Drop, R: Eprint + Files<File = File> + Drop> Fle
     {
         self.lines = self.lines.saturating_add(1);
         let line = self.line.as_slice();
-        self.command = self.outlet.read_line(alloc, self.lines, line, self.is_long);
+        self.command = self.outlet.read_line(alloc, self.lines, line, self.lost);
         self.line.clear();
-        self.is_long = false;
+        self.lost = None;
     }
 
     // Takes the next byte that was read.
@@ -249,7 +270,9 @@ impl<I: Read + Drop, O: Write + Drop, R: Eprint + Files<File = File> + Drop> Fle
     }
 
     // Returns whether the console can go on without reading.
-    fn is_busy(&self) -> bool {
+    fn is_busy(&self) -> bool
+        ensures { IsSome self.now.command → IsTrue result }
+    {
         self.command.is_some() || self.taken < self.chunk.len()
     }
 
@@ -280,13 +303,17 @@ impl<I: Read + Drop, O: Write + Drop, R: Eprint + Files<File = File> + Drop> Fle
     }
 
     /// Does one step: carries out the command for its next meters, at most 1,000; or takes the next
-    /// line; or reads the input once. What follows the last byte 0A of the input is not a line. A
-    /// line that is wrong, or of more than 8,192 bytes with the byte 0A that ends it, is reported
+    /// line; or reads the input once. While a command has further meters it returns `Busy`. What
+    /// follows the last byte 0A of the input is not a line. A line that is wrong, has more than
+    /// 8,192 bytes with the byte 0A that ends it, or is lost because memory ran out, is reported
     /// with its number, counted from 1, and changes nothing.
     #[tactic(auto, using(fleet_meters::proofs::Steps::gives_nothing, crate::proofs::Stepping::reads_line))]
     pub fn run<S: Stream + Drop>(&mut self, alloc: Global, fleet: &mut Fleet<S>) -> ConsoleInput
         ensures steps { StepsBy self.old.command fleet.old self.new.command fleet.new }
         ensures gives { GivesEvents fleet.old fleet.new }
+        // A command that is under way is carried out to its end.
+        ensures busy { IsSome self.new.command → result ≡ ConsoleInput.Busy }
+        ensures not_ended { IsSome self.old.command → result ≢ ConsoleInput.Ended }
     {
         if self.command.is_some() {
             self.run_slice(alloc, fleet);
