@@ -3,7 +3,8 @@
 and asked by hand-written frames, by hostile clients while a good one asks, and by a campaign of
 `head_end` if that is built. Another fleet resumes from a trace. The lines of the console give
 events to meters, whose traces `trace_player` plays if that is built. Meters have faults, which a
-client and a campaign of `bin/campaign` see. Every wait has a time limit."""
+client and a campaign of `bin/campaign` see. A fleet runs out of descriptors. Every wait has a time
+limit."""
 
 import concurrent.futures
 import functools
@@ -11,6 +12,7 @@ import os
 import pathlib
 import random
 import re
+import resource
 import shutil
 import socket
 import subprocess
@@ -635,6 +637,32 @@ def a_console_may_be_a_file():
         check("it waits", cpu_seconds(fleet.process.pid) - used < 0.5)
 
 
+def clients_wait_for_descriptors():
+    """Two descriptors are left: further clients wait, and are served once some are free, although
+    no client connects then."""
+    with Fleet() as fleet:
+        process = fleet.process.pid
+        limits = resource.prlimit(process, resource.RLIMIT_NOFILE)
+        first_free = max(int(number) for number in os.listdir(f"/proc/{process}/fd")) + 1
+        resource.prlimit(process, resource.RLIMIT_NOFILE, (first_free + 2, limits[1]))
+        served = [fleet.connect(meter) for meter in (1, 2)]
+        check("clients with a descriptor associate", all(ask(it, AARQ, AARE) for it in served))
+        waiting = [fleet.connect(meter) for meter in (3, 4, 5)]
+        line = fleet.read_line(fleet.process.stderr)
+        check("the lack of descriptors is reported", line.startswith(
+            "no client can be accepted, trying again: Too many open files"), line)
+        check("open connections go on", ask(served[0], STATE, CONNECTED))
+        for client in served:
+            client.close()
+        check("clients that wait are served", all(ask(it, AARQ, AARE) for it in waiting[:2]))
+        line = fleet.read_line(fleet.process.stderr)
+        check("that is reported", line == "clients are accepted again", line)
+        resource.prlimit(process, resource.RLIMIT_NOFILE, limits)
+        check("and so are all others", ask(waiting[2], AARQ, AARE))
+        for client in waiting:
+            client.close()
+
+
 def many_meters_are_reached():
     """Commands for more than the 1,000 meters that are reached at a time."""
     with Fleet(meters=2_500) as fleet:
@@ -909,6 +937,7 @@ def meters_of_one_fleet():
 TESTS = (wrong_words_are_refused, reasons_are_reported, passwords_are_found,
          idle_connections_are_closed, long_sessions_are_closed, meters_resume, buttons_are_pressed,
          limiters_act, traces_are_written, wrong_lines_change_nothing, a_console_may_be_a_file,
+         clients_wait_for_descriptors,
          many_meters_are_reached, clients_are_answered_meanwhile, wrong_faults_are_refused,
          faults_are_drawn, faults_are_whole, silent_meters_act, slow_meters_answer_late,
          passwords_are_other_ones, meters_that_refuse_may_be_set, meters_with_faults_resume,

@@ -40,6 +40,9 @@ const DELAY: u64 = 2_000;
 // The time between two searches for delayed events that must be reported, in milliseconds.
 const DUE_INTERVAL: u64 = 50;
 
+// The time after which clients are tried again that could not be accepted, in milliseconds.
+const RETRY_INTERVAL: u64 = 100;
+
 // The console on standard input.
 #[derive(Drop)]
 struct InputConsole<R> {
@@ -67,6 +70,9 @@ pub struct FleetSockets<R: Clock + Files<File = File> + Eprint + Copy> {
     poll: Poll,
     events: Events,
     listener: TcpListener,
+    // Whether clients may be waiting that could not be accepted, for example because no descriptor
+    // is left. Epoll does not report them again.
+    has_backlog: bool,
     began: Instant,
     // When the connections were last active, in milliseconds since the start.
     times: ActivityTimes,
@@ -116,6 +122,7 @@ impl<R: Clock + Files<File = File> + Eprint + Copy> FleetSockets<R> {
             poll,
             events,
             listener,
+            has_backlog: false,
             began: Instant::now(&rt)?,
             times: ActivityTimes::new(alloc),
             limit: u64::from(limits.inactivity) * 1_000,
@@ -151,7 +158,7 @@ impl<R: Clock + Files<File = File> + Eprint + Copy> FleetSockets<R> {
         }
         match self.began.elapsed(&self.rt) {
             Ok(time) => Ok(u64::try_from(time.as_millis()).unwrap_or(u64::MAX)),
-            Err(_) => Err(NetworkFault),
+            Err(_) => Err(NetworkFault::Failed),
         }
     }
 
@@ -159,10 +166,10 @@ impl<R: Clock + Files<File = File> + Eprint + Copy> FleetSockets<R> {
     fn note_start(&mut self, key: usize) -> Result<(), NetworkFault> {
         let now = self.now()?;
         if self.limit > 0 && self.times.touch(key, now).is_err() {
-            return Err(NetworkFault);
+            return Err(NetworkFault::Memory);
         }
         if self.longest > 0 && self.starts.touch(key, now).is_err() {
-            return Err(NetworkFault);
+            return Err(NetworkFault::Memory);
         }
         Ok(())
     }
@@ -181,6 +188,8 @@ impl<R: Clock + Files<File = File> + Eprint + Copy> FleetSockets<R> {
             Some(Duration::ZERO)
         } else if self.has_slow {
             Some(Duration::from_millis(DUE_INTERVAL))
+        } else if self.has_backlog {
+            Some(Duration::from_millis(RETRY_INTERVAL))
         } else if self.has_limit() {
             Some(Duration::from_millis(SEARCH_INTERVAL))
         } else {
@@ -207,10 +216,10 @@ impl<R: Clock + Files<File = File> + Eprint + Copy> FleetSockets<R> {
                 let due = now.saturating_add(DELAY);
                 match self.delays.report(key, due, ready) {
                     Ok(()) => {}
-                    Err(_) => return Err(NetworkFault),
+                    Err(_) => return Err(NetworkFault::Memory),
                 }
                 if self.limit > 0 && self.times.touch(key, now).is_err() {
-                    return Err(NetworkFault);
+                    return Err(NetworkFault::Memory);
                 }
             }
         }
@@ -228,7 +237,7 @@ impl<R: Clock + Files<File = File> + Eprint + Copy> FleetSockets<R> {
         self.next_due = now.saturating_add(DUE_INTERVAL);
         match self.delays.take_due(now, ready) {
             Ok(()) => Ok(()),
-            Err(_) => Err(NetworkFault),
+            Err(_) => Err(NetworkFault::Memory),
         }
     }
 
@@ -257,12 +266,29 @@ impl<R: Clock + Files<File = File> + Eprint + Copy> FleetSockets<R> {
         }
         self.next_search = now.saturating_add(SEARCH_INTERVAL);
         if self.limit > 0 && self.times.take_idle(self.limit, now, idle).is_err() {
-            return Err(NetworkFault);
+            return Err(NetworkFault::Memory);
         }
         if self.longest > 0 && self.starts.take_idle(self.longest, now, idle).is_err() {
-            return Err(NetworkFault);
+            return Err(NetworkFault::Memory);
         }
         Ok(())
+    }
+
+    // Notes that clients could not be accepted, and must be tried again. The first error of several
+    // is reported.
+    fn keep_waiting(&mut self, error: &io::Error) {
+        if !self.has_backlog {
+            let _ = eprintln!(self.rt; "no client can be accepted, trying again: {error}");
+        }
+        self.has_backlog = true;
+    }
+
+    // Notes that clients are accepted, and reports it if they could not be before.
+    fn end_waiting(&mut self) {
+        if self.has_backlog {
+            let _ = eprintln!(self.rt; "clients are accepted again");
+        }
+        self.has_backlog = false;
     }
 
     // Registers a connection under a key. Returns its stream, which has the fault of the meter at
@@ -309,12 +335,12 @@ impl<R: Clock + Files<File = File> + Eprint + Copy> Network for FleetSockets<R> 
     ) -> Result<bool, NetworkFault> {
         let timeout = self.timeout(may_wait);
         if self.poll.poll(&mut self.events, timeout).is_err() {
-            return Err(NetworkFault);
+            return Err(NetworkFault::Failed);
         }
         let now = self.now()?;
         let has_clients = self.take_ready(now, ready)?;
         self.find_idle(now, idle)?;
-        Ok(has_clients)
+        Ok(has_clients || self.has_backlog)
     }
 
     fn operate(&mut self, alloc: Global, fleet: &mut Fleet<FaultyStream<Socket>>) {
@@ -337,15 +363,27 @@ impl<R: Clock + Files<File = File> + Eprint + Copy> Network for FleetSockets<R> 
 
     fn accept(&mut self, key: usize) -> NextClient<FaultyStream<Socket>> {
         match self.listener.accept() {
-            Ok((stream, _)) => match self.register(stream, key) {
-                Ok((socket, address)) => {
-                    let named = address.to_be_bytes();
-                    NextClient::Client(socket, named)
+            Ok((stream, _)) => {
+                self.end_waiting();
+                match self.register(stream, key) {
+                    Ok((socket, address)) => {
+                        let named = address.to_be_bytes();
+                        NextClient::Client(socket, named)
+                    }
+                    Err(_) => NextClient::Closed,
                 }
-                Err(_) => NextClient::Closed,
+            }
+            Err(error) => match error.kind() {
+                ErrorKind::ConnectionAborted | ErrorKind::Interrupted => NextClient::Closed,
+                ErrorKind::WouldBlock => {
+                    self.end_waiting();
+                    NextClient::None
+                }
+                _ => {
+                    self.keep_waiting(&error);
+                    NextClient::None
+                }
             },
-            Err(error) if error.kind() == ErrorKind::ConnectionAborted => NextClient::Closed,
-            Err(_) => NextClient::None,
         }
     }
 }

@@ -39,7 +39,7 @@ rounds_lead old new (round ∷ rounds) does =
 failing_leads : (old : LoopState) (fault : FleetFault) (log : Option (List NetworkEvent))
     (fleet : FleetState) → (fails : FailsBy old fault log fleet)
     → Calls frame_bytes old.fleet (failing_calls old fault log fleet fails) fleet
-failing_leads old Network log fleet fails = fails.1
+failing_leads old (Network why) log fleet fails = fails.1
 failing_leads old Memory log fleet (inl unchanged) = unchanged.1
 failing_leads old Memory log fleet (inr works) = works.2.calls
 

@@ -80,8 +80,8 @@ round_by old new keys idle all has_clients log f e g (Ok done) tells closes give
         has_more = refl;
       },
     )
-round_by old new keys idle all has_clients log f e g (Err Network) tells closes gives meets is
-    serves = absurd serves
+round_by old new keys idle all has_clients log f e g (Err (Network why)) tells closes gives meets
+    is serves = absurd serves
 round_by old new keys idle all has_clients log f e g (Err Memory) tells closes gives meets is
     serves = inr (
       record {
@@ -170,7 +170,7 @@ no_buffers log f = record {
 pub serves_by : (terms : FleetTerms) (count : ℕ) (log log' : Option (List NetworkEvent))
     (first final : FleetState) (fault : FleetFault) → IsNewFleet terms count first
     → ServesUntil log first fault log' final → ServesBy terms count log fault log'
-serves_by terms count log log' first final Network new serves =
+serves_by terms count log log' first final (Network why) new serves =
     record { first = first; final = final; new = new; serves = serves }
 serves_by terms count log log' first final Memory new serves =
     inr (record { first = first; final = final; new = new; serves = serves })

@@ -162,7 +162,8 @@ pub stops_on : (a b c : FleetState) (keys all rest next next' next'' : List ℕ)
     (fault : FleetFault) → ServesMore a keys next (Ok tt) next' b
     → ServesMore b (key ∷ []) next' (Err fault) next'' c → (keys ++ key ∷ []) ++ rest ≡ all
     → ServesMore a all next (Err fault) next'' c
-stops_on a b c keys all rest next next' next'' key Network first then_ split = absurd then_
+stops_on a b c keys all rest next next' next'' key (Network why) first then_ split =
+    absurd then_
 stops_on a b c keys all rest next next' next'' key Memory first then_ split = record {
   done = keys ++ then_.done;
   left = then_.left ++ rest;

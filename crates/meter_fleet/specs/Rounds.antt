@@ -171,7 +171,7 @@ pub record StopsAfter (old : FleetState) (keys : List ℕ) (new : FleetState) : 
 -- of them
 abbrev pub ServesAll : FleetState → List ℕ → Result Unit FleetFault → List ℕ → FleetState → Type 0
 ServesAll old keys (Ok done) again new = ServesKeys old keys again new
-ServesAll old keys (Err Network) again new = ⊥
+ServesAll old keys (Err (Network why)) again new = ⊥
 ServesAll old keys (Err Memory) again new = StopsAfter old keys new
 
 -- whether the connections with these keys were served in order, and the keys of those that may
@@ -236,10 +236,11 @@ pub record DoesRound (old : LoopState) (round : Round) (new : LoopState) : Type 
   pub goes_on : flat_map key_again round.services ≡ new.ready
   pub has_more : round.has_more ≡ new.has_clients
 
--- Whether a round ended with this fault. If the network failed, the fleet is unchanged. If memory
--- ran out, it did so before the round, or with some of the round's connections left.
+-- Whether a round ended with this fault. If the network failed, the fleet is unchanged, and the
+-- fault is the network's. If memory ran out, it did so before the round, or with some of the
+-- round's connections left.
 abbrev pub FailsBy : LoopState → FleetFault → Option (List NetworkEvent) → FleetState → Type 0
-FailsBy old Network log fleet = Tells old.log (failed (may_wait old) ∷ []) log
+FailsBy old (Network why) log fleet = Tells old.log (failed (may_wait old) why ∷ []) log
     × (fleet ≡ old.fleet)
 FailsBy old Memory log fleet = ((log ≡ old.log) × (fleet ≡ old.fleet))
     ⊎ ((round : Round) × (left : List ℕ) × DoesWork old round left log fleet)
@@ -279,5 +280,5 @@ pub record ServesFleet (terms : FleetTerms) (count : ℕ) (log : Option (List Ne
 -- there was a fleet
 abbrev pub ServesBy : FleetTerms → ℕ → Option (List NetworkEvent) → FleetFault
     → Option (List NetworkEvent) → Type 0
-ServesBy terms count log Network log' = ServesFleet terms count log Network log'
+ServesBy terms count log (Network why) log' = ServesFleet terms count log (Network why) log'
 ServesBy terms count log Memory log' = (log' ≡ log) ⊎ ServesFleet terms count log Memory log'

@@ -21,7 +21,7 @@ use Rattle.meter_fleet.specs.declared.serving.FleetFault.TheVariants.{Network, M
 abbrev pub failing_calls : (old : LoopState) (fault : FleetFault)
     (log : Option (List NetworkEvent)) (fleet : FleetState) → FailsBy old fault log fleet
     → List FleetCall
-failing_calls old Network log fleet fails = []
+failing_calls old (Network why) log fleet fails = []
 failing_calls old Memory log fleet (inl unchanged) = []
 failing_calls old Memory log fleet (inr works) = round_calls works.0
 

@@ -8,10 +8,16 @@ use fleet_meters::Fleet;
 use std::alloc::Global;
 use thiserror::Error;
 
-/// The network failed: it cannot wait for further events.
+/// Why a network cannot wait for further events.
 #[derive(Clone, Copy, Debug, PartialEq, Eq, Error)]
-#[error("the network failed")]
-pub struct NetworkFault;
+pub enum NetworkFault {
+    /// The network failed.
+    #[error("the network failed")]
+    Failed,
+    /// Out of memory.
+    #[error("out of memory")]
+    Memory,
+}
 
 /// The result of accepting a connection.
 #[derive(Drop)]

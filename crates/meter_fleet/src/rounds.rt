@@ -87,7 +87,7 @@ impl Rounds {
                 self.has_clients = accept_clients(alloc, network, fleet, is_due);
                 self.serve(alloc, fleet)
             }
-            Err(_) => Err(FleetFault::Network),
+            Err(fault) => Err(FleetFault::Network(fault)),
         }
     }
 

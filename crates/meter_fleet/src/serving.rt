@@ -1,7 +1,7 @@
 //! `serve_fleet`: the whole run of a fleet.
 ghost use Rattle.meter_fleet.specs.Rounds.{ServesUntil, ServesBy};
 
-use crate::network::Network;
+use crate::network::{Network, NetworkFault};
 use crate::rounds::Rounds;
 use fleet_meters::{Fleet, FleetTerms};
 use std::alloc::Global;
@@ -11,9 +11,9 @@ use thiserror::Error;
 /// Why a fleet ended.
 #[derive(Clone, Copy, Debug, PartialEq, Eq, Error)]
 pub enum FleetFault {
-    /// The network failed.
-    #[error("the network failed")]
-    Network,
+    /// The network cannot wait for further events.
+    #[error("{0}")]
+    Network(NetworkFault),
     /// Out of memory.
     #[error("out of memory")]
     Memory,

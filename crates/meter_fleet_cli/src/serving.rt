@@ -5,7 +5,7 @@ use clap::ArgMatches;
 use fleet_console::FleetConsole;
 use fleet_faults::FaultPlan;
 use fleet_sockets::{FleetSockets, TimeLimits};
-use meter_fleet::{FleetFault, serve_fleet};
+use meter_fleet::{FleetFault, NetworkFault, serve_fleet};
 use program::Fault;
 use std::io::ErrorKind;
 use std::net::{IpAddr, Net, SocketAddr};
@@ -26,7 +26,16 @@ fn why_not_listening(kind: ErrorKind) -> &'static str {
         ErrorKind::AddrInUse => "the address is in use",
         ErrorKind::AddrNotAvailable => "the address is not one of this machine",
         ErrorKind::PermissionDenied => "permission denied",
+        ErrorKind::OutOfMemory => "out of memory",
         _ => "listening failed",
+    }
+}
+
+// Returns the fault of a fleet that cannot listen.
+fn listen_fault(kind: ErrorKind) -> Fault {
+    match kind {
+        ErrorKind::OutOfMemory => Fault::Memory,
+        _ => Fault::Listen,
     }
 }
 
@@ -62,7 +71,7 @@ fn listen<'a, N: Net>(
                 let why = why_not_listening(error.kind());
                 let _ = eprintln!(rt; "{address}: {why}");
             }
-            Err(Fault::Listen)
+            Err(listen_fault(error.kind()))
         }
     }
 }
@@ -88,8 +97,8 @@ pub(crate) fn serve<N: Net + Wait>(
         Ok(mut sockets) => {
             let fault = serve_fleet(net, rt.alloc(), &mut sockets, terms, meters as usize);
             Err(match fault {
-                FleetFault::Network => Fault::Listen,
-                FleetFault::Memory => Fault::Memory,
+                FleetFault::Network(NetworkFault::Failed) => Fault::Listen,
+                FleetFault::Network(NetworkFault::Memory) | FleetFault::Memory => Fault::Memory,
             })
         }
         Err(fault) => {
