@@ -79,7 +79,8 @@ impl FaultPlan {
     }
 
     /// Returns the fault of the meter at an IPv4 address, or `None` if it has none or the address
-    /// is not that of a meter.
+    /// does not begin with 127. The address 127.0.0.0, which no meter has, counts as that of a
+    /// meter 0.
     pub fn fault_at(&self, address: [u8; 4]) -> Option<InjectedFault>
         ensures { result ≡ option_and_then (λ number. fault_of self.now.shares self.now.seed number)
             (meter_of address) }
