@@ -27,8 +27,9 @@ pub written : {T : Type 0} (n : ℕ) (xs ys : List T) → n ≡ length xs → ta
 written n xs ys is = rw is (take-append_seam xs ys)
 
 -- what holds if a result is Ok may be replaced by what follows from it
-pub on_ok : {T F A B : Type 0} (result : Result T F) → (A → B) → OnOk result A → OnOk result B
-on_ok (Ok value) follows holds = follows holds
+pub on_ok : {T F A B : Type 0} (result : Result T F) → (IsOk result → A → B) → OnOk result A
+    → OnOk result B
+on_ok (Ok value) follows holds = follows refl holds
 on_ok (Err fault) follows holds = tt
 
 -- what holds if a result is Ok, holds if it is

@@ -1,6 +1,7 @@
 -- What `run --ledger` and `status` print.
 --     PrintsTexts       the report is printed, unless out of memory
---     PrintsRun         the jobs were run with permits of the ledger, and the report is printed
+--     PrintsRun         the jobs were run with permits of the ledger, which did not fail, and the
+--                       report is printed
 --     HaveAnswers       lines of a ledger have their answers
 --     PrintsStatus      the lines of a ledger, with their answers, are printed
 use Rattle.std.specs.Prelude.{◌≡◌, ℕ, codes, map, List, Option, Result, Ok, Err}
@@ -13,7 +14,7 @@ use Rattle.sqlite.specs.Recovery.{Image}
 use Rattle.client_core.specs.declared.job.Job.{Job}
 use Rattle.head_end.specs.Connections.{Forecast}
 use Rattle.ledger_campaigns.specs.declared.texts.LedgerTexts.{LedgerTexts}
-use Rattle.ledger_files.specs.declared.end.LedgerEnd.{LedgerEnd}
+use Rattle.ledger_files.specs.declared.end.LedgerEnd.TheVariants.{Closed}
 use Rattle.ledger_files.specs.Runs.{IsRunOnFile}
 use Rattle.ledger_reports.specs.Answers.{with_answer}
 use Rattle.ledger_reports.specs.declared.answer.StateAnswer.{StateAnswer}
@@ -28,14 +29,13 @@ abbrev pub PrintsTexts : {F : Type 0} → Result LedgerTexts F → Option (List 
 PrintsTexts (Ok texts) written written' = Appends written written' texts.text
 PrintsTexts (Err fault) written written' = ⊥
 
--- whether the jobs were run with permits of the ledger in the file, and the report of all of them
--- was printed
+-- whether the jobs were run with permits of the ledger in the file, which was closed after no call
+-- on it had failed, and the report of all of them was printed
 pub record PrintsRun {D : Type 0} (g : Ghosts D) (held : Image)
     (tells : List ℕ → Option Forecast) (jobs : List Job) (passwords : List (List ℕ))
     (written written' : Option (List ℕ)) : Type 0 where
   pub texts : Result LedgerTexts AllocError
-  pub end : LedgerEnd
-  pub ran : IsRunOnFile g held tells jobs passwords texts end
+  pub ran : IsRunOnFile g held tells jobs passwords texts Closed
   pub printed : PrintsTexts texts written written'
 
 -- whether lines are those that were read of a ledger, each with the latest of the answers that were

@@ -1,9 +1,10 @@
 //! The command `head_end run --ledger FILE`: a campaign that is resumed by its ledger.
-ghost use Rattle.std.specs.Prelude.{◌≡◌, string_bytes, IfOk, OnOk};
+ghost use Rattle.std.specs.Prelude.{◌≡◌, string_bytes, IfOk, IsOk, OnOk};
 ghost use Rattle.std.specs.Io.KnownBytes.{Appends};
 ghost use Rattle.sqlite.specs.WalFiles.{image_at};
 ghost use Rattle.clap.specs.Matches.{found_of};
 ghost use Rattle.head_end_cli.specs.Ledgered.{PrintsRun, PrintsTexts};
+ghost use Rattle.ledger_files.specs.declared.end.LedgerEnd.TheVariants.{Closed};
 ghost use Rattle.head_end_commands.specs.Lists.{AreJobsOf};
 ghost use Rattle.head_end_commands.specs.Options.{AreLimits, AreWorkers};
 ghost use Rattle.head_end_commands.specs.Passwords.{HasPasswords};
@@ -104,14 +105,16 @@ pub(crate) fn run_on_ledger<S: Start + Send, R: Threads + Wait + Sync, C: Connec
     }
 }
 
-// Prints the report, and the lines about unknown outcomes on standard error.
+// Prints the report, and the lines about unknown outcomes on standard error. Fails unless the
+// ledger was closed after no call on it had failed.
 fn print_report<W: Write>(
     rt: &HostRuntime,
     report: LedgerReport,
     output: &mut W,
 ) -> Result<(), Fault>
-    ensures { OnOk result
+    ensures printed { OnOk result
         (PrintsTexts report.texts (W.contents output.old) (W.contents output.new)) }
+    ensures closed { IsOk result → report.end ≡ Closed }
 {
     let LedgerReport { texts, end } = report;
     let printed = match texts {

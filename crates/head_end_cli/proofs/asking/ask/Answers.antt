@@ -2,7 +2,7 @@ use Rattle.head_end_cli.proofs.Entered.{on_ok, of_ok}
 use Rattle.head_end_cli.proofs.asking.ask.Goals as goal
 
 pub returns-in-Ok : goal.returns-in-Ok
-returns-in-Ok g c = on_ok c.print_answers.result (λ done. record {
+returns-in-Ok g c = on_ok c.print_answers.result (λ ok done. record {
   asked_at = c.in-Ok.ensures.asked_at;
   asked = c.in-Ok.ensures.meters;
   were = rw c.as_slice.ensures at c.in-Ok.ensures.were;
