@@ -4,7 +4,7 @@
 pub const NULL: u8 = 0;
 
 /// no-reason-given: the port is that of no client, or the user information is not an
-/// InitiateRequest.
+/// InitiateRequest without a dedicated key.
 pub const NO_REASON_GIVEN: u8 = 1;
 
 /// application-context-name-not-supported: the context is not logical names without ciphering.

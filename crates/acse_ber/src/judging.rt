@@ -61,8 +61,8 @@ const SHORTEST_PDU_SIZE: u16 = 64;
 ///
 /// The checks are, in this order: the port; the application context; the mechanism; on the
 /// management client's port, that a mechanism is named, and the password; that the user information
-/// is an InitiateRequest; its version; that it proposes at least one service that the meter offers;
-/// and the size.
+/// is an InitiateRequest without a dedicated key; its version; that it proposes at least one
+/// service that the meter offers; and the size.
 #[tactic(auto, unfolding(crate::specs::Verdict::verdict_of))]
 pub fn judge(aarq: &Aarq, sap: u16, password: &Octets) -> Verdict
     requires { IsPassword password.now }

@@ -31,7 +31,7 @@ pub fn one_side()
         → ¬ IsTrue (fires UnderThreshold rows) }
 {}
 
-/// Proves that runs pass the test `are_fit` exactly if samples can give them.
+/// Proves that runs pass the test `are_fit` exactly if they fit, as `IsFit` states it.
 #[tactic(auto, using(crate::proofs::FitRuns::test_means, crate::proofs::FitRuns::means_test))]
 pub fn fit_runs_mean()
     ensures { (last : ℕ) (over under : Count) → IsTrue (are_fit last over under)
