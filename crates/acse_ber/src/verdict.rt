@@ -7,6 +7,7 @@ use cosem_names::Level;
 pub enum Verdict {
     /// The association is accepted.
     Accepted {
+        /// The client's access rights.
         level: Level,
         /// The negotiated conformance: the services that both the meter offers and the client
         /// proposes, 24 bits with bit 0 the highest.

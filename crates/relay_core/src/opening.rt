@@ -50,7 +50,7 @@ pub struct Opening {
     pub export: LimiterOpening,
     /// The script table.
     pub scripts: ScriptTable,
-    /// The schedules 0 to 3.
+    /// The four schedules.
     pub schedules: Schedules,
 }
 

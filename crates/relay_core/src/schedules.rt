@@ -25,9 +25,13 @@ use wire_bytes::and_keep;
 /// The four single action schedules, in the order in which they run.
 #[derive(Debug, Drop)]
 pub struct Schedules {
+    /// The schedule 0.0.15.0.1.255.
     pub first: ActionSchedule,
+    /// The schedule 0.1.15.0.1.255.
     pub second: ActionSchedule,
+    /// The schedule 0.2.15.0.1.255.
     pub third: ActionSchedule,
+    /// The schedule 0.3.15.0.1.255.
     pub fourth: ActionSchedule,
 }
 
