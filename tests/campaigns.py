@@ -638,7 +638,7 @@ case $(cat) in first*) echo "first done 0" ;; *) echo $$ > "{folder}/process"; e
 
 
 def a_lost_terminal_stops_no_report(name, folder):
-    """A campaign whose terminal is lost goes on, and a signal stops it: its part that runs is ended,
+    """A campaign whose terminal is lost continues, and a signal stops it: its part that runs is ended,
     and the rows of the other one are printed."""
     program, path, joblog, process = (folder / it for it in ("lasting", "lost", "lost.log", "process"))
     program.write_text(LASTING.format(folder=folder))
@@ -650,7 +650,7 @@ def a_lost_terminal_stops_no_report(name, folder):
     check(f"{name}: a part ends", wait_until(lambda: process.exists() and process.read_text() and joblog.read_text().count("\n") == 2))
     os.close(terminal)
     time.sleep(1.5)  # (once a second a line of progress fails)
-    check(f"{name}: it goes on", made.poll() is None, made.poll())
+    check(f"{name}: it continues", made.poll() is None, made.poll())
     made.send_signal(signal.SIGHUP)
     text, _ = made.communicate(timeout=60)
     check(f"{name}: report", (made.returncode, text) == (129, "first done 0\n"), made.returncode, text)

@@ -161,7 +161,7 @@ def a_listener_that_fails_ends_the_server(name):
             server = Server(*options, environment=refusing.environment(fail_accept=2, accept_error=errno.EINVAL))
             client = server.client()
             check(f"{name}: reported at once", server.wait_for(b"Z listening failed, no further client is accepted: Invalid argument"), server.errors)
-            check(f"{name}: the open session goes on", client.get(STATE) == "value 1601")
+            check(f"{name}: the open session continues", client.get(STATE) == "value 1601")
             client.close()
             check(f"{name}: it ends by itself", wait_until(lambda: server.process.poll() is not None))
             status, trace, errors = server.end()

@@ -450,7 +450,7 @@ def a_lack_of_descriptors_passes(name):
     server = Server("--stop-with-input")
     client = server.client()
     limits = wait_without_descriptors(server)
-    check(f"{name}: an open session goes on", client.get(STATE) == "value 1601")
+    check(f"{name}: an open session continues", client.get(STATE) == "value 1601")
     waiting = Client(server.port)
     time.sleep(1)
     check(f"{name}: reported once, with the reason", server.errors.count(NO_CLIENT) == 1 and b"Too many open files" in server.errors, server.errors)
