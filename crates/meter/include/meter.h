@@ -116,8 +116,9 @@ meter_result meter_finish(struct meter *meter, uint8_t session);
  * METER_OK, METER_WAIT, METER_CLOSED, METER_CUT, METER_BAD_VERSION, METER_TOO_LONG,
  * METER_NO_ROOM, METER_NOT_OPEN, METER_NO_SESSION, METER_NO_MEMORY: some of the requests may have
  * been applied. If the call is repeated, no event is applied twice and no reply is lost.
- * A SET, an ACTION or a GET of the disconnect control never ends with METER_NO_MEMORY, if room is
- * at least 14.
+ * Of the disconnect control (class 70), a SET of control_mode, an ACTION with its integer and a GET
+ * of output_state, control_state or control_mode never end with METER_NO_MEMORY, if room is at
+ * least 14 and the request is the first that the session has yet to answer.
  */
 meter_result meter_next(struct meter *meter, uint8_t session, uint8_t *frame, size_t room, size_t *length);
 
