@@ -438,40 +438,26 @@ where
     S::Dir: Send + 'static,
     requires { length recorder.events ≡ 0 }
 {
-    let (mut listening, sources, end) = server;
-    let mut output = rt.stdout();
+    let (mut accepting, sources, end) = server;
+    let listening = &mut accepting;
+    let mut stdout = rt.stdout();
+    let output = &mut stdout;
     let (served, kept, printed) = match events {
         EventOutput::Journal(journal) => {
             let parts = JournaledParts::new(sources, journal, end);
-            run_on_journal(
-                rt,
-                threads,
-                &mut output,
-                &mut listening,
-                recorder,
-                parts,
-                meter,
-            )
+            run_on_journal(rt, threads, output, listening, recorder, parts, meter)
         }
         EventOutput::Relay(journal) => {
             let parts = JournaledParts::new(sources, journal, end);
-            run_on_relay(
-                rt,
-                threads,
-                &mut output,
-                &mut listening,
-                recorder,
-                parts,
-                meter,
-            )
+            run_on_relay(rt, threads, output, listening, recorder, parts, meter)
         }
         EventOutput::None => {
             drop(end);
             let (served, printed) = run_and_print(
                 threads,
                 rt.alloc(),
-                &mut output,
-                &mut listening,
+                output,
+                listening,
                 sources,
                 recorder,
                 meter,
