@@ -661,6 +661,17 @@ for what, path, line, fault_status in WRONG_FILES[:6]:
     CASES.append((f"passwords: a file that {what}", "head_end_cli", [*PASSWORDS, path], TWO_METERS, b"", path.encode() + b": " + line, fault_status))
 
 
+# An environment whose variable METER_PASSWORD is not UTF-8, and what the programs report of it.
+WRONG_VARIABLE = {**ENVIRONMENT, "METER_PASSWORD": "\udcff"}
+NOT_UTF_8 = b"METER_PASSWORD: expected UTF-8 text\n"
+VARIABLE_CASES = [
+    (f"a variable that is not UTF-8: {what}", program, words, stdin, b"", errors + FAULT_INPUT, 2)
+    for what, program, words, stdin in (
+        ("hex", "meter_server_cli", ["hex"], b""), ("run", "head_end_cli", ["run"], TWO_METERS))
+    for words, errors in ((words, b""), ([*words, "--verbose"], NOT_UTF_8))
+]
+
+
 def differs(want, got):
     return got == b"" if want is None else want != got
 
@@ -672,10 +683,11 @@ def main():
             print(f"crates/{crate}/out/{crate} is missing: run bin/build or bin/test")
             print(f"0 passed, {len(CASES)} failed")
             return 1
-    for name, crate, words, stdin, stdout, stderr, status in CASES:
+    cases = [*((case, ENVIRONMENT) for case in CASES), *((case, WRONG_VARIABLE) for case in VARIABLE_CASES)]
+    for (name, crate, words, stdin, stdout, stderr, status), environment in cases:
         program = TOP / "crates" / crate / "out" / crate
         try:
-            run = subprocess.run([program, *words], input=stdin, capture_output=True, timeout=60, env=ENVIRONMENT)
+            run = subprocess.run([program, *words], input=stdin, capture_output=True, timeout=60, env=environment)
         except (OSError, subprocess.TimeoutExpired) as error:
             print(f"FAILED {crate}: {name}: {error}")
             failed += 1

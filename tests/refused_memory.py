@@ -25,7 +25,7 @@ from scripted_meters import AARQ as CLIENT_AARQ
 from scripted_meters import REQUESTS, ScriptedMeter
 from serving import AARE as OPENING
 from serving import (DISCONNECT, MODE, PASSWORD, PLAYER, REFUSED, SERVER, STATE, TOP, Client,
-                     Server, Vanished, check, is_part_of, play_trace, test)
+                     Server, Vanished, check, is_part_of, play_trace, test, wait_until)
 from campaigns import HEAD_END
 
 RUNS = os.environ.get("RUN_TESTS") or TOP / "crates" / "run_tests" / "out" / "run_tests_tests"
@@ -210,7 +210,7 @@ def serve_two_clients(number, what="refuse_memory"):
     what they saw."""
     server = Server("--connections", "2", environment=refusing.environment(**{what: number}))
     if server.process.poll() is None:
-        server.end_input()  # (a server that accepts no client ends with its console)
+        server.end_input()
     clients, whole = [], 0
     for _ in range(2):
         try:
@@ -258,6 +258,33 @@ def a_meter_that_serves_is_refused_threads(name):
         check(f"{name}: thread {number} of {THREADS}", found == wanted, found)
 
 
+def serve_with_an_open_console(number, what="refuse_memory"):
+    """Serves one client with a refused call, while the console stays open. Returns how it
+    went: a server that accepts no client ends by itself."""
+    server = Server("--connections", "1", environment=refusing.environment(**{what: number}))
+    with contextlib.suppress(OSError):
+        talk(Client(server.port))
+    if not wait_until(lambda: b", 127." in server.errors or server.process.poll() is not None, seconds=5):
+        return f"WRONG: waits for its console, {server.end()}"
+    if b", 127." in server.errors:
+        server.end()
+        return "a client came"
+    status, _, errors = server.end()
+    return "ended" if status == 4 and errors.endswith("fault: memory\n") else f"WRONG: status {status}, {errors}"
+
+
+def a_meter_without_clients_ends_before_its_console(name):
+    ample = serve_with_an_open_console(0)
+    count = refusing.counts()[0]
+    check(f"{name}: ample memory", ample == "a client came", ample)
+    found = each_refusal(serve_with_an_open_console, count, is_each=True)
+    print_counts("meter_server serve with an open console", found)
+    check(name, found["ended"] > 0 and not any("WRONG" in what for what in found), found)
+    for number in range(1, THREADS - 1):  # (the last two are those of clients)
+        found = serve_with_an_open_console(number, "refuse_thread")
+        check(f"{name}: thread {number}", found == "ended", found)
+
+
 def a_press_is_not_made_without_its_thread(name):
     for number in (0, 2, 3, 4):
         server = Server("--connections", "1", environment=refusing.environment(refuse_thread=number))
@@ -287,7 +314,7 @@ def main():
     refusing = Refusing()
     for function in (calls_are_refused_memory, a_read_of_thresholds_is_refused_memory, programs_are_refused_memory, a_file_of_a_password_is_refused_memory,
                      a_campaign_is_refused_memory, a_meter_that_serves_is_refused_memory, a_meter_that_serves_is_refused_threads,
-                     a_press_is_not_made_without_its_thread):
+                     a_meter_without_clients_ends_before_its_console, a_press_is_not_made_without_its_thread):
         test(function)
     refusing.stop()
     print(f"{serving.passed} passed, {serving.failed} failed")

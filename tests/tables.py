@@ -47,8 +47,8 @@ FILES |= {
         "methods =\n    method switch 1 false true ∷  -- cut\n    []\n"),
     "crates/cosem_names/src/objects.rt": (
         "pub enum Instance {\n    /// The device.\n    Device,\n"
-        "    /// The limiter of\n    /// power: class 70, Switch.\n    Limiter(Which),\n}\n\n"
-        "/// Class 70, Switch (IEC 62056-6-2).\n"),
+        "    /// The limiter of\n    /// power: class 70, Switch.\n    Limiter(Which),\n}\n"),
+    "crates/cosem_names/src/class.rt": "/// Class 70, Switch (IEC 62056-6-2).\n",
     "crates/cosem_names/specs/ResultCode.antt": "code_of Success = 0\ncode_of Other = 250\n",
     "crates/cosem_names/src/result_code.rt": (
         "pub enum ResultCode {\n    /// 0, success.\n    Success,\n"

@@ -18,7 +18,6 @@ use crate::initiate::{
 use crate::length::{read_literal, read_size};
 use crate::tag;
 use bitflags::Flags;
-use std::alloc::Global;
 use wire_bytes::Cursor;
 
 /// Reads an AARE: a length that ends at the last byte, filled by fields in any order.
@@ -29,7 +28,7 @@ use wire_bytes::Cursor;
 /// ConfirmedServiceError of Initiate is read as absent.
 ///
 /// Returns `Unreadable` for any other bytes. Does not allocate.
-pub fn read_aare(_alloc: Global, bytes: &[u8]) -> Result<Aare, AcseFault>
+pub fn read_aare(bytes: &[u8]) -> Result<Aare, AcseFault>
     // An AARE that is read is spelled by all of the bytes.
     ensures found { IfOk result (SpellsAare bytes.now) }
 

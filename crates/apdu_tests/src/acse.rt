@@ -166,7 +166,7 @@ fn is_text_of(alloc: Global, aare: &Aare, bytes: &[u8]) -> Result<bool, AllocErr
 #[test]
 fn an_aare_is_read_and_written(rt: HostRuntime) {
     for (aare, bytes) in &AARES {
-        assert!(rt; read_aare(rt.alloc(), bytes) == Ok(*aare), "{bytes:?}");
+        assert!(rt; read_aare(bytes) == Ok(*aare), "{bytes:?}");
         assert!(rt;
             is_text_of(rt.alloc(), aare, bytes) == Ok(true),
             "{bytes:?}"
@@ -233,6 +233,6 @@ static READ_AARES: [(&[u8], Result<Aare, AcseFault>); 5] = [
 #[test]
 fn other_forms_of_an_aare_are_read(rt: HostRuntime) {
     for (bytes, expected) in &READ_AARES {
-        assert!(rt; read_aare(rt.alloc(), bytes) == *expected, "{bytes:?}");
+        assert!(rt; read_aare(bytes) == *expected, "{bytes:?}");
     }
 }

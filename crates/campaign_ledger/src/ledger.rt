@@ -1,6 +1,7 @@
 //! `Ledger`: gives the permits for the commands of one run of a campaign.
 ghost use Rattle.std.specs.Prelude.{◌≡◌, ◌≢◌, ◌<◌, ℕ, [], false, length, IsTrue, IfOk, IfErr};
 ghost use Rattle.std.specs.Prelude.{IfSome, IfNone, IsErrOf, OnOk, OnErr, Ok, None};
+ghost use Rattle.client_core.specs.declared.job.Outcome.{Outcome};
 ghost use Rattle.campaign_ledger.specs.declared.entry.LedgerEntry.TheVariants.{NotSent, MaybeSent};
 ghost use Rattle.campaign_ledger.specs.declared.entry.LedgerEntry.TheVariants.{Came};
 ghost use Rattle.campaign_ledger.specs.declared.fault.LedgerFault.TheVariants.{Failed};
@@ -103,6 +104,8 @@ impl<B: Book> Ledger<B> {
             (HasGone (entry_at self.new.entries place))) }
         ensures taken { B.is_honest self.new.book → IfOk result (λ given. IfNone given
             (entry_at self.old.entries place ≡ NotSent → B.is_marked self.old.book place)) }
+        ensures remains_kept { B.is_honest self.new.book → (other : ℕ) (kept : Outcome)
+            → B.keeps self.old.book other kept → B.keeps self.new.book other kept }
         ensures entry { OnOk result (entry_at self.new.entries place
             ≡ entry_after_begin (entry_at self.old.entries place)) }
         ensures known { self.old.has_failed ≡ false → entry_at self.old.entries place ≢ NotSent
@@ -137,11 +140,15 @@ impl<B: Book> Ledger<B> {
         }
     }
 
-    /// Stores the outcome of a place. After an error no entry is changed, but the outcome may be
-    /// in the book.
+    /// Stores the outcome of a place in the book. After an error no entry is changed, but the
+    /// outcome may be in the book.
     pub fn record(&mut self, place: u32, outcome: Outcome) -> Result<(), LedgerFault>
         requires { place < length self.old.entries }
         ensures grants { Grants B.is_honest B.is_marked self.old self.new [] }
+        ensures recorded { B.is_honest self.new.book
+            → OnOk result (B.keeps self.new.book place outcome) }
+        ensures remains_kept { B.is_honest self.new.book → (other : ℕ) (kept : Outcome)
+            → other ≢ place → B.keeps self.old.book other kept → B.keeps self.new.book other kept }
         ensures entry { OnOk result (entry_at self.new.entries place ≡ Came outcome) }
         ensures unfailed { OnOk result (self.new.has_failed ≡ false) }
         ensures others { (other : ℕ) → other ≢ place

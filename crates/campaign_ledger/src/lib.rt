@@ -18,7 +18,9 @@ mod permit;
 pub use book::Book;
 pub use entry::LedgerEntry;
 pub use fault::LedgerFault;
-pub use laws::{each_command_goes_out_at_most_once, grants_add_up};
+pub use laws::{
+    each_command_goes_out_at_most_once, grants_add_up, the_next_run_finds_each_outcome,
+};
 pub use ledger::Ledger;
 pub use memory_book::MemoryBook;
 pub use permit::Permit;

@@ -1,6 +1,7 @@
 //! `MemoryBook`: a book in memory, for tests.
 ghost use Rattle.std.specs.Prelude.{◌≡◌, ◌-◌, ◌^◌, ⊤, false};
-ghost use Rattle.campaign_ledger.specs.MemoryBook.{LeavesEntries, IsMarked, left_marked};
+ghost use Rattle.campaign_ledger.specs.MemoryBook.{LeavesEntries, IsMarked, IsKept};
+ghost use Rattle.campaign_ledger.specs.MemoryBook.{left_marked, left_kept};
 
 use crate::book::Book;
 use crate::entry::LedgerEntry;
@@ -84,8 +85,13 @@ impl Book for MemoryBook {
 
     ghost is_marked = { λ book place. IsMarked book.entries place };
 
+    ghost keeps = { λ book place outcome. IsKept book.entries place outcome };
+
     ghost stays_marked = { λ book place left marked leaves.
         left_marked book.entries place left marked leaves };
+
+    ghost stays_kept = { λ book place outcome left marked kept leaves.
+        left_kept book.entries place outcome left kept leaves };
 
     fn mark(&mut self, place: u32) -> Result<bool, LedgerFault> {
         self.count_call()?;
@@ -108,7 +114,10 @@ impl Book for MemoryBook {
                 *entry = LedgerEntry::Came(outcome);
                 Ok(())
             }
-            None => Ok(()),
+            None => {
+                self.has_failed = true;
+                Err(LedgerFault::Failed)
+            }
         }
     }
 }

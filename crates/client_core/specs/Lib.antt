@@ -1,4 +1,5 @@
--- What the contracts of a client's job at one meter refer to: its messages and its outcome.
+-- What the contracts of a job at one meter refer to: its words, its messages and its outcome.
+pub mod Verbs
 pub mod Texts
 pub mod Replies
 pub mod Outcomes

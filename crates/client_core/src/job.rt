@@ -1,5 +1,8 @@
 //! A job: what a client asks of a meter's disconnect control (IEC 62056-6-2, class 70), and the
 //! possible outcomes.
+ghost use Rattle.std.specs.Prelude.{◌≡◌, Some};
+ghost use Rattle.client_core.specs.Verbs.{verb_of, verb_word};
+
 use cosem_axdr::Octets;
 
 /// A request to a meter's disconnect control, logical name 0.0.96.3.10.255 (IEC 62056-6-2, class
@@ -12,6 +15,36 @@ pub enum Verb {
     Reconnect,
     /// Reads the attribute control_state.
     ReadState,
+}
+
+impl Verb {
+    /// Returns the word for the verb in a list of jobs: `disconnect`, `reconnect` or `state`.
+    pub fn word(self) -> &'static [u8]
+        ensures word { result.now ≡ verb_word self }
+        // Reading the word returns the verb.
+        ensures read_back { verb_of result.now ≡ Some self }
+    {
+        match self {
+            Verb::Disconnect => b"disconnect",
+            Verb::Reconnect => b"reconnect",
+            Verb::ReadState => b"state",
+        }
+    }
+
+    /// Returns the verb of a word in a list of jobs, or `None` if it is the word for none.
+    pub fn from_word(word: &[u8]) -> Option<Verb>
+        ensures { result ≡ verb_of word.now }
+    {
+        if word == b"disconnect".as_slice() {
+            Some(Verb::Disconnect)
+        } else if word == b"reconnect".as_slice() {
+            Some(Verb::Reconnect)
+        } else if word == b"state".as_slice() {
+            Some(Verb::ReadState)
+        } else {
+            None
+        }
+    }
 }
 
 /// One request to one meter.

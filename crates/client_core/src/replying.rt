@@ -50,7 +50,7 @@ pub fn progress_after(alloc: Global, verb: Verb, progress: Progress, payload: &[
         return progress;
     }
     if !progress.accepted {
-        return progress_after_aare(alloc, verb, payload);
+        return progress_after_aare(verb, payload);
     }
     Progress {
         accepted: true,
@@ -71,10 +71,10 @@ pub fn or_unknown(progress: Progress) -> Progress
 
 // Returns the progress after the response to the AARQ.
 #[tactic(auto, unfolding(crate::specs::Replies::progress_after_aare))]
-fn progress_after_aare(alloc: Global, verb: Verb, payload: &[u8]) -> Progress
+fn progress_after_aare(verb: Verb, payload: &[u8]) -> Progress
     ensures { result ≡ progress_after_aare verb payload.now }
 {
-    let Ok(aare) = read_aare(alloc, payload) else {
+    let Ok(aare) = read_aare(payload) else {
         return with_outcome(Outcome::Unknown);
     };
     if aare.result != ACCEPTED {

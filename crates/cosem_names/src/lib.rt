@@ -1,14 +1,16 @@
 //! The names of the meter's objects, and what each client may do with them.
 //!
-//! `objects` has the one table of the objects, `access` looks up in it, and `object_list` shows it
-//! to a client.
+//! `objects` has the one table of the objects, with the names of `logical_name` and the classes of
+//! `class`; `access` looks up in it, and `object_list` shows it to a client.
 #![tactic(auto)]
 
 mod access;
+pub mod class;
 mod forms;
 mod judging;
 mod laws;
 mod level;
+pub mod logical_name;
 mod name;
 mod object_entries;
 mod objects;

@@ -2,6 +2,11 @@
 //! access modes (IEC 62056-6-2).
 ghost use Rattle.std.specs.Prelude.{◌≡◌, ◌==◌, ◌&&◌, ◌+◌, ◌*◌};
 
+use crate::class::{
+    ASSOCIATION_LN, DATA, DISCONNECT_CONTROL, LIMITER, REGISTER, SCRIPT_TABLE,
+    SINGLE_ACTION_SCHEDULE,
+};
+use crate::logical_name;
 use crate::name::{ClassId, Obis};
 
 /// The access mode of an attribute (IEC 62056-6-2, Association LN, object_list).
@@ -116,94 +121,79 @@ pub struct Method {
     pub management: bool,
 }
 
-/// Class 15, Association LN (IEC 62056-6-2).
-pub const ASSOCIATION_LN: ClassId = ClassId(15);
-/// Class 1, Data (IEC 62056-6-2).
-pub const DATA: ClassId = ClassId(1);
-/// Class 3, Register (IEC 62056-6-2).
-pub const REGISTER: ClassId = ClassId(3);
-/// Class 9, Script table (IEC 62056-6-2).
-pub const SCRIPT_TABLE: ClassId = ClassId(9);
-/// Class 22, Single action schedule (IEC 62056-6-2).
-pub const SINGLE_ACTION_SCHEDULE: ClassId = ClassId(22);
-/// Class 70, Disconnect control (IEC 62056-6-2).
-pub const DISCONNECT_CONTROL: ClassId = ClassId(70);
-/// Class 71, Limiter (IEC 62056-6-2).
-pub const LIMITER: ClassId = ClassId(71);
-
 /// The meter's objects, in the order of the object list.
 pub const OBJECTS: [Object; 12] = [
     Object {
         instance: Instance::Association,
         class: ASSOCIATION_LN,
         version: 1,
-        name: Obis([0, 0, 40, 0, 0, 255]),
+        name: logical_name::ASSOCIATION,
     },
     Object {
         instance: Instance::DeviceName,
         class: DATA,
         version: 0,
-        name: Obis([0, 0, 42, 0, 0, 255]),
+        name: logical_name::DEVICE_NAME,
     },
     Object {
         instance: Instance::Register(Which::Import),
         class: REGISTER,
         version: 0,
-        name: Obis([1, 0, 1, 7, 0, 255]),
+        name: logical_name::IMPORT_REGISTER,
     },
     Object {
         instance: Instance::Register(Which::Export),
         class: REGISTER,
         version: 0,
-        name: Obis([1, 0, 2, 7, 0, 255]),
+        name: logical_name::EXPORT_REGISTER,
     },
     Object {
         instance: Instance::ScriptTable,
         class: SCRIPT_TABLE,
         version: 0,
-        name: Obis([0, 0, 10, 0, 106, 255]),
+        name: logical_name::SCRIPT_TABLE,
     },
     Object {
         instance: Instance::Schedule(ScheduleNumber::First),
         class: SINGLE_ACTION_SCHEDULE,
         version: 0,
-        name: Obis([0, 0, 15, 0, 1, 255]),
+        name: logical_name::FIRST_SCHEDULE,
     },
     Object {
         instance: Instance::Schedule(ScheduleNumber::Second),
         class: SINGLE_ACTION_SCHEDULE,
         version: 0,
-        name: Obis([0, 1, 15, 0, 1, 255]),
+        name: logical_name::SECOND_SCHEDULE,
     },
     Object {
         instance: Instance::Schedule(ScheduleNumber::Third),
         class: SINGLE_ACTION_SCHEDULE,
         version: 0,
-        name: Obis([0, 2, 15, 0, 1, 255]),
+        name: logical_name::THIRD_SCHEDULE,
     },
     Object {
         instance: Instance::Schedule(ScheduleNumber::Fourth),
         class: SINGLE_ACTION_SCHEDULE,
         version: 0,
-        name: Obis([0, 3, 15, 0, 1, 255]),
+        name: logical_name::FOURTH_SCHEDULE,
     },
     Object {
         instance: Instance::DisconnectControl,
         class: DISCONNECT_CONTROL,
         version: 0,
-        name: Obis([0, 0, 96, 3, 10, 255]),
+        name: logical_name::DISCONNECT_CONTROL,
     },
     Object {
         instance: Instance::Limiter(Which::Import),
         class: LIMITER,
         version: 0,
-        name: Obis([0, 0, 17, 0, 0, 255]),
+        name: logical_name::IMPORT_LIMITER,
     },
     Object {
         instance: Instance::Limiter(Which::Export),
         class: LIMITER,
         version: 0,
-        name: Obis([0, 1, 17, 0, 0, 255]),
+        name: logical_name::EXPORT_LIMITER,
     },
 ];
 

@@ -4,12 +4,10 @@ ghost use Rattle.std.specs.Prelude.{◌≡◌, Some, IfOk};
 ghost use Rattle.cosem_names.specs.Scripts.{script_data, script_of, is_of_the_table, script_at};
 
 use crate::forms::name_in;
+use crate::logical_name::SCRIPT_TABLE;
 use crate::name::Obis;
 use cosem_axdr::{Data, Items, Octets};
 use std::alloc::{AllocError, Global};
-
-// The logical name of the script table (IEC 62056-6-1, script table objects).
-const SCRIPT_TABLE: Obis = Obis([0, 0, 10, 0, 106, 255]);
 
 /// A script as other objects name it (IEC 62056-6-2: executed_script of class 22, actions of class
 /// 71): a script table's logical name, and a selector in that table.

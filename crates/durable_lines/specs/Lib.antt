@@ -1,4 +1,5 @@
 -- What the contracts of lines in a file refer to, with the model of a crash.
+pub mod Calls
 pub mod CrashModel
 pub mod FileState
 pub mod Holding

@@ -1,6 +1,7 @@
 //! `DurableFile`: a file that is appended to, cut and synced, with what a crash may leave of it.
 ghost use Rattle.std.specs.Prelude.{◌≡◌, ◌≤◌, ◌↔◌, ◌++◌, List, ℕ, length, take, IfOk, OnOk, OnErr};
-ghost use Rattle.std.specs.Prelude.{IsErrOf};
+ghost use Rattle.std.specs.Prelude.{IsErrOf, ⊤};
+ghost use Rattle.durable_lines.specs.Calls.{FileCall, Read, Append, Cut, Sync};
 ghost use Rattle.durable_lines.specs.CrashModel.{Elapses, Follows, LeavesOnly, Narrows, HasOneOutcome};
 ghost use Rattle.durable_lines.specs.CrashModel.{TornAppend, TornCut};
 ghost use Rattle.durable_lines.specs.Holding.{IsSameOrRenewed};
@@ -12,10 +13,10 @@ use std::alloc::Global;
 /// A file that is appended to, cut and synced. Its ghost members say what a crash may leave of it:
 /// `specs/CrashModel.antt` has the crash model.
 ///
-/// After a call returned `Failed`, every later call does: a sync that failed is never repeated,
-/// since the file system may have dropped what it could not write. After any other error of
-/// `append` or `cut` nothing is known of the file's end, and [`recover`](crate::recover) repairs
-/// it.
+/// After a call returned `Failed`, every later `read`, `append`, `cut` and `sync` does: a sync that
+/// failed is never repeated, since the file system may have dropped what it could not write. The
+/// default `renew` does nothing and returns `Ok` also then. After any other error of `append` or
+/// `cut` nothing is known of the file's end, and [`recover`](crate::recover) repairs it.
 pub trait DurableFile: Drop {
     // Ghost type: files of this type act as the crash model says. The clauses on the bytes hold
     // only then. No contract can promise it of a file of the operating system.
@@ -48,6 +49,10 @@ pub trait DurableFile: Drop {
     // Ghost predicate: the file has failed.
     ghost has_failed: { Self → Type 0 };
 
+    // Ghost relation: what a call that returns `Ok` does besides what its other clauses say. A file
+    // whose calls do no more keeps the default. A renewal is no such call.
+    ghost also: { FileCall → Self → Self → Type 0 } = { λ _ _ _. ⊤ };
+
     /// Returns all bytes of the file.
     fn read(&mut self, alloc: Global) -> Result<Vec<u8>, FileFault>
         ensures bytes { IfOk result (λ bytes. acts_as_file → bytes.items ≡ seen self.old) }
@@ -56,6 +61,7 @@ pub trait DurableFile: Drop {
         ensures crash { Narrows (may_leave self.old) (may_leave self.new) }
         ensures time { Elapses (moment self.old) (moment self.new) (left_since self.old)
             (left_since self.new) (may_leave self.new) }
+        ensures also { OnOk result (also Read self.old self.new) }
         ensures identity { identity self.new ≡ identity self.old }
         ensures failed { IsErrOf result FileFault.Failed ↔ has_failed self.new }
         ensures remains_failed { has_failed self.old → has_failed self.new };
@@ -66,6 +72,7 @@ pub trait DurableFile: Drop {
         ensures crash { Follows (TornAppend bytes.now) (may_leave self.old) (may_leave self.new) }
         ensures time { Elapses (moment self.old) (moment self.new) (left_since self.old)
             (left_since self.new) (may_leave self.new) }
+        ensures also { OnOk result (also (Append bytes.now) self.old self.new) }
         ensures identity { identity self.new ≡ identity self.old }
         ensures failed { IsErrOf result FileFault.Failed ↔ has_failed self.new }
         ensures remains_failed { has_failed self.old → has_failed self.new };
@@ -77,6 +84,7 @@ pub trait DurableFile: Drop {
         ensures crash { Follows (TornCut len) (may_leave self.old) (may_leave self.new) }
         ensures time { Elapses (moment self.old) (moment self.new) (left_since self.old)
             (left_since self.new) (may_leave self.new) }
+        ensures also { OnOk result (also (Cut len) self.old self.new) }
         ensures identity { identity self.new ≡ identity self.old }
         ensures failed { IsErrOf result FileFault.Failed ↔ has_failed self.new }
         ensures remains_failed { has_failed self.old → has_failed self.new };
@@ -89,6 +97,7 @@ pub trait DurableFile: Drop {
         ensures crash { Narrows (may_leave self.old) (may_leave self.new) }
         ensures time { Elapses (moment self.old) (moment self.new) (left_since self.old)
             (left_since self.new) (may_leave self.new) }
+        ensures also { OnOk result (also Sync self.old self.new) }
         ensures identity { identity self.new ≡ identity self.old }
         ensures failed { IsErrOf result FileFault.Failed ↔ has_failed self.new }
         ensures remains_failed { has_failed self.old → has_failed self.new };

@@ -8,7 +8,8 @@ use thiserror::Error;
 /// Why a call on a durable file failed.
 #[derive(Clone, Copy, Debug, PartialEq, Eq, Error)]
 pub enum FileFault {
-    /// A call on the file failed, now or earlier. Every later call fails, too.
+    /// A call on the file failed, now or earlier. Every later `read`, `append`, `cut` and `sync`
+    /// fails, too.
     #[error("the file failed")]
     Failed = 1,
     /// The file has more bytes than its limit, or would have.

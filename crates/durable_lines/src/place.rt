@@ -9,7 +9,8 @@ use crate::fault::FileFault;
 /// leave is what it may leave under the name. The file is replaced by a draft: a file under a
 /// second name, which is renamed over the first. `specs/CrashModel.antt` has the crash model.
 ///
-/// After a call returned `Failed`, every later call does.
+/// After a call returned `Failed`, every later one does, but for the default `renew`, which returns
+/// `Ok`.
 pub trait Place: DurableFile {
     /// The files of this folder.
     type Draft: DurableFile;

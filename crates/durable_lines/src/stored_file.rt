@@ -11,7 +11,7 @@ use std::io::{ErrorKind, Read, Seek, SeekFrom, Write};
 use std::os::fd::AsRawFd;
 
 /// A file of the operating system, locked against other processes and limited in length. After a
-/// call failed, every later call fails, too.
+/// call failed, every later call fails, too, but `renew`, which does nothing.
 ///
 /// No contract can promise what the operating system does, so nothing is claimed of the bytes: that
 /// such a file acts as the crash model says is a premise.

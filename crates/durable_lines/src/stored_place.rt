@@ -25,7 +25,7 @@ pub struct PlacePaths {
 
 /// A name in a folder of the operating system, and a second name there for drafts. It has no file
 /// until it is given one or its file is replaced; until then, reads and writes fail. After a call
-/// failed, every later call fails, too.
+/// failed, every later call fails, too, but `renew`, which does nothing.
 ///
 /// As for a [`StoredFile`], nothing is claimed of the bytes: that such a name acts as the crash
 /// model says is a premise. Hold a [`LockFile`](crate::LockFile) of the name as long as its file

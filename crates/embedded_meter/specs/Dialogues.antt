@@ -4,11 +4,14 @@
 --     sends_ahead    the frames still to be sent, for every rest of the input and all replies
 --     ends_ahead     how the session will end, for every rest of the input
 --     has_ended      whether the input has ended
---     IsDialogue     the session awaits a reply exactly if an event or its reply is pending
-use Rattle.std.specs.Prelude.{◌≡◌, ℕ, Bool, true, false, List, ◌∷◌}
+--     PendsAtMost    the length of a pending frame
+--     IsDialogue     the session awaits a reply exactly if an event or its reply is pending, and a
+--                    pending frame is within the limit
+use Rattle.std.specs.Prelude.{◌≡◌, ◌≤◌, ⊤, ℕ, Bool, true, false, List, ◌∷◌, length}
 use Rattle.relay_events.specs.declared.event.Event.{Event}
 use Rattle.relay_events.specs.declared.reply.Reply.{Reply}
 use Rattle.session_core.specs.Remaining.{still_asks, still_sends, still_ends, is_asking, is_finished}
+use Rattle.session_core.specs.Standard.{greatest_frame}
 use Rattle.session_core.specs.declared.end.SessionEnd.{SessionEnd}
 use Rattle.session_core.specs.declared.session.Session.{Session}
 use Rattle.embedded_meter.specs.declared.pending.Pending.{Pending}
@@ -56,7 +59,13 @@ awaits_reply (Asked event) = true
 awaits_reply (Answered reply) = true
 awaits_reply (Due frame) = false
 
+-- whether the pending frame, if there is one, has at most `limit` bytes
+abbrev pub PendsAtMost : ℕ → Pending → Type 0
+PendsAtMost limit (Due frame) = length frame ≤ limit
+PendsAtMost limit _ = ⊤
+
 -- whether the invariant of a dialogue holds: the session awaits a reply exactly if an event or its
--- reply is pending
+-- reply is pending, and a pending frame is at most as long as the longest frame of a session
 pub record IsDialogue (d : Dialogue) : Type 0 where
   pub agrees : is_asking d.session ≡ awaits_reply d.pending
+  pub within_max : PendsAtMost greatest_frame d.pending

@@ -6,7 +6,8 @@
 --     IsIdle       nothing is to be asked or sent until more input arrives, which may come
 --     IsOver       the session is over
 --     GivesNext    what `next` did and returned
-use Rattle.std.specs.Prelude.{◌≡◌, ◌<◌, ◌++◌, ℕ, true, false, List, [], ◌∷◌, length, drop, Result, Ok, Err}
+--     GivesAtMost  the length of the frame that `next` returned
+use Rattle.std.specs.Prelude.{◌≡◌, ◌<◌, ◌≤◌, ⊤, ◌++◌, ℕ, true, false, List, [], ◌∷◌, length, drop, Result, Ok, Err}
 use Rattle.relay_core.specs.World.{World}
 use Rattle.relay_events.specs.declared.reply.Reply.{Reply}
 use Rattle.relay_recorder.specs.Histories.{Exchange, StandsForHistory, events_of, replies_of}
@@ -106,3 +107,10 @@ abbrev pub GivesNextBy : {E : Type 0} → Dialogue → Recording → List ℕ �
     → Recording → List ℕ → Type 0
 GivesNextBy old r buffer (Ok given) new r' buffer' = GivesNext old r buffer given new r' buffer'
 GivesNextBy old r buffer (Err error) new r' buffer' = Advances old r [] new r' × (buffer' ≡ buffer)
+
+-- whether the frame of this result has at most `limit` bytes, whether it was copied or found the
+-- buffer too short
+abbrev pub GivesAtMost : ℕ → Given → Type 0
+GivesAtMost limit (Frame count) = count ≤ limit
+GivesAtMost limit (NoRoom count) = count ≤ limit
+GivesAtMost limit _ = ⊤

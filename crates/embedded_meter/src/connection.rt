@@ -1,8 +1,10 @@
 //! A client's session at a meter without threads. If out of memory, what is pending stays pending.
-ghost use Rattle.std.specs.Prelude.{◌≡◌, true, false, IfOk, IsOk, IsOkAnd, IsSome, OnOk, OnErr};
+ghost use Rattle.std.specs.Prelude.{◌≡◌, ◌≤◌, length, true, false, IfOk, IfSome, IsOk, IsOkAnd, IsSome, OnOk, OnErr};
 ghost use Rattle.acse_ber.specs.Password.{IsPassword};
 ghost use Rattle.session_core.specs.Calls.{short_event};
-ghost use Rattle.embedded_meter.specs.Dialogues.{awaits_reply};
+ghost use Rattle.session_core.specs.Standard.{greatest_frame};
+ghost use Rattle.embedded_meter.specs.Dialogues.{PendsAtMost, awaits_reply};
+ghost use Rattle.embedded_meter.specs.Progress.{GivesAtMost};
 ghost use Rattle.embedded_meter.specs.Working.{PlacesFrame};
 ghost use Rattle.embedded_meter.specs.declared.pending.Pending.TheVariants.{Nothing, Asked, Answered, Due};
 
@@ -70,9 +72,12 @@ fn put_due(pending: &mut Pending, frame: Octets)
 // becomes pending, and the result is the length that it needs.
 #[inline(always)]
 fn give_frame(pending: &mut Pending, frame: Octets, buffer: &mut [u8]) -> Given
-    requires { pending.now ≡ Nothing }
+    requires nothing { pending.now ≡ Nothing }
+    requires within_max { length frame ≤ greatest_frame }
     ensures gives { PlacesFrame frame buffer.old result pending.new buffer.new }
     ensures no_reply_awaited { awaits_reply pending.new ≡ false }
+    ensures due_within_max { PendsAtMost greatest_frame pending.new }
+    ensures within_max { GivesAtMost greatest_frame result }
 {
     let count = frame.len();
     if buffer.len() < count {
@@ -144,6 +149,7 @@ impl ClientSession {
         ensures gives { GivesNextBy self.old recorder.old buffer.old result self.new recorder.new
             buffer.new }
         ensures sure { NeedsNoMemory self.old recorder.old buffer.old → IsOk result }
+        ensures within_max { IfOk result (GivesAtMost greatest_frame) }
     {
         if self.is_idle() {
             return Ok(Given::Wait);
@@ -174,6 +180,7 @@ impl ClientSession {
         ensures gives { GivesNextBy self.old recorder.old buffer.old result self.new recorder.new
             buffer.new }
         ensures sure { NeedsNoMemory self.old recorder.old buffer.old → IsOk result }
+        ensures within_max { IfOk result (GivesAtMost greatest_frame) }
     {
         match &self.pending {
             Pending::Nothing => match self.give_short(alloc, recorder, buffer)? {
@@ -201,6 +208,7 @@ impl ClientSession {
         ensures gives { GivesShortBy self.old recorder.old buffer.old result self.new recorder.new
             buffer.new }
         ensures sure { NeedsNoMemory self.old recorder.old buffer.old → IsOkAnd result IsSome }
+        ensures within_max { IfOk result (λ given. IfSome given (GivesAtMost greatest_frame)) }
     {
         let Some((level, request)) = self.session.next_short() else {
             return Ok(None);
@@ -239,8 +247,9 @@ impl ClientSession {
         recorder: &mut Recorder,
         buffer: &mut [u8],
     ) -> Result<Given, AllocError>
-        ensures { GivesNextBy self.old recorder.old buffer.old result self.new recorder.new
+        ensures gives { GivesNextBy self.old recorder.old buffer.old result self.new recorder.new
             buffer.new }
+        ensures within_max { IfOk result (GivesAtMost greatest_frame) }
     {
         match self.settle(alloc, recorder)? {
             NextNeed::Due => Ok(self.give(buffer)),
@@ -338,7 +347,8 @@ impl ClientSession {
     // the frame stays pending, and the result is the length that it needs.
     fn give(&mut self, buffer: &mut [u8]) -> Given
         requires { HasFrameDue self.now }
-        ensures { GivesDue self.old buffer.old result self.new buffer.new }
+        ensures gives { GivesDue self.old buffer.old result self.new buffer.new }
+        ensures within_max { GivesAtMost greatest_frame result }
     {
         let Pending::Due(frame) = replace(&mut self.pending, Pending::Nothing) else {
             unreachable!()

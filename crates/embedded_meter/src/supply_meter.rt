@@ -14,6 +14,9 @@ ghost use Rattle.relay_events.specs.declared.reply.Reply.TheVariants.{Code};
 ghost use Rattle.embedded_meter.specs.Calls.{IsNew, OpensBy, FeedsBy, FinishesBy, NextBy, ClosesBy, SamplesBy, TakesMoment};
 ghost use Rattle.embedded_meter.specs.Memory.{HasSureNext};
 ghost use Rattle.embedded_meter.specs.MeterStates.{Takes, dialogue_at};
+ghost use Rattle.embedded_meter.specs.Progress.{GivesAtMost};
+ghost use Rattle.relay_recorder.specs.Recording.{IsCapacity};
+ghost use Rattle.session_core.specs.Standard.{greatest_frame};
 
 use crate::connection::ClientSession;
 use crate::fault::MeterFault;
@@ -88,7 +91,7 @@ impl SupplyMeter {
     ) -> Result<SupplyMeter, AllocError>
         requires device { IsDeviceName device.now }
         requires password { IsPassword password.now }
-        requires kept_events { (1 ≤ kept_events) × (kept_events ≤ 1024) }
+        requires kept_events { IsCapacity kept_events }
         ensures { IfOk result (IsNew device.now password.now kept_events) }
     {
         let password = password.try_clone(alloc)?;
@@ -174,9 +177,9 @@ impl SupplyMeter {
     }
 
     /// Applies the requests of a session to the meter, up to the next frame, copies the frame to
-    /// `buffer`, and returns what the caller must do. A frame that is longer than the buffer stays
-    /// pending. Errors: `NoSession`; `Memory`, after which the effects so far remain, and the same
-    /// call continues from there.
+    /// `buffer`, and returns what the caller must do. A frame has at most 1,032 bytes; one that is
+    /// longer than the buffer stays pending. Errors: `NoSession`; `Memory`, after which the effects
+    /// so far remain, and the same call continues from there.
     ///
     /// Never runs out of memory for a short request (a SET of one attribute to an enum, an ACTION
     /// with an integer, a GET of a boolean or an enum) whose event is sure, such as each for the
@@ -189,6 +192,8 @@ impl SupplyMeter {
     ) -> Result<Given, MeterFault>
         ensures next { NextBy self.old number buffer.old result self.new buffer.new }
         ensures sure { HasSureNext self.old number buffer.old → IsOk result }
+        // A frame has at most 1,032 bytes, so a buffer of this length never gives `NoRoom`.
+        ensures within_max { IfOk result (GivesAtMost greatest_frame) }
     {
         if !self.has_place(number) {
             return Err(MeterFault::NoSession);

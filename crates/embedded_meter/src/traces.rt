@@ -1,6 +1,7 @@
 //! A meter as the text of a trace.
-ghost use Rattle.std.specs.Prelude.{◌≤◌, IfOk, IfErr};
+ghost use Rattle.std.specs.Prelude.{IfOk, IfErr};
 ghost use Rattle.acse_ber.specs.Password.{IsPassword};
+ghost use Rattle.relay_recorder.specs.Recording.{IsCapacity};
 ghost use Rattle.wire_bytes.specs.Outcome.{Fails};
 ghost use Rattle.trace_player.specs.RunTraces.{TellsRun};
 ghost use Rattle.embedded_meter.specs.Calls.{Resumes};
@@ -31,7 +32,7 @@ impl SupplyMeter {
         kept_events: u16,
     ) -> Result<SupplyMeter, TraceFault>
         requires password { IsPassword password.now }
-        requires kept { (1 ≤ kept_events) × (kept_events ≤ 1024) }
+        requires kept { IsCapacity kept_events }
         ensures resumed { IfOk result (Resumes text.now password.now kept_events) }
         ensures fault { IfErr result (λ fault. Fails Memory fault (trace_of text.now)) }
     {

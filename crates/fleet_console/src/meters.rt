@@ -11,7 +11,9 @@ pub const MAX_METER: u32 = 16_777_215;
 /// The meters with the numbers from `first` to `last`.
 #[derive(Clone, Copy, Debug, PartialEq, Eq)]
 pub struct Meters {
+    /// The number of the first meter, 1 to `MAX_METER`. No fleet has a meter 0.
     pub first: u32,
+    /// The number of the last meter, not less than `first`.
     pub last: u32,
 }
 

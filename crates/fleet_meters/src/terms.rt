@@ -1,8 +1,9 @@
 //! `MeterTerms`: what a meter is made of; `FleetTerms`: what each meter of a fleet is made of.
-ghost use Rattle.std.specs.Prelude.{◌≡◌, ◌≢◌, ◌≤◌, IfOk, IfErr};
+ghost use Rattle.std.specs.Prelude.{◌≡◌, ◌≢◌, IfOk, IfErr};
 ghost use Rattle.acse_ber.specs.Password.{IsPassword};
 ghost use Rattle.fleet_meters.specs.Passwords.{other_byte, other_password};
 ghost use Rattle.fleet_meters.specs.Traces.{IsTrace};
+ghost use Rattle.relay_recorder.specs.Recording.{IsCapacity};
 ghost use Rattle.trace_player.specs.Traces.{trace_of};
 ghost use Rattle.trace_words.specs.declared.fault.TraceFault.TheVariants.{Memory};
 ghost use Rattle.wire_bytes.specs.Outcome.{Fails};
@@ -24,7 +25,7 @@ pub struct MeterTerms {
     pub kept_events: u16,
     ghost continues: { IsTrace trace },
     ghost guarded: { IsPassword password },
-    ghost keeps: { (1 ≤ kept_events) × (kept_events ≤ 1024) },
+    ghost keeps: { IsCapacity kept_events },
 }
 
 // Judges whether a text is a trace. Errors: the fault of one that is not, or `Memory`.
@@ -65,7 +66,7 @@ impl MeterTerms {
         kept_events: u16,
     ) -> Result<MeterTerms, TraceFault>
         requires password { IsPassword password }
-        requires kept { (1 ≤ kept_events) × (kept_events ≤ 1024) }
+        requires kept { IsCapacity kept_events }
         ensures is_trace { IfOk result (λ _. IsTrace trace) }
         ensures terms { IfOk result (λ terms. (terms.trace ≡ trace) × (terms.password ≡ password)
             × (terms.kept_events ≡ kept_events)) }

@@ -57,7 +57,8 @@ struct InputConsole<R> {
 /// The limits of time of each connection, in seconds; 0 means none.
 #[derive(Clone, Copy)]
 pub struct TimeLimits {
-    /// The longest time without bytes received or sent.
+    /// The longest time in which epoll reports nothing of it: no bytes of the client, and no new
+    /// space for bytes to it.
     pub inactivity: u32,
     /// The longest time since it was accepted.
     pub session: u32,

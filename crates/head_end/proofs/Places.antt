@@ -1,8 +1,8 @@
 -- Each job has a slot, and the slot of a job has that job.
-use Rattle.std.proofs.Common.{◌≡◌, ◌*◌, ◌/◌, ◌%◌, ◌<◌, ℕ, arith}
+use Rattle.std.proofs.Common.{◌≡◌, ◌*◌, ◌/◌, ◌%◌, ◌<◌, ◌∙◌, ℕ, ap, sym, arith}
 use Rattle.std.proofs.lemmas.Nat.{mul-add-lt, div-mul-add, mod-mul-add}
 use Rattle.std.proofs.Math.Nat.{div-lt_iff_lt-mul, div-add-mod, mul_comm}
-use Rattle.head_end.specs.Campaigns.{place_at, slot_at}
+use Rattle.head_end.specs.Campaigns.{HaveOwnSlots, place_at, slot_at}
 
 -- the quotient of a number below a product
 quotient_below : (n width height : ℕ) → 0 < width → n < height * width → n / width < height
@@ -34,3 +34,9 @@ place_back turns workers place some below =
       mod-mul-add (place % workers) turns (place / workers) least,
     )
     (omega (arith, div-add-mod place workers, mul_comm workers (place / workers)))
+
+-- no two places have one slot
+pub own_slots : HaveOwnSlots
+own_slots turns workers i j some first second same =
+    sym (place_back turns workers i some first)
+    ∙ (ap (place_at turns workers) same ∙ place_back turns workers j some second)

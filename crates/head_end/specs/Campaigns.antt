@@ -2,6 +2,7 @@
 --     place_at          the job of a slot: a worker has consecutive slots, and its jobs are as far
 --                       apart as there are workers
 --     slot_at           the slot of a job
+--     HaveOwnSlots      no two jobs have one slot
 --     turns_for         the number of slots of each worker, and slots_for of all workers
 --     IsRun             the result of a slot
 --     AreTried          the use of their attempts by all jobs, with one password
@@ -21,6 +22,11 @@ place_at turns workers slot = (slot % turns) * workers + slot / turns
 -- the slot of a job
 abbrev pub slot_at : (turns workers place : ℕ) → ℕ
 slot_at turns workers place = (place % workers) * turns + place / workers
+
+-- two jobs with one slot are the same job: each job has an attempt of its own
+abbrev pub HaveOwnSlots : Type 0
+HaveOwnSlots = (turns workers i j : ℕ) → 0 < workers → i < turns * workers → j < turns * workers
+    → slot_at turns workers i ≡ slot_at turns workers j → i ≡ j
 
 -- the number of slots of each worker, for a number of jobs
 abbrev pub turns_for : (jobs workers : ℕ) → ℕ

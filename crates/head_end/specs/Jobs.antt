@@ -3,13 +3,13 @@
 --     job_of            the job of a line
 --     jobs_in           the jobs of lines, or the number of the first wrong line
 --     jobs_of           the jobs of a text, or its fault
-use Rattle.std.specs.Prelude.{◌≡◌, ℕ, suc, Bool, ◌&&◌, nat_lt, nat_le, if◌then◌else◌, List, [], ◌∷◌, ◌++◌, length, codes, decimal, bytes_eq, Option, Some, None, Result, Ok, Err}
+use Rattle.std.specs.Prelude.{◌≡◌, ℕ, suc, Bool, ◌&&◌, nat_lt, nat_le, if◌then◌else◌, List, [], ◌∷◌, ◌++◌, length, codes, decimal, Option, Some, None, Result, Ok, Err}
 use Rattle.std.specs.List.{list_all}
 use Rattle.text_lines.specs.Lines.{lines_of, unended_of}
 use Rattle.text_lines.specs.Words.{words_of}
 use Rattle.client_core.specs.declared.job.Job.{Job}
 use Rattle.client_core.specs.declared.job.Verb.{Verb}
-use Rattle.client_core.specs.declared.job.Verb.TheVariants.{Disconnect, Reconnect, ReadState}
+use Rattle.client_core.specs.Verbs.{verb_of}
 use Rattle.head_end.specs.declared.fault.JobsFault.{JobsFault}
 use Rattle.head_end.specs.declared.fault.JobsFault.TheVariants as fault
 
@@ -24,14 +24,6 @@ is_visible byte = nat_le 0x21 byte && nat_le byte 0x7E
 -- whether a text is one or more visible bytes, up to a maximum
 abbrev pub is_name : ℕ → List ℕ → Bool
 is_name most word = nat_lt 0 (length word) && nat_le (length word) most && list_all is_visible word
-
--- the verb of a word
-abbrev pub verb_of : List ℕ → Option Verb
-verb_of word =
-    if bytes_eq word (codes "disconnect") then Some Disconnect else
-    if bytes_eq word (codes "reconnect") then Some Reconnect else
-    if bytes_eq word (codes "state") then Some ReadState else
-    None
 
 -- the job of a name, an address and a verb
 abbrev pub job_with : List ℕ → List ℕ → Option Verb → Option Job

@@ -1,6 +1,6 @@
 //! Reads a list of jobs from its text, one line `NAME ADDRESS VERB` for each job.
 ghost use Rattle.std.specs.Prelude.{◌≡◌, IfOk};
-ghost use Rattle.head_end.specs.Jobs.{verb_of, is_name, is_visible, job_with, job_of, jobs_in, job_lines, jobs_of, ReadsJobs, ReadsLines, AddsJob};
+ghost use Rattle.head_end.specs.Jobs.{is_name, is_visible, job_with, job_of, jobs_in, job_lines, jobs_of, ReadsJobs, ReadsLines, AddsJob};
 ghost use Rattle.std.specs.List.{list_all};
 
 use crate::fault::JobsFault;
@@ -86,7 +86,7 @@ fn read_job(alloc: Global, line: &[u8]) -> Result<Option<Job>, AllocError>
     if words.next().is_some() {
         return Ok(None);
     }
-    job_with(alloc, id, address, verb_of(verb))
+    job_with(alloc, id, address, Verb::from_word(verb))
 }
 
 // Makes a job of a name, an address and a verb. Returns `None` if there is no verb, or if the name
@@ -110,21 +110,6 @@ fn job_with(
         address: Octets::from_slice(alloc, address)?,
         verb,
     }))
-}
-
-// Returns the verb that a word names: `disconnect`, `reconnect` or `state`, else `None`.
-fn verb_of(word: &[u8]) -> Option<Verb>
-    ensures { result ≡ verb_of word.now }
-{
-    if word == b"disconnect".as_slice() {
-        Some(Verb::Disconnect)
-    } else if word == b"reconnect".as_slice() {
-        Some(Verb::Reconnect)
-    } else if word == b"state".as_slice() {
-        Some(Verb::ReadState)
-    } else {
-        None
-    }
 }
 
 // Returns whether a word has 1 to `most` bytes, all of them visible ASCII.

@@ -34,7 +34,7 @@ pub use conversing::{converse, give_up};
 pub use fault::JobsFault;
 pub use job_list::{Jobs, MAX_JOBS};
 pub use jobs::{MAX_ADDRESS, MAX_ID, read_jobs};
-pub use laws::{jobs_may_be_cut, reports_stand_end_to_end};
+pub use laws::{jobs_have_slots_of_their_own, jobs_may_be_cut, reports_stand_end_to_end};
 pub use limited::{LimitedConnection, LimitedStream};
 pub use passwords::{PasswordsFault, passwords_for, repeat_password};
 pub use placing::{JobPlace, places_for};

@@ -20,7 +20,8 @@ use cosem_axdr::Octets;
 use std::alloc::{AllocError, Global};
 use std::thread::Threads;
 
-// A line of a report has at most 46 bytes: a name of 32, and ` rejected 255` with its end.
+// A line of a report has at most 46 bytes if the name of its job has at most 32, as those of a list
+// of jobs have: the name, and ` rejected 255` with its end.
 const LONGEST_LINE: usize = 46;
 
 /// Returns the line `jobs N` with the number of jobs of a text, ended by the byte 0A. Its errors
@@ -46,7 +47,8 @@ fn count_line(alloc: Global, count: usize) -> Result<Octets, AllocError>
 
 /// Runs all jobs as `run_watched_campaign` does, and returns the text of their report.
 ///
-/// All memory of the text is allocated before the first connection is made.
+/// If the names of the jobs have at most 32 bytes, as those of a list of jobs have, all memory of
+/// the text is allocated before the first connection is made.
 pub fn report_jobs<R: Threads + Sync, C: Connector, W: Watcher>(
     rt: &R,
     alloc: Global,

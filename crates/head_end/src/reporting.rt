@@ -19,8 +19,8 @@ pub fn report(alloc: Global, report: &Report) -> Result<Octets, AllocError>
     Ok(out)
 }
 
-/// Appends the text of a report to a text. It allocates nothing if the text has capacity for it, 46
-/// bytes for each job.
+/// Appends the text of a report to a text. It allocates nothing if the text has capacity for it: at
+/// most 46 bytes for each job whose name has at most 32.
 #[tactic(auto, unfolding(crate::specs::Reports::report_text))]
 pub fn add_report(report: &Report, out: &mut Octets) -> Result<(), AllocError>
     ensures { OnOk result (out.new ≡ out.old ++ report_text report.now) }

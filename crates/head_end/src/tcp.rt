@@ -22,8 +22,9 @@ pub struct TcpLimits {
 
 /// Connects over TCP. An address is an IP address or a host name, a colon and a port.
 ///
-/// A meter that does not respond blocks its worker for at most both limits together; a later
-/// response counts as a failure. The look-up of a name has no limit of its own.
+/// A meter that does not respond blocks its worker for at most the limit of a connect for each IP
+/// address of its name, and the limit of the connection; a later response counts as a failure. The
+/// look-up of a name has no limit of its own.
 #[derive(Debug, Drop)]
 pub struct TcpConnector<R> {
     rt: R,

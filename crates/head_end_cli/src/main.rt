@@ -18,11 +18,12 @@ use crate::ledgered::{LedgeredCampaign, plan_ledgered, run_on_ledger};
 use crate::status::print_status;
 use clap::ArgMatches;
 use head_end::TcpConnector;
-use head_end_commands::{CampaignPlan, PASSWORD_VARIABLE, check, command_line, plan_campaign};
-use program::{Fault, exit_code, has_option, print_help_or_missing_password, read_arguments};
+use head_end_commands::{CampaignPlan, check, command_line, plan_campaign};
+use program::{
+    Fault, exit_code, has_option, is_password_in_environment, print_help_or_missing_password,
+    read_arguments,
+};
 use sqlite::Unknown;
-use std::env;
-use std::env::VarError;
 use std::process::ExitCode;
 
 // The next step after the command line is read.
@@ -79,7 +80,7 @@ fn begin(rt: &HostRuntime) -> Result<HeadEndCommand, Fault> {
     // (clap's `required_unless_present` would print the options of the usage in another order)
     let has_password = has_option(words.as_slice(), "--password-file")
         || has_option(words.as_slice(), "--passwords")
-        || !matches!(env::var(rt, PASSWORD_VARIABLE), Err(VarError::NotPresent));
+        || is_password_in_environment(rt);
     let command = command_line(alloc, has_password).map_err(|_| Fault::Memory)?;
     match command.try_get_matches_from(words.as_slice()) {
         Ok(matches) => begin_command(rt, &matches),

@@ -1,4 +1,4 @@
--- What a text that was read, or a fault, says of the whole input.
+-- What follows for the whole input from a text that was read, or from a fault.
 use Rattle.std.proofs.Common.{◌≡◌, ◌<◌, ◌∙◌, ℕ, List, [], length, Option, Some, None, Err, IsErr, inl, inr, refl, sym, ap, arith}
 use Rattle.std.specs.Io.KnownBytes.{Consumes, IsAtEnd}
 use Rattle.std.proofs.KnownBytes.{Consumes-all}

@@ -2,7 +2,7 @@
 --     IsCommonPassword  the password of jobs without one of their own
 --     ArePasswords      the passwords of all jobs, by the file of `--passwords` and the common one
 --     HasPasswords      the passwords of a campaign's jobs
-use Rattle.std.specs.Prelude.{◌≡◌, ℕ, codes, List, [], Option, Some, None, IfSome}
+use Rattle.std.specs.Prelude.{◌≡◌, ℕ, codes, List, [], Option, Some, None, IfSome, IsSomeAnd}
 use Rattle.clap.specs.Matches.{first_value}
 use Rattle.clap.specs.declared.parser.matches.Found.{Found}
 use Rattle.acse_ber.specs.Password.{IsPassword}
@@ -18,7 +18,7 @@ pub record IsCommonPassword (found : Found) (common : Option (List ℕ)) : Type 
   pub given : (text : List ℕ) → first_value found (codes "password") ≡ Some text
       → common ≡ Some text
   pub of_file : (path : List ℕ) → first_value found (codes "password") ≡ None
-      → first_value found (codes "password-file") ≡ Some path → IfSome common HasNoLineEnd
+      → first_value found (codes "password-file") ≡ Some path → IsSomeAnd common HasNoLineEnd
 
 -- Whether each job has the password of its name in some text, else the common one. Without the
 -- option `--passwords` the text is empty.

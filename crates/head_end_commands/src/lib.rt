@@ -15,4 +15,4 @@ mod warnings;
 
 pub use arguments::command_line;
 pub use listing::check;
-pub use plan::{CampaignPlan, PASSWORD_VARIABLE, plan_campaign, plan_jobs};
+pub use plan::{CampaignPlan, plan_campaign, plan_jobs};

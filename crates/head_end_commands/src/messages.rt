@@ -3,6 +3,7 @@ ghost use Rattle.std.specs.Prelude.{◌≡◌};
 ghost use Rattle.head_end_commands.specs.Faults.{input_fault, jobs_fault};
 
 use acse_ber::MAX_PASSWORD;
+use client_core::Verb;
 use counted_io::InputFault;
 use head_end::{JobsFault, MAX_ADDRESS, MAX_ID};
 use program::Fault;
@@ -136,7 +137,7 @@ pub(crate) fn check_job_line(line: &[u8]) -> Result<(), LineFault> {
     check_word("NAME", words.next(), MAX_ID)?;
     check_word("ADDRESS", words.next(), MAX_ADDRESS)?;
     let verb = check_word("VERB", words.next(), usize::MAX)?;
-    if !is_verb(verb) {
+    if Verb::from_word(verb).is_none() {
         return Err(LineFault::Verb);
     }
     match words.next() {
@@ -162,11 +163,4 @@ fn check_word<'a>(
         Some(byte) => Err(LineFault::Invisible(name, *byte)),
         None => Ok(word),
     }
-}
-
-// Returns whether a word is a verb.
-fn is_verb(word: &[u8]) -> bool {
-    word == b"disconnect".as_slice()
-        || word == b"reconnect".as_slice()
-        || word == b"state".as_slice()
 }

@@ -15,15 +15,12 @@ use clap::ArgMatches;
 use cosem_axdr::Octets;
 use counted_io::{Counted, InputFault, read_to_end_within};
 use head_end::{Jobs, PasswordsFault, passwords_for};
-use program::{Fault, PasswordFault};
+use program::{Fault, PasswordFault, is_exposed};
 use std::fs::File;
 use std::os::unix::fs::MetadataExt;
 use text_lines::Words;
 use thiserror::Error;
 use wire_bytes::Listed;
-
-// The permissions of others than the file's owner.
-const OTHERS: u32 = 0o077;
 
 // The maximum length of the file in bytes.
 const MAX_LENGTH: usize = 1_048_576;
@@ -70,7 +67,7 @@ fn read_open_file(rt: &HostRuntime, file: &File) -> Result<Vec<u8>, PasswordList
     let Ok(metadata) = file.metadata() else {
         return Err(PasswordListFault::File(PasswordFault::Read));
     };
-    if metadata.mode() & OTHERS != 0 {
+    if is_exposed(metadata.mode()) {
         return Err(PasswordListFault::File(PasswordFault::Exposed));
     }
     match read_to_end_within(rt.alloc(), &mut Counted::new(file), MAX_LENGTH) {

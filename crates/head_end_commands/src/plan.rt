@@ -1,7 +1,7 @@
 //! `plan_campaign` and `plan_jobs`: what a campaign starts with: its options, and its jobs, which
 //! are those of the list in an input or are given.
 ghost use Rattle.std.specs.Prelude.{◌≡◌, ◌≤◌, ℕ, List, Some, codes, length, string_bytes};
-ghost use Rattle.std.specs.Prelude.{IfOk, IfSome};
+ghost use Rattle.std.specs.Prelude.{IfOk, IfSome, IsSomeAnd};
 ghost use Rattle.std.specs.List.{All};
 ghost use Rattle.acse_ber.specs.Password.{IsPassword};
 ghost use Rattle.clap.specs.Matches.{first_value, found_of};
@@ -16,25 +16,24 @@ use acse_ber::MAX_PASSWORD;
 use clap::ArgMatches;
 use cosem_axdr::Octets;
 use head_end::{Jobs, TcpLimits};
-use program::{Fault, read_password_file};
+use program::{Fault, environment_password, read_password_file};
 use std::alloc::Global;
-use std::env;
-use std::env::VarError;
 use std::io::{IsTerminal, Read};
 use std::time::Duration;
 use wire_bytes::Listed;
 
-/// The environment variable that can hold the password.
-pub const PASSWORD_VARIABLE: &str = "METER_PASSWORD";
-
-/// The jobs and options of a campaign, all valid: the jobs, the password of each, the number of
-/// workers, the time limits, and whether the progress is shown.
+/// The jobs and options of a campaign, all valid.
 #[derive(Drop)]
 pub struct CampaignPlan {
+    /// The jobs, in the order of their list.
     pub jobs: Jobs,
+    /// The password of each job, 1 to 32 bytes, in the same order.
     pub passwords: Listed<Octets>,
+    /// The number of workers, 1 to 16.
     pub workers: u8,
+    /// The time limits of each connection.
     pub limits: TcpLimits,
+    /// Whether the progress is shown on standard error.
     pub is_shown: bool,
     ghost sized: { All IsPassword passwords },
     ghost paired: { length passwords ≡ length jobs },
@@ -110,22 +109,6 @@ fn check_password(rt: &HostRuntime, text: &str, is_verbose: bool) -> Result<Octe
     password
 }
 
-// Returns the password of the environment, if it has one. Errors: `Input` if it is not UTF-8, with
-// a line on standard error if `is_verbose`; `Memory`.
-fn read_environment_password(rt: &HostRuntime, is_verbose: bool) -> Result<Option<String>, Fault> {
-    match env::var(rt, PASSWORD_VARIABLE) {
-        Ok(text) => Ok(Some(text)),
-        Err(VarError::NotPresent) => Ok(None),
-        Err(VarError::OutOfMemory) => Err(Fault::Memory),
-        Err(_) => {
-            if is_verbose {
-                let _ = eprintln!(rt; "METER_PASSWORD: expected UTF-8 text");
-            }
-            Err(Fault::Input)
-        }
-    }
-}
-
 // Returns the password of the file of `--password-file`, else that of the environment.
 fn stored_password(
     rt: &HostRuntime,
@@ -134,11 +117,11 @@ fn stored_password(
 ) -> Result<Option<String>, Fault>
     ensures { IfOk result (λ password. (path : List ℕ)
         → first_value (found_of matches.now) (codes "password-file") ≡ Some path
-        → IfSome password (λ text. HasNoLineEnd (string_bytes text))) }
+        → IsSomeAnd password (λ text. HasNoLineEnd (string_bytes text))) }
 {
     match matches.get_str("password-file") {
         Some(path) => Ok(Some(read_password_file(rt, path)?)),
-        None => read_environment_password(rt, is_verbose),
+        None => environment_password(rt, is_verbose),
     }
 }
 

@@ -1,3 +1,4 @@
+pub mod FaultLemmas
 pub mod RenewalLemmas
 pub mod Restarts
 pub mod RunLemmas

@@ -1,11 +1,10 @@
 -- A journal has its meter's run: the events that only read have no line, and change nothing.
-use Rattle.std.proofs.Common.{◌≡◌, List, [], ◌∷◌, ◌++◌, refl, ◌∙◌}
+use Rattle.std.proofs.Common.{◌≡◌, List, [], ◌∷◌, refl, ◌∙◌}
 use Rattle.relay_core.proofs.RunLemmas.{world_after-append}
 use Rattle.relay_core.specs.Machine.{at_event}
 use Rattle.relay_core.specs.Opening.{world_of_opening}
 use Rattle.relay_core.specs.Runs.{world_after}
 use Rattle.relay_core.specs.World.{World}
-use Rattle.relay_events.specs.Kinds.{is_read}
 use Rattle.relay_events.specs.declared.event.Event.{Event}
 use Rattle.relay_events.specs.declared.event.Event.TheVariants.{Get, GetList}
 use Rattle.relay_recorder.specs.declared.trace.Trace.{Trace}

@@ -2,9 +2,9 @@
 use Rattle.std.proofs.Common.{◌≡◌, ℕ, zero, suc, ◌≤◌, Bool, true, false, List, [], ◌∷◌, ◌++◌}
 use Rattle.std.proofs.Common.{Result, Ok, Err, length}
 use Rattle.std.specs.Prelude.{if◌then◌else◌}
-use Rattle.std.proofs.Common.{nat_lt, refl, sym, ap, ◌∙◌, subst, arith, append-nil}
+use Rattle.std.proofs.Common.{nat_lt, refl, sym, ap, ◌∙◌, subst, append-nil}
 use Rattle.std.proofs.lemmas.Bool.{ltb-false}
-use Rattle.durable_lines.specs.Holding.{Holds, HoldsAfter}
+use Rattle.durable_lines.specs.Holding.{HoldsAfter}
 use Rattle.durable_lines.specs.Lines.{lines_in, text_of, IsText}
 use Rattle.durable_lines.proofs.LineLemmas.{text_of-append}
 use Rattle.relay_core.proofs.RunLemmas.{world_after-append}
@@ -19,7 +19,6 @@ use Rattle.relay_recorder.specs.declared.trace.Trace.{Trace}
 use Rattle.text_lines.proofs.LinesLemmas.{lines_of-nil, rows_of-none}
 use Rattle.text_lines.specs.Lines.{rows_text}
 use Rattle.text_lines.specs.Words.{line_of}
-use Rattle.trace_lines.specs.Traced.{IsTraced}
 use Rattle.trace_lines.specs.Writing.{event_row}
 use Rattle.trace_player.proofs.Appended.{appended_again}
 use Rattle.trace_player.proofs.Recovered.{recovered_again}

@@ -4,7 +4,7 @@ use Rattle.std.proofs.Common.{refl, sym, ap, ◌∙◌, arith, append_assoc, app
 use Rattle.std.proofs.lemmas.Bool.{ne_eqb}
 use Rattle.std.proofs.lemmas.List.Folds.{list_any-append}
 use Rattle.std.proofs.lemmas.List.Splits.{slice_split-cons_no}
-use Rattle.std.specs.List.{list_any, onto_first}
+use Rattle.std.specs.List.{onto_first}
 use Rattle.std.specs.Prelude.{◌==◌, ◌||◌, if◌then◌else◌}
 use Rattle.durable_lines.specs.Lines.{lines_after, lines_in, text_of, IsText}
 use Rattle.durable_lines.proofs.LineLemmas.{Zero, End, Other, first_byte, lines_end, lines_more}
@@ -15,7 +15,6 @@ use Rattle.text_lines.specs.Words.{line_of, words_of}
 use Rattle.text_lines.proofs.Cuts.{parts_some}
 use Rattle.text_lines.proofs.LinesLemmas.{all_but_last-cons}
 use Rattle.text_lines.proofs.WordsLemmas.{line_of-words_of}
-use Rattle.trace_words.specs.Rows.{Row}
 use Rattle.trace_words.specs.WholeLines.{before_zero, has_zero, whole_text}
 
 abbrev Lines : Type 0

@@ -1,7 +1,9 @@
 //! Begins a journal: its first text, written as a whole.
-ghost use Rattle.std.specs.Prelude.{◌≡◌, ◌⊎◌, IfOk, OnOk};
+ghost use Rattle.std.specs.Prelude.{◌≡◌, ◌⊎◌, IfErr, IfOk, IsErrOf, OnOk};
+ghost use Rattle.durable_lines.specs.Calls.{HasFailedPart};
 ghost use Rattle.durable_lines.specs.CrashModel.{LeavesOnly};
 ghost use Rattle.durable_lines.specs.Lines.{IsSettled};
+ghost use Rattle.journal_files.specs.Faults.{IsBeginFault};
 ghost use Rattle.journal_files.specs.Journals.{IsBegun, IsJournalOf};
 
 use crate::fault::StartFault;
@@ -13,7 +15,8 @@ use trace_player::write_journal;
 
 // Returns the text of the journal of a recorder.
 fn journal_of(alloc: Global, recorder: &Recorder) -> Result<Octets, StartFault>
-    ensures { IfOk result (IsJournalOf recorder.now) }
+    ensures journal { IfOk result (IsJournalOf recorder.now) }
+    ensures fault { IfErr result (λ given. given ≡ StartFault.Memory) }
 {
     let trace = recorder.export(alloc)?;
     let text = write_journal(alloc, &trace);
@@ -26,9 +29,10 @@ fn journal_of(alloc: Global, recorder: &Recorder) -> Result<Octets, StartFault>
 /// [`append_lines`](durable_lines::append_lines).
 ///
 /// After `Ok` every crash leaves that journal under the name; a crash during the call leaves it, or
-/// what could be left before. Errors: `Memory`; `File` if a call on the place or its file failed,
+/// what could be left before. Errors: `Memory`; `File` if a call on the place or its draft failed,
 /// after which the name has the old file or the new one; `TooLong` if the text is longer than the
 /// file may be; `Line(1)` if the text has a byte 0, which is tested, since no contract excludes it.
+#[tactic(auto, using(crate::proofs::FaultLemmas::begin_faults))]
 pub fn begin_journal<P: Place>(
     alloc: Global,
     place: &mut P,
@@ -39,6 +43,9 @@ pub fn begin_journal<P: Place>(
     ensures settled { OnOk result (P.acts_as_file
         → IsSettled P.seen P.may_leave P.identity P.stored place.new) }
     ensures identity { P.identity place.new ≡ P.identity place.old }
+    ensures cause { IfErr result (IsBeginFault recorder.now) }
+    ensures failed { IsErrOf result StartFault.File
+        → HasFailedPart P.has_failed P.Draft.has_failed place.new }
     // A crash at any moment of the call leaves what could be left before, or the new journal.
     ensures any_moment { P.acts_as_file
         → LeavesOnly P.moment P.left_since place.old place.new

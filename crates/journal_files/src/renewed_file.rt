@@ -1,6 +1,6 @@
 //! `RenewedFile`: the file of a journal that is renewed each time it has grown by a limit.
 ghost use Rattle.std.specs.Prelude.{◌≡◌, ◌↔◌, false, true, IsErrOf};
-ghost use Rattle.journal_files.specs.RenewedFile.{HasFailed, place_of};
+ghost use Rattle.journal_files.specs.RenewedFile.{grown_of, place_of, terms_of, HasFailed};
 ghost use Rattle.journal_files.specs.Renewals.{IsRenewedAs};
 
 use crate::renewing::renew_file;
@@ -34,9 +34,11 @@ pub struct RenewedFile<P: Place> {
 }
 
 impl<P: Place> RenewedFile<P> {
-    /// Returns the file of a place as one that is renewed.
+    /// Returns the file of a place as one that is renewed on these terms. It has not grown yet.
     pub fn new(alloc: Global, place: P, terms: RenewalTerms) -> RenewedFile<P>
         ensures place { place_of result ≡ place }
+        ensures terms { terms_of result ≡ terms }
+        ensures grown { grown_of result ≡ 0 }
         ensures whole { ¬ HasFailed result }
     {
         RenewedFile {

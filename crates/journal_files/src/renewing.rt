@@ -1,9 +1,11 @@
 //! Renews a journal: replaces its file by one that begins later and has its last events.
-ghost use Rattle.std.specs.Prelude.{◌≡◌, ◌⊎◌, ℕ, List, Ok, IfOk, IsTrue, OnOk};
+ghost use Rattle.std.specs.Prelude.{◌≡◌, ◌≢◌, ◌⊎◌, ℕ, List, Ok, IfErr, IfOk, IsErrOf, IsTrue, OnOk};
 ghost use Rattle.std.specs.List.{All};
+ghost use Rattle.durable_lines.specs.Calls.{HasFailedPart};
 ghost use Rattle.durable_lines.specs.CrashModel.{Elapses, LeavesOnly, Narrows, HasOneOutcome};
 ghost use Rattle.durable_lines.specs.Holding.{IsSameOrRenewed};
 ghost use Rattle.durable_lines.specs.Lines.{IsSettled, IsText};
+ghost use Rattle.journal_files.specs.Faults.{IsRenewFault, IsUnwritable};
 ghost use Rattle.journal_files.specs.Renewals.{IsLaterTrace, IsRenewalOf, IsRenewedAs};
 ghost use Rattle.journal_files.specs.Renewals.{IsRenewedOver};
 ghost use Rattle.relay_core.specs.Agreeing.{Agree, IsWorld};
@@ -104,13 +106,15 @@ fn are_fit(events: &[Event]) -> bool
 }
 
 // Returns the text of the journal of a trace, which is read back as that trace. That the lines fit
-// and have no byte 0 is tested, since no contract says it of events and an opening that were read.
+// and have no byte 0 is tested, since no contract says it of events and an opening that were read:
+// `Line(1)` says that one of these tests failed, whichever line it was.
 fn write_readable(alloc: Global, trace: &Trace) -> Result<Octets, StartFault>
     requires { IsFitOpening trace.now.opening }
     ensures text { IfOk result (λ text. text ≡ journal_text trace.now) }
     ensures read_back { IfOk result (λ text. trace_of text ≡ Ok trace.now) }
     ensures is_text { IfOk result IsText }
     ensures journal { IfOk result IsJournal }
+    ensures fault { IfErr result IsUnwritable }
 {
     if !are_fit(trace.events.as_slice()) {
         return Err(StartFault::Line(1));
@@ -134,6 +138,7 @@ fn write_same(alloc: Global, trace: &Trace, later: &Trace) -> Result<Octets, Sta
     ensures read_back { IfOk result (λ text. trace_of text ≡ Ok later.now) }
     ensures is_text { IfOk result IsText }
     ensures journal { IfOk result IsJournal }
+    ensures fault { IfErr result IsUnwritable }
 {
     if later.opening.device.as_slice() != trace.opening.device.as_slice() {
         return Err(StartFault::OtherMeter);
@@ -148,6 +153,7 @@ fn write_later(alloc: Global, trace: &Trace, depth: usize) -> Result<Octets, Sta
     ensures renewed { IfOk result (λ text. (old : List ℕ) → trace_of old ≡ Ok trace.now
         → IsRenewalOf depth old text) }
     ensures is_text { IfOk result IsText }
+    ensures fault { IfErr result IsUnwritable }
 {
     let later = shorten_trace(alloc, trace, depth)?;
     let text = write_same(alloc, trace, &later);
@@ -156,9 +162,12 @@ fn write_later(alloc: Global, trace: &Trace, depth: usize) -> Result<Octets, Sta
 }
 
 // Returns the text of a journal after its renewal.
+#[tactic(auto, using(crate::proofs::FaultLemmas::renew_faults))]
 fn renew_text(alloc: Global, text: &[u8], depth: usize) -> Result<Octets, StartFault>
     ensures renewed { IfOk result (IsRenewalOf depth text.now) }
     ensures is_text { IfOk result IsText }
+    ensures cause { IfErr result (IsRenewFault text.now) }
+    ensures unfailed { IfErr result (λ fault. fault ≢ StartFault.File) }
 {
     let trace = read_trace(alloc, text)?;
     let renewed = write_later(alloc, &trace, depth);
@@ -167,6 +176,7 @@ fn renew_text(alloc: Global, text: &[u8], depth: usize) -> Result<Octets, StartF
 }
 
 // Returns the text of the journal of a file after its renewal.
+#[tactic(auto, using(crate::proofs::FaultLemmas::renew_faults))]
 fn renew_text_of<F: DurableFile>(
     alloc: Global,
     file: &mut F,
@@ -175,6 +185,9 @@ fn renew_text_of<F: DurableFile>(
     ensures renewed { IfOk result (λ text. F.acts_as_file
         → IsRenewalOf depth (F.seen file.old) text) }
     ensures is_text { IfOk result IsText }
+    ensures cause { IfErr result (λ fault. F.acts_as_file
+        → IsRenewFault (F.seen file.old) fault) }
+    ensures failed { IsErrOf result StartFault.File → F.has_failed file.new }
     ensures unchanged { F.seen file.new ≡ F.seen file.old }
     ensures identity { F.identity file.new ≡ F.identity file.old }
     ensures crash { Narrows (F.may_leave file.old) (F.may_leave file.new) }
@@ -193,11 +206,13 @@ fn renew_text_of<F: DurableFile>(
 /// as one that is resumed from the old.
 ///
 /// After `Ok` every crash leaves the new journal under the name; a crash during the call leaves it,
-/// or what could be left before. Errors: `File` if a call on the place or the new file failed;
-/// `TooLong` or `Line` if the old text is not read as a journal, or the new one would not be;
-/// `OtherMeter` if the new one had another device name, which no contract excludes; `Memory`. After
-/// an error the name has the old file or the new one.
-#[tactic(auto, using(crate::proofs::RenewalLemmas::read_stays))]
+/// or what could be left before. Errors: `File` if a call on the place or its draft failed;
+/// `TooLong` or `Line` if the old text is not read as a trace, with the number of its first wrong
+/// line, or if the new one would not be, then always `Line(1)`: an event does not fit its line, or
+/// a line has a byte 0, which no contract excludes; `OtherMeter` if the new one had another device
+/// name, which no contract excludes either; `Memory`. After an error the name has the old file or
+/// the new one.
+#[tactic(auto, using(crate::proofs::RenewalLemmas::read_stays, crate::proofs::FaultLemmas::renew_faults))]
 pub fn renew_journal<P: Place>(alloc: Global, place: &mut P, depth: usize) -> Result<(), StartFault>
     ensures renewed { OnOk result (P.acts_as_file
         → IsRenewalOf depth (P.seen place.old) (P.seen place.new)) }
@@ -206,6 +221,10 @@ pub fn renew_journal<P: Place>(alloc: Global, place: &mut P, depth: usize) -> Re
     ensures settled { OnOk result (P.acts_as_file
         → IsSettled P.seen P.may_leave P.identity P.stored place.new) }
     ensures identity { P.identity place.new ≡ P.identity place.old }
+    ensures cause { IfErr result (λ fault. P.acts_as_file
+        → IsRenewFault (P.seen place.old) fault) }
+    ensures failed { IsErrOf result StartFault.File
+        → HasFailedPart P.has_failed P.Draft.has_failed place.new }
     // A crash at any moment of the call leaves what could be left before, or the new journal.
     ensures any_moment { P.acts_as_file
         → LeavesOnly P.moment P.left_since place.old place.new
@@ -217,7 +236,7 @@ pub fn renew_journal<P: Place>(alloc: Global, place: &mut P, depth: usize) -> Re
 
 /// Renews a journal as [`renew_journal`] does if its file has more than `limit` bytes. Otherwise
 /// nothing changes.
-#[tactic(auto, using(crate::proofs::RenewalLemmas::renewals))]
+#[tactic(auto, using(crate::proofs::RenewalLemmas::renewals, crate::proofs::FaultLemmas::renew_faults))]
 pub fn renew_long_journal<P: Place>(
     alloc: Global,
     place: &mut P,
@@ -230,6 +249,10 @@ pub fn renew_long_journal<P: Place>(
     ensures settled { OnOk result (P.acts_as_file
         → IsSettled P.seen P.may_leave P.identity P.stored place.new) }
     ensures identity { P.identity place.new ≡ P.identity place.old }
+    ensures cause { IfErr result (λ fault. P.acts_as_file
+        → IsRenewFault (P.seen place.old) fault) }
+    ensures failed { IsErrOf result StartFault.File
+        → HasFailedPart P.has_failed P.Draft.has_failed place.new }
     // A crash at any moment of the call leaves what could be left before, or the new journal.
     ensures any_moment { P.acts_as_file
         → LeavesOnly P.moment P.left_since place.old place.new

@@ -1,9 +1,10 @@
 //! Resumes a journal: judges its text, cuts an interrupted line, and continues where its lines end.
-ghost use Rattle.std.specs.Prelude.{◌≡◌, ◌≤◌, [], Ok, IfOk, IfErr, OnOk};
+ghost use Rattle.std.specs.Prelude.{◌≡◌, ◌≢◌, [], Ok, IfOk, IfErr, OnOk, IsErrOf};
 ghost use Rattle.durable_lines.specs.Lines.{IsSettled, lines_in, text_of};
-ghost use Rattle.journal_files.specs.Faults.{IsRefusal};
+ghost use Rattle.journal_files.specs.Faults.{IsRefusal, IsResumeFault};
 ghost use Rattle.journal_files.specs.Journals.{Continues};
 ghost use Rattle.relay_core.specs.Opening.{IsFitOpening};
+ghost use Rattle.relay_recorder.specs.Recording.{IsCapacity};
 ghost use Rattle.trace_player.specs.Journals.{IsJournal};
 ghost use Rattle.trace_player.specs.Traces.{trace_of};
 
@@ -24,11 +25,14 @@ pub struct Resumed {
 }
 
 // Reads the trace of a journal's text, for the meter of this name.
+#[tactic(auto, using(crate::proofs::FaultLemmas::resume_faults))]
 fn judge_trace(alloc: Global, text: &[u8], device: &Octets) -> Result<Trace, StartFault>
     ensures trace { IfOk result (λ trace. trace_of text.now ≡ Ok trace) }
     ensures journal { OnOk result (IsJournal text.now) }
     ensures fit { IfOk result (λ trace. IsFitOpening trace.opening) }
     ensures device { IfOk result (λ trace. trace.opening.device ≡ device.now) }
+    ensures cause { IfErr result (IsResumeFault device.now text.now) }
+    ensures unfailed { IfErr result (λ fault. fault ≢ StartFault.File) }
 {
     let trace = read_trace(alloc, text)?;
     if !is_journal(text) {
@@ -47,20 +51,24 @@ fn judge_trace(alloc: Global, text: &[u8], device: &Octets) -> Result<Trace, Sta
 /// lines end, which keeps at most `depth` events, 1 to 1,024. The file is then ready for
 /// [`append_lines`](durable_lines::append_lines).
 ///
-/// Errors, in this order: `File` if a call on the file failed; `TooLong`; `Line`; `Counted`;
-/// `OtherMeter`. After these the file is as it was, unless a call failed after the text was found
-/// right. `Memory` can occur at any point.
+/// Errors, in this order: `File` if a call on the file failed; `TooLong`; `Line` with the number of
+/// the first line that is not that of a trace; `Counted`; `OtherMeter`. After these the file is as
+/// it was, unless a call failed after the text was found right. `Memory` can occur at any point.
+#[tactic(auto, using(crate::proofs::FaultLemmas::resume_faults))]
 pub fn resume_journal<F: DurableFile>(
     alloc: Global,
     file: &mut F,
     device: &Octets,
     depth: u16,
 ) -> Result<Resumed, StartFault>
-    requires { (1 ≤ depth) × (depth ≤ 1024) }
+    requires { IsCapacity depth }
     ensures empty { IfOk result (λ resumed. resumed.recorder.events ≡ []) }
     ensures capacity { IfOk result (λ resumed. resumed.recorder.capacity ≡ depth) }
     ensures continues { IfOk result (λ resumed. F.acts_as_file
         → Continues device.now (F.seen file.old) resumed.recorder) }
+    ensures cause { IfErr result (λ fault. F.acts_as_file
+        → IsResumeFault device.now (F.seen file.old) fault) }
+    ensures failed { IsErrOf result StartFault.File → F.has_failed file.new }
     ensures refused { IfErr result (λ fault. IsRefusal fault
         → F.seen file.new ≡ F.seen file.old) }
     ensures seen { OnOk result (F.acts_as_file

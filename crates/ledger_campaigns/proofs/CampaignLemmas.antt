@@ -7,6 +7,7 @@ use Rattle.turn_lock.specs.declared.known.Known.{Known}
 use Rattle.turn_lock.specs.Calls.{Yields}
 use Rattle.turn_lock.specs.History.{StartsWith}
 use Rattle.turn_lock.proofs.Lists.{starts_trans}
+use Rattle.client_core.specs.declared.job.Outcome.{Outcome}
 use Rattle.campaign_ledger.specs.Grants.{LedgerState}
 use Rattle.head_end.specs.declared.row.Row.{Row}
 use Rattle.head_end.specs.declared.row.ReportLine.{ReportLine}
@@ -55,12 +56,13 @@ seen_here xs old seen_of note after n d x same below is starts =
 
 -- a ledger that was shared
 pub closes : {B : Type 0} (is_honest : B → Type 0) (is_marked : B → ℕ → Type 0)
+    (keeps : B → ℕ → Outcome → Type 0)
     (known : Known LedgerRequest (LedgerAnswer B) (LedgerState B)) (desk : DeskState B)
     (ledger : LedgerState B) → ledger ≡ desk.ledger
-    → Yields (λ (d : DeskState B). d.start) (Stands is_honest is_marked)
-    (IsLegalHistory is_honest is_marked) known desk
+    → Yields (λ (d : DeskState B). d.start) (Stands is_honest is_marked keeps)
+    (IsLegalHistory is_honest is_marked keeps) known desk
     → Closes is_honest is_marked known ledger
-closes is_honest is_marked known desk ledger same yields = record {
+closes is_honest is_marked keeps known desk ledger same yields = record {
   start = desk.start;
   origin_is = yields.origin_is;
   calls = yields.history;

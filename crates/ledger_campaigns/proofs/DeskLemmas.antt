@@ -45,11 +45,12 @@ module _ {B : Type 0} where
   given_more calls by request answer = given_both calls (entry by request answer ∷ [])
       ∙ search rules
 
-module _ {B : Type 0} (is_honest : B → Type 0) (is_marked : B → ℕ → Type 0) where
+module _ {B : Type 0} (is_honest : B → Type 0) (is_marked : B → ℕ → Type 0)
+    (keeps : B → ℕ → Outcome → Type 0) where
   answered_more : (before : LedgerState B) (calls : LedgerCalls B) (call : LedgerCall B)
-      → AreAnswered is_honest is_marked before calls
-      → IsAnswer is_honest is_marked (last_ledger before calls) call.event call.reply
-      → AreAnswered is_honest is_marked before (calls ++ call ∷ [])
+      → AreAnswered is_honest is_marked keeps before calls
+      → IsAnswer is_honest is_marked keeps (last_ledger before calls) call.event call.reply
+      → AreAnswered is_honest is_marked keeps before (calls ++ call ∷ [])
   answered_more before [] call all is = (is, tt)
   answered_more before (first ∷ calls) call (head, tail) is =
       (head, answered_more (ledger_after first.reply) calls call tail is)
@@ -63,11 +64,11 @@ module _ {B : Type 0} (is_honest : B → Type 0) (is_marked : B → ℕ → Type
   -- a ledger that results from calls, and then answers one more
   pub stands_more : (old new : DeskState B) (calls : LedgerCalls B)
       (by : List ℕ) (request : LedgerRequest) (answer : LedgerAnswer B)
-      → new.start ≡ old.start → IsAnswer is_honest is_marked old.ledger request answer
+      → new.start ≡ old.start → IsAnswer is_honest is_marked keeps old.ledger request answer
       → ledger_after answer ≡ new.ledger
       → Grants is_honest is_marked old.ledger new.ledger (permits_of answer)
-      → Stands is_honest is_marked old calls
-      → Stands is_honest is_marked new (calls ++ entry by request answer ∷ [])
+      → Stands is_honest is_marked keeps old calls
+      → Stands is_honest is_marked keeps new (calls ++ entry by request answer ∷ [])
   stands_more old new calls by request answer same is now grants stands = record {
     answers = rw same (answered_more old.start calls (entry by request answer) stands.answers
         (rw (← stands.last_is) is));
@@ -79,14 +80,14 @@ module _ {B : Type 0} (is_honest : B → Type 0) (is_marked : B → ℕ → Type
 
   -- the last call of answered calls has an answer that its request may have
   answered_last : (start : LedgerState B) (before : LedgerCalls B) (call : LedgerCall B)
-      → AreAnswered is_honest is_marked start (before ++ call ∷ [])
-      → IsAnswer is_honest is_marked (last_ledger start before) call.event call.reply
+      → AreAnswered is_honest is_marked keeps start (before ++ call ∷ [])
+      → IsAnswer is_honest is_marked keeps (last_ledger start before) call.event call.reply
   answered_last start [] call all = all.0
   answered_last start (first ∷ before) call all =
       answered_last (ledger_after first.reply) before call all.1
 
   place_given : (was : LedgerState B) (by : List ℕ) (before : LedgerCalls B) (place : ℕ)
-      (answer : LedgerAnswer B) → IsAnswer is_honest is_marked was (Begin place) answer
+      (answer : LedgerAnswer B) → IsAnswer is_honest is_marked keeps was (Begin place) answer
       → IfOk (permit_result answer) (λ given. OnSome given (IsIn place (permits_given (before
       ++ entry by (Begin place) answer ∷ []))))
   place_given was by before place (Given permit ledger) is =
@@ -96,34 +97,35 @@ module _ {B : Type 0} (is_honest : B → Type 0) (is_marked : B → ℕ → Type
   place_given was by before place (Recorded ledger) is = tt
   place_given was by before place (Failed fault ledger) is = tt
 
-  -- the answer to a port's question for a permit is one that the question may have
-  answer_is : (before after : Known LedgerRequest (LedgerAnswer B) (LedgerState B)) (place : ℕ)
-      (answer : LedgerAnswer B)
-      → (called : Called (IsLegalHistory is_honest is_marked) before (Begin place) answer after)
-      → IsAnswer is_honest is_marked
-      (last_ledger called.lawful.origin (before.seen ++ called.seen.0)) (Begin place) answer
-  answer_is before after place answer called =
+  -- the answer to a port's request is one that the request may have
+  answer_is : (before after : Known LedgerRequest (LedgerAnswer B) (LedgerState B))
+      (request : LedgerRequest) (answer : LedgerAnswer B)
+      → (called : Called (IsLegalHistory is_honest is_marked keeps) before request answer after)
+      → IsAnswer is_honest is_marked keeps
+      (last_ledger called.lawful.origin (before.seen ++ called.seen.0)) request answer
+  answer_is before after request answer called =
       let seen = called.seen.1 in
       let lawful = called.lawful in
-      let answers : AreAnswered is_honest is_marked lawful.origin ((before.seen ++ called.seen.0)
-      ++ entry before.number (Begin place) answer ∷ []) =
+      let answers : AreAnswered is_honest is_marked keeps lawful.origin
+      ((before.seen ++ called.seen.0) ++ entry before.number request answer ∷ []) =
       rw (← seen) lawful.legal_history.answers in
       answered_last lawful.origin (before.seen ++ called.seen.0)
-      (entry before.number (Begin place) answer) answers
+      (entry before.number request answer) answers
 
   -- a permit that a port was given is one of those that it has seen given
   pub asked : (before after : Known LedgerRequest (LedgerAnswer B) (LedgerState B)) (place : ℕ)
       (answer : LedgerAnswer B) (result : Result (Option ℕ) LedgerFault)
       → result ≡ permit_result answer
-      → Called (IsLegalHistory is_honest is_marked) before (Begin place) answer after
+      → Called (IsLegalHistory is_honest is_marked keeps) before (Begin place) answer after
       → IfOk result (λ given. OnSome given (IsIn place (permits_given after.seen)))
   asked before after place answer result is called =
       rw (is, called.seen.1) (place_given
       (last_ledger called.lawful.origin (before.seen ++ called.seen.0)) before.number
-      (before.seen ++ called.seen.0) place answer (answer_is before after place answer called))
+      (before.seen ++ called.seen.0) place answer
+      (answer_is before after (Begin place) answer called))
 
   place_of : (was : LedgerState B) (place : ℕ) (answer : LedgerAnswer B)
-      → IsAnswer is_honest is_marked was (Begin place) answer
+      → IsAnswer is_honest is_marked keeps was (Begin place) answer
       → IfOk (permit_result answer) (λ given. IfSome given (λ permit. permit ≡ place))
   place_of was place (Given permit ledger) is = is.0
   place_of was place (Refused ledger) is = tt
@@ -134,27 +136,30 @@ module _ {B : Type 0} (is_honest : B → Type 0) (is_marked : B → ℕ → Type
   pub asked_place : (before after : Known LedgerRequest (LedgerAnswer B) (LedgerState B))
       (place : ℕ) (answer : LedgerAnswer B) (result : Result (Option ℕ) LedgerFault)
       → result ≡ permit_result answer
-      → Called (IsLegalHistory is_honest is_marked) before (Begin place) answer after
+      → Called (IsLegalHistory is_honest is_marked keeps) before (Begin place) answer after
       → IfOk result (λ given. IfSome given (λ permit. permit ≡ place))
   asked_place before after place answer result is called =
       rw is (place_of (last_ledger called.lawful.origin (before.seen ++ called.seen.0)) place answer
-      (answer_is before after place answer called))
+      (answer_is before after (Begin place) answer called))
 
-  stored_by : (before : LedgerCalls B) (by : List ℕ) (place : ℕ)
+  stored_by : (was : LedgerState B) (before : LedgerCalls B) (by : List ℕ) (place : ℕ)
       (outcome : Outcome) (answer : LedgerAnswer B)
-      → OnOk (stored_result answer) (EndsStored place outcome (before
+      → IsAnswer is_honest is_marked keeps was (Record place outcome) answer
+      → OnOk (stored_result answer) (EndsStored is_honest keeps place outcome (before
       ++ entry by (Record place outcome) answer ∷ []))
-  stored_by before by place outcome (Given permit ledger) = tt
-  stored_by before by place outcome (Refused ledger) = tt
-  stored_by before by place outcome (Recorded ledger) = (before, by, ledger, refl)
-  stored_by before by place outcome (Failed fault ledger) = tt
+  stored_by was before by place outcome (Given permit ledger) is = tt
+  stored_by was before by place outcome (Refused ledger) is = tt
+  stored_by was before by place outcome (Recorded ledger) is = (before, by, ledger, refl, is.1)
+  stored_by was before by place outcome (Failed fault ledger) is = tt
 
   -- an outcome that was stored
   pub reported : (before after : Known LedgerRequest (LedgerAnswer B) (LedgerState B)) (place : ℕ)
       (outcome : Outcome) (answer : LedgerAnswer B) (result : Result (Unit {0}) LedgerFault)
       → result ≡ stored_result answer
-      → Called (IsLegalHistory is_honest is_marked) before (Record place outcome) answer after
-      → OnOk result (EndsStored place outcome after.seen)
+      → Called (IsLegalHistory is_honest is_marked keeps) before (Record place outcome) answer after
+      → OnOk result (EndsStored is_honest keeps place outcome after.seen)
   reported before after place outcome answer result is called =
-      rw (is, called.seen.1) (stored_by (before.seen ++ called.seen.0) before.number place outcome
-      answer)
+      rw (is, called.seen.1) (stored_by
+      (last_ledger called.lawful.origin (before.seen ++ called.seen.0))
+      (before.seen ++ called.seen.0) before.number place outcome answer
+      (answer_is before after (Record place outcome) answer called))

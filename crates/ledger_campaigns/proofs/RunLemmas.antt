@@ -9,6 +9,7 @@ use Rattle.turn_lock.specs.Calls.{IsLegal}
 use Rattle.turn_lock.specs.History.{StartsWith}
 use Rattle.turn_lock.specs.Shown.{ShownPort, IsSame}
 use Rattle.client_core.specs.declared.job.Job.{Job}
+use Rattle.client_core.specs.declared.job.Outcome.{Outcome}
 use Rattle.client_core.specs.declared.job.Verb.{Verb}
 use Rattle.client_core.specs.declared.job.Verb.TheVariants.{Disconnect, Reconnect, ReadState}
 use Rattle.campaign_ledger.specs.declared.entry.LedgerEntry.{LedgerEntry}
@@ -86,17 +87,18 @@ switched_given (Came outcome) asked job password row stage is (switching, talked
 
 module _ {B : Type 0} (is_honest : B → Type 0) (is_marked : B → ℕ → Type 0) where
   -- the run, by what a port has seen that met all others
-  pub run_by : (jobs : List Job) (passwords : List (List ℕ)) (start : LedgerState B)
+  pub run_by : (keeps : B → ℕ → Outcome → Type 0) (jobs : List Job) (passwords : List (List ℕ))
+      (start : LedgerState B)
       (now : Option (LedgerState B)) (lines : List ReportLine) (stages : List State)
       (seen : List (List ℕ)) (known : Known LedgerRequest (LedgerAnswer B) (LedgerState B))
       → known.origin ≡ Some start
       → AreUsesBy jobs start.entries passwords seen lines stages
       → ((i : ℕ) → i < length jobs → IsIn i (slice_index_or seen i [])
       → IsIn i (permits_given known.seen))
-      → IsLegal (IsLegalHistory is_honest is_marked) known
+      → IsLegal (IsLegalHistory is_honest is_marked keeps) known
       → IfSome now (Closes is_honest is_marked known)
       → IsLedgeredRun is_honest is_marked jobs passwords start now lines stages
-  run_by jobs passwords start None lines stages seen known origin uses kept legal end =
+  run_by keeps jobs passwords start None lines stages seen known origin uses kept legal end =
       let same : legal.origin ≡ start = cc in
       record {
         permits = permits_given known.seen;
@@ -108,7 +110,8 @@ module _ {B : Type 0} (is_honest : B → Type 0) (is_marked : B → ℕ → Type
         all_given = λ place is. is;
         grants = tt;
       }
-  run_by jobs passwords start (Some ledger) lines stages seen known origin uses kept legal end =
+  run_by keeps jobs passwords start (Some ledger) lines stages seen known origin uses kept legal
+      end =
       let same : legal.origin ≡ start = cc in
       let began : end.start ≡ start = cc in
       record {

@@ -2,6 +2,7 @@
 --     DeskState         the view that contracts have of a shared ledger
 --     LedgerCalls       the calls on a shared ledger
 --     ledger_after      the ledger after a call, and last_ledger after many
+--     AreOthersSame     two ledgers with the same entries, except that of a place
 --     IsAnswer          an answer that a request may have, and AreAnswered of many
 --     permit_result     the answer to the question for a permit
 --     stored_result     the answer to a request to store an outcome
@@ -12,12 +13,12 @@
 --                       calls
 --     IsLegalHistory    the calls of a ledger that had this state at the start
 --     Stands            a ledger that results from these calls
-use Rattle.std.specs.Prelude.{◌≡◌, ◌⊎◌, ℕ, ◌≤◌, List, [], ◌∷◌, ◌++◌, length, Option, Some, None}
-use Rattle.std.specs.Prelude.{Result, Ok, Err, IsTrue, ⊤}
+use Rattle.std.specs.Prelude.{◌≡◌, ◌≢◌, ◌⊎◌, ℕ, ◌≤◌, List, [], ◌∷◌, ◌++◌, length, Option, Some}
+use Rattle.std.specs.Prelude.{None, Result, Ok, Err, IsTrue, ⊤}
 use Rattle.std.specs.declared.snapshot.Snapshot.{Snapshot}
 use Rattle.turn_lock.specs.declared.turned.Entry.{Entry}
 use Rattle.campaign_ledger.specs.declared.entry.LedgerEntry.TheVariants.{NotSent, Came}
-use Rattle.turn_lock.specs.History.{entry}
+use Rattle.turn_lock.specs.History.{entry, calls_by}
 use Rattle.turn_lock.specs.Shown.{ShownPort}
 use Rattle.client_core.specs.declared.job.Outcome.{Outcome}
 use Rattle.campaign_ledger.specs.declared.fault.LedgerFault.{LedgerFault}
@@ -78,11 +79,13 @@ module _ {B : Type 0} where
   stored_result (Recorded ledger) = Ok tt
   stored_result (Failed fault ledger) = Err fault
 
-  -- the last of the calls stored this outcome of a place
-  abbrev pub EndsStored : ℕ → Outcome → LedgerCalls B → Type 0
-  EndsStored place outcome calls = (before : LedgerCalls B) × (by : List ℕ)
+  -- the last of the calls stored this outcome of a place, and the book keeps it, if it is honest
+  abbrev pub EndsStored : (B → Type 0) → (B → ℕ → Outcome → Type 0) → ℕ → Outcome
+      → LedgerCalls B → Type 0
+  EndsStored is_honest keeps place outcome calls = (before : LedgerCalls B) × (by : List ℕ)
       × (ledger : Snapshot (LedgerState B))
       × (calls ≡ before ++ entry by (Record place outcome) (Recorded ledger) ∷ [])
+      × (is_honest ledger.value.book → keeps ledger.value.book place outcome)
 
   -- whether one of the calls has this request
   abbrev pub HasRequest : LedgerRequest → LedgerCalls B → Type 0
@@ -96,39 +99,56 @@ module _ {B : Type 0} where
   IsAskedToStore place outcome port = HasRequest (Record place outcome) port.known.seen
       ⊎ (port.bound ≤ port.known.drawn)
 
-  -- Whether a port has made a call with this request, the last one that it has seen, and returned
-  -- the result of its answer; or all turns were drawn, and the port returned `Failed`.
+  -- Whether a port has made a call with this request, the last one that it has seen and the only
+  -- further call of its number, and returned the result of its answer; or all turns were drawn, and
+  -- the port made no further call and returned `Failed`.
   abbrev pub HasAsked : {A O : Type 0} → LedgerRequest → (LedgerAnswer B → Result A LedgerFault)
       → Result A LedgerFault → ShownPort LedgerRequest (LedgerAnswer B) O
       → ShownPort LedgerRequest (LedgerAnswer B) O → Type 0
   HasAsked request result_of result old new = ((between : LedgerCalls B) × (answer : LedgerAnswer B)
       × (new.known.seen ≡ (old.known.seen ++ between)
-      ++ entry old.known.number request answer ∷ []) × (result ≡ result_of answer))
-      ⊎ ((new.bound ≤ new.known.drawn) × (result ≡ Err fault.Failed))
+      ++ entry old.known.number request answer ∷ []) × (result ≡ result_of answer)
+      × (calls_by old.known.number new.known.seen ≡ calls_by old.known.number old.known.seen
+      ++ entry old.known.number request answer ∷ []))
+      ⊎ ((new.bound ≤ new.known.drawn) × (result ≡ Err fault.Failed)
+      × (calls_by old.known.number new.known.seen ≡ calls_by old.known.number old.known.seen))
 
   -- the places of the permits that calls gave, in order
   abbrev pub permits_given : LedgerCalls B → List ℕ
   permits_given [] = []
   permits_given (call ∷ calls) = permits_of call.reply ++ permits_given calls
 
-module _ {B : Type 0} (is_honest : B → Type 0) (is_marked : B → ℕ → Type 0) where
+module _ {B : Type 0} (is_honest : B → Type 0) (is_marked : B → ℕ → Type 0)
+    (keeps : B → ℕ → Outcome → Type 0) where
+  -- whether the ledger has the same entries, except that of this place
+  abbrev pub AreOthersSame : ℕ → LedgerState B → LedgerState B → Type 0
+  AreOthersSame place before now = (other : ℕ) → other ≢ place
+      → entry_at now.entries other ≡ entry_at before.entries other
+
   -- Whether a request may have this answer, if `before` is the ledger before the call. A permit is
   -- for the place that was asked for, which is marked in the book after the call. It is refused
   -- only if its command may have been sent, by its entry or by its mark in the book before the
-  -- call. What the book says holds if it was honest. An outcome that is stored is the entry of its
-  -- place, and it is refused only for a place that the campaign lacks.
+  -- call. An outcome that is stored is the entry of its place, and the book keeps it; it is refused
+  -- only for a place that the campaign lacks. No call changes the entry of another place, and one
+  -- that failed changes no entry. What the book says holds if it was honest.
   abbrev pub IsAnswer : LedgerState B → LedgerRequest → LedgerAnswer B → Type 0
   IsAnswer before (Begin place) (Given permit now) = (permit ≡ place)
       × (is_honest now.value.book → is_marked now.value.book place)
+      × AreOthersSame place before now.value
   IsAnswer before (Begin place) (Refused now) = HasGone (entry_at now.value.entries place)
       × (is_honest now.value.book → entry_at before.entries place ≡ NotSent
       → is_marked before.book place)
+      × AreOthersSame place before now.value
   IsAnswer before (Begin place) (Recorded now) = ⊥
   IsAnswer before (Record place outcome) (Given permit now) = ⊥
-  IsAnswer before (Record place outcome) (Refused now) = length now.value.entries ≤ place
+  IsAnswer before (Record place outcome) (Refused now) = (length now.value.entries ≤ place)
+      × (now.value.entries ≡ before.entries)
   IsAnswer before (Record place outcome) (Recorded now) =
-      entry_at now.value.entries place ≡ Came outcome
+      (entry_at now.value.entries place ≡ Came outcome)
+      × (is_honest now.value.book → keeps now.value.book place outcome)
+      × AreOthersSame place before now.value
   IsAnswer before request (Failed fault now) = IsTrue now.value.has_failed
+      × (now.value.entries ≡ before.entries)
 
   -- whether each of these calls, made on a ledger that had this state, has an answer that its
   -- request may have, by the ledger that the calls before it left

@@ -39,8 +39,9 @@ pub fn ask_to_send<B: Book, W: Wait>(
     }
 }
 
-/// Waits for a turn and stores the outcome of a place. Returns `Failed` if the ledger has failed,
-/// if the campaign has no such place, or if all turns of the lock were drawn.
+/// Waits for a turn and stores the outcome of a place, so that whatever a crash leaves has it.
+/// Returns `Failed` if the ledger has failed, if the campaign has no such place, or if all turns of
+/// the lock were drawn.
 pub fn report_outcome<B: Book, W: Wait>(
     rt: &W,
     alloc: Global,
@@ -50,7 +51,8 @@ pub fn report_outcome<B: Book, W: Wait>(
 ) -> Result<(), LedgerFault>
     ensures same { IsSame port.old port.new }
     ensures seen { StartsWith port.new.known.seen port.old.known.seen }
-    ensures stored { OnOk result (EndsStored place outcome port.new.known.seen) }
+    ensures stored { OnOk result (EndsStored B.is_honest B.keeps place outcome
+        port.new.known.seen) }
     ensures asked_to_store { IsAskedToStore place outcome port.new }
     ensures last_call { HasAsked (Record place outcome) stored_result result port.old port.new }
 {

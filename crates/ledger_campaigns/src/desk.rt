@@ -34,7 +34,7 @@ impl<B: Book> Desk<B> {
     pub fn new(ledger: Ledger<B>) -> Desk<B>
         ensures ledger { result.ledger ≡ ledger }
         ensures start { result.start ≡ ledger }
-        ensures empty { Stands B.is_honest B.is_marked result [] }
+        ensures empty { Stands B.is_honest B.is_marked B.keeps result [] }
     {
         let start = Snapshot::of(&ledger);
         Desk { ledger, start }
@@ -50,7 +50,8 @@ impl<B: Book> Desk<B> {
     // Asks the ledger for the permit of a place.
     fn begin(&mut self, place: u32) -> LedgerAnswer<B>
         ensures start { self.new.start ≡ self.old.start }
-        ensures answer { IsAnswer B.is_honest B.is_marked self.old.ledger (Begin place) result }
+        ensures answer { IsAnswer B.is_honest B.is_marked B.keeps self.old.ledger (Begin place)
+            result }
         ensures now { ledger_after result ≡ self.new.ledger }
         ensures grants { Grants B.is_honest B.is_marked self.old.ledger self.new.ledger
             (permits_of result) }
@@ -65,8 +66,8 @@ impl<B: Book> Desk<B> {
     // Stores the outcome of a place.
     fn record(&mut self, place: u32, outcome: Outcome) -> LedgerAnswer<B>
         ensures start { self.new.start ≡ self.old.start }
-        ensures answer { IsAnswer B.is_honest B.is_marked self.old.ledger (Record place outcome)
-            result }
+        ensures answer { IsAnswer B.is_honest B.is_marked B.keeps self.old.ledger
+            (Record place outcome) result }
         ensures now { ledger_after result ≡ self.new.ledger }
         ensures grants { Grants B.is_honest B.is_marked self.old.ledger self.new.ledger
             (permits_of result) }
@@ -83,7 +84,7 @@ impl<B: Book> Desk<B> {
     // Answers a request of a worker: gives a permit, or stores an outcome.
     fn answer(&mut self, request: LedgerRequest) -> LedgerAnswer<B>
         ensures start { self.new.start ≡ self.old.start }
-        ensures answer { IsAnswer B.is_honest B.is_marked self.old.ledger request result }
+        ensures answer { IsAnswer B.is_honest B.is_marked B.keeps self.old.ledger request result }
         ensures now { ledger_after result ≡ self.new.ledger }
         ensures grants { Grants B.is_honest B.is_marked self.old.ledger self.new.ledger
             (permits_of result) }
@@ -104,9 +105,9 @@ impl<B: Book> Turned for Desk<B> {
 
     ghost origin = { λ desk. desk.start };
 
-    ghost legal = { λ start calls. IsLegalHistory B.is_honest B.is_marked start calls };
+    ghost legal = { λ start calls. IsLegalHistory B.is_honest B.is_marked B.keeps start calls };
 
-    ghost stands = { λ desk calls. Stands B.is_honest B.is_marked desk calls };
+    ghost stands = { λ desk calls. Stands B.is_honest B.is_marked B.keeps desk calls };
 
     ghost sure = { λ _. ⊤ };
 

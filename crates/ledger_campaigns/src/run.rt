@@ -39,8 +39,9 @@ pub struct LedgeredRun<'a, C: Connector, B: Book> {
 ///
 /// A job with an outcome keeps it. A job whose command may have been sent is not run, and is
 /// unknown. For each other job `run_ledgered_job` asks for the permit of its place before its
-/// command goes out. If the ledger fails, no further command goes out. Jobs of one address are in
-/// different rounds, in the order of the list, and a round begins when the one before it has ended.
+/// command goes out. Once the ledger has failed it gives no further permit; a worker that has one
+/// may still send its command. Jobs of one address are in different rounds, in the order of the
+/// list, and a round begins when the one before it has ended.
 ///
 /// All memory of the report is allocated before the first connection is made: after an error the
 /// ledger is unchanged and dropped.

@@ -146,7 +146,8 @@ fn converse_if_given<K: Connection, B: Book, W: Wait>(
         return Ok(Outcome::Unknown);
     };
     let outcome = converse_cleared(alloc, clearance, client, connection)?;
-    // If the outcome cannot be stored, the ledger has failed and gives no further permit.
+    // If the outcome cannot be stored, the ledger gives no further permit: it has failed, or all
+    // turns of its lock were drawn.
     let _stored = report_outcome(rt, alloc, port, task.place, outcome);
     Ok(outcome)
 }

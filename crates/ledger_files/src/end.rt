@@ -5,9 +5,9 @@
 pub enum LedgerEnd {
     /// No call on it failed, and the file was closed.
     Closed,
-    /// No call on it failed, so all marks and outcomes are stored; the file could not be closed.
+    /// No call on it failed; the file could not be closed.
     NotClosed,
-    /// A call on it failed, and no command went out after that. Or the workers did not return it,
-    /// which no run does; no contract states that.
+    /// A call on it failed, after which it gave no permit. Or the workers did not return it, which
+    /// no run does; no contract states that.
     Failed,
 }

@@ -14,8 +14,9 @@ ghost use Rattle.ledger_files.specs.Opened.{IsOpenedFrom};
 use sqlite_disk::Disk;
 
 /// Proves the step from run to run: if the files hold what a crash of a store may leave of a
-/// ledger, entries that report the marks found by the next open are entries that the crash may
-/// leave, and each place that is marked by them is marked whatever a crash of the next run leaves.
+/// ledger, entries that report the marks, and the outcomes of marked places, found by the next open
+/// are entries that the crash may leave, and each place that is marked by them is marked whatever a
+/// crash of the next run leaves.
 pub fn the_next_run_finds_what_was_left<L: Disk, N: Disk>()
     ensures left { (last : Trees L L.Disk) → IsTrue (view last).is_numbered
         → AreDatabases (recovers last) → (held : Image) → (state last).may_leave held

@@ -20,7 +20,7 @@ use std::thread::Threads;
 /// The end of a campaign on a ledger.
 #[derive(Drop)]
 pub struct LedgerReport {
-    /// The texts, unless out of memory: the ledger then has the outcomes.
+    /// The texts, unless out of memory. Then the ledger has the outcomes that it stored.
     pub texts: Result<LedgerTexts, AllocError>,
     /// How the ledger ended.
     pub end: LedgerEnd,

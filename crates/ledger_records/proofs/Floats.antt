@@ -4,7 +4,8 @@ use Rattle.std.proofs.Common.{sym, subst, ◌∙◌, ap}
 use Rattle.serde_json.specs.Data.{Data, Members, member, no_members, object, string}
 use Rattle.serde_json.specs.Written.{compact_text, has_float, members_have_float}
 use Rattle.std.specs.Str.Lossy.{utf8_lossy}
-use Rattle.ledger_reports.specs.Status.{standing_of, verb_word}
+use Rattle.client_core.specs.Verbs.{verb_word}
+use Rattle.ledger_reports.specs.Status.{standing_of}
 use Rattle.ledger_reports.specs.declared.line.LedgerLine.{LedgerLine}
 use Rattle.ledger_records.specs.Fields.{answer_state, answer_time, outcome_number, outcome_word}
 use Rattle.ledger_records.specs.Fields.{seconds_taken, sent_word}

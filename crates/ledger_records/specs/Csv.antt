@@ -5,7 +5,8 @@
 use Rattle.std.specs.Prelude.{ℕ, codes, decimal, option_map, flat_map, List, [], ◌∷◌, ◌++◌}
 use Rattle.csv.specs.Writing.{default_writer, row_text}
 use Rattle.record_parts.specs.Columns.{column}
-use Rattle.ledger_reports.specs.Status.{standing_of, verb_word}
+use Rattle.client_core.specs.Verbs.{verb_word}
+use Rattle.ledger_reports.specs.Status.{standing_of}
 use Rattle.ledger_reports.specs.declared.line.LedgerLine.{LedgerLine}
 use Rattle.ledger_records.specs.Fields.{answer_state, answer_time, outcome_number, outcome_word}
 use Rattle.ledger_records.specs.Fields.{seconds_taken, sent_word, utc_text}

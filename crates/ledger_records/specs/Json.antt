@@ -7,7 +7,8 @@ use Rattle.serde_json.specs.Data.{Data, Members, member, no_members, number, obj
 use Rattle.serde_json.specs.Data.{unsigned}
 use Rattle.serde_json.specs.Written.{compact_text}
 use Rattle.record_parts.specs.Values.{nullable}
-use Rattle.ledger_reports.specs.Status.{standing_of, verb_word}
+use Rattle.client_core.specs.Verbs.{verb_word}
+use Rattle.ledger_reports.specs.Status.{standing_of}
 use Rattle.ledger_reports.specs.declared.line.LedgerLine.{LedgerLine}
 use Rattle.ledger_records.specs.Fields.{answer_state, answer_time, outcome_number, outcome_word}
 use Rattle.ledger_records.specs.Fields.{seconds_taken, sent_word, utc_text}

@@ -6,7 +6,7 @@ ghost use Rattle.ledger_records.specs.Csv.{csv_head, csv_line};
 use crate::fields::{
     answer_state, answer_time, outcome_number, outcome_word, seconds_taken, sent_word, utc_text,
 };
-use ledger_reports::{LedgerLine, standing_of, verb_word};
+use ledger_reports::{LedgerLine, standing_of};
 use record_parts::{number_column, write_row};
 use std::alloc::{AllocError, Global};
 
@@ -57,7 +57,7 @@ pub fn write_csv(alloc: Global, out: &mut Vec<u8>, line: &LedgerLine) -> Result<
     let state = number_column(alloc, answer_state(line.answer))?;
     let asked = utc_text(alloc, answer_time(line.answer))?;
     // (static texts are copied, since an array of borrowed texts cannot hold them)
-    let verb = Vec::from_slice(alloc, verb_word(line.job.verb))?;
+    let verb = Vec::from_slice(alloc, line.job.verb.word())?;
     let outcome = Vec::from_slice(alloc, outcome_word(standing).as_bytes())?;
     let sent = Vec::from_slice(alloc, sent_word(standing).as_bytes())?;
     let columns: [&[u8]; 11] = [

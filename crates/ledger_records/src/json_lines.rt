@@ -10,7 +10,7 @@ ghost use Rattle.ledger_records.specs.Json.{outcome_members};
 use crate::fields::{
     answer_state, answer_time, outcome_number, outcome_word, seconds_taken, sent_word, utc_text,
 };
-use ledger_reports::{LedgerLine, standing_of, verb_word};
+use ledger_reports::{LedgerLine, standing_of};
 use record_parts::{number_value, text_value};
 use serde_json::{Map, Value, put};
 use std::alloc::{AllocError, Global};
@@ -28,7 +28,7 @@ fn word_value(alloc: Global, word: &[u8]) -> Result<Value, AllocError>
 fn last_members(alloc: Global, line: &LedgerLine) -> Result<Map<String, Value>, AllocError>
     ensures { IfOk result (λ members. members_view members.entries ≡ last_members line.now) }
 {
-    let verb = word_value(alloc, verb_word(line.job.verb))?;
+    let verb = word_value(alloc, line.job.verb.word())?;
     let state = number_value(answer_state(line.answer));
     let sent = Value::try_from_str(alloc, sent_word(standing_of(line.entry)))?;
     let seconds = number_value(seconds_taken(line.times));

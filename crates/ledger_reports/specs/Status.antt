@@ -11,8 +11,7 @@ use Rattle.std.specs.Prelude.{codes, decimal, Option, Some, None}
 use Rattle.std.specs.List.{flat_map, sum_by}
 use Rattle.client_core.specs.declared.job.Job.{Job}
 use Rattle.client_core.specs.declared.job.Outcome.TheVariants as outcome
-use Rattle.client_core.specs.declared.job.Verb.{Verb}
-use Rattle.client_core.specs.declared.job.Verb.TheVariants.{Disconnect, Reconnect, ReadState}
+use Rattle.client_core.specs.Verbs.{verb_word}
 use Rattle.campaign_ledger.specs.declared.entry.LedgerEntry.{LedgerEntry}
 use Rattle.campaign_ledger.specs.declared.entry.LedgerEntry.TheVariants as entry
 use Rattle.ledger_reports.specs.declared.line.LedgerLine.{LedgerLine}
@@ -63,12 +62,6 @@ counts_text lines = count_line (codes "jobs ") (length lines)
     ++ (count_line (codes "rejected ") (count_of Rejected lines)
     ++ (count_line (codes "unknown ") (count_of Unknown lines)
     ++ count_line (codes "not sent ") (count_of NotSent lines)))))
-
--- the word of a verb in a list of jobs
-abbrev pub verb_word : Verb → List ℕ
-verb_word Disconnect = codes "disconnect"
-verb_word Reconnect = codes "reconnect"
-verb_word ReadState = codes "state"
 
 -- a word and a blank
 abbrev pub followed_by_blank : List ℕ → List ℕ

@@ -27,7 +27,8 @@ fn is_later(begun: Option<u32>, asked_at: Option<u32>) -> bool
     }
 }
 
-// Returns whether an answer is about the job of a line, and its meter was asked after the command.
+// Returns whether an answer is about the job of a line, and its meter is not known to have been
+// asked before the command.
 fn is_answer_to(line: &LedgerLine, answer: &StateAnswer) -> bool
     ensures { result ≡ is_answer_to line.now answer.now }
 {
@@ -35,7 +36,7 @@ fn is_answer_to(line: &LedgerLine, answer: &StateAnswer) -> bool
 }
 
 /// Returns the state of the last of these answers that is about the job of a line and whose meter
-/// was asked after the command, if there is one.
+/// is not known to have been asked before the command, if there is one.
 pub fn latest_answer(line: &LedgerLine, answers: &[StateAnswer]) -> Option<MeterState>
     ensures { result ≡ latest_answer line.now answers.now }
 {

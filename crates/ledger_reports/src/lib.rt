@@ -13,4 +13,4 @@ mod state;
 pub use answer::StateAnswer;
 pub use entering::{enter_answers, latest_answer};
 pub use line::{LedgerLine, LedgerTimes, MeterState};
-pub use state::{Standing, standing_of, status, verb_word};
+pub use state::{Standing, standing_of, status};

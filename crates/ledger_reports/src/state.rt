@@ -3,13 +3,12 @@
 ghost use Rattle.std.specs.Prelude.{◌≡◌, ◌++◌, ◌≤◌, length, IfOk, OnOk};
 ghost use Rattle.ledger_reports.specs.Status.{count_of, count_line, has_standing, counts_text};
 ghost use Rattle.ledger_reports.specs.Status.{job_text, look_text, unanswered_text, second_looks};
-ghost use Rattle.ledger_reports.specs.Status.{verb_word};
 ghost use Rattle.ledger_reports.specs.Status.{followed_by_blank, standing_of, state_text};
 ghost use Rattle.ledger_reports.specs.Status.{status_text};
 
 use crate::line::{LedgerLine, MeterState};
 use campaign_ledger::LedgerEntry;
-use client_core::{Job, Outcome, Verb};
+use client_core::{Job, Outcome};
 use cosem_axdr::Octets;
 use itoa::Buffer;
 use std::alloc::{AllocError, Global};
@@ -147,7 +146,7 @@ fn put_job(job: &Job, out: &mut Octets) -> Result<(), AllocError>
 {
     put_word(job.id.as_slice(), out)?;
     put_word(job.address.as_slice(), out)?;
-    put_word(verb_word(job.verb), out)
+    put_word(job.verb.word(), out)
 }
 
 // Appends the state that a meter reported, if it was asked.
@@ -160,15 +159,4 @@ fn put_state(answer: Option<MeterState>, out: &mut Octets) -> Result<(), AllocEr
     let mut buffer = Buffer::new();
     out.extend_from_slice(b"; state ")?;
     out.extend_from_slice(buffer.format(answer.state).as_bytes())
-}
-
-/// Returns the word of a verb in a list of jobs.
-pub fn verb_word(verb: Verb) -> &'static [u8]
-    ensures { result.now ≡ verb_word verb }
-{
-    match verb {
-        Verb::Disconnect => b"disconnect",
-        Verb::Reconnect => b"reconnect",
-        Verb::ReadState => b"state",
-    }
 }

@@ -8,7 +8,6 @@ mod attribute;
 mod forms;
 mod groups;
 mod laws;
-mod names;
 mod reading;
 mod setting;
 mod writing;

@@ -8,19 +8,23 @@ ghost use Rattle.limiter_attributes.specs.Settings.{setting_at};
 ghost use Rattle.limiter_attributes.specs.Writing.{register_name, monitored_data, profile_data, groups_data, actions_data, data_at};
 
 use crate::attribute::LimiterAttribute;
-use crate::names::{EXPORT_REGISTER_NAME, IMPORT_REGISTER_NAME, REGISTER, REGISTER_VALUE};
 use cosem_axdr::{Data, Items, Octets};
+use cosem_names::class::REGISTER;
+use cosem_names::logical_name::{EXPORT_REGISTER, IMPORT_REGISTER};
 use cosem_names::{NamedScript, Obis, Which};
 use limiter_core::{Actions, Limiter, Profile};
 use std::alloc::{AllocError, Global};
+
+// The number of a register's attribute value.
+const REGISTER_VALUE: i8 = 2;
 
 // Returns the logical name of the register whose value a limiter monitors.
 fn register_name(which: Which) -> Obis
     ensures { result ≡ register_name which }
 {
     match which {
-        Which::Import => IMPORT_REGISTER_NAME,
-        Which::Export => EXPORT_REGISTER_NAME,
+        Which::Import => IMPORT_REGISTER,
+        Which::Export => EXPORT_REGISTER,
     }
 }
 

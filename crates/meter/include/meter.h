@@ -109,8 +109,10 @@ meter_result meter_feed(struct meter *meter, uint8_t session, const uint8_t *byt
 meter_result meter_finish(struct meter *meter, uint8_t session);
 
 /*
- * Applies the requests of the session to the meter, up to the next frame, and writes this frame,
- * at most 1,032 bytes. Call it until it returns METER_WAIT or an end of the session.
+ * Applies the requests of the session to the meter, up to the next frame, and writes this frame.
+ * Call it until it returns METER_WAIT or an end of the session. A frame has at most 1,032 bytes (8
+ * of header, 1,024 of payload), which is proved: METER_NO_ROOM is not returned if room is at least
+ * 1,032.
  *   *length      METER_OK: the number of bytes written; METER_NO_ROOM: the length of the frame,
  *                which stays pending; else 0
  * METER_OK, METER_WAIT, METER_CLOSED, METER_CUT, METER_BAD_VERSION, METER_TOO_LONG,

@@ -21,7 +21,7 @@ use Rattle.relay_events.specs.declared.reply.Reply.TheVariants.{Code}
 use Rattle.relay_core.specs.Stands.{StandsFor}
 use Rattle.relay_core.specs.World.{World}
 use Rattle.embedded_meter.specs.Calls.{IsNew, Resumes, OpensBy, FeedsBy, FinishesBy, NextBy, ClosesBy, SamplesBy, TakesMoment}
-use Rattle.relay_recorder.specs.Recording.{Recording}
+use Rattle.relay_recorder.specs.Recording.{IsCapacity, Recording}
 use Rattle.embedded_meter.specs.MeterStates.{MeterState, Takes}
 use Rattle.embedded_meter.specs.declared.fault.MeterFault.{MeterFault}
 use Rattle.embedded_meter.specs.declared.given.Fired.{Fired}
@@ -47,8 +47,7 @@ OnOpen shut does (Some m) code (Some m') = does m code m'
 pub record AreKept (password : List ℕ) (kept : ℕ) : Type 0 where
   pub password_some : 1 ≤ length password
   pub password_few : length password ≤ 32
-  pub kept_some : 1 ≤ kept
-  pub kept_few : kept ≤ 1024
+  pub keeps : IsCapacity kept
 
 -- whether the arguments of opening a new meter are in their ranges: also a name of 1 to 16 bytes
 pub record AreFit (name password : List ℕ) (kept : ℕ) : Type 0 where

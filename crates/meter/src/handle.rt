@@ -13,6 +13,7 @@ use std::ptr::null_mut;
 #[repr(C)]
 #[derive(Drop)]
 pub struct MeterHandle {
+    /// The place of the meter in memory; empty if the handle is closed.
     pub slot: HandleSlot,
     is_open: bool,
     /// The handle holds a meter exactly if it is open.

@@ -9,6 +9,7 @@ use acse_ber::MAX_PASSWORD;
 use cosem_axdr::Octets;
 use embedded_meter::SupplyMeter;
 use relay_core::MAX_DEVICE_NAME;
+use relay_recorder::MAX_CAPACITY;
 use std::alloc::{AllocError, Global};
 
 /// Opens a new meter with a name of 1 to 16 bytes and a password of 1 to 32, which keeps 1 to 1,024
@@ -59,7 +60,10 @@ fn open(
 pub(crate) fn are_kept(password: &[u8], kept_events: u16) -> bool
     ensures { IsTrue result ↔ AreKept password.now kept_events }
 {
-    1 <= password.len() && password.len() <= MAX_PASSWORD && 1 <= kept_events && kept_events <= 1024
+    1 <= password.len()
+        && password.len() <= MAX_PASSWORD
+        && 1 <= kept_events
+        && kept_events <= MAX_CAPACITY
 }
 
 // Returns whether the arguments of opening a new meter are in their ranges.

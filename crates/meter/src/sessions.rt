@@ -1,10 +1,12 @@
 //! The sessions of a meter.
-ghost use Rattle.std.specs.Prelude.{◌≡◌, ◌≢◌, ℕ, Some};
+ghost use Rattle.std.specs.Prelude.{◌≡◌, ◌≢◌, ◌≤◌, ℕ, IfOk, Some};
 ghost use Rattle.meter.specs.Exports.{OnOpen, MeterOpenSession, MeterFeed, MeterFinish, MeterNext, MeterCloseSession, next_outcome, next_length};
 ghost use Rattle.meter.specs.Outcomes.{code_of, outcome_of_call, of_end};
 ghost use Rattle.meter.specs.declared.outcome.CallResult.TheVariants.{NoMemory};
 ghost use Rattle.embedded_meter.specs.Memory.{HasSureNext};
 ghost use Rattle.embedded_meter.specs.MeterStates.{MeterState};
+ghost use Rattle.embedded_meter.specs.Progress.{GivesAtMost};
+ghost use Rattle.session_core.specs.Standard.{greatest_frame};
 
 use crate::handle::MeterHandle;
 use crate::outcome::CallResult;
@@ -61,7 +63,8 @@ pub extern "C" fn meter_finish(alloc: Global, meter: &mut MeterHandle, session: 
 }
 
 /// Applies the requests of a session to the meter, up to the next frame, and copies the frame to
-/// the buffer. `length` is the frame's length in bytes for `Done` and `NoRoom`, otherwise 0.
+/// the buffer. `length` is the frame's length in bytes for `Done` and `NoRoom`, at most 1,032,
+/// otherwise 0.
 ///
 /// Results: `NotOpen`; `NoSession`; `Done`; `NoRoom`, and the frame stays pending; `Wait`;
 /// `Closed`, `Cut`, `BadVersion` or `TooLong` if the session is over; `NoMemory`, after which the
@@ -80,6 +83,7 @@ pub extern "C" fn meter_next(
         result meter.new.slot.held }
     ensures sure { (m : MeterState) → meter.old.slot.held ≡ Some m → HasSureNext m session frame.old
         → result ≢ code_of NoMemory }
+    ensures within_max { length.new ≤ greatest_frame }
 {
     *length = 0;
     let Some(mut held) = meter.take(alloc) else {
@@ -131,7 +135,9 @@ fn given_outcome(given: Result<Given, MeterFault>) -> CallResult
 // Returns the length for C of a call of `SupplyMeter::next`: that of the frame, or 0 if there is
 // none.
 fn given_length(given: Result<Given, MeterFault>) -> usize
-    ensures { result ≡ next_length given }
+    requires { IfOk given (GivesAtMost greatest_frame) }
+    ensures length { result ≡ next_length given }
+    ensures within_max { result ≤ greatest_frame }
 {
     match given {
         Ok(Given::Frame(count)) => count,

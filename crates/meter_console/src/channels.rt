@@ -57,8 +57,11 @@ impl<R: Wait + Drop + Send> ButtonSource for ConsolePresses<R> {
 /// ends it.
 #[derive(Drop)]
 pub struct ConsoleSources<R> {
+    /// The blocks of power samples.
     pub blocks: ConsoleBlocks<R>,
+    /// The moments of the clock.
     pub moments: ConsoleMoments<R>,
+    /// The presses of the button.
     pub presses: ConsolePresses<R>,
 }
 

@@ -1,7 +1,8 @@
 //! What the meters of a fleet are made of: the traces that they continue from, the passwords and
 //! the number of events that a meter keeps.
-ghost use Rattle.std.specs.Prelude.{◌≤◌, IfOk};
+ghost use Rattle.std.specs.Prelude.{IfOk};
 ghost use Rattle.acse_ber.specs.Password.{IsPassword};
+ghost use Rattle.relay_recorder.specs.Recording.{IsCapacity};
 
 use crate::traces::{read_trace_file, report_wrong_trace, trace_in_mode};
 use acse_ber::MAX_PASSWORD;
@@ -10,38 +11,22 @@ use clap::error::ErrorKind;
 use cosem_axdr::Octets;
 use fleet_faults::FaultPlan;
 use fleet_meters::{FleetTerms, MeterTerms};
-use program::{Fault, password_line, read_password_file};
-use std::env;
-use std::env::VarError;
-
-// The environment variable that can hold the password.
-const PASSWORD_VARIABLE: &str = "METER_PASSWORD";
-
-// The maximum number of events that a meter keeps.
-const MAX_DEPTH: u16 = 1_024;
+use program::{Fault, environment_password, password_line, read_password_file};
+use relay_recorder::MAX_CAPACITY;
 
 // The control mode in which a meter refuses every remote disconnection and reconnection.
 const REFUSING_MODE: u8 = 0;
 
 // Returns the password of the environment. Errors: `Input` if there is none, with a line on
 // standard error, or if it is not UTF-8, with a line if `is_verbose`; `Memory`.
-fn environment_password(rt: &HostRuntime, is_verbose: bool) -> Result<String, Fault> {
-    match env::var(rt, PASSWORD_VARIABLE) {
-        Ok(text) => Ok(text),
-        Err(VarError::OutOfMemory) => Err(Fault::Memory),
-        Err(VarError::NotPresent) => {
-            if let Some(line) = password_line(ErrorKind::MissingRequiredArgument) {
-                let _ = eprintln!(rt; "{line}");
-            }
-            Err(Fault::Input)
-        }
-        Err(_) => {
-            if is_verbose {
-                let _ = eprintln!(rt; "METER_PASSWORD: expected UTF-8 text");
-            }
-            Err(Fault::Input)
-        }
+fn required_password(rt: &HostRuntime, is_verbose: bool) -> Result<String, Fault> {
+    if let Some(text) = environment_password(rt, is_verbose)? {
+        return Ok(text);
     }
+    if let Some(line) = password_line(ErrorKind::MissingRequiredArgument) {
+        let _ = eprintln!(rt; "{line}");
+    }
+    Err(Fault::Input)
 }
 
 // Returns the bytes of a password. Errors: `Input` if they are not 1 to 32, with a line on standard
@@ -73,7 +58,7 @@ fn find_password(rt: &HostRuntime, matches: &ArgMatches<'_>) -> Result<Octets, F
     }
     let text = match matches.get_str("password-file") {
         Some(path) => read_password_file(rt, path)?,
-        None => environment_password(rt, is_verbose)?,
+        None => required_password(rt, is_verbose)?,
     };
     check_password(rt, text.as_str(), is_verbose)
 }
@@ -92,10 +77,10 @@ fn first_trace(rt: &HostRuntime, matches: &ArgMatches<'_>) -> Result<Octets, Fau
 
 // Returns the number of events that a meter keeps.
 fn depth(matches: &ArgMatches<'_>) -> u16
-    ensures { (1 ≤ result) × (result ≤ 1024) }
+    ensures { IsCapacity result }
 {
     let depth = matches.get_one::<u16>("depth").unwrap_or(1);
-    depth.clamp(1, MAX_DEPTH)
+    depth.clamp(1, MAX_CAPACITY)
 }
 
 // Returns what all meters have in common that have no fault of their own.

@@ -1,5 +1,5 @@
 //! `LastSave`: how many lines of a journal are on the disk, and of which history they are.
-ghost use Rattle.std.specs.Prelude.{◌≡◌, ℕ, List, []};
+ghost use Rattle.std.specs.Prelude.{◌≡◌, ⊤, ℕ, List, []};
 ghost use Rattle.atomic_table.specs.Seated.{TableId};
 ghost use Rattle.turn_lock.specs.Calls.{Watches};
 ghost use Rattle.turn_lock.specs.Shown.{IsSame};
@@ -27,6 +27,10 @@ pub trait JournalIdentity {
 
     /// Ghost value: the lines that the file had before those of the meter.
     ghost first: { List (List ℕ) };
+
+    /// Ghost predicate: the permission to record that the journal has ended. The worker has it, and
+    /// who starts the worker; a session learns it only from that record.
+    ghost may_end: { Type 0 };
 }
 
 /// The type argument of a call that picks the journal.
@@ -44,6 +48,8 @@ impl JournalIdentity for Brand {
     ghost file = { 0 };
 
     ghost first = { [] };
+
+    ghost may_end = { ⊤ };
 }
 
 // The number of lines that the last save has put on the disk, and a note of the history whose first

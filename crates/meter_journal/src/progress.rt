@@ -1,6 +1,6 @@
 //! `JournalProgress`: how many lines of a journal are on the disk, for the sessions that wait for
 //! theirs.
-ghost use Rattle.std.specs.Prelude.{◌≡◌, OnOk};
+ghost use Rattle.std.specs.Prelude.{◌≡◌, ◌<◌, false, IsTrue, OnOk};
 ghost use Rattle.durable_lines.specs.Lines.{IsSettled};
 ghost use Rattle.meter_journal.specs.Saving.{IsFileOf, IsStored, IsSynced};
 
@@ -21,8 +21,8 @@ const PERIOD: u64 = 50;
 // when the number changes.
 const PATIENCE: u64 = 1_000;
 
-/// The time for which the worker waits for the next request of the sessions that it woke, in
-/// microseconds.
+// The time for which the worker waits for the next request of the sessions that it woke, in
+// microseconds.
 const GATHERING: u64 = 200;
 
 // The rule of the number of lines on the disk: a sync of the journal's file returned while the file
@@ -33,14 +33,22 @@ impl<F: DurableFile, L: JournalIdentity> Rule for StoredLines<F, L> {
     ghost invariant = { λ n. F.acts_as_file → IsStored F.renews (F.stored L.file) L.first n };
 }
 
+// The rule of the flags that are 1 once the journal has ended: only who may end it sets them. No
+// value of it is made.
+struct EndRecorded<L>(PhantomData<L>);
+
+impl<L: JournalIdentity> Rule for EndRecorded<L> {
+    ghost invariant = { λ n. 0 < n → L.may_end };
+}
+
 // What the handles of a journal share. Of the two conditions one is changed for sessions that wait
 // for lines, the other for the worker: by the request that brings their number to `wake_at`.
 #[derive(Drop)]
 struct ProgressState<F: DurableFile, L: JournalIdentity> {
     lines: AtomicIn<StoredLines<F, L>>,
     last: Mutex<LastSave<F, L>>,
-    has_ended: AtomicBool,
-    has_failed: AtomicBool,
+    has_ended: AtomicIn<EndRecorded<L>>,
+    has_failed: AtomicIn<EndRecorded<L>>,
     is_stopped: AtomicBool,
     requests: AtomicU64,
     wake_at: AtomicU64,
@@ -49,13 +57,16 @@ struct ProgressState<F: DurableFile, L: JournalIdentity> {
 }
 
 impl<F: DurableFile, L: JournalIdentity> ProgressState<F, L> {
-    // Waits until this number of lines is on the disk, or the journal has ended.
-    fn wait<W: Wait>(&self, rt: &W, lines: u64) {
+    // Waits until this number of lines is on the disk, or the journal has ended. Returns whether
+    // the journal has ended.
+    fn wait<W: Wait>(&self, rt: &W, lines: u64) -> bool
+        ensures { IsTrue result → L.may_end }
+    {
         for _ in rt.forever() {
             let seen = self.saved.notifications();
-            let has_ended = self.has_ended.load(Ordering::SeqCst);
+            let has_ended = self.has_ended.load(Ordering::SeqCst) > 0;
             if has_ended || self.lines.load(Ordering::SeqCst) >= lines {
-                return;
+                return has_ended;
             }
             self.request();
             self.saved.sleep(rt, seen, Duration::from_millis(PATIENCE));
@@ -115,8 +126,8 @@ impl<F: DurableFile, L: JournalIdentity> JournalProgress<F, L> {
         let state = ProgressState {
             lines: AtomicIn::new(0),
             last: Mutex::new(LastSave::new(port, 0)),
-            has_ended: AtomicBool::new(false),
-            has_failed: AtomicBool::new(false),
+            has_ended: AtomicIn::new(0),
+            has_failed: AtomicIn::new(0),
             is_stopped: AtomicBool::new(false),
             requests: AtomicU64::new(0),
             wake_at: AtomicU64::new(0),
@@ -173,14 +184,18 @@ impl<F: DurableFile, L: JournalIdentity> JournalProgress<F, L> {
 
     // Records that no further lines will be on the disk: from now on every wait for more lines
     // returns false at once.
-    pub(crate) fn end(&self) {
-        self.state.has_ended.store(true, Ordering::SeqCst);
+    pub(crate) fn end(&self)
+        requires { L.may_end }
+    {
+        self.state.has_ended.store(1, Ordering::SeqCst);
         self.state.saved.notify_all();
     }
 
     // Records that the journal has failed and ended.
-    pub(crate) fn fail(&self) {
-        self.state.has_failed.store(true, Ordering::SeqCst);
+    pub(crate) fn fail(&self)
+        requires { L.may_end }
+    {
+        self.state.has_failed.store(1, Ordering::SeqCst);
         self.end();
     }
 
@@ -214,10 +229,23 @@ impl<F: DurableFile, L: JournalIdentity> Durability for JournalProgress<F, L> {
     ghost is_durable = { λ calls lines. F.acts_as_file
         → IsSynced F.renews (F.stored L.file) L.first calls lines };
 
+    ghost has_ended = { L.may_end };
+
     fn wait<W: Wait>(&self, rt: &W, port: &mut Port<Kept>, lines: u64) -> bool {
-        self.state.wait(rt, lines);
-        let saved = self.state.last.lock(rt).show(port);
-        saved >= lines
+        // (no effect: the contract needs this law)
+        port.history_is_legal();
+        'turns: for _ in rt.forever() {
+            let has_ended = self.state.wait(rt, lines);
+            let saved = self.state.last.lock(rt).show(port);
+            if saved >= lines {
+                return true;
+            }
+            // Otherwise a save was announced that its handles do not show yet.
+            if has_ended {
+                return false;
+            }
+        }
+        unreachable!()
     }
 
     fn share(&self) -> Result<JournalProgress<F, L>, AllocError> {
@@ -226,7 +254,7 @@ impl<F: DurableFile, L: JournalIdentity> Durability for JournalProgress<F, L> {
         })
     }
 
-    fn has_failed(&self) -> bool {
-        self.state.has_failed.load(Ordering::SeqCst)
+    fn has_failed(&self, _port: &Port<Kept>) -> bool {
+        self.state.has_failed.load(Ordering::SeqCst) > 0
     }
 }

@@ -19,8 +19,8 @@ use turn_lock::{CallFault, Port};
 pub type JournalThread<F, A, L> = WorkerThread<Kept, JournalWorker<F, A, L>>;
 
 /// Starts a thread for the worker of a journal, with a port split off from this one. Returns `None`
-/// if no memory, port or thread is available; the worker is dropped with its file, every wait for a
-/// line returns false, and no port is lost.
+/// if no memory, port or thread is available; the worker is dropped with its file, the end of the
+/// journal is recorded, and no port is lost.
 pub fn start_journal<
     F: DurableFile + Send + 'static,
     A: FailureAction + 'static,
@@ -33,7 +33,8 @@ pub fn start_journal<
     progress: &JournalProgress<F, L>,
     port: &mut Port<Kept>,
 ) -> Option<JournalThread<F, A, L>>
-    requires { port.old.lock ≡ L.lock }
+    requires lock { port.old.lock ≡ L.lock }
+    requires may_end { L.may_end }
     ensures worker { IfSome result (λ running. running.promise.worker.value ≡ worker) }
     ensures port { IfSome result
         (λ running. SplitsOff port.old running.promise.port.value port.new) }
@@ -65,7 +66,7 @@ pub fn stop_journal<
     requires { running.promise.port.value.lock ≡ port.old.lock }
     ensures { let task = running.promise
         in ReturnsPort (Keeps F.acts_as_file F.identity F.seen F.may_leave F.moment F.left_since
-        F.renews task.worker.value) task.port.value result port.old port.new }
+        F.renews A.has_acted task.worker.value) task.port.value result port.old port.new }
 {
     progress.stop();
     join_worker(rt, running, port)

@@ -1,7 +1,8 @@
 //! The worker that writes a journal, in a thread of its own.
-ghost use Rattle.std.specs.Prelude.{◌≡◌, IfOk};
+ghost use Rattle.std.specs.Prelude.{◌≡◌, ⊤, IfOk};
 ghost use Rattle.durable_lines.specs.Lines.{IsSettled};
 ghost use Rattle.meter_journal.specs.Saving.{IsFileOf};
+ghost use Rattle.meter_journal.specs.declared.fault.JournalFault.{JournalFault};
 
 use crate::fault::JournalFault;
 use crate::keeping::keep_lines;
@@ -17,10 +18,14 @@ use turn_lock::{CallFault, Port};
 
 /// What is done when a journal fails, such as to stop the server.
 pub trait FailureAction: Drop + Send {
+    /// Ghost predicate: it was called with this fault. The default claims nothing.
+    ghost has_acted: { JournalFault → Type 0 } = { λ _. ⊤ };
+
     /// Is called once, by the worker's thread, after the waits of the sessions have ended.
     fn act(self, fault: JournalFault)
     where
-        Self: Sized;
+        Self: Sized,
+        ensures { has_acted fault };
 }
 
 /// The worker of a journal: it saves the lines of the meter's events to its file, and announces
@@ -31,6 +36,7 @@ pub struct JournalWorker<F: DurableFile, A: FailureAction, L: JournalIdentity> {
     file: F,
     progress: JournalProgress<F, L>,
     on_failure: A,
+    // Memory for the text of the next save.
     room: Vec<u8>,
 }
 
@@ -40,12 +46,13 @@ impl<F: DurableFile, A: FailureAction, L: JournalIdentity> Model for JournalWork
     ghost view = { λ w. w.file };
 
     ghost invariant = { λ w. IsFileOf F.seen F.identity L.file L.first w.file
-        × (F.acts_as_file → IsSettled F.seen F.may_leave F.identity F.stored w.file) };
+        × (F.acts_as_file → IsSettled F.seen F.may_leave F.identity F.stored w.file) × L.may_end };
 }
 
 impl<F: DurableFile, A: FailureAction, L: JournalIdentity> JournalWorker<F, A, L> {
     /// Makes the worker of a journal that was recovered or begun, so that its file has whole lines
-    /// and all of them are on the disk. Errors: `AllocError`.
+    /// and all of them are on the disk. `room` is the memory for the text of the next save, in
+    /// bytes; more is allocated if it does not suffice. Errors: `AllocError`.
     pub fn new(
         alloc: Global,
         file: F,
@@ -55,6 +62,7 @@ impl<F: DurableFile, A: FailureAction, L: JournalIdentity> JournalWorker<F, A, L
     ) -> Result<JournalWorker<F, A, L>, AllocError>
         requires file { IsFileOf F.seen F.identity L.file L.first file }
         requires settled { F.acts_as_file → IsSettled F.seen F.may_leave F.identity F.stored file }
+        requires may_end { L.may_end }
         ensures { IfOk result (λ worker. worker ≡ file) }
     {
         let mut text = Vec::new(alloc);
@@ -76,7 +84,7 @@ impl<F: DurableFile + Send, A: FailureAction, L: JournalIdentity + Send + Sync> 
 
     ghost did = { λ worker p q end. Keeps F.acts_as_file F.identity F.seen F.may_leave F.moment
         F.left_since
-        F.renews worker p q end };
+        F.renews A.has_acted worker p q end };
 
     /// Saves lines until the journal is stopped. The only error is `Journal`.
     fn work<W: Wait>(

@@ -1,3 +1,4 @@
 pub mod FileLemmas
 pub mod FollowLemmas
 pub mod HistoryLemmas
+pub mod OutputLemmas

@@ -5,7 +5,7 @@ ghost use Rattle.std.specs.Prelude.{false};
 ghost use Rattle.durable_lines.specs.CrashModel.{Elapses, Follows, Narrows, HasOneOutcome, TornAppend};
 ghost use Rattle.text_lines.specs.Lines.{lines_of};
 ghost use Rattle.meter_relay.specs.Following.{MayFollowOn};
-ghost use Rattle.meter_relay.specs.RelayedFile.{HasFailed};
+ghost use Rattle.meter_relay.specs.RelayedFile.{file_of, relay_of, waiting_of, HasFailed, Relays};
 
 use crate::following::follow_text;
 use crate::relay::Relay;
@@ -31,9 +31,12 @@ pub struct RelayedFile<F: DurableFile, W: Write + Drop, L: ChangeReport> {
 }
 
 impl<F: DurableFile, W: Write + Drop, L: ChangeReport> RelayedFile<F, W, L> {
-    /// Returns the file of a journal with a relay, or without one.
+    /// Returns the file of a journal with a relay, or without one. No lines wait for a sync.
     pub fn new(alloc: Global, file: F, relay: Option<Relay<W, L>>) -> RelayedFile<F, W, L>
-        ensures { ¬ HasFailed result }
+        ensures file { file_of result ≡ file }
+        ensures relay { relay_of result ≡ relay }
+        ensures waiting { waiting_of result ≡ [] }
+        ensures unfailed { ¬ HasFailed result }
     {
         RelayedFile {
             alloc,
@@ -46,8 +49,8 @@ impl<F: DurableFile, W: Write + Drop, L: ChangeReport> RelayedFile<F, W, L> {
 
     /// Returns the relay, if there is one.
     pub fn relay(&self) -> Option<&Relay<W, L>>
-        ensures present { IfSome result (λ relay. self.now.relay ≡ Some relay.now) }
-        ensures absent { IfNone result (self.now.relay ≡ None) }
+        ensures present { IfSome result (λ relay. relay_of self.now ≡ Some relay.now) }
+        ensures absent { IfNone result (relay_of self.now ≡ None) }
     {
         self.relay.as_ref()
     }
@@ -85,6 +88,7 @@ impl<F: DurableFile, W: Write + Drop, L: ChangeReport> RelayedFile<F, W, L> {
             (F.left_since self.old.file) (F.left_since self.new.file) (F.may_leave self.new.file) }
         ensures given { OnOk result (MayFollowOn W.contents (lines_of self.old.waiting.items)
             self.old.relay self.new.relay) }
+        ensures waiting { OnOk result (self.new.waiting.items ≡ []) }
     {
         self.file.sync()?;
         self.give_changes()
@@ -127,6 +131,8 @@ impl<F: DurableFile, W: Write + Drop, L: ChangeReport> DurableFile for RelayedFi
     ghost renews = { F.renews };
 
     ghost has_failed = { HasFailed };
+
+    ghost also = { Relays W.contents };
 
     ghost counts_now = { λ r t c le now. F.counts_now r.file t c le now };
 

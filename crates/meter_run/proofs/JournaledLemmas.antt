@@ -9,8 +9,11 @@ use Rattle.meter_journal.specs.Saving.{IsFileOf, IsSaved, IsSavedFrom, IsSynced,
 use Rattle.meter_journal.proofs.KeepingLemmas.{saved_none}
 use Rattle.meter_journal.proofs.SavingLemmas.{saved_later}
 use Rattle.meter_run.specs.Journaled.{IsJournaledRun, IsStarted, IsFinished, LeavesFront}
-use Rattle.meter_run.specs.Journaled.{fault_of_journal}
-use Rattle.meter_run.specs.Runs.{Given, ServesAll}
+use Rattle.meter_journal.specs.declared.fault.JournalFault.{JournalFault}
+use Rattle.meter_run.specs.Journaled.{ActsOnFailure, fault_of_journal}
+use Rattle.meter_run.specs.Runs.{Given, IsLeftOpen, ServesAll}
+use Rattle.program.specs.declared.fault.Fault.TheVariants as fault
+use Rattle.std.specs.Prelude.{IsErrOf}
 use Rattle.meter_run.proofs.RunLemmas.{AreSilent, run_of, run_seen, run_sessions}
 use Rattle.meter_server.proofs.JournalLemmas.{answered_later}
 use Rattle.meter_server.proofs.ServingAllLemmas.{acted_on, counted_by, ended_map, joined_on}
@@ -147,13 +150,30 @@ front_later may_leave Renews first before after (Ok done) longer leaves = (
   λ c left. saved_later Renews first leaves.0 before after c longer (leaves.1 c left),
 )
 
--- what the worker of a journal did: it made no call, and its file has a front of the lines
 module _ {F : Type 0} (acts : Type 0) (identity : F → ℕ) (seen : F → List ℕ)
     (may_leave : F → List ℕ → Type 0) (moment : F → ℕ) (left_since : F → ℕ → List ℕ → Type 0)
     (stored : ℕ → List ℕ → Type 0)
     (Renews : List ℕ → List ℕ → Type 0) (file : F) where
+  -- the file of a worker that has not begun has the lines that it had
+  pub idle_file : ((c : List ℕ) → left_since file (moment file) c → may_leave file c)
+      → (acts → IsSettled seen may_leave identity stored file) → acts → (calls : Calls)
+      → LeavesOnly moment left_since file file (IsSavedFrom Renews 0 (lines_in (seen file)) calls)
+  idle_file only_now settled a calls =
+      begin moment left_since file (IsSavedFrom Renews 0 (lines_in (seen file)) calls)
+      (may_leave file) only_now (λ c left.
+      let same : c ≡ seen file = (settled a).durable c left in
+      let saved : IsSaved Renews (lines_in (seen file)) 0 calls c =
+      subst (λ (bytes : List ℕ). IsSaved Renews (lines_in (seen file)) 0 calls bytes) (sym same)
+      (saved_none Renews calls (seen file)) in
+      (0, omega arith, saved))
+
+-- what the worker of a journal did: it made no call, and its file has a front of the lines
+module _ {F : Type 0} (acts : Type 0) (identity : F → ℕ) (seen : F → List ℕ)
+    (may_leave : F → List ℕ → Type 0) (moment : F → ℕ) (left_since : F → ℕ → List ℕ → Type 0)
+    (stored : ℕ → List ℕ → Type 0)
+    (Renews : List ℕ → List ℕ → Type 0) (HasActed : JournalFault → Type 0) (file : F) where
   abbrev JournalDid : Did
-  JournalDid = Keeps acts identity seen may_leave moment left_since Renews file
+  JournalDid = Keeps acts identity seen may_leave moment left_since Renews HasActed file
 
   -- this number of lines of a history is on the disk
   abbrev OnDisk : Calls → ℕ → Type 0
@@ -229,19 +249,6 @@ module _ {F : Type 0} (acts : Type 0) (identity : F → ℕ) (seen : F → List 
             );
       }
 
-  -- the file of a worker that has not begun has the lines that it had
-  pub idle_file : ((c : List ℕ) → left_since file (moment file) c → may_leave file c)
-      → (acts → IsSettled seen may_leave identity stored file) → acts → (calls : Calls)
-      → LeavesOnly moment left_since file file (IsSavedFrom Renews 0 (lines_in (seen file)) calls)
-  idle_file only_now settled a calls =
-      begin moment left_since file (IsSavedFrom Renews 0 (lines_in (seen file)) calls)
-      (may_leave file) only_now (λ c left.
-      let same : c ≡ seen file = (settled a).durable c left in
-      let saved : IsSaved Renews (lines_in (seen file)) 0 calls c =
-      subst (λ (bytes : List ℕ). IsSaved Renews (lines_in (seen file)) 0 calls bytes) (sym same)
-      (saved_none Renews calls (seen file)) in
-      (0, omega arith, saved))
-
   -- a run is journaled also by an equal file, that of the worker, and by handles of that file
   pub journaled_by : (number : ℕ) (first : List (List ℕ))
       → IsFileOf seen identity number first file → (recorder : Recording)
@@ -253,8 +260,8 @@ module _ {F : Type 0} (acts : Type 0) (identity : F → ℕ) (seen : F → List 
       → IsStarted (opening_of recorder.core) lent p → ServesAll given p q served
       → AreJournaled (λ calls n. acts → IsSynced Renews (stored number) first calls n)
       (p.known.splits + 3) q
-      → IsFinished (Keeps acts identity seen may_leave moment left_since Renews its) lent q trace
-      journal → IfOk trace
+      → IsFinished (Keeps acts identity seen may_leave moment left_since Renews HasActed its) lent
+      q trace journal → IfOk trace
       (IsJournaledRun acts identity seen may_leave moment left_since stored Renews file recorder
       given served journal)
   journaled_by number first of_file recorder given served trace journal lent p q its is idle started
@@ -267,5 +274,38 @@ module _ {F : Type 0} (acts : Type 0) (identity : F → ℕ) (seen : F → List 
       (subst (λ (ls : List (List ℕ)). Waited number ls) (sym of_file.lines) waited) in
       journaled_run recorder given served trace journal lent p q idle started serves waited_here
       (subst
-      (λ (f : F). IsFinished (Keeps acts identity seen may_leave moment left_since Renews f) lent q
-      trace journal) is finished)
+      (λ (f : F). IsFinished
+      (Keeps acts identity seen may_leave moment left_since Renews HasActed f) lent q trace
+      journal) is finished)
+
+  -- the action for failures was called by a worker that failed
+  acts_by : (lent back : MeterPort) (end : Option (Result (Unit {0}) CallFault))
+      → EndsWork JournalDid lent back end → ActsOnFailure HasActed (fault_of_journal end)
+  acts_by lent back None same = tt
+  acts_by lent back (Some (Ok done)) worked = tt
+  acts_by lent back (Some (Err stopped)) worked = worked.acted
+
+  pub acts_once_finished : (lent before : MeterPort) (trace : Result (List ℕ) Fault)
+      (journal : Result (Unit {0}) Fault) → IsFinished JournalDid lent before trace journal
+      → ActsOnFailure HasActed journal
+  acts_once_finished lent before trace journal finished =
+      subst (λ (j : Result (Unit {0}) Fault). ActsOnFailure HasActed j) (sym finished.fault)
+      (acts_by lent finished.back.back finished.end finished.back.ended)
+
+  -- a run at whose end a turn was still out
+  pub left_open_journaled : (recorder : Recording) (given : Given)
+      (served : Result Served ServeFault) (trace : Result (List ℕ) Fault)
+      (journal : Result (Unit {0}) Fault) (lent p q : MeterPort)
+      → IsStarted (opening_of recorder.core) lent p → ServesAll given p q served
+      → IsFinished JournalDid lent q trace journal → IsErrOf trace fault.Turns
+      → IsLeftOpen 1 recorder given served
+  left_open_journaled recorder given served trace journal lent p q started serves finished busy =
+      record {
+        started = p;
+        starts = started.starts;
+        ended = q;
+        serves = serves;
+        closing = finished.after;
+        goes = finished.back.taken.goes;
+        finds = finished.still_out busy;
+      }

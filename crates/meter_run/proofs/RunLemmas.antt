@@ -3,7 +3,8 @@ use Rattle.std.proofs.Common.{◌≡◌, ℕ, ◌+◌, ◌<◌, ◌≤◌, List,
 use Rattle.std.proofs.Common.{Ok, Err, refl, sym, ap, subst, ◌∙◌, arith, inl, inr}
 use Rattle.shared_meter.specs.Calls.{Calls, IsLegal, Stands}
 use Rattle.shared_meter.specs.KeptRecorder.{KeptRecorder}
-use Rattle.meter_run.specs.Runs.{Given, AreOfRun, IsRunFrom, ServesAll, StartsFrom, Traces}
+use Rattle.meter_run.specs.Closing.{FindsTurn}
+use Rattle.meter_run.specs.Runs.{Given, AreOfRun, IsLeftOpen, IsRunFrom, ServesAll, StartsFrom, Traces}
 use Rattle.meter_run.specs.Runs.{events_in}
 use Rattle.meter_server.proofs.ServingAllLemmas.{ended_map}
 use Rattle.meter_server.specs.ServingAll.{Acted, IsServed, OnEnded, events_by}
@@ -19,6 +20,7 @@ use Rattle.relay_events.specs.declared.event.Event.{Event}
 use Rattle.relay_events.specs.declared.reply.Reply.{Reply}
 use Rattle.relay_recorder.specs.Recording.{Recording}
 use Rattle.session_io.specs.declared.fault.ServeFault.{ServeFault}
+use Rattle.port_threads.proofs.Going.{goes_refl}
 use Rattle.turn_lock.specs.declared.known.Known.{Known}
 use Rattle.turn_lock.specs.Calls.{Yields}
 use Rattle.turn_lock.specs.History.{StartsWith, IsAmong, calls_by}
@@ -181,3 +183,17 @@ run_if recorder given served (Ok text) p q first serves traces =
     run_of 0 recorder given served text p q (opening_of recorder.core)
     (starts_first (opening_of recorder.core) p first) refl (none_before q) serves traces
 run_if recorder given served (Err e) p q first serves traces = tt
+
+-- a run without a journal at whose end a turn was still out
+pub left_open : (recorder : Recording) (given : Given) (served : Result Served ServeFault)
+    (p q : MeterPort) → p.known ≡ first_known (opening_of recorder.core)
+    → ServesAll given p q served → FindsTurn q.known → IsLeftOpen 0 recorder given served
+left_open recorder given served p q known serves finds = record {
+  started = p;
+  starts = starts_first (opening_of recorder.core) p known;
+  ended = q;
+  serves = serves;
+  closing = q;
+  goes = goes_refl q;
+  finds = finds;
+}

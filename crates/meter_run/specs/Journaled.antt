@@ -2,19 +2,23 @@
 --     LeavesFront         the lines that every crash after a run leaves
 --     IsJournaledRun      a run, and what its journal has of its lines
 --     IsStarted           the port of the journal's worker
+--     ActsOnFailure       what is done if the journal fails
 --     fault_of_journal    the fault of a journal
 --     IsFinished          how a run ends
 use Rattle.std.specs.Prelude.{◌≡◌, ℕ, ◌<◌, ◌≤◌, List, [], ◌∷◌, Option, Some, None, Result, Ok, Err}
-use Rattle.std.specs.Prelude.{IfOk, OnOk}
+use Rattle.std.specs.Prelude.{⊤, IfOk, IsErrOf, OnOk}
 use Rattle.durable_lines.specs.CrashModel.{LeavesOnly}
 use Rattle.durable_lines.specs.Lines.{lines_in}
 use Rattle.meter_journal.specs.Saving.{IsSaved, IsSavedFrom, IsSynced}
+use Rattle.meter_journal.specs.declared.fault.JournalFault.{JournalFault}
+use Rattle.meter_run.specs.Closing.{FindsTurn}
 use Rattle.meter_run.specs.Runs.{Given, IsRunFrom, StartsFrom, Traces}
 use Rattle.meter_server.specs.JournaledSessions.{AreAnswered}
 use Rattle.meter_server.specs.declared.serving_all.Served.{Served}
 use Rattle.port_threads.specs.Workers.{ReturnsPort}
 use Rattle.program.specs.declared.fault.Fault.{Fault}
 use Rattle.program.specs.declared.fault.Fault.TheVariants as fault
+use Rattle.program.specs.declared.fault.Fault.TheVariants.{Turns}
 use Rattle.relay_core.specs.declared.opening.Opening.{Opening}
 use Rattle.relay_recorder.specs.Recording.{Recording}
 use Rattle.session_io.specs.declared.fault.ServeFault.{ServeFault}
@@ -61,6 +65,11 @@ pub record IsStarted (origin : Opening) (lent p : MeterPort) : Type 0 where
   pub number : lent.known.number ≡ 0 ∷ []
   pub fresh : calls_by lent.known.number lent.known.seen ≡ []
 
+-- whether the action for failures was called, if the journal has failed
+abbrev pub ActsOnFailure : (HasActed : JournalFault → Type 0) → Result (Unit {0}) Fault → Type 0
+ActsOnFailure HasActed (Err fault.Write) = (why : JournalFault) × HasActed why
+ActsOnFailure HasActed _ = ⊤
+
 -- the fault of a journal by the end of its worker, or by its absence
 abbrev pub fault_of_journal : Option (Result (Unit {0}) CallFault) → Result (Unit {0}) Fault
 fault_of_journal None = Err fault.Memory
@@ -77,3 +86,4 @@ pub record IsFinished (did : MeterPort → MeterPort → Result (Unit {0}) CallF
   pub after : MeterPort
   pub back : ReturnsPort did lent end before after
   pub traces : IfOk trace (Traces after.known)
+  pub still_out : IsErrOf trace Turns → FindsTurn after.known

@@ -4,6 +4,7 @@
 --     AreOfRun    the calls of a run: which port made which
 --     IsRunFrom   a run, from its recorder to the text of its trace
 --     IsRun       a run without a journal
+--     IsLeftOpen  a run at whose end a turn was still out
 --     ServesAll   what serving did to the port of the lock
 --     StartsFrom  the port that serving starts from
 --     Traces      the text of the trace of the meter in the lock
@@ -11,6 +12,7 @@ use Rattle.std.specs.Prelude.{◌≡◌, ℕ, ◌+◌, ◌<◌, ◌≤◌, List,
 use Rattle.shared_meter.specs.Calls.{Calls, IsLegal, Stands}
 use Rattle.shared_meter.specs.KeptRecorder.{KeptRecorder}
 use Rattle.lane_sampler.specs.Samples.{Samples}
+use Rattle.meter_run.specs.Closing.{FindsTurn}
 use Rattle.meter_server.specs.ServingAll.{Acted, IsServed, OnEnded}
 use Rattle.meter_server.specs.Sessions.{AreAsked, AreSessions}
 use Rattle.meter_server.specs.declared.serving_all.Served.{Served}
@@ -97,6 +99,19 @@ pub record StartsFrom (first : ℕ) (origin : Opening) (p : MeterPort) : Type 0 
   pub number : p.known.number ≡ []
   pub splits : p.known.splits ≡ first
   pub own : calls_by [] p.known.seen ≡ []
+
+-- Whether a run ended while a turn was still out, so that it has no text: after clients were served
+-- and sources passed on, the port from which all others were split off found a turn that had not
+-- ended.
+pub record IsLeftOpen (first : ℕ) (recorder : Recording) (given : Given)
+    (served : Result Served ServeFault) : Type 0 where
+  pub started : MeterPort
+  pub starts : StartsFrom first (opening_of recorder.core) started
+  pub ended : MeterPort
+  pub serves : ServesAll given started ended served
+  pub closing : MeterPort
+  pub goes : PortContinues ended closing
+  pub finds : FindsTurn closing.known
 
 -- whether the text is that of the trace of the meter in the lock, by what a port of the lock knows
 pub record Traces (k : Known Event Reply Opening) (text : List ℕ) : Type 0 where

@@ -1,11 +1,12 @@
 //! `run_journaled_meter`: one run of a meter whose events are on the disk before they are answered.
-ghost use Rattle.std.specs.Prelude.{◌≡◌, ◌⊎◌, ⊤, ◌+◌, [], Err, IfOk, IfErr, IfSome};
+ghost use Rattle.std.specs.Prelude.{◌≡◌, ◌⊎◌, ⊤, ◌+◌, [], Err, IfOk, IfErr, IsErrOf, IfSome};
 ghost use Rattle.acse_ber.specs.Password.{IsPassword};
 ghost use Rattle.durable_lines.specs.CrashModel.{LeavesOnly};
 ghost use Rattle.durable_lines.specs.Lines.{lines_in, IsSettled};
 ghost use Rattle.meter_journal.specs.Saving.{IsFileOf, IsSavedFrom, Keeps};
 ghost use Rattle.meter_run.specs.Journaled.{IsFinished, IsJournaledRun, IsStarted};
-ghost use Rattle.meter_run.specs.Journaled.{fault_of_journal};
+ghost use Rattle.meter_run.specs.Journaled.{ActsOnFailure, fault_of_journal};
+ghost use Rattle.meter_run.specs.Runs.{IsLeftOpen};
 ghost use Rattle.meter_server.specs.ServingAll.{IsLimit, StopsFor};
 ghost use Rattle.port_threads.specs.Listening.{IsCounted};
 ghost use Rattle.program.specs.declared.fault.Fault.TheVariants.{Memory, Turns, Write};
@@ -113,6 +114,7 @@ fn start<
 ) -> Option<Started<F, A, L>>
     requires lock { meter.1.lock ≡ meter.0 }
     requires same_lock { meter.1.lock ≡ L.lock }
+    requires may_end { L.may_end }
     requires file { IsFileOf F.seen F.identity L.file L.first journal.file }
     requires settled { F.acts_as_file
         → IsSettled F.seen F.may_leave F.identity F.stored journal.file }
@@ -182,7 +184,7 @@ fn finish<F: DurableFile + Send, A: FailureAction, L: JournalIdentity + Send + S
     requires lent { running.promise.port.value.lock ≡ port.lock }
     ensures finished { let task = running.promise
         in IsFinished (Keeps F.acts_as_file F.identity F.seen F.may_leave F.moment F.left_since
-        F.renews task.worker.value) task.port.value port result.0 result.1 }
+        F.renews A.has_acted task.worker.value) task.port.value port result.0 result.1 }
     ensures err { IfErr result.0 (λ fault. (fault ≡ Turns) ⊎ (fault ≡ Memory)) }
     ensures journal { IfErr result.1 (λ fault. (fault ≡ Write) ⊎ (fault ≡ Memory)) }
 {
@@ -226,6 +228,7 @@ fn run_in_lock<
 ) -> JournaledRun
     requires lock { meter.1.lock ≡ meter.0 }
     requires same_lock { meter.1.lock ≡ K.lock }
+    requires may_end { K.may_end }
     requires file { IsFileOf F.seen F.identity K.file K.first journal.file }
     requires settled { F.acts_as_file
         → IsSettled F.seen F.may_leave F.identity F.stored journal.file }
@@ -245,7 +248,18 @@ fn run_in_lock<
         (served.served + served.turned_away) (L.accepted listener.new)) }
     ensures fault { IfErr result.served (StopsFor ⊤ (L.has_failed listener.new)) }
     ensures err { IfErr result.trace (λ fault. (fault ≡ Turns) ⊎ (fault ≡ Memory)) }
+    ensures still_out { (recorder : Recording)
+        → meter.1.known ≡ first_known (opening_of recorder.core)
+        → IsErrOf result.trace Turns → IsLeftOpen 1 recorder
+        (record {
+          blocks = B.forecast sources.blocks;
+          moments = M.forecast sources.moments;
+          presses = U.forecast sources.buttons;
+          password = terms.now.password.now;
+        })
+        result.served }
     ensures journal { IfErr result.journal (λ fault. (fault ≡ Write) ⊎ (fault ≡ Memory)) }
+    ensures acted { ActsOnFailure A.has_acted result.journal }
 {
     // (no effect: the contract needs this law)
     file_is_idle(&journal.file);
@@ -281,13 +295,13 @@ fn run_in_lock<
 /// then writes the lines that are left to the journal and the text of the meter's trace.
 ///
 /// An answer is written only after the lines of all calls that its session has seen are on the
-/// disk. If the journal fails, `on_failure` is called at once, and no event is answered any more
-/// whose line is not on the disk.
+/// disk. If the journal fails, `on_failure` is called, and no event is answered any more whose line
+/// is not on the disk.
 ///
 /// The three results are independent: the trace is written whatever ended the serving and the
 /// journal. If the result of the journal is `Ok`, every crash after the run leaves the same lines.
-/// If no memory, port or thread is available for the lock and the journal, all are `Memory`, and no
-/// connection was accepted. Otherwise they are as [`run_meter`](crate::run_meter) says.
+/// If no memory, port or thread is available for the lock and the journal, all are `Memory`.
+/// Otherwise they are as [`run_meter`](crate::run_meter) says.
 pub fn run_journaled_meter<
     L: Listener,
     B: BlockSource + Send + 'static,
@@ -324,7 +338,16 @@ pub fn run_journaled_meter<
         (served.served + served.turned_away) (L.accepted listener.new)) }
     ensures fault { IfErr result.served (StopsFor ⊤ (L.has_failed listener.new)) }
     ensures err { IfErr result.trace (λ fault. (fault ≡ Turns) ⊎ (fault ≡ Memory)) }
+    ensures still_out { IsErrOf result.trace Turns → IsLeftOpen 1 recorder
+        (record {
+          blocks = B.forecast sources.blocks;
+          moments = M.forecast sources.moments;
+          presses = U.forecast sources.buttons;
+          password = terms.now.password.now;
+        })
+        result.served }
     ensures journal { IfErr result.journal (λ fault. (fault ≡ Write) ⊎ (fault ≡ Memory)) }
+    ensures acted { ActsOnFailure A.has_acted result.journal }
 {
     match lock_journaled(alloc, recorder) {
         Ok(meter) => run_in_lock::<L, B, M, U, F, A, Brand, R>(

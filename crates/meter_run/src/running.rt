@@ -1,8 +1,9 @@
 //! `run_meter`: one run from the recorder to the text of the trace, with clients and the meter's
 //! own events in parallel.
-ghost use Rattle.std.specs.Prelude.{◌≡◌, ◌⊎◌, ⊤, ◌+◌, [], IfOk, IfErr, IfSome};
+ghost use Rattle.std.specs.Prelude.{◌≡◌, ◌⊎◌, ⊤, ◌+◌, [], IfOk, IfErr, IsErrOf, IfSome};
 ghost use Rattle.acse_ber.specs.Password.{IsPassword};
-ghost use Rattle.meter_run.specs.Runs.{IsRun, ServesAll, Traces};
+ghost use Rattle.meter_run.specs.Closing.{FindsTurn};
+ghost use Rattle.meter_run.specs.Runs.{IsLeftOpen, IsRun, ServesAll, Traces};
 ghost use Rattle.meter_server.specs.JournaledSessions.{AreJournaled};
 ghost use Rattle.meter_server.specs.ServingAll.{IsLimit, StopsFor};
 ghost use Rattle.shared_meter.specs.Calls.{Stands};
@@ -112,6 +113,7 @@ pub(crate) fn close_and_export(
     requires { port.lock ≡ shared }
     ensures traces { IfOk result (Traces port.known) }
     ensures err { IfErr result (λ fault. (fault ≡ Turns) ⊎ (fault ≡ Memory)) }
+    ensures still_out { IsErrOf result Turns → FindsTurn port.known }
 {
     match close_meter(shared, port) {
         Ok(kept) => {
@@ -136,7 +138,8 @@ pub(crate) fn close_and_export(
 /// management client; `limit` connections are served or turned away, and 0 means no limit.
 ///
 /// The two results are independent: the trace is written whatever ended the serving. If out of
-/// memory for the lock, both are `Memory`, and no connection was accepted.
+/// memory for the lock, both are `Memory`. The trace is `Turns` only if the serving ended and a
+/// turn was still out then.
 ///
 /// If the serving ended without a fault, the listener accepted as many clients as are counted,
 /// unless the count reached `u64::MAX`. The fault `Listen` means that the listener failed; the
@@ -171,6 +174,14 @@ pub fn run_meter<
         (served.served + served.turned_away) (L.accepted listener.new)) }
     ensures fault { IfErr result.served (StopsFor ⊤ (L.has_failed listener.new)) }
     ensures err { IfErr result.trace (λ fault. (fault ≡ Turns) ⊎ (fault ≡ Memory)) }
+    ensures still_out { IsErrOf result.trace Turns → IsLeftOpen 0 recorder
+        (record {
+          blocks = B.forecast sources.blocks;
+          moments = M.forecast sources.moments;
+          presses = U.forecast sources.buttons;
+          password = password.now;
+        })
+        result.served }
 {
     match lock(alloc, Kept::new(recorder)) {
         Ok((shared, port)) => {

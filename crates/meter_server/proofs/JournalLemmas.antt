@@ -9,7 +9,8 @@ use Rattle.meter_server.specs.Journaled.{AreWritten, HasCalled, IsHeldBack, IsOn
 use Rattle.meter_server.specs.Journaled.{JournalSteps}
 use Rattle.meter_server.specs.JournaledSessions.{AnswersCalls, AreAnswered, AreJournaled, HandsBack}
 use Rattle.meter_server.specs.JournaledSessions.{HasJournal, client_terms}
-use Rattle.meter_server.specs.Ports.{Enters, MeterPort, entries}
+use Rattle.meter_server.specs.Ports.{Enters, entries}
+use Rattle.shared_meter.specs.Handed.{MeterPort}
 use Rattle.meter_server.proofs.PortLemmas.{ArePortSteps, effect_by, entered, enters_more, is_same}
 use Rattle.meter_server.proofs.PortLemmas.{refusal_enters, replied_on, same_on, step_same}
 use Rattle.port_threads.specs.Ports.{AreCallsOf, AreServed, child}
@@ -59,17 +60,18 @@ called_seen p event reply q called =
     (reply_seen p.known event reply called.between.known called.call.calls)
 
 -- what holds of an event that was not passed on
-held_same : (p : MeterPort) (event : Event) (q : MeterPort) → IsHeldBack p event q → IsSame p q
-held_same p event q held = subst (λ x. IsSame p x) (sym held.1) (is_same p)
+held_same : (HasEnded : Type 0) (p : MeterPort) (event : Event) (q : MeterPort)
+    → IsHeldBack HasEnded p event q → IsSame p q
+held_same HasEnded p event q held = subst (λ x. IsSame p x) (sym held.1) (is_same p)
 
-held_enters : (p : MeterPort) (event : Event) (q : MeterPort) → IsHeldBack p event q
-    → Enters p [] [] q
-held_enters p event q held = subst (λ x. Enters p [] [] x) (sym held.1)
+held_enters : (HasEnded : Type 0) (p : MeterPort) (event : Event) (q : MeterPort)
+    → IsHeldBack HasEnded p event q → Enters p [] [] q
+held_enters HasEnded p event q held = subst (λ x. Enters p [] [] x) (sym held.1)
     (sym (append-nil (calls_by p.known.number p.known.seen)))
 
-held_seen : (p : MeterPort) (event : Event) (q : MeterPort) → IsHeldBack p event q
-    → StartsWith q.known.seen p.known.seen
-held_seen p event q held =
+held_seen : (HasEnded : Type 0) (p : MeterPort) (event : Event) (q : MeterPort)
+    → IsHeldBack HasEnded p event q → StartsWith q.known.seen p.known.seen
+held_seen HasEnded p event q held =
     subst (λ x. StartsWith x.known.seen p.known.seen) (sym held.1) (starts_refl p.known.seen)
 
 -- the calls of a session are the same in a longer history without further calls of its port
@@ -87,29 +89,34 @@ answered_later IsDurable number before after longer same are = record {
   on_disk = λ low. durable_later IsDurable before after _ longer (are.on_disk low);
 }
 
-module _ (IsDurable : Calls → ℕ → Type 0) where
+module _ (IsDurable : Calls → ℕ → Type 0) (HasEnded : Type 0)
+    (WasRunning : MeterPort → Type 0) where
+  -- a step of a port that waits for its journal
+  abbrev pub Steps : MeterPort → Event → Result Reply CallFault → MeterPort → Type 0
+  Steps = JournalSteps IsDurable HasEnded WasRunning
+
   journal_same : (p : MeterPort) (event : Event) (result : Result Reply CallFault) (q : MeterPort)
-      → JournalSteps IsDurable p event result q → IsSame p q
+      → Steps p event result q → IsSame p q
   journal_same p event (Ok reply) q step = called_same p event reply q step.0
   journal_same p event (Err call.Memory) q step = step_same p event (Err call.Memory) q step
   journal_same p event (Err call.Exhausted) q step = step_same p event (Err call.Exhausted) q step
   journal_same p event (Err call.Journal) q step = elim step [
-    | inl held ↦ held_same p event q held
+    | inl held ↦ held_same HasEnded p event q held
     | inr called ↦ called_same p event called.0 q called.1
   ]
 
   journal_refused : (p : MeterPort) (event : Event) (fault : CallFault) (q : MeterPort)
-      → JournalSteps IsDurable p event (Err fault) q
+      → Steps p event (Err fault) q
       → Enters p [] [] q ⊎ ((reply : Reply) × Enters p (event ∷ []) (reply ∷ []) q)
   journal_refused p event call.Memory q step = inl (refusal_enters p event call.Memory q step)
   journal_refused p event call.Exhausted q step =
       inl (refusal_enters p event call.Exhausted q step)
   journal_refused p event call.Journal q step = elim step [
-    | inl held ↦ inl (held_enters p event q held)
+    | inl held ↦ inl (held_enters HasEnded p event q held)
     | inr called ↦ inr (called.0, called_enters p event called.0 q called.1)
   ]
 
-  pub journal_steps : ArePortSteps (JournalSteps IsDurable)
+  pub journal_steps : ArePortSteps Steps
   journal_steps = record {
     same = journal_same;
     replied = λ p event reply q step. called_enters p event reply q step.0;
@@ -117,26 +124,26 @@ module _ (IsDurable : Calls → ℕ → Type 0) where
   }
 
   journal_seen : (p : MeterPort) (event : Event) (result : Result Reply CallFault) (q : MeterPort)
-      → JournalSteps IsDurable p event result q → StartsWith q.known.seen p.known.seen
+      → Steps p event result q → StartsWith q.known.seen p.known.seen
   journal_seen p event (Ok reply) q step = called_seen p event reply q step.0
   journal_seen p event (Err call.Memory) q step = step.calls.0.sees.seen
   journal_seen p event (Err call.Exhausted) q step = step.calls.0.sees.seen
   journal_seen p event (Err call.Journal) q step = elim step [
-    | inl held ↦ held_seen p event q held
+    | inl held ↦ held_seen HasEnded p event q held
     | inr called ↦ called_seen p event called.0 q called.1
   ]
 
   -- the history that the port knows begins with the one that it knew before it replied
   replied_seen : (p : MeterPort) (events : List Event) (replies : List Reply) (q : MeterPort)
-      → RepliesTo (JournalSteps IsDurable) p events replies q
+      → RepliesTo Steps p events replies q
       → StartsWith q.known.seen p.known.seen
-  replied_seen = replied_on (JournalSteps IsDurable)
+  replied_seen = replied_on Steps
       (λ p q. StartsWith q.known.seen p.known.seen) (λ p. starts_refl p.known.seen)
       (λ a b c one two. starts_trans c.known.seen b.known.seen a.known.seen two one) journal_seen
 
   -- the first reply has the history up to it on the disk
   first_written : (p : MeterPort) (event : Event) (reply : Reply) (next q : MeterPort)
-      → JournalSteps IsDurable p event (Ok reply) next → StartsWith q.known.seen next.known.seen
+      → Steps p event (Ok reply) next → StartsWith q.known.seen next.known.seen
       → IsWritten IsDurable p (event ∷ []) (reply ∷ []) q
   first_written p event reply next q step later =
       let between = step.0.between.known.seen in
@@ -151,7 +158,7 @@ module _ (IsDurable : Calls → ℕ → Type 0) where
   -- and so have the replies after it
   more_written : (p : MeterPort) (event : Event) (reply : Reply) (next : MeterPort)
       (events : List Event) (replies : List Reply) (q : MeterPort)
-      → JournalSteps IsDurable p event (Ok reply) next → IsWritten IsDurable next events replies q
+      → Steps p event (Ok reply) next → IsWritten IsDurable next events replies q
       → IsWritten IsDurable p (event ∷ events) (reply ∷ replies) q
   more_written p event reply next events replies q step later = record {
     history = later.history;
@@ -164,7 +171,7 @@ module _ (IsDurable : Calls → ℕ → Type 0) where
 
   -- each reply has the history up to it on the disk
   pub written : (p : MeterPort) (events : List Event) (replies : List Reply) (q : MeterPort)
-      → RepliesTo (JournalSteps IsDurable) p events replies q
+      → RepliesTo Steps p events replies q
       → AreWritten IsDurable p events replies q
   written p [] [] q same n low high = absurd (omega (arith, low, high))
   written p [] (reply ∷ replies) q never n low high = absurd never
@@ -179,7 +186,7 @@ module _ (IsDurable : Calls → ℕ → Type 0) where
 
   -- the last of some replies has the history up to it on the disk
   last_written : (p : MeterPort) (events : List Event) (replies : List Reply) (q : MeterPort)
-      → RepliesTo (JournalSteps IsDurable) p events replies q → 0 < length replies
+      → RepliesTo Steps p events replies q → 0 < length replies
       → IsWritten IsDurable p events replies q
   last_written p [] [] q same low = absurd (omega (arith, low))
   last_written p [] (reply ∷ replies) q never low = absurd never
@@ -203,7 +210,7 @@ module _ (IsDurable : Calls → ℕ → Type 0) where
         → IsOnDisk IsDurable q.known.seen front
 
   front_of : (p : MeterPort) (taken : List Event) (replies : List Reply) (mid q : MeterPort)
-      → RepliesTo (JournalSteps IsDurable) p taken replies mid
+      → RepliesTo Steps p taken replies mid
       → StartsWith q.known.seen mid.known.seen → IsFront p taken replies q
   front_of p [] [] mid q same begins = record {
     front = p.known.seen;
@@ -226,16 +233,16 @@ module _ (IsDurable : Calls → ℕ → Type 0) where
   -- some replies were returned, and then at most one call was made that was not answered
   answered_by : (p : MeterPort) (taken : List Event) (replies : List Reply) (mid : MeterPort)
       (last : Calls) (q : MeterPort)
-      → RepliesTo (JournalSteps IsDurable) p taken replies mid
+      → RepliesTo Steps p taken replies mid
       → StartsWith q.known.seen mid.known.seen → length last ≤ 1
       → calls_by mid.known.number q.known.seen ≡ calls_by mid.known.number mid.known.seen ++ last
       → AnswersCalls IsDurable p q
   answered_by p taken replies mid last q replied begins most adds =
       let by : List ℕ = p.known.number in
       let A : List ℕ → Type 0 = λ n. calls_by n q.known.seen ≡ calls_by n mid.known.seen ++ last in
-      let same = replied_on (JournalSteps IsDurable) IsSame is_same same_on journal_same p taken
+      let same = replied_on Steps IsSame is_same same_on journal_same p taken
       replies mid replied in
-      let enters = entered (JournalSteps IsDurable) journal_steps p taken replies mid replied in
+      let enters = entered Steps journal_steps p taken replies mid replied in
       let found = front_of p taken replies mid q replied begins in
       record {
         answered = entries by taken replies;
@@ -249,14 +256,14 @@ module _ (IsDurable : Calls → ℕ → Type 0) where
       }
 
   replied_answered : (p : MeterPort) (events : List Event) (replies : List Reply) (q : MeterPort)
-      → RepliesTo (JournalSteps IsDurable) p events replies q → AnswersCalls IsDurable p q
+      → RepliesTo Steps p events replies q → AnswersCalls IsDurable p q
   replied_answered p events replies q replied =
       answered_by p events replies q [] q replied (starts_refl q.known.seen) (omega arith)
       (sym (append-nil (calls_by q.known.number q.known.seen)))
 
   refused_answered : (p : MeterPort) (events : List Event) (replies : List Reply)
       (fault : CallFault) (q : MeterPort)
-      → RefusesLast (JournalSteps IsDurable) p events replies fault q → AnswersCalls IsDurable p q
+      → RefusesLast Steps p events replies fault q → AnswersCalls IsDurable p q
   refused_answered p events replies fault q r =
       let begins = journal_seen r.before r.event (Err fault) q r.refused in
       elim (journal_refused r.before r.event fault q r.refused) [
@@ -269,12 +276,13 @@ module _ (IsDurable : Calls → ℕ → Type 0) where
   -- a session that waits for the journal has answered its calls once they were on the disk
   pub served_answered : (password : List ℕ) (before : Sides MeterPort)
       (result : Result SessionEnd ServeFault) (after : Sides MeterPort)
-      → ServesSession (JournalSteps IsDurable) password before result after
+      → ServesSession Steps password before result after
       → AnswersCalls IsDurable before.outlets.meter after.outlets.meter
   served_answered password before result after served =
-      effect_by (JournalSteps IsDurable) (AnswersCalls IsDurable) replied_answered
+      effect_by Steps (AnswersCalls IsDurable) replied_answered
       refused_answered (plan_of password) served.seen before result after served.effect
 
+module _ (IsDurable : Calls → ℕ → Type 0) where
   -- the calls of a new port that served a session with a journal, or was returned unused
   calls_answered : (terms number : List ℕ) (history : Calls) → HasJournal terms
       → AreCallsOf (HandsBack IsDurable terms) number history

@@ -4,7 +4,8 @@ use Rattle.std.proofs.Common.{ap, ◌∙◌, subst, inl, ⊎_elim}
 use Rattle.std.proofs.lemmas.List.{append-nil, append_assoc}
 use Rattle.shared_meter.specs.Calls.{IsLegal, events_and_replies}
 use Rattle.session_io.specs.Meters.{RepliesTo, RefusesLast}
-use Rattle.meter_server.specs.Ports.{MeterPort, PortSteps, entries, Enters}
+use Rattle.meter_server.specs.Ports.{PortSteps, entries, Enters}
+use Rattle.shared_meter.specs.Handed.{MeterPort}
 use Rattle.session_io.specs.Serving.{Plan, HasEffect, ServesSession, plan_of}
 use Rattle.session_io.specs.Sides.{Sides}
 use Rattle.session_io.specs.declared.fault.ServeFault.{ServeFault}

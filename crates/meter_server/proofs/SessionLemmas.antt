@@ -20,7 +20,8 @@ use Rattle.port_threads.specs.Ports.{PortContinues, AreJoined, AreServed, AreCal
 use Rattle.std.proofs.Common.{drop, Option, Some, None}
 use Rattle.std.specs.Prelude.{IfSome}
 use Rattle.meter_server.specs.JournaledSessions.{AreAnswered, AreJournaled, HandsBack}
-use Rattle.meter_server.specs.Ports.{MeterPort, Enters, entries}
+use Rattle.meter_server.specs.Ports.{Enters, entries}
+use Rattle.shared_meter.specs.Handed.{MeterPort}
 use Rattle.meter_server.specs.ServingAll.{events_by}
 use Rattle.meter_server.specs.Sessions.{AreAsked, AsksThrough, AreSessions}
 use Rattle.meter_server.proofs.JournalLemmas.{answered_later}

@@ -2,11 +2,13 @@
 --     IsOnDisk        the lines of a front of a history are on the disk
 --     HasCalled       the port passed an event on and made no further call
 --     IsHeldBack      the event was not passed on
+--     MayPass         the event may be passed on
 --     JournalSteps    a step of the port: passing an event on, and waiting
 --     AreWritten      what is on the disk once replies were returned
 use Rattle.std.specs.Prelude.{◌≡◌, ◌⊎◌, ℕ, false, ◌<◌, ◌≤◌, List, ◌++◌, length, take, Result, Ok}
 use Rattle.std.specs.Prelude.{Err}
-use Rattle.meter_server.specs.Ports.{MeterPort, PortSteps, entries}
+use Rattle.meter_server.specs.Ports.{PortSteps, entries}
+use Rattle.shared_meter.specs.Handed.{MeterPort}
 use Rattle.relay_events.specs.Kinds.{is_read}
 use Rattle.relay_events.specs.declared.event.Event.{Event}
 use Rattle.relay_events.specs.declared.reply.Reply.{Reply}
@@ -30,21 +32,32 @@ pub record HasCalled (p : MeterPort) (event : Event) (reply : Reply) (q : MeterP
   pub same : IsSame between q
   pub watches : Watches IsLegal between.known q.known
 
--- whether an event that may change the meter was not passed on
-abbrev pub IsHeldBack : MeterPort → Event → MeterPort → Type 0
-IsHeldBack p event q = (is_read event ≡ false) × (q ≡ p)
+-- whether an event that may change the meter was not passed on, because the journal has ended
+abbrev pub IsHeldBack : (HasEnded : Type 0) → MeterPort → Event → MeterPort → Type 0
+IsHeldBack HasEnded p event q = (is_read event ≡ false) × (q ≡ p) × HasEnded
+
+-- whether an event may be passed on: it is a read, or the journal had not failed when the port
+-- looked, before the call
+abbrev pub MayPass : (WasRunning : MeterPort → Type 0) → MeterPort → Event → Type 0
+MayPass WasRunning p event = is_read event ≡ false → WasRunning p
 
 -- Whether a call through a port that waits for its journal had this result. After a reply, the
--- lines of all calls up to it are on the disk, as lines of the history that the port has seen. If
--- the journal has failed, the event was not passed on, or it was and its reply is not returned.
-abbrev pub JournalSteps : (IsDurable : Calls → ℕ → Type 0) → MeterPort → Event
-    → Result Reply CallFault → MeterPort → Type 0
-JournalSteps IsDurable p event (Ok reply) q = (called : HasCalled p event reply q)
-    × IsOnDisk IsDurable q.known.seen called.between.known.seen
-JournalSteps IsDurable p event (Err Memory) q = PortSteps p event (Err Memory) q
-JournalSteps IsDurable p event (Err Exhausted) q = PortSteps p event (Err Exhausted) q
-JournalSteps IsDurable p event (Err Journal) q = IsHeldBack p event q
-    ⊎ ((reply : Reply) × HasCalled p event reply q)
+-- lines of all calls up to it are on the disk, as lines of the history that the port has seen. An
+-- event that may change the meter is passed on only if the journal had not failed. With the fault
+-- `Journal` the event was held back, or it was passed on and its reply is not returned.
+abbrev pub JournalSteps : (IsDurable : Calls → ℕ → Type 0) → (HasEnded : Type 0)
+    → (WasRunning : MeterPort → Type 0) → MeterPort → Event → Result Reply CallFault → MeterPort
+    → Type 0
+JournalSteps IsDurable HasEnded WasRunning p event (Ok reply) q =
+    (called : HasCalled p event reply q)
+    × IsOnDisk IsDurable q.known.seen called.between.known.seen × MayPass WasRunning p event
+JournalSteps IsDurable HasEnded WasRunning p event (Err Memory) q =
+    PortSteps p event (Err Memory) q
+JournalSteps IsDurable HasEnded WasRunning p event (Err Exhausted) q =
+    PortSteps p event (Err Exhausted) q
+JournalSteps IsDurable HasEnded WasRunning p event (Err Journal) q =
+    IsHeldBack HasEnded p event q
+    ⊎ ((reply : Reply) × HasCalled p event reply q × MayPass WasRunning p event)
 
 -- whether the history that port q knows begins with one that has the calls of these events, with
 -- these replies, as the new calls of port p; the lines of that one are on the disk

@@ -8,7 +8,8 @@
 use Rattle.std.specs.Prelude.{◌≡◌, ℕ, ◌<◌, ◌≤◌, List, [], ◌∷◌, ◌++◌, length, take, drop}
 use Rattle.std.specs.Prelude.{Option, Some, None, is_some, if◌then◌else◌, Result}
 use Rattle.meter_server.specs.Journaled.{IsOnDisk, JournalSteps}
-use Rattle.meter_server.specs.Ports.{MeterPort, PortSteps}
+use Rattle.meter_server.specs.Ports.{PortSteps}
+use Rattle.shared_meter.specs.Handed.{MeterPort}
 use Rattle.meter_server.specs.Sessions.{AsksThrough}
 use Rattle.port_threads.specs.Ports.{child}
 use Rattle.relay_events.specs.declared.event.Event.{Event}
@@ -29,10 +30,12 @@ HasJournal terms = take 1 terms ≡ 1 ∷ []
 
 -- whether a call through a client's port had this result; if the meter has a journal, the port
 -- waits for it
-abbrev pub client_steps : {D : Type 0} → (IsDurable : Calls → ℕ → Type 0) → Option D → MeterPort
-    → Event → Result Reply CallFault → MeterPort → Type 0
-client_steps IsDurable None = PortSteps
-client_steps IsDurable (Some journal) = JournalSteps IsDurable
+abbrev pub client_steps : {D : Type 0} → (IsDurable : Calls → ℕ → Type 0) → (HasEnded : Type 0)
+    → (WasRunning : MeterPort → Type 0) → Option D → MeterPort → Event → Result Reply CallFault
+    → MeterPort → Type 0
+client_steps IsDurable HasEnded WasRunning None = PortSteps
+client_steps IsDurable HasEnded WasRunning (Some journal) =
+    JournalSteps IsDurable HasEnded WasRunning
 
 -- Whether all calls of a port, except at most the last, were answered from the disk. In the
 -- history, the calls of the port with this number are the earlier ones, then some that were

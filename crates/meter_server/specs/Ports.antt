@@ -1,19 +1,13 @@
 -- A port of a shared meter, as a meter.
 use Rattle.std.specs.Prelude.{◌≡◌, ℕ, List, [], ◌∷◌, ◌++◌, Result, Ok, Err}
 use Rattle.shared_meter.specs.Calls.{IsLegal, IsSure}
+use Rattle.shared_meter.specs.Handed.{MeterPort}
 use Rattle.relay_events.specs.declared.event.Event.{Event}
 use Rattle.relay_events.specs.declared.reply.Reply.{Reply}
-use Rattle.relay_core.specs.declared.opening.Opening.{Opening}
 use Rattle.turn_lock.specs.Calls.{Called, Watches, IsCause}
 use Rattle.turn_lock.specs.History.{entry, calls_by}
-use Rattle.turn_lock.specs.Shown.{ShownPort}
 use Rattle.turn_lock.specs.declared.call_fault.CallFault.{CallFault}
 use Rattle.turn_lock.specs.declared.turned.Entry.{Entry}
-
--- the port of a shared meter as contracts see it: its events are those of the meter, its replies
--- the meter's, and its origin is an opening
-abbrev pub MeterPort : Type 0
-MeterPort = ShownPort Event Reply Opening
 
 -- Whether a call through a port had this result. After a reply, the legal history that the port
 -- knows ends with this call; after a fault it has no further call of the port, and the fault has a

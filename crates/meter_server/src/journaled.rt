@@ -4,7 +4,7 @@ ghost use Rattle.acse_ber.specs.Password.{IsPassword};
 ghost use Rattle.session_io.specs.Meters.{RepliesTo};
 ghost use Rattle.meter_server.specs.Journaled.{AreWritten, JournalSteps};
 ghost use Rattle.meter_server.specs.JournaledSessions.{AnswersCalls};
-ghost use Rattle.meter_server.specs.Ports.{MeterPort};
+ghost use Rattle.shared_meter.specs.Handed.{MeterPort};
 ghost use Rattle.meter_server.specs.Sessions.{AsksThrough};
 ghost use Rattle.session_io.specs.Serving.{ServesSession};
 ghost use Rattle.session_io.specs.Sides.{input_of, outlets_of};
@@ -29,9 +29,9 @@ use turn_lock::{CallFault, Port};
 /// port, and its reply is returned once the lines of all calls that the port has seen are on the
 /// disk. A read waits as well, so that no reply shows what a crash could undo.
 ///
-/// Once the journal has failed, an event that may change the meter is refused before it is passed
-/// on, and a read is answered if all lines that the port has seen are on the disk. Contracts refer
-/// to the port.
+/// Once the journal has failed, an event that may change the meter is refused: it is passed on only
+/// after the port looked and the journal had not failed. A read is answered if all lines that the
+/// port has seen are on the disk. Contracts refer to the port.
 pub struct JournaledPort<'a, W: Wait, D: Durability> {
     rt: &'a W,
     journal: &'a D,
@@ -43,7 +43,7 @@ pub struct JournaledPort<'a, W: Wait, D: Durability> {
 impl<'a, W: Wait, D: Durability> Model for JournaledPort<'a, W, D> {
     ghost use Rattle.std.specs.Coded.{codes};
     ghost use Rattle.std.specs.Prelude.{IfSome};
-    ghost use Rattle.meter_server.specs.Ports.{MeterPort};
+    ghost use Rattle.shared_meter.specs.Handed.{MeterPort};
     ghost use Rattle.shared_meter.specs.Settling.{AreDurable};
     ghost use Rattle.relay_events.specs.contracts.event.Event as event_row;
     ghost use Rattle.relay_events.specs.contracts.reply.Reply as reply_row;
@@ -107,11 +107,12 @@ fn ask<W: Wait, D: Durability>(
 ) -> Result<Reply, CallFault>
     requires fits { D.fits port.old.lock }
     requires settled { IfSome settled.old (AreDurable D.is_durable port.old.known.seen) }
-    ensures step { JournalSteps D.is_durable port.old event result port.new }
+    ensures step { JournalSteps D.is_durable D.has_ended D.was_running port.old event result
+        port.new }
     ensures fits { IfOk result (Fits event) }
     ensures settled { IfSome settled.new (AreDurable D.is_durable port.new.known.seen) }
 {
-    if !event.is_read() && journal.has_failed() {
+    if !event.is_read() && journal.has_failed(port) {
         drop(event);
         return Err(CallFault::Journal);
     }
@@ -130,7 +131,7 @@ fn ask<W: Wait, D: Durability>(
 }
 
 impl<'a, W: Wait, D: Durability> Meter for JournaledPort<'a, W, D> {
-    ghost steps = { JournalSteps D.is_durable };
+    ghost steps = { JournalSteps D.is_durable D.has_ended D.was_running };
 
     fn call(&mut self, alloc: Global, event: Event) -> Result<Reply, CallFault> {
         ask(
@@ -149,7 +150,7 @@ impl<'a, W: Wait, D: Durability> Meter for JournaledPort<'a, W, D> {
 /// whose lines are all on the disk.
 pub fn answers_are_durable<D: Durability>()
     ensures { (p : MeterPort) (events : List Event) (replies : List Reply) (q : MeterPort)
-        → RepliesTo (JournalSteps D.is_durable) p events replies q
+        → RepliesTo (JournalSteps D.is_durable D.has_ended D.was_running) p events replies q
         → AreWritten D.is_durable p events replies q }
 {}
 
@@ -176,7 +177,8 @@ pub fn serve_journaled<R: Reader, O: Writer, W: Wait, D: Durability>(
     requires writable { O.can_write writer.now }
     requires password { IsPassword password.now }
     requires fits { D.fits port.lock }
-    ensures served { ServesSession (JournalSteps D.is_durable) password.now
+    ensures served { ServesSession (JournalSteps D.is_durable D.has_ended D.was_running)
+        password.now
         (record {
           input = input_of R.remaining R.reads R.failures reader.old;
           outlets = outlets_of O.contents O.failures writer.old port;

@@ -55,6 +55,10 @@ pub trait Listener {
         ensures failed { OnErr result (has_failed self.new) }
         ensures accepted { OnOk result (RisesBy (accepted self.old) 1 (accepted self.new)) }
         ensures accepted_err { OnErr result (RisesBy (accepted self.old) 0 (accepted self.new)) };
+
+    /// Is called if serving ends before it accepts a client, because no memory or no thread was
+    /// available: the sources of the meter's own events may end too. The default does nothing.
+    fn on_early_end(&mut self) {}
 }
 
 // Serves one session through a port: with a journal, each answer waits for it.
@@ -71,7 +75,8 @@ fn serve_client<R: Reader, O: Writer, W: Wait, D: Durability>(
     requires writable { O.can_write writer.now }
     requires password { IsPassword password.now }
     requires fits { D.fits port.lock }
-    ensures served { ServesSession (client_steps D.is_durable journal.now) password.now
+    ensures served { ServesSession
+        (client_steps D.is_durable D.has_ended D.was_running journal.now) password.now
         (record {
           input = input_of R.remaining R.reads R.failures reader.old;
           outlets = outlets_of O.contents O.failures writer.old port;
@@ -140,10 +145,7 @@ fn share_journal<D: Durability>(journal: &Option<D>) -> Result<Option<D>, AllocE
     ensures { IfOk result (λ shared. is_some shared ≡ is_some journal.now) }
 {
     match journal {
-        Some(journal) => match journal.share() {
-            Ok(shared) => Ok(Some(shared)),
-            Err(fault) => Err(fault),
-        },
+        Some(journal) => Ok(Some(journal.share()?)),
         None => Ok(None),
     }
 }

@@ -2,7 +2,8 @@
 ghost use Rattle.std.specs.Prelude.{◌≡◌, List};
 ghost use Rattle.acse_ber.specs.Password.{IsPassword};
 ghost use Rattle.session_io.specs.Meters.{RepliesTo};
-ghost use Rattle.meter_server.specs.Ports.{MeterPort, PortSteps, Enters};
+ghost use Rattle.meter_server.specs.Ports.{PortSteps, Enters};
+ghost use Rattle.shared_meter.specs.Handed.{MeterPort};
 ghost use Rattle.meter_server.specs.Sessions.{AsksThrough};
 ghost use Rattle.session_io.specs.Serving.{ServesSession};
 ghost use Rattle.session_io.specs.Sides.{input_of, outlets_of};
@@ -30,7 +31,7 @@ pub struct PortMeter<'a, W: Wait> {
 
 impl<'a, W: Wait> Model for PortMeter<'a, W> {
     ghost use Rattle.std.specs.Coded.{codes};
-    ghost use Rattle.meter_server.specs.Ports.{MeterPort};
+    ghost use Rattle.shared_meter.specs.Handed.{MeterPort};
     ghost use Rattle.relay_events.specs.contracts.event.Event as event_row;
     ghost use Rattle.relay_events.specs.contracts.reply.Reply as reply_row;
     ghost use Rattle.relay_core.specs.contracts.opening.Opening as opening_row;

@@ -106,7 +106,10 @@ fn serve_clients<
         password: terms.password,
         journal: &terms.journal,
     };
-    let accepted = serve_connections(rt, alloc, &mut clients, port, terms.limit)?;
+    let Ok(accepted) = serve_connections(rt, alloc, &mut clients, port, terms.limit) else {
+        clients.listener.on_early_end();
+        return Err(ServeFault::Memory);
+    };
     if accepted.has_starved {
         return Err(ServeFault::Memory);
     }
@@ -164,6 +167,7 @@ fn serve_with_one<
     ensures fault { IfErr result (StopsFor (IsSpent port.new) (L.has_failed listener.new)) }
 {
     let Some(running) = start_worker(rt, alloc, SourceWorker { source }, port) else {
+        listener.on_early_end();
         return Err(ServeFault::Memory);
     };
     let served = serve_clients(rt, alloc, listener, port, terms);
@@ -201,6 +205,8 @@ fn serve_with_two<
 {
     let (source, other) = sources;
     let Some(running) = start_worker(rt, alloc, SourceWorker { source }, port) else {
+        drop(other);
+        listener.on_early_end();
         return Err(ServeFault::Memory);
     };
     let served = serve_with_one(rt, alloc, listener, other, port, terms);
@@ -240,6 +246,8 @@ fn serve_with_three<
 {
     let (source, others) = sources;
     let Some(running) = start_worker(rt, alloc, SourceWorker { source }, port) else {
+        drop(others);
+        listener.on_early_end();
         return Err(ServeFault::Memory);
     };
     let served = serve_with_two(rt, alloc, listener, others, port, terms);

@@ -5,8 +5,8 @@ use meter_server::{ListenFault, Listener};
 use server_io::{DeadlineStream, Sockets};
 use std::sync::Wait;
 
-// The sockets of a server. If they fail, the sources of the meter's own events end, and so does the
-// server once its open sessions have ended.
+// The sockets of a server. If they fail, or no client can be served, the sources of the meter's own
+// events end, and so does the server once its open sessions have ended.
 #[derive(Drop)]
 pub(crate) struct Listening<R> {
     pub(crate) sockets: Sockets<HostRuntime>,
@@ -26,5 +26,9 @@ impl<R: Wait + Copy + Drop> Listener for Listening<R> {
             self.sources.end();
         }
         accepted
+    }
+
+    fn on_early_end(&mut self) {
+        self.sources.end();
     }
 }

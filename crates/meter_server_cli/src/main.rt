@@ -12,8 +12,9 @@ mod journal;
 mod listening;
 mod messages;
 mod serving;
+mod starting;
 
-use crate::serving::Server;
+use crate::starting::Server;
 use counted_io::Counted;
 use program::{Fault, exit_code};
 use server_commands::{HexOptions, Work, answer_text, parse_command_line, play_text, report_fault};
@@ -62,7 +63,7 @@ fn begin(rt: &HostRuntime) -> Result<ServerCommand, Fault> {
             run_hex(rt, &options)?;
             Ok(ServerCommand::Ended(0))
         }
-        Work::Serve(options) => Ok(ServerCommand::Serve(serving::begin(rt, &options)?)),
+        Work::Serve(options) => Ok(ServerCommand::Serve(starting::begin(rt, &options)?)),
     }
 }
 

@@ -7,7 +7,7 @@ ghost use Rattle.meter_server_cli.specs.Endings.{PrintsText};
 use crate::ending::{Ends, print_trace, run_fault};
 use crate::journal::{JournaledParts, ServerEnd, run_journaled};
 use crate::listening::Listening;
-use crate::messages::why_not_listening;
+use crate::starting::Server;
 use cosem_axdr::Octets;
 use counted_io::Monitored;
 use durable_lines::DurableFile;
@@ -18,16 +18,12 @@ use meter_run::{MeterRun, Sources, run_meter};
 use meter_server::{ServeFault, Served};
 use program::Fault;
 use relay_recorder::Recorder;
-use server_commands::{Bounds, ServeOptions, ServePlan, has_name, make_plan};
-use server_files::{
-    EventOutput, JournalOptions, OpenJournal, RelayAlone, RelayOptions, RelayedJournal,
-    open_journal, open_outputs,
-};
+use server_commands::{Bounds, ServePlan};
+use server_files::{EventOutput, RelayAlone, RelayedJournal};
 use server_io::{Closing, Sockets, Stopped, StreamLimits};
-use session_log::LogTime;
 use std::alloc::{AllocError, Global};
 use std::fs::{File, Files};
-use std::io::{BufReader, IsTerminal, Stdin, Stdout, Write};
+use std::io::{BufReader, Stdin, Stdout, Write};
 use std::net::{SocketAddr, TcpListener};
 use std::sync::atomic::AtomicBool;
 use std::sync::{Arc, Wait};
@@ -204,167 +200,6 @@ fn start_server<R: Threads + Wait + Copy + Drop + Send + 'static>(
             end,
         }),
         None => Err(Fault::Memory),
-    }
-}
-
-// A server that is ready to serve: the meter, its journal and its relay if it has one, and the
-// sockets for its clients.
-#[derive(Drop)]
-pub(crate) struct Server {
-    plan: ServePlan<Stdin>,
-    events: EventOutput<HostRuntime>,
-    listener: TcpListener,
-    address: SocketAddr,
-}
-
-// Listens on the address of the command line, and returns the listener and its address. If
-// `is_verbose`, prints the address, or why listening failed, on standard error.
-fn listen_on(
-    rt: &HostRuntime,
-    address: &str,
-    is_verbose: bool,
-) -> Result<(TcpListener, SocketAddr), Fault> {
-    let listener = match TcpListener::bind(rt, address) {
-        Ok(listener) => listener,
-        Err(error) => {
-            if is_verbose {
-                let now = LogTime::now(rt);
-                let why = why_not_listening(address, error.kind());
-                let _ = eprintln!(rt; "{now} {address}: {why}");
-            }
-            return Err(Fault::Listen);
-        }
-    };
-    let address = listener.local_addr().map_err(|_| Fault::Listen)?;
-    if is_verbose {
-        let now = LogTime::now(rt);
-        let _ = eprintln!(rt; "{now} listening on {address}");
-    }
-    Ok((listener, address))
-}
-
-// Validates the options, and reads the trace to resume from. If `--verbose` is given, a line on
-// standard error says what is wrong.
-fn plan_server(rt: &HostRuntime, options: &ServeOptions) -> Result<ServePlan<Stdin>, Fault> {
-    match make_plan(rt.alloc(), rt.stdin(), options) {
-        Ok(plan) => Ok(plan),
-        Err(fault) => {
-            if options.bounds.is_verbose {
-                let _ = eprintln!(rt; "{fault}");
-            }
-            Err(fault.fault())
-        }
-    }
-}
-
-// Returns how the journal of these bounds is kept.
-fn journal_options(bounds: &Bounds) -> JournalOptions {
-    JournalOptions {
-        depth: bounds.depth,
-        limit: bounds.journal_limit,
-        kept: bounds.kept_journals,
-    }
-}
-
-// Reports on standard error that the name of the options is not that of the meter, which resumes
-// from a trace.
-fn report_other_name(rt: &HostRuntime, options: &ServeOptions, recorder: &Recorder) {
-    if !options.bounds.resumes || !options.has_device {
-        return;
-    }
-    let name = options.device.as_str();
-    if matches!(has_name(rt.alloc(), recorder, name), Ok(false)) {
-        let _ = eprintln!(rt;
-            "warning: --device {name} is not used: --resume takes the name of the trace's meter"
-        );
-    }
-}
-
-// Opens the journal of the options, if they name one. The meter of the plan then resumes where it
-// ends.
-fn with_journal(
-    rt: &HostRuntime,
-    options: &ServeOptions,
-    plan: ServePlan<Stdin>,
-) -> Result<(ServePlan<Stdin>, Option<OpenJournal<HostRuntime>>), Fault> {
-    let Some(path) = &options.journal else {
-        return Ok((plan, None));
-    };
-    let ServePlan {
-        bounds,
-        password,
-        recorder,
-        input,
-    } = plan;
-    match open_journal(rt, path.as_str(), recorder, journal_options(&bounds)) {
-        Ok((journal, recorder)) => Ok((
-            ServePlan {
-                bounds,
-                password,
-                recorder,
-                input,
-            },
-            Some(journal),
-        )),
-        Err(fault) => Err(fault),
-    }
-}
-
-// Returns the server of a plan that listens, once its relay is given the supply output.
-fn ready(
-    rt: &HostRuntime,
-    options: &ServeOptions,
-    plan: ServePlan<Stdin>,
-    journal: Option<OpenJournal<HostRuntime>>,
-    listening: (TcpListener, SocketAddr),
-) -> Result<Server, Fault> {
-    let (listener, address) = listening;
-    let relay = RelayOptions {
-        path: options.relay.as_deref(),
-        is_verbose: options.bounds.is_verbose,
-    };
-    match open_outputs(rt, relay, plan.recorder.core(), journal) {
-        Ok(events) => Ok(Server {
-            plan,
-            events,
-            listener,
-            address,
-        }),
-        Err(fault) => {
-            drop(plan);
-            Err(fault)
-        }
-    }
-}
-
-// Says that a server without a journal loses its trace if it is killed, if somebody reads it:
-// standard error is a terminal, or `--verbose` is given.
-fn report_no_journal(rt: &HostRuntime, options: &ServeOptions) {
-    if options.journal.is_some() || !(options.bounds.is_verbose || rt.stderr().is_terminal()) {
-        return;
-    }
-    let now = LogTime::now(rt);
-    let _ = eprintln!(rt;
-        "{now} no journal: if the server is killed, its trace and the meter's state are lost"
-    );
-}
-
-// Prepares a server up to the first client: validates the options, reads the trace to resume from,
-// opens the journal, listens, and opens the relay.
-pub(crate) fn begin(rt: &HostRuntime, options: &ServeOptions) -> Result<Server, Fault> {
-    let plan = plan_server(rt, options)?;
-    report_other_name(rt, options, &plan.recorder);
-    let (plan, journal) = with_journal(rt, options, plan)?;
-    match listen_on(rt, options.address.as_str(), options.bounds.is_verbose) {
-        Ok(listening) => {
-            report_no_journal(rt, options);
-            ready(rt, options, plan, journal, listening)
-        }
-        Err(fault) => {
-            drop(plan);
-            drop(journal);
-            Err(fault)
-        }
     }
 }
 

@@ -1,6 +1,11 @@
 -- Counts of connections.
-use Rattle.std.proofs.Common.{◌≡◌, ℕ, ◌+◌, ◌<◌, ◌≤◌, ◌^◌, Option, Some, None, ap, sym, subst, ◌∙◌, arith}
-use Rattle.port_threads.specs.Listening.{RisesBy}
+use Rattle.std.proofs.Common.{◌≡◌, ℕ, ◌+◌, ◌<◌, ◌≤◌, ◌^◌, Option, Some, None, Bool, false, refl, ap, sym, subst, ◌∙◌, arith}
+use Rattle.std.proofs.lemmas.Bool.{false≢true}
+use Rattle.port_threads.specs.Listening.{RisesBy, IsCounted}
+use Rattle.port_threads.specs.Sessions.{Opens, FailsSetup, IsAdded}
+use Rattle.port_threads.specs.declared.accepted.Accepted.{Accepted}
+use Rattle.port_threads.specs.declared.accepted.Admission.{Admission}
+use Rattle.port_threads.specs.declared.accepted.Admission.TheVariants.{Served, Crowded, Starved, SetupFailed}
 
 -- a count that has not reached its limit is at least one below it
 pub count_on : (limit before after : ℕ) → limit < 2 ^ 64 → ((0 < limit) × (limit ≤ before) → ⊥)
@@ -50,3 +55,38 @@ pub counted_still : (before mid after : Option ℕ) (count : ℕ)
     → count < 18446744073709551615 → RisesBy before count after
 counted_still before mid after count first next below =
     rises_still before mid after count (first below) next
+
+-- whether no more sessions are open than were served, and the connections that were turned away are
+-- those whose stream could not be set up, as long as none starved and fewer than eight were served
+abbrev pub AreFew : (held : ℕ) (before : Option ℕ) (a : Accepted) (after : Option ℕ) → Type 0
+AreFew held before a after = a.has_starved ≡ false → a.served < 8
+    → (held ≤ a.served) × IsCounted before a.turned_away after
+
+-- one more connection was accepted, and counted
+pub few_on : (outcome : Admission) (held later : ℕ) (before mid after : Option ℕ) (a b : Accepted)
+    → AreFew held before a mid → (outcome ≡ Crowded → 8 ≤ held) → Opens outcome held later
+    → FailsSetup outcome mid after → IsAdded outcome a b → AreFew later before b after
+few_on Served held later before mid after a b few crowd opens fails added fed below =
+    let more : b.served ≡ a.served + 1 = added.0.1 (omega (arith, added.0.0, below)) in
+    let had = few (sym added.2 ∙ fed) (omega (arith, more, below)) in (
+      omega (arith, more, had.0, opens),
+      subst (λ n. IsCounted before n after) (sym added.1)
+          (counted_still before mid after a.turned_away had.1 fails),
+    )
+few_on Crowded held later before mid after a b few crowd opens fails added fed below =
+    let had = few (sym added.2 ∙ fed) (omega (arith, added.1, below)) in
+    let none : ⊥ = omega (arith, crowd refl, had.0, added.1, below) in absurd none
+few_on Starved held later before mid after a b few crowd opens fails added fed below =
+    absurd (false≢true (sym fed ∙ added))
+few_on SetupFailed held later before mid after a b few crowd opens fails added fed below =
+    let had = few (sym added.2 ∙ fed) (omega (arith, added.1, below)) in (
+      omega (arith, added.1, had.0, opens),
+      counted_on before mid after a.turned_away b.turned_away had.1 fails added.0.1 added.0.0,
+    )
+
+-- no further one was accepted
+pub reasons_still : (held served turned_away : ℕ) (starved : Bool) (before mid after : Option ℕ)
+    → (starved ≡ false → served < 8 → (held ≤ served) × IsCounted before turned_away mid)
+    → RisesBy mid 0 after → starved ≡ false → served < 8 → IsCounted before turned_away after
+reasons_still held served turned_away starved before mid after few next fed below =
+    counted_still before mid after turned_away (few fed below).1 next

@@ -9,6 +9,12 @@ IfReady P (incoming.Ready connection) = P connection
 IfReady P incoming.OutOfMemory = ⊤
 IfReady P incoming.SetupFailed = ⊤
 
+-- the number of connections that the listener closed because their stream could not be set up
+abbrev pub setup_failures_of : {C : Type 0} → Arrival C → ℕ
+setup_failures_of (incoming.Ready connection) = 0
+setup_failures_of incoming.OutOfMemory = 0
+setup_failures_of incoming.SetupFailed = 1
+
 -- whether a number has risen by `count`; nothing is claimed if the listener does not count its
 -- connections
 abbrev pub RisesBy : (before : Option ℕ) (count : ℕ) (after : Option ℕ) → Type 0

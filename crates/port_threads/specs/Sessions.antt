@@ -1,6 +1,6 @@
 -- Open sessions, the development of the port from which theirs were split off, and the results of
 -- the connections.
-use Rattle.std.specs.Prelude.{◌≡◌, ◌≢◌, ◌⊎◌, ℕ, ◌+◌, ◌<◌, ◌≤◌, true, false, List, [], Some, None}
+use Rattle.std.specs.Prelude.{◌≡◌, ◌≢◌, ◌⊎◌, ℕ, ◌+◌, ◌<◌, ◌≤◌, true, false, List, [], Option, Some, None}
 use Rattle.std.specs.declared.thread.PromisedHandle.{PromisedHandle}
 use Rattle.slab.specs.Slab.{Slab, get, slab_len}
 use Rattle.turn_lock.specs.declared.port.Port.{Port}
@@ -12,6 +12,7 @@ use Rattle.port_threads.specs.declared.accepted.Admission.TheVariants.{Served, C
 use Rattle.port_threads.specs.declared.connections.Arrival.{Arrival}
 use Rattle.port_threads.specs.declared.connections.Arrival.TheVariants as incoming
 use Rattle.port_threads.specs.declared.session.Lent.{Lent}
+use Rattle.port_threads.specs.Listening.{RisesBy, IsCounted}
 use Rattle.port_threads.specs.Ports.{PortContinues, AreCallsOf, child}
 
 -- the port that was lent to a session's thread
@@ -27,6 +28,7 @@ terms_of terms session = terms session.promise.connection.value
 -- whether no session is open, and there is capacity for eight
 pub record IsEmpty {H : Type 0} (held : Slab H) : Type 0 where
   pub room : 8 ≤ held.capacity
+  pub len : slab_len held ≡ 0
   pub none : (key : ℕ) → get held key ≡ None
 
 module _ {H E R O : Type 0} (lent : H → ShownPort E R O) where
@@ -91,6 +93,35 @@ IsClosedFor incoming.SetupFailed outcome = outcome ≡ SetupFailed
 -- whether a connection is closed as one too many only if eight sessions are open
 abbrev pub IsCrowd : {H : Type 0} → Admission → Slab H → Type 0
 IsCrowd outcome held = outcome ≡ Crowded → 8 ≤ slab_len held
+
+-- whether the number of open sessions rises at most by one, and only if a connection is served
+abbrev pub Opens : Admission → ℕ → ℕ → Type 0
+Opens Served count later = later ≤ count + 1
+Opens _ count later = later ≤ count
+
+-- whether the listener counts a failure to set up a stream exactly if that is the result
+abbrev pub FailsSetup : Admission → Option ℕ → Option ℕ → Type 0
+FailsSetup SetupFailed before after = RisesBy before 1 after
+FailsSetup _ before after = RisesBy before 0 after
+
+-- whether the number is one more, or has reached 2^64 - 1
+abbrev pub IsOneMore : ℕ → ℕ → Type 0
+IsOneMore n more = (n ≤ more) × (n < 18446744073709551615 → more ≡ n + 1)
+
+-- whether one more connection with this result is counted, as served or as turned away
+abbrev pub IsAdded : Admission → Accepted → Accepted → Type 0
+IsAdded Served a b = IsOneMore a.served b.served × (b.turned_away ≡ a.turned_away)
+    × (b.has_starved ≡ a.has_starved)
+IsAdded Starved a b = b.has_starved ≡ true
+IsAdded _ a b = IsOneMore a.turned_away b.turned_away × (b.served ≡ a.served)
+    × (b.has_starved ≡ a.has_starved)
+
+-- Whether each connection that was turned away had a reason. If none was out of memory, a port or a
+-- thread, and fewer than eight were served, all of them are those whose stream could not be set up,
+-- as the listener counts them.
+abbrev pub HaveReasons : (before : Option ℕ) (a : Accepted) (after : Option ℕ) → Type 0
+HaveReasons before a after = a.has_starved ≡ false → a.served < 8
+    → IsCounted before a.turned_away after
 
 -- whether no more connections were served than ports were split off; and as many, if none was
 -- closed for lack of one and the count has not saturated

@@ -1,6 +1,6 @@
 //! The results of connections.
 ghost use Rattle.std.specs.Prelude.{◌≡◌, ◌⊎◌, ℕ, ◌+◌, ◌<◌, ◌≤◌, ◌↔◌, true, false, IsTrue};
-ghost use Rattle.port_threads.specs.Sessions.{Takes, IsServed};
+ghost use Rattle.port_threads.specs.Sessions.{Takes, IsAdded, IsServed};
 
 // The result of one connection.
 #[derive(Clone, Copy)]
@@ -56,6 +56,7 @@ impl Accepted {
             ⊎ (outcome ≡ Admission.Starved) }
         ensures served { (before : ℕ) (now : ℕ) (later : ℕ) → IsServed before now self.old
             → Takes outcome now later → IsServed before later self.new }
+        ensures added { IsAdded outcome self.old self.new }
         ensures failed { self.new.has_failed ≡ self.old.has_failed }
     {
         match outcome {

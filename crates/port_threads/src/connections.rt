@@ -1,7 +1,7 @@
 //! Connections and their listeners.
 ghost use Rattle.std.specs.Prelude.{◌≡◌, ⊤, ℕ, List, [], Option, None, IfOk, OnOk, OnErr};
 ghost use Rattle.std.specs.Borrow.{GName};
-ghost use Rattle.port_threads.specs.Listening.{IfReady, RisesBy};
+ghost use Rattle.port_threads.specs.Listening.{IfReady, RisesBy, setup_failures_of};
 
 use std::alloc::Global;
 use std::sync::Wait;
@@ -63,6 +63,10 @@ pub trait ConnectionSource<P> {
     /// default claims nothing.
     ghost accepted: { Self → Option ℕ } = { λ _. None };
 
+    /// Ghost value: the number of connections accepted so far whose stream could not be set up, if
+    /// the listener counts them. The default claims nothing.
+    ghost setup_failures: { Self → Option ℕ } = { λ _. None };
+
     /// Ghost value: the mutable borrow that it holds, if any. It never changes.
     ghost borrowed: { Self → Option GName } = { λ _. None };
 
@@ -74,5 +78,9 @@ pub trait ConnectionSource<P> {
         ensures served { IfOk result (IfReady (λ c. Self.Connection.terms c ≡ terms self.old)) }
         ensures accepted { OnOk result (RisesBy (accepted self.old) 1 (accepted self.new)) }
         ensures accepted_err { OnErr result (RisesBy (accepted self.old) 0 (accepted self.new)) }
+        ensures setup_failures { IfOk result (λ arrival. RisesBy (setup_failures self.old)
+            (setup_failures_of arrival) (setup_failures self.new)) }
+        ensures setup_failures_err { OnErr result
+            (RisesBy (setup_failures self.old) 0 (setup_failures self.new)) }
         ensures borrowed { borrowed self.new ≡ borrowed self.old };
 }

@@ -3,6 +3,8 @@ ghost use Rattle.std.specs.Prelude.{◌≡◌, ◌+◌, IsTrue, IfOk, IfSome, If
 ghost use Rattle.port_threads.specs.Listening.{RisesBy, IsCounted};
 ghost use Rattle.port_threads.specs.Ports.{PortContinues, AreJoined, AreServed};
 ghost use Rattle.port_threads.specs.Sessions.{port_of, terms_of, AreHeld, KeepsPorts, Takes, IsComplete, IsServed};
+ghost use Rattle.port_threads.specs.Sessions.{FailsSetup, HaveReasons, IsCrowd, IsEmpty, Opens};
+ghost use Rattle.slab.specs.Slab.{slab_len};
 ghost use Rattle.turn_lock.specs.Calls.{IsLegal};
 ghost use Rattle.turn_lock.specs.Shown.{IsSame};
 
@@ -44,6 +46,13 @@ where
         (λ _. RisesBy (L.accepted listener.old) 1 (L.accepted listener.new)) }
     ensures accepted_none { IfNone result (RisesBy (L.accepted listener.old) 0
         (L.accepted listener.new)) }
+    ensures count { IfSome result
+        (λ outcome. Opens outcome (slab_len sessions.old.handles) (slab_len sessions.new.handles)) }
+    ensures crowded { IfSome result (λ outcome. IsCrowd outcome sessions.old.handles) }
+    ensures setup_failures { IfSome result (λ outcome. FailsSetup outcome
+        (L.setup_failures listener.old) (L.setup_failures listener.new)) }
+    ensures setup_failures_none { IfNone result (RisesBy (L.setup_failures listener.old) 0
+        (L.setup_failures listener.new)) }
     ensures none { IfNone result (port.new.known.splits ≡ port.old.known.splits) }
 {
     let next = listener.accept(alloc);
@@ -74,6 +83,7 @@ where
     requires held { AreHeld port_of port.old sessions.old.handles }
     requires hands_back { (t : _) (p : _) (q : _) → L.Connection.hands_back t p q → IsSame p q }
     requires fits { (p : _) → p.lock ≡ port.old.lock → L.Connection.fits p }
+    requires empty { IsEmpty sessions.old.handles }
     ensures keeps_ports { KeepsPorts port_of (terms_of L.Connection.terms) L.Connection.hands_back
         (L.terms listener.old) port.old sessions.old.handles port.new sessions.new.handles }
     ensures complete { IsComplete limit result }
@@ -83,6 +93,8 @@ where
     ensures terms { L.terms listener.new ≡ L.terms listener.old }
     ensures counted { IsCounted (L.accepted listener.old) (result.served + result.turned_away)
         (L.accepted listener.new) }
+    ensures reasons { HaveReasons (L.setup_failures listener.old) result
+        (L.setup_failures listener.new) }
 {
     let mut accepted = Accepted::new();
     'connections: for _ in rt.forever() {
@@ -104,7 +116,9 @@ where
 /// Returns after `limit` connections (0 means no limit), or after the listener failed, once every
 /// session has ended. A connection is closed without a byte sent and counted as turned away if
 /// eight sessions are open, if no memory, port or thread is available for it, or if its stream
-/// could not be set up. Returns `AllocError` if the memory for eight sessions could not be
+/// could not be set up. If fewer than eight connections were served and none was out of memory, a
+/// port or a thread, those turned away are the ones whose stream could not be set up, as the
+/// listener counts them. Returns `AllocError` if the memory for eight sessions could not be
 /// allocated; then no connection was accepted.
 pub fn serve_connections<
     T: Turned + Send + 'static,
@@ -136,6 +150,8 @@ where
     ensures counted { IfOk result
         (λ accepted. IsCounted (L.accepted listener.old) (accepted.served + accepted.turned_away)
         (L.accepted listener.new)) }
+    ensures reasons { IfOk result (λ accepted. HaveReasons (L.setup_failures listener.old) accepted
+        (L.setup_failures listener.new)) }
     ensures err { OnErr result (port.new ≡ port.old) }
 {
     let mut sessions = Sessions::new(alloc)?;

@@ -1,8 +1,8 @@
 //! The open sessions, each with a place, a thread and a port.
-ghost use Rattle.std.specs.Prelude.{◌≡◌, ◌≢◌, ℕ, ◌<◌, List, None, IfOk};
-ghost use Rattle.slab.specs.Slab.{get};
+ghost use Rattle.std.specs.Prelude.{◌≡◌, ◌≢◌, ℕ, ◌<◌, ◌≤◌, List, None, IfOk};
+ghost use Rattle.slab.specs.Slab.{get, slab_len};
 ghost use Rattle.port_threads.specs.Sessions.{port_of, terms_of, AreHeld, IsEmpty, KeepsPorts};
-ghost use Rattle.port_threads.specs.Sessions.{Takes, IsCrowd, IsClosedFor};
+ghost use Rattle.port_threads.specs.Sessions.{Takes, Opens, IsCrowd, IsClosedFor};
 ghost use Rattle.port_threads.specs.Listening.{IfReady};
 ghost use Rattle.turn_lock.specs.Calls.{Joins};
 ghost use Rattle.turn_lock.specs.Shown.{IsSame};
@@ -55,6 +55,7 @@ impl<T: Turned, C: PortConnection<Port<T>>> Sessions<T, C> {
             port.new
             self.new.handles }
         ensures splits { port.new.known.splits ≡ port.old.known.splits }
+        ensures count { slab_len self.new.handles ≤ slab_len self.old.handles }
         ensures closed { get self.new.handles key ≡ None }
         ensures others { (other : ℕ) → get self.old.handles other ≡ None
             → get self.new.handles other ≡ None }
@@ -75,6 +76,7 @@ impl<T: Turned, C: PortConnection<Port<T>>> Sessions<T, C> {
             port.new
             self.new.handles }
         ensures splits { port.new.known.splits ≡ port.old.known.splits }
+        ensures count { slab_len self.new.handles ≤ slab_len self.old.handles }
     {
         if self.flags.has_ended(key) {
             self.close(rt, key, port);
@@ -90,6 +92,7 @@ impl<T: Turned, C: PortConnection<Port<T>>> Sessions<T, C> {
             port.new
             self.new.handles }
         ensures splits { port.new.known.splits ≡ port.old.known.splits }
+        ensures count { slab_len self.new.handles ≤ slab_len self.old.handles }
     {
         'places: for key in 0..SESSIONS {
             self.reap_one(rt, key, port);
@@ -105,6 +108,7 @@ impl<T: Turned, C: PortConnection<Port<T>>> Sessions<T, C> {
             port.new
             self.new.handles }
         ensures splits { port.new.known.splits ≡ port.old.known.splits }
+        ensures count { slab_len self.new.handles ≤ slab_len self.old.handles }
         ensures closed { (key : ℕ) → key < SESSIONS → get self.new.handles key ≡ None }
     {
         'last: for key in 0..SESSIONS {
@@ -134,6 +138,7 @@ impl<T: Turned, C: PortConnection<Port<T>>> Sessions<T, C> {
             (C.terms connection) port.old
             self.old.handles port.new self.new.handles }
         ensures splits { Takes result port.old.known.splits port.new.known.splits }
+        ensures count { Opens result (slab_len self.old.handles) (slab_len self.new.handles) }
         ensures crowded { IsCrowd result self.old.handles }
         ensures admitted { result ≢ Admission.SetupFailed }
     {
@@ -178,6 +183,8 @@ impl<T: Turned, C: PortConnection<Port<T>>> Sessions<T, C> {
             → KeepsPorts port_of (terms_of C.terms) C.hands_back t port.old self.old.handles
             port.new self.new.handles }
         ensures splits { Takes result port.old.known.splits port.new.known.splits }
+        ensures count { Opens result (slab_len self.old.handles) (slab_len self.new.handles) }
+        ensures crowded { IsCrowd result self.old.handles }
         ensures closed { IsClosedFor incoming result }
     {
         match incoming {

@@ -1,5 +1,6 @@
-//! A password in a file, so that neither a command line nor the environment shows it.
-ghost use Rattle.std.specs.Prelude.{◌≡◌, Err, true, IfOk, IfErr, string_bytes};
+//! A password in the environment, or in a file, so that neither a command line nor the environment
+//! shows it.
+ghost use Rattle.std.specs.Prelude.{◌≡◌, ◌↔◌, Err, true, IfOk, IfErr, IsTrue, string_bytes};
 ghost use Rattle.program.specs.Passwords.{HasNoLineEnd, IsExposed, IsFileFault, IsFileOf};
 ghost use Rattle.program.specs.Passwords.{IsLineFault, ReadsLine, SplitsLineEnd, fault_of};
 ghost use Rattle.program.specs.Passwords.{is_of_files};
@@ -7,9 +8,15 @@ ghost use Rattle.program.specs.Passwords.{is_of_files};
 use crate::fault::Fault;
 use counted_io::{Counted, InputFault, Reader, read_to_end_within};
 use std::alloc::{AllocError, AllocGlobal, Global};
+use std::env;
+use std::env::VarError;
 use std::fs::{File, Files};
 use std::os::unix::fs::MetadataExt;
+use std::rt::Env;
 use thiserror::Error;
+
+// The environment variable that can hold the password.
+const PASSWORD_VARIABLE: &str = "METER_PASSWORD";
 
 // The permissions of others than the file's owner.
 const OTHERS: u32 = 0o077;
@@ -58,6 +65,39 @@ impl From<PasswordFault> for Fault {
     }
 }
 
+/// Returns whether the environment has the variable `METER_PASSWORD`.
+pub fn is_password_in_environment<R: Env + AllocGlobal>(rt: &R) -> bool {
+    !matches!(env::var(rt, PASSWORD_VARIABLE), Err(VarError::NotPresent))
+}
+
+/// Returns the password of the environment, or `None` if it has no variable `METER_PASSWORD`.
+/// Errors: `Input` if it is not UTF-8, with a line on standard error if `is_verbose`; `Memory`.
+pub fn environment_password<R: Env + AllocGlobal + Eprint>(
+    rt: &R,
+    is_verbose: bool,
+) -> Result<Option<String>, Fault>
+    ensures { IfErr result (λ fault. is_of_files fault ≡ true) }
+{
+    match env::var(rt, PASSWORD_VARIABLE) {
+        Ok(text) => Ok(Some(text)),
+        Err(VarError::NotPresent) => Ok(None),
+        Err(VarError::OutOfMemory) => Err(Fault::Memory),
+        Err(_) => {
+            if is_verbose {
+                let _ = eprintln!(rt; "METER_PASSWORD: expected UTF-8 text");
+            }
+            Err(Fault::Input)
+        }
+    }
+}
+
+/// Returns whether others than the owner of a file of this mode may read, change or run it.
+pub fn is_exposed(mode: u32) -> bool
+    ensures { IsTrue result ↔ IsExposed mode }
+{
+    mode & OTHERS != 0
+}
+
 // Returns bytes without the byte 0A that may end them.
 fn without_line_end(bytes: &[u8]) -> &[u8]
     ensures { SplitsLineEnd bytes.now result.now }
@@ -103,7 +143,7 @@ fn read_open_file<R: Reader>(
         (IsFileFault mode (R.remaining reader.old) (R.failures reader.old)
         (R.remaining reader.new) (R.failures reader.new)) }
 {
-    if mode & OTHERS != 0 {
+    if is_exposed(mode) {
         return Err(PasswordFault::Exposed);
     }
     match read_to_end_within(alloc, reader, MAX_LENGTH) {

@@ -4,10 +4,11 @@ use Rattle.disconnect_control.specs.declared.state.ControlState.TheVariants.{Con
 use Rattle.disconnect_control.specs.declared.state.ControlMode.TheVariants.{Mode0}
 use Rattle.limiter_core.specs.Opening.{opened_rows}
 use Rattle.limiter_core.specs.State.{State, IsFit}
+use Rattle.limiter_attributes.specs.Reading.{max_groups}
 use Rattle.relay_core.specs.declared.opening.LimiterOpening.{LimiterOpening}
 use Rattle.relay_core.specs.declared.opening.Opening.{Opening}
 use Rattle.relay_core.specs.declared.relay.RelayCore.{RelayCore}
-use Rattle.relay_core.specs.World.{World, LimiterState}
+use Rattle.relay_core.specs.World.{World, LimiterState, IsDeviceName}
 
 -- the saved state of a limiter
 abbrev pub limiter_opening_of : State → LimiterOpening
@@ -56,13 +57,12 @@ world_of_opening o = record {
 -- whether a saved limiter can occur: some samples give its runs, and it has at most 32 group ids
 pub record IsFitLimiterOpening (o : LimiterOpening) : Type 0 where
   pub runs : IsFit o.value o.over o.under
-  pub groups : length o.settings.groups ≤ 32
+  pub groups : length o.settings.groups ≤ max_groups
 
 -- whether a saved core can occur: it has a device name of 1 to 16 bytes, mode 0 only in Connected,
 -- and limiters that can occur
 pub record IsFitOpening (o : Opening) : Type 0 where
-  pub device_some : 1 ≤ length o.device
-  pub device_few : length o.device ≤ 16
+  pub device : IsDeviceName o.device
   pub control : o.mode ≡ Mode0 → o.state ≡ Connected
   pub import : IsFitLimiterOpening o.import
   pub export : IsFitLimiterOpening o.export

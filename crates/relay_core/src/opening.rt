@@ -7,7 +7,7 @@ ghost use Rattle.relay_core.specs.Opening.{limiter_opening_of, opening_of, opene
 ghost use Rattle.relay_core.specs.Stands.{StandsFor, LimiterStateStands};
 ghost use Rattle.relay_core.specs.World.{World};
 
-use crate::relay::RelayCore;
+use crate::relay::{RelayCore, copy_lists};
 use crate::schedules::Schedules;
 use cosem_axdr::Octets;
 use disconnect_control::{ControlMode, ControlState, DisconnectControl};
@@ -221,23 +221,6 @@ impl RelayCore {
             Err(OpeningFault::Unfit) => unreachable!(),
         }
     }
-}
-
-// Returns copies of the core's lists: the device name, the scripts and the schedules.
-fn copy_lists(
-    alloc: Global,
-    device: &Octets,
-    scripts: &ScriptTable,
-    schedules: &Schedules,
-) -> Result<(Octets, ScriptTable, Schedules), AllocError>
-    ensures device { IfOk result (λ copies. copies.0 ≡ device.now) }
-    ensures scripts { IfOk result (λ copies. copies.1 ≡ scripts.now) }
-    ensures schedules { IfOk result (λ copies. copies.2 ≡ schedules.now) }
-{
-    let device = device.try_clone(alloc)?;
-    let (device, scripts) = and_keep(device, scripts.try_clone(alloc))?;
-    let ((device, scripts), schedules) = and_keep((device, scripts), schedules.try_clone(alloc))?;
-    Ok((device, scripts, schedules))
 }
 
 impl Opening {

@@ -9,6 +9,7 @@ use disconnect_control::{ControlMode, ControlState, DisconnectControl};
 use limiter_core::Limiter;
 use script_steps::ScriptTable;
 use std::alloc::{AllocError, Global};
+use wire_bytes::and_keep;
 
 /// The state of the meter: its device name, its supply switch, its limiters (each with the last
 /// moment of the clock), its scripts and its schedules.
@@ -24,6 +25,23 @@ pub struct RelayCore {
     pub ghost named: { IsDeviceName device },
     /// Both limiters have the meter's clock.
     pub ghost one_clock: { export.moment ≡ import.moment },
+}
+
+// Returns copies of a core's lists: the device name, the scripts and the schedules.
+pub(crate) fn copy_lists(
+    alloc: Global,
+    device: &Octets,
+    scripts: &ScriptTable,
+    schedules: &Schedules,
+) -> Result<(Octets, ScriptTable, Schedules), AllocError>
+    ensures device { IfOk result (λ copies. copies.0 ≡ device.now) }
+    ensures scripts { IfOk result (λ copies. copies.1 ≡ scripts.now) }
+    ensures schedules { IfOk result (λ copies. copies.2 ≡ schedules.now) }
+{
+    let device = device.try_clone(alloc)?;
+    let (device, scripts) = and_keep(device, scripts.try_clone(alloc))?;
+    let ((device, scripts), schedules) = and_keep((device, scripts), schedules.try_clone(alloc))?;
+    Ok((device, scripts, schedules))
 }
 
 impl RelayCore {
@@ -62,23 +80,13 @@ impl RelayCore {
         Ok((import, export))
     }
 
-    // Returns copies of the script table and the schedules.
-    pub(crate) fn copy_lists(&self, alloc: Global) -> Result<(ScriptTable, Schedules), AllocError>
-        ensures scripts { IfOk result (λ copies. copies.0 ≡ self.now.scripts) }
-        ensures schedules { IfOk result (λ copies. copies.1 ≡ self.now.schedules) }
-    {
-        let scripts = self.scripts.try_clone(alloc)?;
-        let schedules = self.schedules.try_clone(alloc)?;
-        Ok((scripts, schedules))
-    }
-
     /// Returns a copy of the core. Fails if out of memory.
     pub fn try_copy(&self, alloc: Global) -> Result<RelayCore, AllocError>
         ensures { IfOk result (λ copy. copy ≡ self.now) }
     {
-        let device = self.device.try_clone(alloc)?;
         let (import, export) = self.copy_limiters(alloc)?;
-        let (scripts, schedules) = self.copy_lists(alloc)?;
+        let lists = copy_lists(alloc, &self.device, &self.scripts, &self.schedules)?;
+        let (device, scripts, schedules) = lists;
         Ok(RelayCore {
             device,
             control: self.control,

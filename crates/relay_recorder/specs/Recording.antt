@@ -17,11 +17,19 @@ abbrev pub recording : RelayCore → RelayCore → Buffer Event → Recording
 recording core opening kept =
     record { core = core; opening = opening; events = kept.items; capacity = kept.capacity }
 
+-- the greatest capacity of a recorder, in events
+abbrev pub max_capacity : ℕ
+max_capacity = 1024
+
+-- whether a recorder may have this capacity
+abbrev pub IsCapacity : ℕ → Type 0
+IsCapacity capacity = (1 ≤ capacity) × (capacity ≤ max_capacity)
+
 -- whether a recorder is as each one is: its capacity is 1 to 1,024 events, it keeps no more, and
 -- while it keeps none the two cores are equal
 pub record IsRecording (r : Recording) : Type 0 where
   pub some : 1 ≤ r.capacity
-  pub few : r.capacity ≤ 1024
+  pub few : r.capacity ≤ max_capacity
   pub within : length r.events ≤ r.capacity
   pub unused : r.events ≡ [] → r.opening ≡ r.core
 

@@ -8,5 +8,5 @@ mod kept;
 mod recorder;
 mod trace;
 
-pub use recorder::Recorder;
+pub use recorder::{MAX_CAPACITY, Recorder};
 pub use trace::Trace;

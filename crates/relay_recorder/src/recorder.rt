@@ -9,6 +9,7 @@ ghost use Rattle.relay_core.specs.Opening.{world_of_opening, opening_of, IsFitOp
 ghost use Rattle.relay_core.specs.Stands.{StandsFor};
 ghost use Rattle.relay_core.specs.World.{World, IsDeviceName, new_world};
 ghost use Rattle.relay_recorder.specs.Histories.{StandsForHistory, HasHistory, Continues};
+ghost use Rattle.relay_recorder.specs.Recording.{IsCapacity, max_capacity};
 ghost use Rattle.relay_recorder.specs.Replaying.{Replays};
 
 use crate::kept::{RecordedEvent, Ring};
@@ -19,6 +20,9 @@ use relay_core::RelayCore;
 use relay_events::{Event, Events, Reply};
 use std::alloc::{AllocError, Global};
 use std::marker::Model;
+
+/// The greatest capacity of a recorder: the number of events that it keeps.
+pub const MAX_CAPACITY: u16 = 1024;
 
 /// A core, the last events that it took, and the core as it was before them.
 #[derive(Debug, Drop)]
@@ -51,7 +55,7 @@ impl Recorder {
     /// events.
     pub fn new(alloc: Global, device: &Octets, capacity: u16) -> Result<Recorder, AllocError>
         requires device { IsDeviceName device.now }
-        requires capacity { (1 ≤ capacity) × (capacity ≤ 1024) }
+        requires capacity { IsCapacity capacity }
         ensures history { IfOk result
             (λ recorder. StandsForHistory recorder [] (new_world device.now)) }
         ensures empty { IfOk result (λ recorder. recorder.events ≡ []) }
@@ -65,7 +69,7 @@ impl Recorder {
     /// the number of events it keeps. Allocates all memory for these events. If out of memory,
     /// drops the core.
     pub fn from_core(alloc: Global, core: RelayCore, capacity: u16) -> Result<Recorder, AllocError>
-        requires { (1 ≤ capacity) × (capacity ≤ 1024) }
+        requires { IsCapacity capacity }
         ensures core { IfOk result (λ recorder. recorder.core ≡ core) }
         ensures opening { IfOk result (λ recorder. recorder.opening ≡ core) }
         ensures empty { IfOk result (λ recorder. recorder.events ≡ []) }
@@ -142,7 +146,7 @@ impl Recorder {
     pub fn count(&self) -> u16
         ensures count { result ≡ length self.now.events }
         ensures within { result ≤ self.now.capacity }
-        ensures within_max { self.now.capacity ≤ 1024 }
+        ensures within_max { self.now.capacity ≤ max_capacity }
     {
         self.kept.len() as u16
     }
@@ -176,7 +180,7 @@ impl Recorder {
         ensures fit { IfOk result (λ trace. IsFitOpening trace.opening) }
         ensures agrees { IfOk result (λ trace. (w : World) → StandsFor self.now.opening w
             → Agree (world_of_opening trace.opening) w) }
-        ensures within_max { IfOk result (λ trace. length trace.events ≤ 1024) }
+        ensures within_max { IfOk result (λ trace. length trace.events ≤ max_capacity) }
         ensures events { IfOk result (λ trace. trace.events ≡ self.now.events) }
         ensures replays { IfOk result (λ trace. Replays self.now (world_of_opening trace.opening)) }
     {

@@ -45,6 +45,7 @@ fn settle_port<L: JournalIdentity + Send + Sync, W: Wait>(
     requires of_file { let D = ⟦<MemoryFile as DurableFile>⟧
         in IsFileOf D.seen D.identity L.file L.first file }
     requires same_lock { (port.lock ≡ L.lock) × (other.lock ≡ L.lock) }
+    requires may_end { L.may_end }
 {
     let (ran, _end) = run_journal::<L, W>(rt, alloc, file, other);
     let Some((progress, other)) = ran else {
@@ -56,12 +57,13 @@ fn settle_port<L: JournalIdentity + Send + Sync, W: Wait>(
         && settle(rt, &mut port, &progress, Some(3), 3);
     let pressed = port.call_and_inspect(rt, alloc, Event::Button, Question::Count);
     let is_press_settled = settle(rt, &mut port, &progress, None, 4);
+    let has_failed = progress.has_failed(&port);
     drop(port);
     let settled = Settled {
         is_settled,
         is_pressed: matches!(pressed, Ok((_, Finding::Count(4)))),
         is_press_settled,
-        has_failed: progress.has_failed(),
+        has_failed,
         lines: progress.lines(),
     };
     drop(progress);

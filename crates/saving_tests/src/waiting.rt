@@ -39,6 +39,7 @@ pub(crate) fn run_journal<L: JournalIdentity + Send + Sync, W: Wait>(
     requires of_file { let D = ⟦<MemoryFile as DurableFile>⟧
         in IsFileOf D.seen D.identity L.file L.first file }
     requires same_lock { port.lock ≡ L.lock }
+    requires may_end { L.may_end }
     ensures { IfSome result.0 (λ r. r.1.lock ≡ L.lock) }
 {
     let Ok(progress) = JournalProgress::<MemoryFile, L>::new(alloc, &mut port, &file) else {
@@ -85,6 +86,7 @@ fn waits_after<L: JournalIdentity + Send + Sync, W: Wait>(
     requires of_file { let D = ⟦<MemoryFile as DurableFile>⟧
         in IsFileOf D.seen D.identity L.file L.first file }
     requires same_lock { port.lock ≡ L.lock }
+    requires may_end { L.may_end }
 {
     let (ran, end) = run_journal::<L, W>(rt, alloc, file, port);
     let Some((progress, mut port)) = ran else {
@@ -98,6 +100,7 @@ fn waits_after<L: JournalIdentity + Send + Sync, W: Wait>(
     let has_one = other.wait(rt, &mut port, 1);
     let has_three = progress.wait(rt, &mut port, 3);
     let has_four = progress.wait(rt, &mut port, 4);
+    let has_failed = progress.has_failed(&port);
     drop(port);
     let waits = Waits {
         end,
@@ -105,7 +108,7 @@ fn waits_after<L: JournalIdentity + Send + Sync, W: Wait>(
         has_one,
         has_three,
         has_four,
-        has_failed: progress.has_failed(),
+        has_failed,
         lines: progress.lines(),
     };
     drop(other);

@@ -4,13 +4,12 @@ ghost use Rattle.std.specs.Prelude.{◌≡◌};
 ghost use Rattle.script_steps.specs.Addresses.{attribute_of, method_of, limiter_attribute_of, address_of, action_at, action_of};
 
 use crate::names::{
-    CONTROL_MODE, DISCONNECT_CONTROL, DISCONNECT_CONTROL_NAME, EMERGENCY_PROFILE, EXECUTE_METHOD,
-    EXPORT_LIMITER_NAME, IMPORT_LIMITER_NAME, LIMITER, MIN_OVER_THRESHOLD_DURATION,
+    CONTROL_MODE, EMERGENCY_PROFILE, EXECUTE_METHOD, MIN_OVER_THRESHOLD_DURATION,
     MIN_UNDER_THRESHOLD_DURATION, REMOTE_DISCONNECT, REMOTE_RECONNECT, THRESHOLD_EMERGENCY,
     THRESHOLD_NORMAL, WRITE_ATTRIBUTE,
 };
 use crate::step::Step;
-use cosem_names::{ClassId, Obis, Which};
+use cosem_names::{ClassId, Obis, Which, class, logical_name};
 
 // The target of a step as the script table names it: the service, and the attribute or method.
 #[derive(Clone, Copy, Debug, PartialEq, Eq)]
@@ -65,8 +64,8 @@ fn attribute(index: i8) -> Address
 {
     Address {
         service: WRITE_ATTRIBUTE,
-        class: DISCONNECT_CONTROL,
-        name: DISCONNECT_CONTROL_NAME,
+        class: class::DISCONNECT_CONTROL,
+        name: logical_name::DISCONNECT_CONTROL,
         index,
     }
 }
@@ -77,8 +76,8 @@ fn method(index: i8) -> Address
 {
     Address {
         service: EXECUTE_METHOD,
-        class: DISCONNECT_CONTROL,
-        name: DISCONNECT_CONTROL_NAME,
+        class: class::DISCONNECT_CONTROL,
+        name: logical_name::DISCONNECT_CONTROL,
         index,
     }
 }
@@ -88,12 +87,12 @@ fn limiter_attribute(which: Which, index: i8) -> Address
     ensures { result ≡ limiter_attribute_of which index }
 {
     let name = match which {
-        Which::Import => IMPORT_LIMITER_NAME,
-        Which::Export => EXPORT_LIMITER_NAME,
+        Which::Import => logical_name::IMPORT_LIMITER,
+        Which::Export => logical_name::EXPORT_LIMITER,
     };
     Address {
         service: WRITE_ATTRIBUTE,
-        class: LIMITER,
+        class: class::LIMITER,
         name,
         index,
     }

@@ -1,22 +1,9 @@
-//! The addresses that steps name: services, classes, logical names, attributes and methods.
-use cosem_names::{ClassId, Obis};
+//! The numbers of the services, attributes and methods that steps name.
 
 // The service_id of a step that writes an attribute (IEC 62056-6-2, class 9, scripts).
 pub(crate) const WRITE_ATTRIBUTE: u8 = 1;
 // The service_id of a step that executes a method (IEC 62056-6-2, class 9, scripts).
 pub(crate) const EXECUTE_METHOD: u8 = 2;
-
-// Class 70, Disconnect control (IEC 62056-6-2).
-pub(crate) const DISCONNECT_CONTROL: ClassId = ClassId(70);
-// Class 71, Limiter (IEC 62056-6-2).
-pub(crate) const LIMITER: ClassId = ClassId(71);
-
-// The logical name of the disconnect control.
-pub(crate) const DISCONNECT_CONTROL_NAME: Obis = Obis([0, 0, 96, 3, 10, 255]);
-// The logical name of the limiter of the imported power.
-pub(crate) const IMPORT_LIMITER_NAME: Obis = Obis([0, 0, 17, 0, 0, 255]);
-// The logical name of the limiter of the exported power.
-pub(crate) const EXPORT_LIMITER_NAME: Obis = Obis([0, 1, 17, 0, 0, 255]);
 
 // Disconnect control, method 1, remote_disconnect.
 pub(crate) const REMOTE_DISCONNECT: i8 = 1;

@@ -3,13 +3,14 @@ use Rattle.std.proofs.Common.{◌≡◌, ◌⊎◌, ◌<◌, ℕ, Bool, true, Li
 use Rattle.acse_ber.specs.Password.{IsPassword}
 use Rattle.relay_core.specs.World.{IsDeviceName}
 use Rattle.server_commands.specs.Heads.{IsHeadFault}
-use Rattle.server_commands.specs.Plans.{IsDepth, IsPlanFault, IsRecorderFault}
+use Rattle.relay_recorder.specs.Recording.{IsCapacity}
+use Rattle.server_commands.specs.Plans.{IsPlanFault, IsRecorderFault}
 use Rattle.server_commands.specs.declared.options.Bounds.{Bounds}
 use Rattle.server_commands.specs.declared.plan_fault.PlanFault.{PlanFault}
 use Rattle.server_commands.specs.declared.plan_fault.PlanFault.TheVariants as fault
 
 head_fault : (bounds : Bounds) (left : Option (List ℕ)) (failed : Bool) (f : PlanFault)
-    → IsDepth bounds.depth → bounds.resumes ≡ true → IsHeadFault left failed f
+    → IsCapacity bounds.depth → bounds.resumes ≡ true → IsHeadFault left failed f
     → IsRecorderFault bounds left failed f
 head_fault bounds left failed fault.Password depth resumes told = absurd told
 head_fault bounds left failed fault.Device depth resumes told = absurd told
@@ -22,7 +23,7 @@ head_fault bounds left failed fault.Memory depth resumes told = tt
 
 -- the fault of a head is that of the recorder
 pub no_recorder : {X : Type 0} (result : Result X PlanFault) (bounds : Bounds)
-    (left : Option (List ℕ)) (failed : Bool) → IsDepth bounds.depth → bounds.resumes ≡ true
+    (left : Option (List ℕ)) (failed : Bool) → IsCapacity bounds.depth → bounds.resumes ≡ true
     → IfErr result (IsHeadFault left failed) → IfErr result (IsRecorderFault bounds left failed)
 no_recorder (Ok x) bounds left failed depth resumes told = tt
 no_recorder (Err f) bounds left failed depth resumes told =

@@ -9,3 +9,4 @@ pub mod Options
 pub mod Plans
 pub mod Requests
 pub mod Sessions
+pub mod Works

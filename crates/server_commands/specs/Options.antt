@@ -1,10 +1,11 @@
 -- The values of the options of a command line.
 --     IsText       the text of an option
 --     IsNumber     the number of an option
+--     IsTextFault  why the text of an option is not taken
 --     IsFlag       whether an option without a value is given
 --     is_written   whether the words of the command line give an option
 --     IsBounds     the limits and flags of `serve`
-use Rattle.std.specs.Prelude.{◌≡◌, ◌<◌, ◌^◌, ℕ, Bool, true, false, codes, List, [], ◌∷◌, ◌++◌, Option, Some, None, unwrap_or}
+use Rattle.std.specs.Prelude.{◌≡◌, ◌⊎◌, ◌<◌, ◌^◌, ℕ, Bool, true, false, codes, List, [], ◌∷◌, ◌++◌, Option, Some, None, unwrap_or}
 use Rattle.std.specs.Option.{option_and_then}
 use Rattle.std.specs.Str.Parse.{IsNumeral, digits_value, without_leading_plus}
 use Rattle.clap.specs.Matches.{first_value, matched_of, one_text}
@@ -16,6 +17,12 @@ use Rattle.server_commands.specs.declared.options.Bounds.{Bounds}
 -- whether this is the text of the option of this name; empty if there is none
 abbrev pub IsText : Found → List ℕ → List ℕ → Type 0
 IsText found name text = text ≡ unwrap_or (first_value found name) []
+
+-- whether this is why a text of this length is not taken: the option's own fault if it is empty or
+-- longer than it may be, or out of memory
+abbrev pub IsTextFault : {F : Type 0} → F → F → ℕ → ℕ → F → Type 0
+IsTextFault wrong memory longest count given = (given ≡ memory)
+    ⊎ ((given ≡ wrong) × ((count ≡ 0) ⊎ (longest < count)))
 
 -- whether this is the number of the option of this name: it is written in decimal and fits in this
 -- number of bits

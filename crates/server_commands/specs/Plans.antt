@@ -7,7 +7,7 @@ use Rattle.server_commands.specs.Heads.{IsHeadFault, TakesHead}
 use Rattle.trace_player.specs.Resuming.{ContinuesRun, world_of}
 use Rattle.relay_core.specs.Stands.{StandsFor}
 use Rattle.relay_core.specs.World.{IsDeviceName}
-use Rattle.relay_recorder.specs.Recording.{Recording}
+use Rattle.relay_recorder.specs.Recording.{IsCapacity, Recording, max_capacity}
 use Rattle.relay_recorder.specs.declared.trace.Trace.{Trace}
 use Rattle.server_commands.specs.declared.options.Bounds.{Bounds}
 use Rattle.server_commands.specs.declared.plan_fault.PlanFault.{PlanFault}
@@ -22,19 +22,15 @@ pub record Resumes (left left' : Option (List ℕ)) (recorder : Recording) : Typ
   pub stands : StandsFor recorder.core (world_of trace)
   pub goes_on : ContinuesRun trace (world_of trace)
 
--- whether this is a number of events that can be kept
-abbrev pub IsDepth : ℕ → Type 0
-IsDepth depth = (1 ≤ depth) × (depth ≤ 1024)
-
 -- whether a number of kept events is other than 1 to 1,024
 abbrev pub IsWrongDepth : ℕ → Type 0
-IsWrongDepth depth = (depth ≡ 0) ⊎ (1024 < depth)
+IsWrongDepth depth = (depth ≡ 0) ⊎ (max_capacity < depth)
 
 -- whether this is why there is no recorder, by whether a read of the input failed
 abbrev pub IsRecorderFault : Bounds → Option (List ℕ) → Bool → PlanFault → Type 0
 IsRecorderFault bounds left failed fault.Depth = IsWrongDepth bounds.depth
 IsRecorderFault bounds left failed fault.Memory = ⊤
-IsRecorderFault bounds left failed other = IsDepth bounds.depth × (bounds.resumes ≡ true)
+IsRecorderFault bounds left failed other = IsCapacity bounds.depth × (bounds.resumes ≡ true)
     × IsHeadFault left failed other
 
 -- whether this is why there is no plan: the first that is wrong of the password, the device name,

@@ -13,12 +13,6 @@ use Rattle.server_commands.specs.Apdu.{max_bytes}
 use Rattle.server_commands.specs.declared.messages.CommandFault.{CommandFault}
 use Rattle.server_commands.specs.declared.messages.CommandFault.TheVariants as fault
 
--- whether this is the fault of an option's text of this length: the option's own fault if the text
--- is empty or too long, or out of memory
-abbrev pub IsOptionFault : CommandFault → ℕ → ℕ → CommandFault → Type 0
-IsOptionFault wrong count longest given = (given ≡ fault.Memory)
-    ⊎ ((given ≡ wrong) × ((count ≡ 0) ⊎ (longest < count)))
-
 -- the fault of a text, by the index of its first character that is neither a digit nor skipped;
 -- without such a character it has an odd number of digits
 abbrev pub fault_at : Option ℕ → CommandFault

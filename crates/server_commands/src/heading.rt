@@ -14,14 +14,11 @@ use counted_io::{InputFault, Monitored, read_line_within};
 use std::alloc::{AllocError, Global};
 use std::io::{BufReader, Read};
 use trace_lines::read_event_count;
-use trace_player::{MAX_BYTES, Trace, read_trace};
+use trace_player::{MAX_BYTES, OPENING_LINES, Trace, read_trace};
 use trace_words::{TraceFault, TraceLines};
 
 // The number of lines before the number of events, in version 1 of the format.
 const LINES_OF_VERSION_1: u32 = 20;
-
-// The number of lines before the number of events, in version 2 of the format.
-const LINES_OF_VERSION_2: u32 = 30;
 
 // Reads one more line of a text of at most 33,554,432 bytes. Returns whether there is one: at the
 // end of the input the text does not change. Errors: `TooLong` above that limit, `Read`, `Memory`.
@@ -86,7 +83,7 @@ fn opening_lines(first: &[u8]) -> Option<u32>
     if first == b"RELAYTRACE 1\n".as_slice() {
         Some(LINES_OF_VERSION_1)
     } else if first == b"RELAYTRACE 2\n".as_slice() {
-        Some(LINES_OF_VERSION_2)
+        Some(OPENING_LINES)
     } else {
         None
     }

@@ -2,37 +2,17 @@
 ghost use Rattle.std.specs.Prelude.{◌≡◌, ◌≤◌, length, IfOk, IfErr};
 ghost use Rattle.acse_ber.specs.Password.{IsPassword};
 ghost use Rattle.relay_core.specs.World.{IsDeviceName};
-ghost use Rattle.server_commands.specs.Sessions.{IsOptionFault, PlaysInput, PlaysText};
+ghost use Rattle.server_commands.specs.Sessions.{PlaysInput, PlaysText};
 ghost use Rattle.session_io.specs.Sides.{output_of};
 
 use crate::messages::CommandFault;
-use crate::texts::octets_of;
+use crate::texts::option_octets;
 use acse_ber::MAX_PASSWORD;
 use cosem_axdr::Octets;
 use counted_io::{Reader, Writer};
-use program::Fault;
 use relay_core::MAX_DEVICE_NAME;
 use session_io::{HexFault, play_session, read_hex};
 use std::alloc::Global;
-
-// Returns the bytes of an option's text. Errors: `wrong` if there are none or more than `longest`,
-// `Memory`.
-fn option_bytes(
-    alloc: Global,
-    text: &str,
-    longest: usize,
-    wrong: CommandFault,
-) -> Result<Octets, CommandFault>
-    ensures bytes { IfOk result (λ octets. octets ≡ text.now) }
-    ensures fits { IfOk result (λ octets. (1 ≤ length octets) × (length octets ≤ longest)) }
-    ensures err { IfErr result (λ fault. IsOptionFault wrong (length text.now) longest fault) }
-{
-    match octets_of(alloc, text, longest) {
-        Ok(octets) => Ok(octets),
-        Err(Fault::Input) => Err(wrong),
-        Err(_) => Err(CommandFault::Memory),
-    }
-}
 
 // Runs the session of a client that sends these bytes.
 fn play<W: Writer>(
@@ -78,8 +58,20 @@ pub fn play_text<R: Reader, W: Writer>(
     ensures { PlaysText R.remaining R.failures W.contents W.failures password.now device.now
         reader.old writer.old result reader.new writer.new }
 {
-    let password = option_bytes(alloc, password, MAX_PASSWORD, CommandFault::Password)?;
-    let device = option_bytes(alloc, device, MAX_DEVICE_NAME, CommandFault::Device)?;
+    let password = option_octets(
+        alloc,
+        password,
+        MAX_PASSWORD,
+        CommandFault::Password,
+        CommandFault::Memory,
+    )?;
+    let device = option_octets(
+        alloc,
+        device,
+        MAX_DEVICE_NAME,
+        CommandFault::Device,
+        CommandFault::Memory,
+    )?;
     match read_hex(alloc, reader) {
         Ok(input) => play(alloc, input.as_slice(), writer, &device, &password),
         Err(fault) => Err(CommandFault::from(fault)),

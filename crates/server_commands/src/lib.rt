@@ -26,4 +26,3 @@ pub use options::{Bounds, HexOptions, ServeOptions};
 pub use plan::{ServePlan, has_name, make_plan};
 pub use plan_fault::PlanFault;
 pub use reading::{Work, parse_command_line};
-pub use texts::octets_of;

@@ -9,15 +9,10 @@ ghost use Rattle.server_commands.specs.Options.{IsText, IsNumber, IsFlag, IsBoun
 
 use clap::ArgMatches;
 use clap::parser::ValueSource;
-use program::{Fault, read_password_file};
+use program::{Fault, environment_password, read_password_file};
 use std::alloc::{AllocGlobal, Global};
-use std::env;
-use std::env::VarError;
 use std::fs::{File, Files};
 use std::rt::Env;
-
-// The environment variable of the password.
-pub(crate) const PASSWORD_VARIABLE: &str = "METER_PASSWORD";
 
 /// The options of `hex`.
 #[derive(Drop)]
@@ -133,8 +128,9 @@ pub(crate) fn hex_options<R: Env + AllocGlobal + Eprint + Files<File = File>>(
 }
 
 // Returns the password of the command line, else that of the file that it names, else that of the
-// environment. Errors: those of a file without a password, with a line on standard error; `Memory`,
-// and `Input` if there is no password.
+// environment. Errors: those of a file without a password, with a line on standard error; `Memory`;
+// `Input` if there is no password, or that of the environment is not UTF-8, with a line if the
+// command line has `--verbose`.
 #[tactic(auto, using(crate::proofs::Faults::files_told))]
 fn find_password<R: Env + AllocGlobal + Eprint + Files<File = File>>(
     rt: &R,
@@ -155,11 +151,7 @@ fn find_password<R: Env + AllocGlobal + Eprint + Files<File = File>>(
     if let Some(path) = matches.get_str("password-file") {
         return read_password_file(rt, path);
     }
-    match env::var(rt, PASSWORD_VARIABLE) {
-        Ok(text) => Ok(text),
-        Err(VarError::OutOfMemory) => Err(Fault::Memory),
-        Err(_) => Err(Fault::Input),
-    }
+    environment_password(rt, is_given(matches, "verbose"))?.ok_or(Fault::Input)
 }
 
 // Returns the number of events that the trace keeps.

@@ -1,12 +1,13 @@
 //! Validates the options of `meter_server serve` and makes its meter: a new one, or one that
 //! resumes from a trace.
-ghost use Rattle.std.specs.Prelude.{◌≡◌, ◌≤◌, ◌<◌, ◌⊎◌, [], length, true, false, IfOk, IfErr, IsTrue, ◌↔◌};
+ghost use Rattle.std.specs.Prelude.{◌≡◌, ◌≤◌, [], length, true, false, IfOk, IfErr, IsTrue, ◌↔◌};
 ghost use Rattle.std.specs.String.{string_bytes};
 ghost use Rattle.acse_ber.specs.Password.{IsPassword};
 ghost use Rattle.relay_core.specs.Opening.{opening_of};
 ghost use Rattle.relay_core.specs.World.{IsDeviceName, new_world};
 ghost use Rattle.relay_recorder.specs.Histories.{StandsForHistory};
 ghost use Rattle.counted_io.specs.Lines.{has_failed_in, left_in};
+ghost use Rattle.relay_recorder.specs.Recording.{IsCapacity};
 ghost use Rattle.server_commands.specs.Heads.{IsHeadFault};
 ghost use Rattle.server_commands.specs.Plans.{IsPlanFault, IsRecorderFault, Resumes};
 ghost use Rattle.server_commands.specs.declared.plan_fault.PlanFault.TheVariants.{Memory};
@@ -14,13 +15,13 @@ ghost use Rattle.server_commands.specs.declared.plan_fault.PlanFault.TheVariants
 use crate::heading::read_head;
 use crate::options::{Bounds, ServeOptions};
 use crate::plan_fault::PlanFault;
-use crate::texts::octets_of;
+use crate::texts::option_octets;
 use acse_ber::MAX_PASSWORD;
 use cosem_axdr::Octets;
 use counted_io::Monitored;
 use program::Fault;
 use relay_core::MAX_DEVICE_NAME;
-use relay_recorder::Recorder;
+use relay_recorder::{MAX_CAPACITY, Recorder};
 use std::alloc::{AllocError, Global};
 use std::io::{BufReader, Read};
 use trace_player::resume_recorder;
@@ -32,7 +33,7 @@ fn resume_from_head<I: Read>(
     input: &mut BufReader<Monitored<I>>,
     depth: u16,
 ) -> Result<Recorder, PlanFault>
-    requires { (1 ≤ depth) × (depth ≤ 1024) }
+    requires { IsCapacity depth }
     ensures unused { IfOk result (λ recorder. recorder.events ≡ []) }
     ensures capacity { IfOk result (λ recorder. recorder.capacity ≡ depth) }
     ensures resumed { IfOk result
@@ -55,7 +56,7 @@ fn resume_from_head<I: Read>(
 // Returns the recorder of a new meter with this name.
 fn new_recorder(alloc: Global, device: &Octets, depth: u16) -> Result<Recorder, PlanFault>
     requires device { IsDeviceName device.now }
-    requires depth { (1 ≤ depth) × (depth ≤ 1024) }
+    requires depth { IsCapacity depth }
     ensures unused { IfOk result (λ recorder. recorder.events ≡ []) }
     ensures capacity { IfOk result (λ recorder. recorder.capacity ≡ depth) }
     ensures new_world { IfOk result
@@ -101,7 +102,7 @@ fn prepare_recorder<I: Read>(
         (IsRecorderFault bounds (left_in I.remaining input.old) (has_failed_in input.new)) }
 {
     let depth = bounds.depth;
-    if depth < 1 || depth > 1024 {
+    if depth < 1 || depth > MAX_CAPACITY {
         return Err(PlanFault::Depth);
     }
     if bounds.resumes {
@@ -124,26 +125,6 @@ pub struct ServePlan<I> {
     pub input: BufReader<Monitored<I>>,
     ghost sized: { IsPassword password },
     ghost unused: { length recorder.events ≡ 0 },
-}
-
-// Returns the bytes of an option's text. Errors: `wrong` if there are none or more than `longest`,
-// `Memory`.
-fn option_octets(
-    alloc: Global,
-    text: &str,
-    longest: usize,
-    wrong: PlanFault,
-) -> Result<Octets, PlanFault>
-    ensures bytes { IfOk result (λ octets. octets ≡ text.now) }
-    ensures fits { IfOk result (λ octets. (1 ≤ length octets) × (length octets ≤ longest)) }
-    ensures err { IfErr result (λ fault. (fault ≡ Memory)
-        ⊎ ((fault ≡ wrong) × ((length text.now ≡ 0) ⊎ (longest < length text.now)))) }
-{
-    match octets_of(alloc, text, longest) {
-        Ok(octets) => Ok(octets),
-        Err(Fault::Input) => Err(wrong),
-        Err(_) => Err(PlanFault::Memory),
-    }
 }
 
 /// Validates the options, and reads the trace to resume from if the options request it.
@@ -178,12 +159,14 @@ pub fn make_plan<I: Read + Drop>(
         options.password.as_str(),
         MAX_PASSWORD,
         PlanFault::Password,
+        PlanFault::Memory,
     )?;
     let device = option_octets(
         alloc,
         options.device.as_str(),
         MAX_DEVICE_NAME,
         PlanFault::Device,
+        PlanFault::Memory,
     )?;
     let Ok(mut input) = BufReader::new(alloc, Monitored::new(input)) else {
         return Err(PlanFault::Memory);

@@ -1,14 +1,16 @@
 //! Parses the command line of `meter_server` into the work that it requests.
-ghost use Rattle.std.specs.Prelude.{◌≡◌, true, IfErr};
+ghost use Rattle.std.specs.Prelude.{◌≡◌, true, IfOk, IfErr};
+ghost use Rattle.clap.specs.Matches.{subcommand_name_of};
 ghost use Rattle.server_commands.specs.Asking.{is_of_asking};
+ghost use Rattle.server_commands.specs.Works.{command_of};
 
 use crate::arguments::command_line;
-use crate::options::{HexOptions, PASSWORD_VARIABLE, ServeOptions, hex_options, serve_options};
+use crate::options::{HexOptions, ServeOptions, hex_options, serve_options};
 use clap::ArgMatches;
-use program::{Fault, has_option, print_help_or_missing_password, read_arguments};
+use program::{
+    Fault, has_option, is_password_in_environment, print_help_or_missing_password, read_arguments,
+};
 use std::alloc::{AllocGlobal, Global};
-use std::env;
-use std::env::VarError;
 use std::fs::{File, Files};
 use std::rt::Env;
 
@@ -31,7 +33,8 @@ fn parse_command<R: Env + AllocGlobal + Eprint + Files<File = File>>(
     rt: &R,
     matches: &ArgMatches<'_>,
 ) -> Result<Work, Fault>
-    ensures { IfErr result (λ fault. is_of_asking fault ≡ true) }
+    ensures command { IfOk result (λ work. command_of work ≡ subcommand_name_of matches.now) }
+    ensures err { IfErr result (λ fault. is_of_asking fault ≡ true) }
 {
     match matches.subcommand() {
         Some(("serve", matches)) => Ok(Work::Serve(serve_options(rt, matches)?)),
@@ -77,6 +80,6 @@ pub fn parse_command_line<R: Env + AllocGlobal + Print + Eprint + Files<File = F
     let words = read_arguments(rt)?;
     // (clap's `required_unless_present` would print the options of the usage in another order)
     let has_password = has_option(words.as_slice(), "--password-file")
-        || !matches!(env::var(rt, PASSWORD_VARIABLE), Err(VarError::NotPresent));
+        || is_password_in_environment(rt);
     parse_work(rt, words.as_slice(), has_password)
 }

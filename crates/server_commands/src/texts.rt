@@ -1,26 +1,26 @@
 //! The texts of options.
-ghost use Rattle.std.specs.Prelude.{◌≡◌, ◌⊎◌, ◌<◌, ◌≤◌, length, Err, IfOk, IfErr};
-ghost use Rattle.program.specs.declared.fault.Fault.TheVariants.{Input, Memory};
+ghost use Rattle.std.specs.Prelude.{◌≡◌, ◌≤◌, length, IfOk, IfErr};
+ghost use Rattle.server_commands.specs.Options.{IsTextFault};
 
 use cosem_axdr::Octets;
-use program::Fault;
 use std::alloc::Global;
 
-/// Returns the bytes of a text of 1 to `longest` bytes. Errors: `Input` for any other text;
-/// `Memory`.
-pub fn octets_of(alloc: Global, text: &str, longest: usize) -> Result<Octets, Fault>
+// Returns the bytes of an option's text, 1 to `longest`. Errors: `wrong` for any other text;
+// `memory` if out of memory.
+pub(crate) fn option_octets<F: Copy>(
+    alloc: Global,
+    text: &str,
+    longest: usize,
+    wrong: F,
+    memory: F,
+) -> Result<Octets, F>
     ensures bytes { IfOk result (λ octets. octets ≡ text.now) }
     ensures fits { IfOk result (λ octets. (1 ≤ length octets) × (length octets ≤ longest)) }
-    ensures unfit { (length text.now ≡ 0) ⊎ (longest < length text.now) → result ≡ Err Input }
-    ensures taken { 1 ≤ length text.now → length text.now ≤ longest
-        → IfErr result (λ fault. fault ≡ Memory) }
+    ensures err { IfErr result (IsTextFault wrong memory longest (length text.now)) }
 {
     let bytes = text.as_bytes();
     if bytes.is_empty() || bytes.len() > longest {
-        return Err(Fault::Input);
+        return Err(wrong);
     }
-    match Octets::from_slice(alloc, bytes) {
-        Ok(octets) => Ok(octets),
-        Err(_) => Err(Fault::Memory),
-    }
+    Octets::from_slice(alloc, bytes).map_err(|_| memory)
 }

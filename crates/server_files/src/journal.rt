@@ -1,17 +1,24 @@
 //! The journal of a server: its file, its lock, and the recorder that resumes where it ends.
-ghost use Rattle.std.specs.Prelude.{◌≡◌, ◌≤◌, true, IfOk, IfErr, IfSome, length, string_bytes};
-ghost use Rattle.server_files.specs.Faults.{is_of_opening};
+ghost use Rattle.std.specs.Prelude.{◌≡◌, [], false, true, IfOk, IfErr, IsErrOf, OnOk};
+ghost use Rattle.std.specs.Prelude.{length, string_bytes};
+ghost use Rattle.durable_lines.specs.Lines.{IsSettled};
+ghost use Rattle.journal_files.specs.Journals.{Continues, IsBegun};
+ghost use Rattle.journal_files.specs.RenewedFile.{terms_of};
+ghost use Rattle.relay_core.specs.Opening.{opening_of};
+ghost use Rattle.relay_recorder.specs.Recording.{IsCapacity};
+ghost use Rattle.server_files.specs.Faults.{fault_of_start, is_of_opening};
+ghost use Rattle.server_files.specs.Journals.{depth_for, terms_for};
 
 use crate::lock::lock_journal;
 use crate::paths::{folder_of, place_paths, with_suffix};
-use durable_lines::{LockFile, StoredFile, StoredPlace};
+use durable_lines::{LockFile, Place, StoredFile, StoredPlace};
 use journal_files::{
     RenewalTerms, RenewedFile, Resumed, StartFault, begin_journal, renew_long_journal,
     resume_journal,
 };
 use program::Fault;
-use relay_recorder::Recorder;
-use std::alloc::AllocGlobal;
+use relay_recorder::{MAX_CAPACITY, Recorder};
+use std::alloc::{AllocGlobal, Global};
 use std::fs::{File, Files};
 use std::io::ErrorKind;
 use trace_player::MAX_BYTES;
@@ -42,14 +49,17 @@ pub struct OpenJournal<R: Files<File = File> + Drop> {
 // Returns how many events stay in a journal: the number of the options, or the nearest of 1 to
 // 1,024.
 fn depth_of(options: JournalOptions) -> u16
-    ensures within { (1 ≤ result) × (result ≤ 1024) }
-    ensures same { 1 ≤ options.depth → options.depth ≤ 1024 → result ≡ options.depth }
+    ensures within { IsCapacity result }
+    ensures same { IsCapacity options.depth → result ≡ options.depth }
+    ensures depth { result ≡ depth_for options }
 {
-    options.depth.clamp(1, 1024)
+    options.depth.clamp(1, MAX_CAPACITY)
 }
 
 // Returns when a journal is renewed, and how many events stay in it.
-fn terms_of(options: JournalOptions) -> RenewalTerms {
+fn renewal_terms(options: JournalOptions) -> RenewalTerms
+    ensures { result ≡ terms_for options }
+{
     RenewalTerms {
         limit: options.limit as usize,
         depth: usize::from(depth_of(options)),
@@ -69,41 +79,95 @@ fn place_of<R: AllocGlobal + Files<File = File> + Copy + Drop>(
     Ok(StoredPlace::new(*rt, folder, paths, MAX_BYTES))
 }
 
-// Resumes the journal of an open file of a place, for the meter with the name of this recorder,
-// which keeps at most `depth` events.
-fn resume_file<R: AllocGlobal + Files<File = File> + Drop>(
-    rt: &R,
-    place: &mut StoredPlace<R>,
-    file: File,
+// Resumes the journal of a place's file, for the meter with the name of this recorder. Its recorder
+// keeps at most `depth` events.
+fn resume_named<P: Place>(
+    alloc: Global,
+    place: &mut P,
     recorder: &Recorder,
     depth: u16,
 ) -> Result<Resumed, StartFault>
-    requires { (1 ≤ depth) × (depth ≤ 1024) }
-    ensures { IfOk result (λ resumed. length resumed.recorder.events ≡ 0) }
+    requires { IsCapacity depth }
+    ensures unused { IfOk result (λ resumed. length resumed.recorder.events ≡ 0) }
+    ensures capacity { IfOk result (λ resumed. resumed.recorder.capacity ≡ depth) }
+    ensures continues { IfOk result (λ resumed. P.acts_as_file
+        → Continues (opening_of recorder.now.core).device (P.seen place.old) resumed.recorder) }
+    ensures settled { IfOk result (λ resumed. P.acts_as_file
+        → IsSettled P.seen P.may_leave P.identity P.stored place.new) }
 {
-    let opening = recorder.core().to_opening(rt.alloc())?;
-    let Ok(file) = StoredFile::try_lock(file, MAX_BYTES) else {
-        drop(opening);
-        return Err(StartFault::File);
-    };
-    place.set_file(file);
-    let resumed = resume_journal(rt.alloc(), place, &opening.device, depth);
+    let opening = recorder.core().to_opening(alloc)?;
+    let resumed = resume_journal(alloc, place, &opening.device, depth);
     drop(opening);
     resumed
 }
 
 // Renews the journal of a place that was resumed, if it is long. Returns the recorder.
-fn renew_resumed<R: AllocGlobal + Files<File = File> + Drop>(
-    rt: &R,
-    place: &mut StoredPlace<R>,
+fn renew_resumed<P: Place>(
+    alloc: Global,
+    place: &mut P,
     recorder: Recorder,
     terms: RenewalTerms,
-) -> Result<Option<Recorder>, StartFault>
-    requires { length recorder.events ≡ 0 }
-    ensures { IfOk result (λ r. IfSome r (λ resumed. length resumed.events ≡ 0)) }
+) -> Result<Recorder, StartFault>
+    requires { P.acts_as_file → IsSettled P.seen P.may_leave P.identity P.stored place.old }
+    ensures { IfOk result (λ resumed. resumed ≡ recorder) }
 {
-    match renew_long_journal(rt.alloc(), place, terms.depth, terms.limit) {
-        Ok(()) => Ok(Some(recorder)),
+    match renew_long_journal(alloc, place, terms.depth, terms.limit) {
+        Ok(()) => Ok(recorder),
+        Err(fault) => {
+            drop(recorder);
+            Err(fault)
+        }
+    }
+}
+
+// Resumes the journal of a place's file as `resume_named` does, and renews it if it is long.
+// Reports on standard error what was cut.
+fn resume_in_place<R: AllocGlobal + Eprint, P: Place>(
+    rt: &R,
+    path: &str,
+    place: &mut P,
+    recorder: &Recorder,
+    options: JournalOptions,
+) -> Result<Recorder, StartFault>
+    ensures unused { IfOk result (λ resumed. length resumed.events ≡ 0) }
+    ensures capacity { IfOk result (λ resumed. resumed.capacity ≡ depth_for options) }
+    ensures continues { IfOk result (λ resumed. P.acts_as_file
+        → Continues (opening_of recorder.now.core).device (P.seen place.old) resumed) }
+{
+    let depth = depth_of(options);
+    let Resumed { recorder, cut } = resume_named(rt.alloc(), place, recorder, depth)?;
+    if cut > 0 {
+        let _ = eprintln!(rt; "{path}: cut {cut} bytes of an interrupted write");
+    }
+    renew_resumed(rt.alloc(), place, recorder, renewal_terms(options))
+}
+
+// Opens the journal of a place. If it has a file, the journal is resumed: returns the recorder that
+// continues where it ends, and drops the given one. Otherwise it is begun with the given recorder,
+// which is returned.
+fn open_in_place<R: AllocGlobal + Eprint, P: Place>(
+    rt: &R,
+    path: &str,
+    place: &mut P,
+    recorder: Recorder,
+    options: JournalOptions,
+    has_file: bool,
+) -> Result<Recorder, StartFault>
+    requires { length recorder.events ≡ 0 }
+    ensures unused { IfOk result (λ last. length last.events ≡ 0) }
+    ensures resumed { IfOk result (λ last. has_file ≡ true → P.acts_as_file
+        → Continues (opening_of recorder.core).device (P.seen place.old) last) }
+    ensures journal { OnOk result (has_file ≡ false → P.acts_as_file
+        → IsBegun recorder (P.seen place.new) (P.may_leave place.new)) }
+    ensures given { IfOk result (λ last. has_file ≡ false → last ≡ recorder) }
+{
+    if has_file {
+        let resumed = resume_in_place(rt, path, place, &recorder, options);
+        drop(recorder);
+        return resumed;
+    }
+    match begin_journal(rt.alloc(), place, &recorder) {
+        Ok(()) => Ok(recorder),
         Err(fault) => {
             drop(recorder);
             Err(fault)
@@ -112,32 +176,35 @@ fn renew_resumed<R: AllocGlobal + Files<File = File> + Drop>(
 }
 
 // Opens the journal of a path in its place, or begins it with this recorder if there is no file.
-// Returns the recorder that resumes where it ends, or `None` if it was begun.
+// Returns the recorder of the meter.
 fn open_file<R: AllocGlobal + Eprint + Files<File = File> + Drop>(
     rt: &R,
     path: &str,
     place: &mut StoredPlace<R>,
-    recorder: &Recorder,
+    recorder: Recorder,
     options: JournalOptions,
-) -> Result<Option<Recorder>, StartFault>
-    ensures { IfOk result (λ r. IfSome r (λ resumed. length resumed.events ≡ 0)) }
+) -> Result<Recorder, StartFault>
+    requires { length recorder.events ≡ 0 }
+    ensures { IfOk result (λ last. length last.events ≡ 0) }
 {
     let mut access = File::options();
     access.read(true).write(true);
     match access.open(rt, path) {
         Ok(file) => {
-            let depth = depth_of(options);
-            let Resumed { recorder, cut } = resume_file(rt, place, file, recorder, depth)?;
-            if cut > 0 {
-                let _ = eprintln!(rt; "{path}: cut {cut} bytes of an interrupted write");
-            }
-            renew_resumed(rt, place, recorder, terms_of(options))
+            let Ok(file) = StoredFile::try_lock(file, MAX_BYTES) else {
+                drop(recorder);
+                return Err(StartFault::File);
+            };
+            place.set_file(file);
+            open_in_place(rt, path, place, recorder, options, true)
         }
-        Err(error) if error.kind() == ErrorKind::NotFound => {
-            begin_journal(rt.alloc(), place, recorder)?;
-            Ok(None)
+        Err(error) if error.kind() == ErrorKind::NotFound => open_in_place(
+            rt, path, place, recorder, options, false,
+        ),
+        Err(_) => {
+            drop(recorder);
+            Err(StartFault::File)
         }
-        Err(_) => Err(StartFault::File),
     }
 }
 
@@ -145,16 +212,24 @@ fn open_file<R: AllocGlobal + Eprint + Files<File = File> + Drop>(
 fn open_renewed<R: AllocGlobal + Eprint + Files<File = File> + Copy + Drop>(
     rt: &R,
     path: &str,
-    recorder: &Recorder,
+    recorder: Recorder,
     options: JournalOptions,
-) -> Result<(RenewedFile<StoredPlace<R>>, Option<Recorder>), StartFault>
-    ensures { IfOk result (λ r. IfSome r.1 (λ resumed. length resumed.events ≡ 0)) }
+) -> Result<(RenewedFile<StoredPlace<R>>, Recorder), StartFault>
+    requires { length recorder.events ≡ 0 }
+    ensures unused { IfOk result (λ r. length r.1.events ≡ 0) }
+    ensures terms { IfOk result (λ r. terms_of r.0 ≡ terms_for options) }
 {
-    let mut place = place_of(rt, path, options.kept)?;
+    let mut place = match place_of(rt, path, options.kept) {
+        Ok(place) => place,
+        Err(fault) => {
+            drop(recorder);
+            return Err(fault);
+        }
+    };
     match open_file(rt, path, &mut place, recorder, options) {
-        Ok(resumed) => {
-            let file = RenewedFile::new(rt.alloc(), place, terms_of(options));
-            Ok((file, resumed))
+        Ok(last) => {
+            let file = RenewedFile::new(rt.alloc(), place, renewal_terms(options));
+            Ok((file, last))
         }
         Err(fault) => {
             drop(place);
@@ -165,7 +240,8 @@ fn open_renewed<R: AllocGlobal + Eprint + Files<File = File> + Copy + Drop>(
 
 // Returns the fault of the program for a journal that is not open.
 fn fault_of(fault: StartFault) -> Fault
-    ensures { is_of_opening result ≡ true }
+    ensures err { is_of_opening result ≡ true }
+    ensures fault { result ≡ fault_of_start fault }
 {
     match fault {
         StartFault::Line(_) | StartFault::TooLong | StartFault::Counted | StartFault::OtherMeter =>
@@ -182,7 +258,10 @@ fn journal_with<R: AllocGlobal + Files<File = File> + Drop>(
     file: RenewedFile<StoredPlace<R>>,
     lock: LockFile,
 ) -> Result<OpenJournal<R>, Fault>
-    ensures { IfErr result (λ fault. is_of_opening fault ≡ true) }
+    ensures path { IfOk result (λ journal. string_bytes journal.path ≡ path.now) }
+    ensures file { IfOk result (λ journal. journal.file ≡ file) }
+    ensures lock { IfOk result (λ journal. journal.lock ≡ lock) }
+    ensures err { IfErr result (λ fault. fault ≡ Fault.Memory) }
 {
     match with_suffix(rt.alloc(), path, "") {
         Ok(path) => Ok(OpenJournal { path, file, lock }),
@@ -190,23 +269,32 @@ fn journal_with<R: AllocGlobal + Files<File = File> + Drop>(
     }
 }
 
-// Opens the journal of a path with its lock. Returns it, and the recorder that resumes where it
-// ends, or `None` if it was begun with the given one. Reports on standard error why it is not open.
+// Opens the journal of a path with its lock. Returns it, and the recorder of the meter. Reports on
+// standard error why it is not open.
 fn open_with_lock<R: AllocGlobal + Eprint + Files<File = File> + Copy + Drop>(
     rt: &R,
     path: &str,
-    recorder: &Recorder,
+    recorder: Recorder,
     options: JournalOptions,
-) -> Result<(OpenJournal<R>, Option<Recorder>), Fault>
-    ensures unused { IfOk result (λ r. IfSome r.1 (λ resumed. length resumed.events ≡ 0)) }
+) -> Result<(OpenJournal<R>, Recorder), Fault>
+    requires { length recorder.events ≡ 0 }
+    ensures unused { IfOk result (λ r. length r.1.events ≡ 0) }
+    ensures path { IfOk result (λ r. string_bytes r.0.path ≡ path.now) }
+    ensures terms { IfOk result (λ r. terms_of r.0.file ≡ terms_for options) }
     ensures err { IfErr result (λ fault. is_of_opening fault ≡ true) }
 {
-    let lock = lock_journal(rt, path)?;
+    let lock = match lock_journal(rt, path) {
+        Ok(lock) => lock,
+        Err(fault) => {
+            drop(recorder);
+            return Err(fault);
+        }
+    };
     match open_renewed(rt, path, recorder, options) {
-        Ok((file, resumed)) => match journal_with(rt, path, file, lock) {
-            Ok(journal) => Ok((journal, resumed)),
+        Ok((file, last)) => match journal_with(rt, path, file, lock) {
+            Ok(journal) => Ok((journal, last)),
             Err(fault) => {
-                drop(resumed);
+                drop(last);
                 Err(fault)
             }
         },
@@ -214,22 +302,6 @@ fn open_with_lock<R: AllocGlobal + Eprint + Files<File = File> + Copy + Drop>(
             let _ = eprintln!(rt; "{path}: {fault}");
             Err(fault_of(fault))
         }
-    }
-}
-
-// Returns the recorder that resumes where a journal ends, or the given one if the journal was begun
-// with it.
-fn last_recorder(resumed: Option<Recorder>, recorder: Recorder) -> Recorder
-    requires no_events { length recorder.events ≡ 0 }
-    requires unused { IfSome resumed (λ resumed. length resumed.events ≡ 0) }
-    ensures { length result.events ≡ 0 }
-{
-    match resumed {
-        Some(resumed) => {
-            drop(recorder);
-            resumed
-        }
-        None => recorder,
     }
 }
 
@@ -248,18 +320,15 @@ pub fn open_journal<R: AllocGlobal + Eprint + Files<File = File> + Copy + Drop>(
 ) -> Result<(OpenJournal<R>, Recorder), Fault>
     requires { length recorder.events ≡ 0 }
     ensures unused { IfOk result (λ r. length r.1.events ≡ 0) }
+    ensures path { IfOk result (λ r. string_bytes r.0.path ≡ path.now) }
+    ensures terms { IfOk result (λ r. terms_of r.0.file ≡ terms_for options) }
     ensures err { IfErr result (λ fault. is_of_opening fault ≡ true) }
+    ensures empty { path.now ≡ [] → IsErrOf result Fault.Input }
 {
     if path.is_empty() {
         let _ = eprintln!(rt; "journal: expected the path of a file");
         drop(recorder);
         return Err(Fault::Input);
     }
-    match open_with_lock(rt, path, &recorder, options) {
-        Ok((journal, resumed)) => Ok((journal, last_recorder(resumed, recorder))),
-        Err(fault) => {
-            drop(recorder);
-            Err(fault)
-        }
-    }
+    open_with_lock(rt, path, recorder, options)
 }

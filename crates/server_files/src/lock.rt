@@ -1,6 +1,6 @@
 //! The lock file of a journal.
 ghost use Rattle.std.specs.Prelude.{◌≡◌, true, IfErr};
-ghost use Rattle.server_files.specs.Faults.{is_of_opening};
+ghost use Rattle.server_files.specs.Faults.{is_of_opening, IsOfFile};
 
 use crate::paths::{LOCK_SUFFIX, with_suffix};
 use durable_lines::{LockFault, LockFile};
@@ -13,7 +13,8 @@ pub(crate) fn lock_journal<R: AllocGlobal + Eprint + Files<File = File>>(
     rt: &R,
     path: &str,
 ) -> Result<LockFile, Fault>
-    ensures { IfErr result (λ fault. is_of_opening fault ≡ true) }
+    ensures err { IfErr result (λ fault. is_of_opening fault ≡ true) }
+    ensures file { IfErr result IsOfFile }
 {
     let Ok(lock_path) = with_suffix(rt.alloc(), path, LOCK_SUFFIX) else {
         return Err(Fault::Memory);

@@ -1,7 +1,8 @@
 //! The outputs of a meter's events: its journal, its relay, both or none.
-ghost use Rattle.std.specs.Prelude.{◌≡◌, true, is_some, IfOk, IfErr};
-ghost use Rattle.server_files.specs.Faults.{is_of_opening};
-ghost use Rattle.server_files.specs.Outputs.{IsOutputOf};
+ghost use Rattle.std.specs.Prelude.{◌≡◌, true, is_some, IfOk, IfErr, Some};
+ghost use Rattle.meter_relay.specs.RelayedFile.{relay_of};
+ghost use Rattle.server_files.specs.Faults.{is_of_opening, IsOfFile};
+ghost use Rattle.server_files.specs.Outputs.{IsOutputOf, KeepsJournal};
 
 use crate::journal::OpenJournal;
 use crate::paths::with_suffix;
@@ -80,7 +81,8 @@ fn relay_alone<R: Clock + Eprint + AllocGlobal + Files<File = File> + Drop>(
     path: &str,
     relay: Relay<File, RelayLog<R>>,
 ) -> Result<EventFile<RelayAlone<StoredJournal<R>, R>>, Fault>
-    ensures { IfErr result (λ fault. is_of_opening fault ≡ true) }
+    ensures relay { IfOk result (λ alone. relay_of alone.file ≡ Some relay) }
+    ensures err { IfErr result (λ fault. is_of_opening fault ≡ true) }
 {
     match with_suffix(rt.alloc(), path, "") {
         Ok(path) => Ok(EventFile {
@@ -96,7 +98,8 @@ fn relay_alone<R: Clock + Eprint + AllocGlobal + Files<File = File> + Drop>(
 }
 
 /// Opens the relay of the options, if they name one, for the meter of this core, and connects it to
-/// the journal, if there is one. The relay is given the supply output.
+/// the journal, if there is one, whose file then has the relay. The relay is given the supply
+/// output.
 ///
 /// Errors: `Write` if the relay can't be opened or written, with a line on standard error;
 /// `Memory`. After an error the journal is closed.
@@ -107,6 +110,7 @@ pub fn open_outputs<R: Clock + Eprint + AllocGlobal + Files<File = File> + Copy 
     journal: Option<OpenJournal<R>>,
 ) -> Result<EventOutput<R>, Fault>
     ensures output { IfOk result (IsOutputOf (is_some journal) (is_some options.entry.path)) }
+    ensures journal { IfOk result (KeepsJournal journal) }
     ensures err { IfErr result (λ fault. is_of_opening fault ≡ true) }
 {
     let relay = match start_relay(rt, options, core) {

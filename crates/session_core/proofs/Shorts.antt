@@ -1,5 +1,5 @@
 -- A short request, from its frame to the frame of its answer.
-use Rattle.std.proofs.Common.{◌≡◌, ◌<◌, ◌==◌, ℕ, Bool, true, if◌then◌else◌, Option, Some, None, Ok, List, [], ◌∷◌, get_or, ◌≤◌, length, take, drop, bit_and, length-append, refl, sym, ap, subst, ◌∙◌, arith}
+use Rattle.std.proofs.Common.{◌≡◌, ◌<◌, ◌==◌, ℕ, Bool, true, if◌then◌else◌, Option, Some, None, Ok, List, [], ◌∷◌, get_or, ◌≤◌, length, take, drop, bit_and, refl, sym, ap, subst, ◌∙◌, arith}
 use Rattle.std.specs.Int.{w16, from_be_bytes}
 use Rattle.byteorder.specs.Endian.{big_number}
 use Rattle.cosem_axdr.specs.Reading.{first_data, value_at, leaf_at, fixed_at}
@@ -8,6 +8,7 @@ use Rattle.std.proofs.lemmas.Slice.Eq.{text_from_reads}
 use Rattle.relay_events.specs.declared.event.Event.{Event}
 use Rattle.relay_events.specs.declared.reply.Reply.{Reply}
 use Rattle.relay_events.specs.declared.reply.Reply.TheVariants.{Value}
+use Rattle.session_core.proofs.Short.{framed_length}
 use Rattle.session_core.proofs.Tasks.{hears_any, takes_any, gives_any}
 use Rattle.session_core.specs.Calls.{IsShortRequest, call_by, call_of, is_negotiated, request_form, short_event, short_form}
 use Rattle.session_core.specs.Answers.{answer_text, due_text}
@@ -25,11 +26,12 @@ use Rattle.session_core.specs.Progress.{AnswersBy, AsksShort, WorksBy}
 use Rattle.session_core.specs.Remaining.{is_asking, is_asking_short, load_of, task_load}
 use Rattle.session_core.specs.Rules.{HearsShort, heard_frame, incoming_after, link_after, outgoing_after, reply_text, turn_of}
 use Rattle.session_core.specs.ShortAnswers.{is_short_answer, is_short_reply, is_two_bytes, short_frame, IsShortIn}
-use Rattle.session_core.specs.Standard.{management_device, least_pdu, get_tag, set_tag, action_tag}
+use Rattle.session_core.specs.Standard.{management_device, least_pdu, greatest_frame, get_tag, set_tag, action_tag}
 use Rattle.session_core.specs.declared.asked.Asked.{Asked}
 use Rattle.session_core.specs.declared.asked.ReplyForm.{ReplyForm}
 use Rattle.session_core.specs.declared.asked.ReplyForm.TheVariants as asked_form
 use Rattle.session_core.specs.declared.call.Call.TheVariants.{Refused}
+use Rattle.session_core.specs.declared.framed_answer.FramedAnswer.{FramedAnswer}
 use Rattle.session_core.specs.declared.link.Link.{Link}
 use Rattle.session_core.specs.declared.next.Next.TheVariants as next
 use Rattle.session_core.specs.declared.session.Session.{Session}
@@ -41,7 +43,7 @@ use Rattle.session_core.specs.declared.task.SessionTask.TheVariants.{Listen, Awa
 use Rattle.wrapper_frame.specs.Header.{head_of, header_size, max_payload, src_of, dst_of}
 use Rattle.wrapper_frame.specs.Messages.{first_frame, after_first}
 use Rattle.wrapper_frame.specs.Stream.{KeepsFrames}
-use Rattle.wrapper_frame.specs.Text.{frame_text, header_text, IsPlaced}
+use Rattle.wrapper_frame.specs.Text.{frame_text, IsPlaced}
 use Rattle.wrapper_frame.specs.declared.header.Head.TheVariants as head
 use Rattle.xdlms_apdu.specs.Requests.{request_of}
 use Rattle.xdlms_apdu.specs.declared.response.Exception.TheVariants.{Unknown}
@@ -326,8 +328,8 @@ asks_at_front s t pending payload kept src dst n asked request listening whole s
 
 -- ---- its answer
 
--- the frame that the code writes for the answer to a SET or to an ACTION
-pub code_frame : (asked : Asked) (reply : Reply) (framed : Result (List ℕ) WrapperFault)
+-- the frame that the code writes for an answer
+code_frame : (asked : Asked) (reply : Reply) (framed : Result (List ℕ) WrapperFault)
     (text payload : List ℕ) → framed ≡ Ok text
     → IfOk framed (λ frame. frame
     ≡ frame_text (record { src = management_device; dst = asked.link.source; payload = payload }))
@@ -350,6 +352,29 @@ pub action_payload : (asked : Asked) (reply : Reply) (id : InvokeId)
     ≡ answer_text (Service (reply_response asked reply))
 unfolding reply_response
 action_payload asked reply id form = rw form refl
+
+-- the frame that the code writes for the answer to a SET, and to an ACTION
+pub set_frame : (asked : Asked) (reply : Reply) (id : InvokeId)
+    (framed : Result (List ℕ) WrapperFault) (text payload : List ℕ)
+    → asked.form ≡ asked_form.Set id → framed ≡ Ok text
+    → IfOk framed (λ frame. frame
+    ≡ frame_text (record { src = management_device; dst = asked.link.source; payload = payload }))
+    → payload ≡ answer_text (Service (response.Set id (reply_code reply)))
+    → text ≡ reply_text asked reply
+set_frame asked reply id framed text payload form is written spells =
+    code_frame asked reply framed text payload is written
+    (spells ∙ set_payload asked reply id form)
+
+pub action_frame : (asked : Asked) (reply : Reply) (id : InvokeId)
+    (framed : Result (List ℕ) WrapperFault) (text payload : List ℕ)
+    → asked.form ≡ asked_form.Action id → framed ≡ Ok text
+    → IfOk framed (λ frame. frame
+    ≡ frame_text (record { src = management_device; dst = asked.link.source; payload = payload }))
+    → payload ≡ answer_text (Service (response.Action id (reply_code reply)))
+    → text ≡ reply_text asked reply
+action_frame asked reply id framed text payload form is written spells =
+    code_frame asked reply framed text payload is written
+    (spells ∙ action_payload asked reply id form)
 
 pub set_begins_none : (asked : Asked) (reply : Reply) (id : InvokeId)
     → asked.form ≡ asked_form.Set id → None ≡ outgoing_by asked reply
@@ -405,6 +430,20 @@ placed_answer asked reply payload placed buffer buffer' spells written =
       payload = p;
     })) count buffer buffer')) spells written
 
+-- the frame of a short answer is short
+pub counted_short : (dst : ℕ) (payload : List ℕ) (placed : Option ℕ) (buffer buffer' : List ℕ)
+    → length payload ≤ 6
+    → IfSome placed (λ count. IsPlaced (frame_text (record {
+      src = management_device;
+      dst = dst;
+      payload = payload;
+    })) count buffer buffer')
+    → IfSome placed (λ count. count ≤ short_frame)
+unfolding due_text
+counted_short dst payload None buffer buffer' few written = tt
+counted_short dst payload (Some count) buffer buffer' few written =
+    omega (arith, few, framed_length dst payload, written.counted)
+
 -- the answer to a reply is short: to a GET of a value of two bytes, to a SET and to an ACTION
 pub short_value : (asked : Asked) (reply : Reply) (id : InvokeId) (value : Data)
     → asked.form ≡ asked_form.Get id → reply ≡ Value value → is_two_bytes value ≡ true
@@ -423,12 +462,9 @@ short_action asked reply id form = rw form refl
 long_reply : (asked : Asked) (reply : Reply) (payload : List ℕ)
     → payload ≡ answer_text (Service (reply_response asked reply))
     → length (reply_text asked reply) ≡ header_size + length payload
-unfolding due_text frame_text
 long_reply asked reply payload spells =
-    let long : length (due_text asked.link.source payload) ≡ header_size + length payload =
-    length-append (header_text management_device asked.link.source (length payload)) payload in
     subst (λ (p : List ℕ). length (due_text asked.link.source p) ≡ header_size + length payload)
-    spells long
+    spells (framed_length asked.link.source payload)
 
 -- a frame with a short answer is written exactly if it fits in the buffer
 pub fits_answer : (asked : Asked) (reply : Reply) (payload buffer : List ℕ) (placed : Option ℕ)
@@ -491,7 +527,8 @@ if_placed None P holds = tt
 -- the frame of the answer is returned at once
 pub answers_any : (s t : Session) (asked : Asked) (reply : Reply) (text : List ℕ)
     (outgoing : Option Sending) → s.task ≡ Await asked
-    → text ≡ reply_text asked reply → outgoing ≡ outgoing_by asked reply
+    → text ≡ reply_text asked reply → length text ≤ greatest_frame
+    → outgoing ≡ outgoing_by asked reply
     → t ≡ record {
       password = s.password;
       deframer = s.deframer;
@@ -501,7 +538,8 @@ pub answers_any : (s t : Session) (asked : Asked) (reply : Reply) (text : List �
     }
     → AnswersBy s reply text t
 unfolding is_asking load_of
-answers_any s t asked reply text outgoing awaiting e o after =
+answers_any s t asked reply text outgoing awaiting e within o after =
+    let framed : FramedAnswer = record { text = text; within_max = within } in
     let kept : State = record {
       link = s.state.link;
       incoming = s.state.incoming;
@@ -512,15 +550,15 @@ answers_any s t asked reply text outgoing awaiting e o after =
       deframer = s.deframer;
       is_finished = s.is_finished;
       state = kept;
-      task = Send text;
+      task = Send framed;
     } in
     let gives : WorksBy {E = ℕ} between (Ok (Some (next.Send text))) t = subst
     (λ (u : Session). WorksBy {E = ℕ} between (Ok (Some (next.Send text))) u) (sym after)
-    (gives_any ℕ between text Listen refl refl) in
+    (gives_any ℕ between framed Listen refl refl) in
     let before : task_load s.task ≡ 3 = ap task_load awaiting in
     record {
       between = between;
-      takes = takes_any s between asked reply text outgoing awaiting e o refl;
+      takes = takes_any s between asked reply framed outgoing awaiting e o refl;
       sends = gives.0;
       silent = gives.1.0;
       less = rw after (omega (arith, before));

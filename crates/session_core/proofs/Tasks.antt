@@ -30,6 +30,7 @@ use Rattle.session_core.specs.declared.call.Call.{Call}
 use Rattle.session_core.specs.declared.call.Call.TheVariants as call
 use Rattle.session_core.specs.declared.due.Due.{Due}
 use Rattle.session_core.specs.declared.end.SessionEnd.{SessionEnd}
+use Rattle.session_core.specs.declared.framed_answer.FramedAnswer.{FramedAnswer}
 use Rattle.session_core.specs.declared.end.SessionEnd.TheVariants as ending
 use Rattle.session_core.specs.declared.incoming.Incoming.{Incoming}
 use Rattle.session_core.specs.declared.incoming.LongService.{LongService}
@@ -373,11 +374,11 @@ unfolding still_asks still_sends still_ends is_finished is_asking load_of
 says_text E password pending finished s due text e =
     (says_steps password pending finished s due text e, (refl, omega arith))
 
-gives_steps : (password pending : List ℕ) (finished : Bool) (s : State) (text : List ℕ)
-    → Steps (session password pending finished s (Send text)) [] (text
+gives_steps : (password pending : List ℕ) (finished : Bool) (s : State) (framed : FramedAnswer)
+    → Steps (session password pending finished s (Send framed)) [] (framed.text
     ∷ []) (session password pending finished s Listen)
 unfolding still_asks still_sends still_ends is_finished
-gives_steps password pending finished s text = record {
+gives_steps password pending finished s framed = record {
   asks = λ more. refl;
   sends = λ more replies. refl;
   ends = λ more. refl;
@@ -386,12 +387,12 @@ gives_steps password pending finished s text = record {
 
 -- a frame is returned
 pub gives_text : (E : Type 0) (password pending : List ℕ) (finished : Bool) (s : State)
-    (text : List ℕ)
-    → WorksBy {E = E} (session password pending finished s (Send text)) (Ok (Some (next.Send text)))
-    (session password pending finished s Listen)
+    (framed : FramedAnswer)
+    → WorksBy {E = E} (session password pending finished s (Send framed))
+    (Ok (Some (next.Send framed.text))) (session password pending finished s Listen)
 unfolding still_asks still_sends still_ends is_finished is_asking load_of
-gives_text E password pending finished s text =
-    (gives_steps password pending finished s text, (refl, omega arith))
+gives_text E password pending finished s framed =
+    (gives_steps password pending finished s framed, (refl, omega arith))
 
 -- no change is a step without events and texts
 pub stays : (s : Session) → Steps s [] [] s
@@ -743,16 +744,16 @@ finishes password pending finished s task = record {
 
 -- a reply is taken in
 pub takes_reply : (password pending : List ℕ) (finished : Bool) (s : State) (asked : Asked)
-    (reply : Reply) (text : List ℕ) (outgoing : Option Sending)
-    → text ≡ reply_text asked reply → outgoing ≡ outgoing_by asked reply
+    (reply : Reply) (framed : FramedAnswer) (outgoing : Option Sending)
+    → framed.text ≡ reply_text asked reply → outgoing ≡ outgoing_by asked reply
     → Takes (session password pending finished s (Await asked)) reply
     (session password pending finished (record {
       link = s.link;
       incoming = s.incoming;
       outgoing = outgoing;
-    }) (Send text))
+    }) (Send framed))
 unfolding still_asks still_sends still_ends is_asking is_finished load_of
-takes_reply password pending finished s asked reply text outgoing t o = record {
+takes_reply password pending finished s asked reply framed outgoing t o = record {
   asks = λ more. refl;
   sends = λ more replies. (let a = t in let b = o in cc);
   ends = λ more. refl;
@@ -903,7 +904,7 @@ ends_again s end = over_by s.task end
     over_by (Read joined) end e = absurd cc
     over_by (Await asked) end e = absurd cc
     over_by (Say due) end e = absurd cc
-    over_by (Send text) end e = absurd cc
+    over_by (Send framed) end e = absurd cc
     over_by (Over other) end e = cc
 
 -- a session that has reported no end
@@ -918,7 +919,7 @@ not_over s P not = by_task s.task P not
     by_task (Read joined) P not = tt
     by_task (Await asked) P not = tt
     by_task (Say due) P not = tt
-    by_task (Send text) P not = tt
+    by_task (Send framed) P not = tt
     by_task (Over end) P not = absurd (not end refl)
 
 -- ---- bytes fed to any session
@@ -998,17 +999,17 @@ says_any E s t due text saying e after =
     (Say due) refl saying
     (says_text E s.password s.deframer s.is_finished s.state due text e))
 
-pub gives_any : (E : Type 0) (s : Session) (text : List ℕ) (task : SessionTask) → s.task ≡ Send text
-    → task ≡ Listen
-    → WorksBy {E = E} s (Ok (Some (next.Send text)))
+pub gives_any : (E : Type 0) (s : Session) (framed : FramedAnswer) (task : SessionTask)
+    → s.task ≡ Send framed → task ≡ Listen
+    → WorksBy {E = E} s (Ok (Some (next.Send framed.text)))
     (session s.password s.deframer s.is_finished s.state task)
-gives_any E s text task sending after =
-    subst (λ (u : SessionTask). WorksBy {E = E} s (Ok (Some (next.Send text)))
+gives_any E s framed task sending after =
+    subst (λ (u : SessionTask). WorksBy {E = E} s (Ok (Some (next.Send framed.text)))
     (session s.password s.deframer s.is_finished s.state u)) (sym after)
-    (by_parts (λ (u : Session). WorksBy {E = E} u (Ok (Some (next.Send text)))
+    (by_parts (λ (u : Session). WorksBy {E = E} u (Ok (Some (next.Send framed.text)))
     (session s.password s.deframer s.is_finished s.state Listen)) s s.is_finished
-    (Send text) refl sending
-    (gives_text E s.password s.deframer s.is_finished s.state text))
+    (Send framed) refl sending
+    (gives_text E s.password s.deframer s.is_finished s.state framed))
 
 pub over_any : (E : Type 0) (s : Session) (end : SessionEnd) → s.task ≡ Over end
     → WorksBy {E = E} s (Ok (Some (next.End end))) s
@@ -1022,19 +1023,19 @@ pub idles : (s : Session) (h : Head) → s.task ≡ Listen → s.is_finished ≡
 idles s h listens goes_on is means = by_parts IsQuiet s false Listen goes_on listens
     (is_quiet s.password s.deframer s.state (subst (Fronts s.deframer) is means))
 
-pub takes_any : (s t : Session) (asked : Asked) (reply : Reply) (text : List ℕ)
+pub takes_any : (s t : Session) (asked : Asked) (reply : Reply) (framed : FramedAnswer)
     (outgoing : Option Sending) → s.task ≡ Await asked
-    → text ≡ reply_text asked reply → outgoing ≡ outgoing_by asked reply
+    → framed.text ≡ reply_text asked reply → outgoing ≡ outgoing_by asked reply
     → t ≡ session s.password s.deframer s.is_finished
     (record { link = s.state.link; incoming = s.state.incoming; outgoing = outgoing })
-    (Send text) → Takes s reply t
-takes_any s t asked reply text outgoing awaiting e o after =
+    (Send framed) → Takes s reply t
+takes_any s t asked reply framed outgoing awaiting e o after =
     subst (λ (u : Session). Takes s reply u) (sym after)
     (by_parts (λ (u : Session). Takes u reply
     (session s.password s.deframer s.is_finished
     (record { link = s.state.link; incoming = s.state.incoming; outgoing = outgoing })
-    (Send text))) s s.is_finished (Await asked) refl awaiting
-    (takes_reply s.password s.deframer s.is_finished s.state asked reply text outgoing e o))
+    (Send framed))) s s.is_finished (Await asked) refl awaiting
+    (takes_reply s.password s.deframer s.is_finished s.state asked reply framed outgoing e o))
 
 -- a session that awaits a reply sends no text before it
 pub waits_again : (s : Session) → is_asking s ≡ true → IsAwaiting s
@@ -1048,7 +1049,7 @@ waits_again s = awaiting_by s.password s.deframer s.is_finished s.state s.task
     awaiting_by password pending finished state (Await asked) e =
         record { asking = refl; sends = λ more. refl }
     awaiting_by password pending finished state (Say due) e = absurd cc
-    awaiting_by password pending finished state (Send text) e = absurd cc
+    awaiting_by password pending finished state (Send framed) e = absurd cc
     awaiting_by password pending finished state (Over end) e = absurd cc
 
 pub over_again : (s : Session) (end : SessionEnd) → reported_end s ≡ Some end → IsOver end s

@@ -7,7 +7,8 @@
 --     AnswersBy     as in Takes, and then its answer is removed from the front
 --     AsksShort     the event removed from the front is that of a short request
 --     Leaves        what the caller can rely on after each `Next`
-use Rattle.std.specs.Prelude.{◌≡◌, ◌⊎◌, ◌<◌, ℕ, true, false, Option, Some, None, List, [], ◌∷◌, ◌++◌, Result, Ok, Err}
+--     SendsAtMost   the length of the frame that a call of `next` returns
+use Rattle.std.specs.Prelude.{◌≡◌, ◌⊎◌, ◌<◌, ◌≤◌, ⊤, ℕ, true, false, Option, Some, None, List, [], ◌∷◌, ◌++◌, length, Result, Ok, Err}
 use Rattle.relay_events.specs.declared.event.Event.{Event}
 use Rattle.relay_events.specs.declared.reply.Reply.{Reply}
 use Rattle.session_core.specs.Backwards.{Asks, Answers, end_of}
@@ -101,6 +102,11 @@ events_of_next _ = []
 abbrev pub texts_of_next : Next → List (List ℕ)
 texts_of_next (Send text) = text ∷ []
 texts_of_next _ = []
+
+-- whether the frame that a call of `next` returns, if it returns one, has at most `limit` bytes
+abbrev pub SendsAtMost : ℕ → Next → Type 0
+SendsAtMost limit (Send text) = length text ≤ limit
+SendsAtMost limit _ = ⊤
 
 -- whether a call of `next` removed from the front of the session's work exactly what it returned; a
 -- call that runs out of memory removes nothing

@@ -44,7 +44,7 @@ asks_of password state (Read joined) fs =
     option_to_list (event_of (whole_outcome joined)) ++ asks_on password (known_in state) fs
 asks_of password state (Await asked) fs = asks_on password (known_in state) fs
 asks_of password state (Say due) fs = asks_on password (known_in state) fs
-asks_of password state (Send text) fs = asks_on password (known_in state) fs
+asks_of password state (Send framed) fs = asks_on password (known_in state) fs
 asks_of password state (Over end) fs = []
 
 -- the events that a session has yet to ask
@@ -84,7 +84,8 @@ texts_of password state (Read joined) fs replies =
 texts_of password state (Await asked) fs replies = texts_after password state asked fs replies
 texts_of password state (Say due) fs replies =
     due_text due.to (answer_text due.answer) ∷ answers_on password state fs replies
-texts_of password state (Send text) fs replies = text ∷ answers_on password state fs replies
+texts_of password state (Send framed) fs replies =
+    framed.text ∷ answers_on password state fs replies
 texts_of password state (Over end) fs replies = []
 
 -- the texts that a session has yet to send, up to the first event without a reply
@@ -159,7 +160,7 @@ task_load Listen = 0
 task_load (Read joined) = 4
 task_load (Await asked) = 3
 task_load (Say due) = 2
-task_load (Send text) = 1
+task_load (Send framed) = 1
 task_load (Over end) = 0
 
 -- the work left in a session's state: its pending bytes and the work in its task

@@ -5,10 +5,11 @@
 --     result_accepted .. null_diagnostic        the results and diagnostics of an association (IEC
 --                                               62056-5-3, AARE)
 --     management_client, management_device      the ports of the wrapper (IEC 62056-4-7)
---     least_pdu, greatest_pdu, block_header     the sizes of PDUs
+--     least_pdu .. greatest_frame               the sizes of PDUs and frames
 use Rattle.std.specs.Prelude.{ℕ, ◌+◌, List, [], ◌∷◌}
 use Rattle.acse_ber.specs.Conformance.{get_in_blocks, set_in_blocks, action_in_blocks, multiple_references, get_service, set_service, action_service}
 use Rattle.session_core.specs.declared.conformance.RequestForm.{RequestForm}
+use Rattle.wrapper_frame.specs.Header.{header_size}
 
 -- ---- tags
 
@@ -97,3 +98,7 @@ block_header = 3 + 1 + 4 + 1 + 3
 -- the largest number of raw bytes in a block
 abbrev pub greatest_raw : ℕ
 greatest_raw = 1012
+
+-- the longest frame that the meter sends, in bytes: the wrapper's header and a PDU
+abbrev pub greatest_frame : ℕ
+greatest_frame = header_size + greatest_pdu

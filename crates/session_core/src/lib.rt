@@ -8,6 +8,7 @@ mod call;
 mod conformance;
 mod due;
 mod end;
+mod framed_answer;
 mod incoming;
 mod joined;
 mod law;

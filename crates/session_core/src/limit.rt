@@ -2,7 +2,7 @@
 //! 62056-5-3).
 ghost use Rattle.std.specs.Prelude.{◌≡◌, ◌≤◌, ◌-◌};
 ghost use Rattle.session_core.specs.Association.{limit_of};
-ghost use Rattle.session_core.specs.Standard.{block_header, greatest_raw, least_pdu};
+ghost use Rattle.session_core.specs.Standard.{block_header, greatest_pdu, greatest_raw, least_pdu};
 ghost use Rattle.xdlms_blocks.specs.Limits.{min_block_size};
 
 use std::marker::Model;
@@ -48,10 +48,10 @@ impl Limit {
         Limit { bytes }
     }
 
-    // Proves that a PDU of the limit has at least the 64 bytes that a client must take. Does
-    // nothing at run time.
-    pub(crate) fn holds_least_pdu(self)
-        ensures { least_pdu ≤ self }
+    // Proves that the limit is 64 to 1,024 bytes. Does nothing at run time.
+    pub(crate) fn holds_range(self)
+        ensures least { least_pdu ≤ self }
+        ensures greatest { self ≤ greatest_pdu }
     {
         let _bytes = self.bytes;
     }

@@ -1,6 +1,8 @@
 //! `Session`: the bytes of a client in, events for the meter and frames for the client out.
 ghost use Rattle.std.specs.Prelude.{◌≡◌, ◌≢◌, ◌≤◌, ◌↔◌, ◌+◌, ℕ, List, length, None, true, false, Some, IfSome, IfNone, IfOk, IfErr, IsOk, OnOk, OnErr, Ok};
 ghost use Rattle.acse_ber.specs.Password.{IsPassword};
+ghost use Rattle.session_core.specs.ShortAnswers.{short_frame};
+ghost use Rattle.session_core.specs.Standard.{greatest_frame};
 ghost use Rattle.session_core.specs.declared.task.SessionTask.TheVariants.{Listen, Over};
 ghost use Rattle.wrapper_frame.specs.Header.{header_size, head_of};
 ghost use Rattle.wrapper_frame.specs.declared.header.Head.TheVariants.{Whole};
@@ -8,6 +10,7 @@ ghost use Rattle.wrapper_frame.specs.declared.header.Head.TheVariants.{Whole};
 use crate::answer::{SERVER_PORT, Way};
 use crate::asked::{Asked, ReplyForm};
 use crate::end::SessionEnd;
+use crate::framed_answer::FramedAnswer;
 use crate::next::Next;
 use crate::password::Password;
 use crate::replying::{Answered, answer_get, answer_reply};
@@ -48,11 +51,11 @@ impl Debug for Session {
 impl Session {
     ghost use Rattle.session_core.specs.Remaining.{is_asking, is_asking_short, reported_end, is_finished, is_idle, load_of};
     ghost use Rattle.session_core.specs.Progress.{Owes, IsQuiet, Feeds, Finishes, StepsBy};
-    ghost use Rattle.session_core.specs.Progress.{Leaves, Takes};
+    ghost use Rattle.session_core.specs.Progress.{Leaves, SendsAtMost, Takes};
     ghost use Rattle.relay_events.specs.declared.reply.Reply.{Reply};
     ghost use Rattle.session_core.specs.Calls.{short_event};
     ghost use Rattle.session_core.specs.ShortRequests.{HasShort};
-    ghost use Rattle.session_core.specs.ShortAnswers.{PutsAnswer, AnswersIn, is_short_reply, short_frame};
+    ghost use Rattle.session_core.specs.ShortAnswers.{PutsAnswer, AnswersIn, is_short_reply};
     ghost use Rattle.session_core.specs.Progress.{AnswersBy, AsksShort, WorksBy};
     ghost use Rattle.session_core.specs.Progress.{task_by, next_by};
 
@@ -132,6 +135,8 @@ impl Session {
         // If out of memory, no reply is awaited, and the load is no greater than before.
         ensures not_asking { OnErr result (is_asking self.new ≡ false) }
         ensures kept { OnErr result (load_of self.new ≤ load_of self.old) }
+        // A frame has at most 1,032 bytes.
+        ensures within_max { IfOk result (SendsAtMost greatest_frame) }
     {
         if self.asking() {
             return Ok(Next::Wait);
@@ -158,9 +163,12 @@ impl Session {
         let SessionTask::Await(asked) = self.task else {
             unreachable!()
         };
+        let link = asked.link;
+        // (no effect: the frame needs this law)
+        link.limit.holds_range();
         let Answered { text, outgoing } = answer_reply(alloc, asked, Way::Framed, reply)?;
         self.state.outgoing = outgoing;
-        self.turn_to(SessionTask::Send(text));
+        self.turn_to(SessionTask::Send(FramedAnswer { text }));
         Ok(())
     }
 
@@ -188,7 +196,7 @@ impl Session {
         let (source, destination) = self.deframer.ports();
         let link = self.state.link?;
         // (no effect: the contract needs this law)
-        link.limit.holds_least_pdu();
+        link.limit.holds_range();
         if destination != SERVER_PORT || source != link.source {
             return None;
         }
@@ -210,11 +218,15 @@ impl Session {
         requires { is_asking_short self.now ≡ true }
         ensures ok { IfOk result (λ frame. AnswersBy self.old reply.now frame self.new) }
         ensures err { OnErr result (self.new ≡ self.old) }
+        ensures within_max { IfOk result (λ frame. length frame ≤ greatest_frame) }
     {
         let SessionTask::Await(asked) = self.task else {
             unreachable!()
         };
-        let to = asked.link.source;
+        let link = asked.link;
+        // (no effect: the contract needs this law)
+        link.limit.holds_range();
+        let to = link.source;
         let framed = match asked.form {
             ReplyForm::Get(_) => {
                 let text = answer_get(alloc, asked, reply, &mut self.state.outgoing)?;
@@ -248,10 +260,14 @@ impl Session {
             (λ count. PutsAnswer self.old reply.now buffer.old count self.new buffer.new) }
         ensures none { IfNone result ((self.new ≡ self.old) × (buffer.new ≡ buffer.old)) }
         ensures fits { (result ≢ None) ↔ AnswersIn buffer.old self.old reply.now }
+        ensures within_max { IfSome result (λ count. count ≤ short_frame) }
     {
         let SessionTask::Await(asked) = self.task else {
             unreachable!()
         };
+        let link = asked.link;
+        // (no effect: the contract needs this law)
+        link.limit.holds_range();
         let count = put_answer(asked, reply, buffer)?;
         self.state.outgoing = None;
         self.task = SessionTask::Listen;
@@ -295,6 +311,7 @@ impl Session {
         ensures works { WorksBy self.old result self.new }
         ensures not_asking { OnErr result (is_asking self.new ≡ false) }
         ensures err { OnErr result (self.new ≡ self.old) }
+        ensures within_max { IfOk result (λ next. IfSome next (SendsAtMost greatest_frame)) }
     {
         match &self.task {
             SessionTask::Listen => self.listen(alloc),
@@ -309,10 +326,10 @@ impl Session {
                 Ok(Some(Next::Send(text)))
             }
             SessionTask::Send(_) => {
-                let SessionTask::Send(text) = replace(&mut self.task, SessionTask::Listen) else {
+                let SessionTask::Send(framed) = replace(&mut self.task, SessionTask::Listen) else {
                     unreachable!()
                 };
-                Ok(Some(Next::Send(text)))
+                Ok(Some(Next::Send(framed.text)))
             }
             SessionTask::Over(end) => Ok(Some(Next::End(*end))),
         }
@@ -325,6 +342,7 @@ impl Session {
         ensures works { WorksBy self.old result self.new }
         ensures not_asking { OnErr result (is_asking self.new ≡ false) }
         ensures err { OnErr result (self.new ≡ self.old) }
+        ensures within_max { IfOk result (λ next. IfSome next (SendsAtMost greatest_frame)) }
     {
         match self.deframer.front() {
             Head::Whole(size) => self.receive(alloc, size),
@@ -347,6 +365,7 @@ impl Session {
         ensures works { WorksBy self.old result self.new }
         ensures not_asking { OnErr result (is_asking self.new ≡ false) }
         ensures err { OnErr result (self.new ≡ self.old) }
+        ensures within_max { IfOk result (λ next. IfSome next (SendsAtMost greatest_frame)) }
     {
         let (src, dst) = self.deframer.ports();
         if dst != SERVER_PORT {

@@ -1,10 +1,10 @@
 //! Writes the most frequent answers without allocating: to a GET of a boolean or an enum, to a SET
 //! and to an ACTION (IEC 62056-5-3).
-ghost use Rattle.std.specs.Prelude.{◌≡◌, ◌≢◌, ◌↔◌, None, true, length, IfSome, IfNone};
+ghost use Rattle.std.specs.Prelude.{◌≡◌, ◌≢◌, ◌≤◌, ◌↔◌, None, true, length, IfSome, IfNone};
 ghost use Rattle.session_core.specs.Answers.{answer_text};
 ghost use Rattle.session_core.specs.Outgoing.{reply_code, outgoing_by};
 ghost use Rattle.session_core.specs.Rules.{reply_text};
-ghost use Rattle.session_core.specs.ShortAnswers.{is_two_bytes, IsShortIn};
+ghost use Rattle.session_core.specs.ShortAnswers.{is_two_bytes, short_frame, IsShortIn};
 ghost use Rattle.session_core.specs.declared.answer.Answer.TheVariants.{Service};
 ghost use Rattle.wrapper_frame.specs.Text.{IsPlaced};
 
@@ -73,9 +73,10 @@ pub(crate) fn put_answer(asked: Asked, reply: &Reply, buffer: &mut [u8]) -> Opti
     ensures begins_none { IfSome result (λ count. outgoing_by asked reply.now ≡ None) }
     ensures none { IfNone result (buffer.new ≡ buffer.old) }
     ensures fits { (result ≢ None) ↔ IsShortIn buffer.old asked reply.now }
+    ensures within_max { IfSome result (λ count. count ≤ short_frame) }
 {
     // (no effect: the contract needs this law)
-    asked.link.limit.holds_least_pdu();
+    asked.link.limit.holds_range();
     let to = asked.link.source;
     match asked.form {
         ReplyForm::Get(id) => {

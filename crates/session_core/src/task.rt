@@ -2,8 +2,8 @@
 use crate::asked::Asked;
 use crate::due::Due;
 use crate::end::SessionEnd;
+use crate::framed_answer::FramedAnswer;
 use crate::joined::Joined;
-use cosem_axdr::Octets;
 
 // The next task of a session.
 #[derive(Drop)]
@@ -17,7 +17,7 @@ pub(crate) enum SessionTask {
     // Writes an answer.
     Say(Due),
     // Returns a frame to its caller.
-    Send(Octets),
+    Send(FramedAnswer),
     // Nothing: the session is over.
     Over(SessionEnd),
 }

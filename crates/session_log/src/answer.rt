@@ -94,7 +94,7 @@ fn read_other(alloc: Global, payload: &[u8]) -> Result<AnswerKind, AllocError>
 pub fn read_answer(alloc: Global, payload: &[u8]) -> Result<AnswerKind, AllocError>
     ensures { IfOk result (λ answer. answer ≡ answer_of payload.now) }
 {
-    match read_aare(alloc, payload) {
+    match read_aare(payload) {
         Ok(aare) => Ok(answer_of_aare(aare)),
         Err(_) => read_other(alloc, payload),
     }

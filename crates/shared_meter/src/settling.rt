@@ -1,9 +1,10 @@
 //! Waits until the journal has reached the disk.
-ghost use Rattle.std.specs.Prelude.{ℕ, ⊤, IfSome, IsTrue};
+ghost use Rattle.std.specs.Prelude.{◌≡◌, ℕ, ⊤, false, IfSome, IsTrue};
 ghost use Rattle.atomic_table.specs.Seated.{TableId};
 ghost use Rattle.turn_lock.specs.Calls.{Watches};
 ghost use Rattle.turn_lock.specs.Shown.{IsSame};
 ghost use Rattle.shared_meter.specs.Calls.{Calls, IsLegal};
+ghost use Rattle.shared_meter.specs.Handed.{MeterPort};
 ghost use Rattle.shared_meter.specs.Settling.{AreDurable};
 
 use crate::kept::Kept;
@@ -21,16 +22,27 @@ pub trait Durability: Drop {
     /// Ghost predicate: the first lines of these calls, of this number, are on the disk.
     ghost is_durable: { Calls → ℕ → Type 0 };
 
+    /// Ghost predicate: the journal has ended. The default claims nothing.
+    ghost has_ended: { Type 0 } = { ⊤ };
+
+    /// Ghost predicate: the journal had not failed when this port looked, which had seen these
+    /// calls. The default claims nothing.
+    ghost was_running: { MeterPort → Type 0 } = { λ _. ⊤ };
+
     /// Waits until this number of lines is on the disk. Returns false if the journal has ended
     /// before, stopped or failed. After true the port has seen the calls whose lines they are.
     fn wait<W: Wait>(&self, rt: &W, port: &mut Port<Kept>, lines: u64) -> bool
         requires { fits port.old.lock }
         ensures same { IsSame port.old port.new }
         ensures watches { Watches IsLegal port.old.known port.new.known }
-        ensures durable { IsTrue result → AreDurable is_durable port.new.known.seen lines };
+        ensures durable { IsTrue result → AreDurable is_durable port.new.known.seen lines }
+        ensures ended { result ≡ false → has_ended };
 
-    /// Returns whether the journal has failed. Once it has, this does not change.
-    fn has_failed(&self) -> bool;
+    /// Returns whether the journal has failed, for a port that is about to pass an event on. Once
+    /// it has, this does not change.
+    fn has_failed(&self, port: &Port<Kept>) -> bool
+        ensures ended { IsTrue result → has_ended }
+        ensures running { result ≡ false → was_running port.now };
 
     /// Returns another handle of the same journal, for another thread. Returns `AllocError` if out
     /// of memory; this handle is unchanged.
@@ -39,8 +51,8 @@ pub trait Durability: Drop {
         Self: Sized;
 }
 
-/// A journal that claims nothing about the disk and never waits: the type to name for a meter
-/// without a journal. Does not allocate.
+/// A journal that claims nothing about the disk, never waits and never ends: the type to name for a
+/// meter without a journal. Does not allocate.
 #[derive(Debug, Drop)]
 pub struct NoJournal;
 
@@ -49,13 +61,15 @@ impl Durability for NoJournal {
 
     ghost is_durable = { λ _ _. ⊤ };
 
+    ghost has_ended = { ⊥ };
+
     fn wait<W: Wait>(&self, _rt: &W, port: &mut Port<Kept>, _lines: u64) -> bool {
         // (no effect: the contract needs this law)
         port.history_is_legal();
         true
     }
 
-    fn has_failed(&self) -> bool {
+    fn has_failed(&self, _port: &Port<Kept>) -> bool {
         false
     }
 
@@ -81,6 +95,7 @@ pub fn settle<D: Durability, W: Wait>(
     ensures same { IsSame port.old port.new }
     ensures watches { Watches IsLegal port.old.known port.new.known }
     ensures durable { IsTrue result → AreDurable D.is_durable port.new.known.seen lines }
+    ensures ended { result ≡ false → D.has_ended }
 {
     if let Some(known) = known
         && lines <= known

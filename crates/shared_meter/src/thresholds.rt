@@ -3,27 +3,32 @@ ghost use Rattle.std.specs.Prelude.{◌≡◌, IfOk};
 ghost use Rattle.shared_meter.specs.Thresholds.{threshold_read};
 
 use cosem_axdr::Data;
-use cosem_names::{AttrRef, AttributeSelection, ClassId, GetResult, Level, Obis};
+use cosem_names::class::LIMITER;
+use cosem_names::logical_name::{EXPORT_LIMITER, IMPORT_LIMITER};
+use cosem_names::{AttrRef, AttributeSelection, GetResult, Level};
 use relay_events::{Event, Reply};
 use std::alloc::{AllocError, Global};
 use wire_bytes::Listed;
 
-// threshold_active of the limiter of the imported power (IEC 62056-6-2, class 71, attribute 3).
+// The number of threshold_active (IEC 62056-6-2, class 71).
+const THRESHOLD_ACTIVE: u8 = 3;
+
+// threshold_active of the limiter of the imported power.
 const IMPORT_THRESHOLD: AttributeSelection = AttributeSelection {
     attr: AttrRef {
-        class: ClassId(71),
-        name: Obis([0, 0, 17, 0, 0, 255]),
-        number: 3,
+        class: LIMITER,
+        name: IMPORT_LIMITER,
+        number: THRESHOLD_ACTIVE,
     },
     selected: false,
 };
 
-// threshold_active of the limiter of the exported power (IEC 62056-6-2, class 71, attribute 3).
+// threshold_active of the limiter of the exported power.
 const EXPORT_THRESHOLD: AttributeSelection = AttributeSelection {
     attr: AttrRef {
-        class: ClassId(71),
-        name: Obis([0, 1, 17, 0, 0, 255]),
-        number: 3,
+        class: LIMITER,
+        name: EXPORT_LIMITER,
+        number: THRESHOLD_ACTIVE,
     },
     selected: false,
 };

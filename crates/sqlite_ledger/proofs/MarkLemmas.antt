@@ -1,6 +1,6 @@
 -- What the text of a mark means, and what it does to the marks.
 use Rattle.std.proofs.Common.{◌≡◌, inl, ℕ, ℤ, List, [], ◌∷◌, codes, true, None, Ok, refl, sym, ap}
-use Rattle.std.proofs.Common.{subst, ◌∙◌, true≢false}
+use Rattle.std.proofs.Common.{subst, ◌∙◌, arith, true≢false}
 use Rattle.std.proofs.lemmas.Bool.{and_parts, not-true}
 use Rattle.std.proofs.lemmas.Cmp.{tied_itself}
 use Rattle.std.specs.List.{list_any}
@@ -28,7 +28,8 @@ use Rattle.sqlite.proofs.Callers.{IsPlain, command_of}
 use Rattle.sqlite_rules.specs.Lists.{Has}
 use Rattle.sqlite_rules.proofs.ListLemmas.{some_has, some_from}
 use Rattle.sqlite_rules.proofs.TableLemmas.{put_all_adds, put_all_keeps}
-use Rattle.sqlite_ledger.specs.Schema.{ledger_schema, begun_tree, begun_table}
+use Rattle.sqlite_ledger.specs.Schema.{ledger_schema, begun_tree, outcome_tree}
+use Rattle.sqlite_ledger.specs.Schema.{begun_table}
 use Rattle.sqlite_ledger.specs.Marks.{IsBegun}
 use Rattle.sqlite_ledger.proofs.InsertLemmas.{AddsRow, edit_adds, went, same_value, cast_int}
 use Rattle.sqlite_ledger.proofs.InsertLemmas.{cast_null}
@@ -103,6 +104,11 @@ module _ (db after : Database) (place : ℤ) (at : Value) (adds : AddsRow begun_
 
   pub not_before : ¬ IsBegun db.trees place
   not_before was = true≢false (sym was ∙ not-true _ (and_parts _ _ adds.fresh).0)
+
+  -- the outcomes are as they were
+  pub outcomes_same : after.trees outcome_tree ≡ db.trees outcome_tree
+  outcomes_same = adds.others.1.0 (λ (same : outcome_tree ≡ begun_tree). absurd (omega
+      (arith, same)))
 
 -- What leaves the table of the marks alone keeps the marks.
 pub begun_same : (db after : Trees) → after begun_tree ≡ db begun_tree → (other : ℤ) → IsBegun db

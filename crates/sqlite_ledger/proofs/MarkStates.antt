@@ -7,11 +7,14 @@ use Rattle.sqlite.specs.Tree.{Trees}
 use Rattle.sqlite.specs.declared.error.Error.{Error}
 use Rattle.sqlite.specs.State.{State, HasCleanDisk, IsUnchanged, Survives, Executes, CommitsBy}
 use Rattle.sqlite_ledger.specs.Schema.{ledger_schema, begun_tree}
+use Rattle.client_core.specs.declared.job.Outcome.{Outcome}
 use Rattle.sqlite_ledger.specs.Taken.{is_taken}
 use Rattle.sqlite_ledger.specs.Marks.{IsBegun, IsMarked}
+use Rattle.sqlite_ledger.specs.Outcomes.{IsRecorded, IsSafe}
+use Rattle.sqlite_ledger.proofs.OutcomeLemmas.{recorded_same}
 use Rattle.sqlite_ledger.proofs.MarkLemmas.{begun_text, begun_source, begun_is, begun_plain}
 use Rattle.sqlite_ledger.proofs.MarkLemmas.{begun_does, mark_row, begun_after, begun_kept}
-use Rattle.sqlite_ledger.proofs.MarkLemmas.{not_before}
+use Rattle.sqlite_ledger.proofs.MarkLemmas.{not_before, outcomes_same}
 use Rattle.sqlite_ledger.proofs.TakenLemmas.{begun_taken}
 use Rattle.sqlite_ledger.proofs.InsertStates.{IsSettled, IsAtRest, IsInsert}
 use Rattle.sqlite_ledger.proofs.InsertStates as insert
@@ -70,3 +73,11 @@ module _ (old mid new : State) (place : ℤ) (at : Value) (has : old.now.schema 
   kept start clean first second other =
       insert.kept _ _ _ _ _ _ (mark place at) old mid new has rest same start clean first second (λ
       d. IsBegun d other) (λ db after adds. begun_kept db after place at adds other)
+
+  pub remains : IsSettled old → HasCleanDisk new → Survives old mid (λ _. ⊥) → Survives mid new
+      (CommitsBy begun_text (mark_params place at) mid) → (other : ℤ) (held : Outcome)
+      → IsSafe old.may_leave other held → IsSafe new.may_leave other held
+  remains start clean first second other held =
+      insert.kept _ _ _ _ _ _ (mark place at) old mid new has rest same start clean first second (λ
+      d. IsRecorded d other held) (λ db after adds. recorded_same db.trees after.trees
+      (outcomes_same db after place at adds) other held)

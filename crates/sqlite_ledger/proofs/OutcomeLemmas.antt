@@ -22,11 +22,11 @@ use Rattle.sqlite.specs.Effect.{Database}
 use Rattle.sqlite.specs.State.{State, mode_of}
 use Rattle.sqlite.proofs.Callers.{IsPlain, command_of}
 use Rattle.sqlite_rules.specs.Lists.{Has}
-use Rattle.sqlite_rules.proofs.TableLemmas.{put_all_adds}
+use Rattle.sqlite_rules.proofs.TableLemmas.{put_all_adds, put_all_keeps}
 use Rattle.client_core.specs.declared.job.Outcome.{Outcome}
 use Rattle.client_core.specs.declared.job.Outcome.TheVariants.{Done, Refused, Rejected, Unknown}
 use Rattle.sqlite_ledger.specs.Schema.{ledger_schema, begun_tree, outcome_tree, outcome_table}
-use Rattle.sqlite_ledger.specs.Outcomes.{kind_of, number_of, outcome_row}
+use Rattle.sqlite_ledger.specs.Outcomes.{kind_of, number_of, outcome_row, IsRecorded}
 use Rattle.sqlite_ledger.proofs.InsertLemmas.{AddsRow, edit_adds, went, same_value, cast_int}
 use Rattle.sqlite_ledger.proofs.InsertLemmas.{cast_null}
 
@@ -101,3 +101,20 @@ module _ (db after : Database) (row : Row) (adds : AddsRow outcome_tree db after
   pub recorded : Has (after.trees outcome_tree) row
   recorded = subst (λ rows. Has rows row) (sym adds.rows) (put_all_adds (row ∷ []) (db.trees
       outcome_tree) row adds.fresh (inl refl))
+
+  -- the outcomes that were recorded remain
+  pub recorded_kept : (other : ℤ) (kept : Outcome) → IsRecorded db.trees other kept
+      → IsRecorded after.trees other kept
+  recorded_kept other kept was = (
+    was.0,
+    subst (λ rows. Has rows (outcome_row other kept was.0)) (sym adds.rows) (put_all_keeps
+        (row ∷ []) (db.trees outcome_tree) (outcome_row other kept was.0) adds.fresh was.1),
+  )
+
+-- What leaves the table of the outcomes alone keeps the outcomes.
+pub recorded_same : (db after : Trees) → after outcome_tree ≡ db outcome_tree → (other : ℤ)
+    (kept : Outcome) → IsRecorded db other kept → IsRecorded after other kept
+recorded_same db after same other kept was = (
+  was.0,
+  subst (λ rows. Has rows (outcome_row other kept was.0)) (sym same) was.1,
+)

@@ -11,7 +11,7 @@ use Rattle.sqlite_ledger.specs.Outcomes.{outcome_row, IsRecorded, IsSafe}
 use Rattle.sqlite_ledger.proofs.MarkLemmas.{begun_same}
 use Rattle.sqlite_ledger.proofs.OutcomeLemmas.{outcome_text, outcome_source, outcome_params}
 use Rattle.sqlite_ledger.proofs.OutcomeLemmas.{outcome_is, outcome_plain, outcome_does, marks_same}
-use Rattle.sqlite_ledger.proofs.OutcomeLemmas.{recorded}
+use Rattle.sqlite_ledger.proofs.OutcomeLemmas.{recorded, recorded_kept}
 use Rattle.sqlite_ledger.proofs.InsertStates.{IsSettled, IsAtRest, IsInsert}
 use Rattle.sqlite_ledger.proofs.InsertStates as insert
 
@@ -49,3 +49,11 @@ module _ (old mid new : State) (place : ℤ) (outcome : Outcome) (at : Value) (h
       second (λ d. IsBegun d other)
       (λ db after adds. begun_same db.trees after.trees (marks_same db after (outcome_row place
       outcome at) adds) other)
+
+  pub remains : IsSettled old → HasCleanDisk new → Survives old mid (λ _. ⊥) → Survives mid new
+      (CommitsBy outcome_text (outcome_params place outcome at) mid) → (other : ℤ)
+      (held : Outcome) → IsSafe old.may_leave other held → IsSafe new.may_leave other held
+  remains start clean first second other held =
+      insert.kept _ _ _ _ _ _ (ending place outcome at) old mid new has rest same start clean first
+      second (λ d. IsRecorded d other held)
+      (λ db after adds. recorded_kept db after (outcome_row place outcome at) adds other held)

@@ -3,6 +3,7 @@
 pub mod Answers
 pub mod AnswersSchema
 pub mod Campaigns
+pub mod EntryCode
 pub mod Marks
 pub mod OpenFaults
 pub mod Outcomes

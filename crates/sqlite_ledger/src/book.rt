@@ -1,8 +1,8 @@
 //! `SqliteBook`: a ledger's book over an SQLite connection.
-ghost use Rattle.std.specs.Prelude.{◌≡◌, ℕ, pos, IfOk, IfErr, OnOk};
+ghost use Rattle.std.specs.Prelude.{◌≡◌, pos, IfOk, IfErr};
 ghost use Rattle.sqlite.specs.State.{HasCleanDisk};
 ghost use Rattle.sqlite.specs.Held.{state};
-ghost use Rattle.sqlite_ledger.specs.Marks.{IsMarked, LeavesEntries, left_marked};
+ghost use Rattle.sqlite_ledger.specs.Marks.{IsMarked, LeavesEntries, left_marked, left_kept};
 ghost use Rattle.sqlite_ledger.specs.Outcomes.{IsSafe};
 ghost use Rattle.sqlite_ledger.specs.Schema.{ledger_schema};
 
@@ -75,7 +75,13 @@ impl<S: Alter + Drop> Book for SqliteBook<S> {
 
     ghost is_marked = { λ book place. IsMarked (state S.Store book).may_leave (pos place) };
 
+    ghost keeps = { λ book place outcome. IsSafe (state S.Store book).may_leave (pos place)
+        outcome };
+
     ghost stays_marked = { λ book place entries down left. left_marked _ place entries down left };
+
+    ghost stays_kept = { λ book place outcome entries down safe left.
+        left_kept _ place outcome entries down safe left };
 
     fn mark(&mut self, place: u32) -> Result<bool, LedgerFault> {
         if self.has_failed {
@@ -95,16 +101,7 @@ impl<S: Alter + Drop> Book for SqliteBook<S> {
         }
     }
 
-    // In addition to the trait's clauses, all trees that a crash may leave have the outcome.
-    fn record(&mut self, place: u32, outcome: Outcome) -> Result<(), LedgerFault>
-        ensures honest { HasCleanDisk (state S.Store self.new)
-            → HasCleanDisk (state S.Store self.old) }
-        ensures remains_marked { HasCleanDisk (state S.Store self.new) → (other : ℕ)
-            → IsMarked (state S.Store self.old).may_leave (pos other)
-            → IsMarked (state S.Store self.new).may_leave (pos other) }
-        ensures recorded { HasCleanDisk (state S.Store self.new)
-            → OnOk result (IsSafe (state S.Store self.new).may_leave (pos place) outcome) }
-    {
+    fn record(&mut self, place: u32, outcome: Outcome) -> Result<(), LedgerFault> {
         if self.has_failed {
             return Err(LedgerFault::Failed);
         }

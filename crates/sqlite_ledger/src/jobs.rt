@@ -9,25 +9,6 @@ use std::alloc::Global;
 // Writes a job at its place: the meter's name, its address and the verb.
 const INSERT_JOB: &str = "INSERT INTO job (place, name, address, verb) VALUES (?1, ?2, ?3, ?4)";
 
-// Returns the word for a verb, as a list of jobs has it.
-fn verb_word(verb: Verb) -> &'static str {
-    match verb {
-        Verb::Disconnect => "disconnect",
-        Verb::Reconnect => "reconnect",
-        Verb::ReadState => "state",
-    }
-}
-
-// Returns the verb of a word, or `None` if it names none.
-fn verb_of(word: &str) -> Option<Verb> {
-    match word {
-        "disconnect" => Some(Verb::Disconnect),
-        "reconnect" => Some(Verb::Reconnect),
-        "state" => Some(Verb::ReadState),
-        _ => None,
-    }
-}
-
 // Writes a job at its place, and returns the number of rows written.
 pub(crate) fn insert_job<S: Alter>(
     transaction: &mut Transaction<'_, S>,
@@ -40,7 +21,7 @@ pub(crate) fn insert_job<S: Alter>(
             ValueRef::Int(i64::from(place)),
             ValueRef::Text(job.id.as_slice()),
             ValueRef::Text(job.address.as_slice()),
-            ValueRef::Text(verb_word(job.verb).as_bytes()),
+            ValueRef::Text(job.verb.word()),
         ],
     )
 }
@@ -55,7 +36,7 @@ fn is_row_of(row: &Row, place: u32, job: &Job) -> Result<bool, Error> {
         at == i64::from(place)
             && name.as_bytes() == job.id.as_slice()
             && address.as_bytes() == job.address.as_slice()
-            && verb.as_str() == verb_word(job.verb),
+            && verb.as_bytes() == job.verb.word(),
     )
 }
 
@@ -81,7 +62,7 @@ pub(crate) fn read_job(alloc: Global, row: &Row, place: usize) -> Result<Job, Le
     let name: String = row.get(1)?;
     let address: String = row.get(2)?;
     let word: String = row.get(3)?;
-    match verb_of(word.as_str()) {
+    match Verb::from_word(word.as_bytes()) {
         Some(verb) if at as usize == place => Ok(Job {
             id: Octets::from_slice(alloc, name.as_bytes())?,
             address: Octets::from_slice(alloc, address.as_bytes())?,

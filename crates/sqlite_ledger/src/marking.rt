@@ -4,6 +4,8 @@ ghost use Rattle.sqlite.specs.State.{HasCleanDisk};
 ghost use Rattle.sqlite.specs.Held.{state};
 ghost use Rattle.sqlite_ledger.specs.Schema.{ledger_schema};
 ghost use Rattle.sqlite_ledger.specs.Marks.{IsMarked};
+ghost use Rattle.sqlite_ledger.specs.Outcomes.{IsSafe};
+ghost use Rattle.client_core.specs.declared.job.Outcome.{Outcome};
 ghost use Rattle.sqlite_ledger.specs.Taken.{is_taken};
 
 use sqlite::{Alter, Connection, Error, ErrorCode, params};
@@ -26,6 +28,9 @@ pub(crate) fn insert_begun<S: Alter>(
     ensures remains_marked { HasCleanDisk (state S.Store conn.new) → conn.old.schema ≡ ledger_schema
         → (other : ℤ) → IsMarked (state S.Store conn.old).may_leave other
         → IsMarked (state S.Store conn.new).may_leave other }
+    ensures remains_safe { HasCleanDisk (state S.Store conn.new) → conn.old.schema ≡ ledger_schema
+        → (other : ℤ) (kept : Outcome) → IsSafe (state S.Store conn.old).may_leave other kept
+        → IsSafe (state S.Store conn.new).may_leave other kept }
     ensures schema { HasCleanDisk (state S.Store conn.new) → conn.old.schema ≡ ledger_schema
         → OnOk result (conn.new.schema ≡ ledger_schema) }
     ensures taken { HasCleanDisk (state S.Store conn.new) → conn.old.schema ≡ ledger_schema

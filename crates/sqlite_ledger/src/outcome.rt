@@ -57,6 +57,9 @@ pub(crate) fn insert_outcome<S: Alter>(
     ensures remains_marked { HasCleanDisk (state S.Store conn.new) → conn.old.schema ≡ ledger_schema
         → (other : ℤ) → IsMarked (state S.Store conn.old).may_leave other
         → IsMarked (state S.Store conn.new).may_leave other }
+    ensures remains_safe { HasCleanDisk (state S.Store conn.new) → conn.old.schema ≡ ledger_schema
+        → (other : ℤ) (kept : Outcome) → IsSafe (state S.Store conn.old).may_leave other kept
+        → IsSafe (state S.Store conn.new).may_leave other kept }
     ensures schema { HasCleanDisk (state S.Store conn.new) → conn.old.schema ≡ ledger_schema
         → OnOk result (conn.new.schema ≡ ledger_schema) }
 {

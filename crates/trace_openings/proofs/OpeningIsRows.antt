@@ -116,7 +116,7 @@ head_are_rows o rows writable are =
     let version = number_is_row (codes "RELAYTRACE") 2 refl (omega arith) in
     let device = more (codes "device") (encode_upper o.device ∷ []) refl
     (more (encode_upper o.device) [] (hex_is_word o.device
-    (omega (arith, writable.fit.device_some)) writable.device) refl) in
+    (omega (arith, writable.fit.device.0)) writable.device) refl) in
     let state = number_is_row (codes "state") (state_number o.state) refl
     (omega (arith, state_small o.state)) in
     let mode = number_is_row (codes "mode") (mode_number o.mode) refl

@@ -160,7 +160,7 @@ inner_again mean o rows unended writable =
     let device = line_again (labelled_value (codes "device") device_in) (codes "device"
     ∷ encode_upper o.device ∷ []) o.device 2 (state_row ∷ mode_row ∷ last_row ∷ moment_row
     ∷ import_rows) unended
-    (device_line_again o.device writable.fit.device_some writable.fit.device_few writable.device) in
+    (device_line_again o.device writable.fit.device.0 writable.fit.device.1 writable.device) in
     let state = line_again (labelled_value (codes "state") state_in) state_row o.state 3 (mode_row
     ∷ last_row ∷ moment_row ∷ import_rows) unended (state_line_again o.state) in
     let mode = line_again (labelled_value (codes "mode") (mode_in o.state)) mode_row o.mode 4

@@ -150,7 +150,7 @@ firsts_short o is = (
   number_row_short (codes "RELAYTRACE") 2 (omega arith) (omega arith),
   (
     word_row_short (codes "device") (encode_upper o.device) 32 (omega arith)
-        (bytes_short o.device 16 is.fit.device_few) (omega arith),
+        (bytes_short o.device 16 is.fit.device.1) (omega arith),
     (
       number_row_short (codes "state") (state_number o.state) (omega arith) (state_small o.state),
       (

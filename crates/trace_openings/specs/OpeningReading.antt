@@ -1,7 +1,7 @@
 -- An opening, read from its lines.
 --     settings_from, limiter_from, export_from   the lines of a limiter
 --     opening_from                               all lines from the version to the last schedule
-use Rattle.std.specs.Prelude.{◌≡◌, ◌≤◌, ℕ, List, Option, Ok, codes, length}
+use Rattle.std.specs.Prelude.{◌≡◌, ℕ, List, Option, Ok, codes}
 use Rattle.wire_bytes.specs.Outcome.{◌>>=◌}
 use Rattle.cosem_names.specs.declared.objects.Which.{Which}
 use Rattle.cosem_names.specs.declared.objects.Which.TheVariants.{Import, Export}
@@ -12,6 +12,7 @@ use Rattle.disconnect_control.specs.declared.state.ControlState.TheVariants.{Con
 use Rattle.limiter_core.specs.Counting.{no_run}
 use Rattle.limiter_core.specs.Settings.{new_settings}
 use Rattle.limiter_core.specs.declared.settings.Settings.{Settings}
+use Rattle.relay_core.specs.World.{IsDeviceName}
 use Rattle.relay_core.specs.declared.opening.LimiterOpening.{LimiterOpening}
 use Rattle.relay_core.specs.declared.opening.Opening.{Opening}
 use Rattle.relay_core.specs.declared.schedules.Schedules.{Schedules}
@@ -83,8 +84,7 @@ schedules_from place = do
 
 -- whether the device name has 1 to 16 bytes, and the control mode fits the control state
 pub record IsFitStart (device : List ℕ) (state : ControlState) (mode : ControlMode) : Type 0 where
-  pub device_some : 1 ≤ length device
-  pub device_few : length device ≤ 16
+  pub named : IsDeviceName device
   pub control : mode ≡ Mode0 → state ≡ Connected
 
 -- the rest of an opening, from the lines after those of the import limiter

@@ -3,6 +3,7 @@ use Rattle.std.proofs.Common.{◌≡◌, ◌≤◌, ◌++◌, ℕ, List, [], ◌
 use Rattle.std.proofs.lemmas.List.Elements.{All-head, All-tail}
 use Rattle.relay_core.specs.Opening.{IsFitOpening}
 use Rattle.relay_events.specs.declared.event.Event.{Event}
+use Rattle.relay_recorder.specs.Recording.{max_capacity}
 use Rattle.relay_recorder.specs.declared.trace.Trace.{Trace}
 use Rattle.trace_lines.specs.Traced.{FitsLine, IsTraced}
 use Rattle.trace_openings.specs.OpeningTraced.{IsWritable}
@@ -35,7 +36,7 @@ is_writable trace opening events fits short = record {
 
 pub is_short : (trace : Trace) → (IsFitOpening trace.opening → IsWritable trace.opening)
     → All (λ event. FitsLine event → IsTraced event) trace.events
-    → FitsText trace → length trace.events ≤ 1024 → length (trace_text trace) ≤ max_bytes
+    → FitsText trace → length trace.events ≤ max_capacity → length (trace_text trace) ≤ max_bytes
 is_short trace opening events fits few = few_are_short trace (opening fits.fit)
     (are_traced trace.events events fits.events) few
 

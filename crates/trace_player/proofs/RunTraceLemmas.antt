@@ -3,7 +3,7 @@ use Rattle.std.proofs.Common.{◌≡◌, ◌≤◌, List, ℕ, All, length, Resu
 use Rattle.trace_player.specs.RunTraces.{TellsRun}
 use Rattle.relay_core.specs.Opening.{IsFitOpening, world_of_opening, opening_of}
 use Rattle.relay_events.specs.declared.event.Event.{Event}
-use Rattle.relay_recorder.specs.Recording.{Recording}
+use Rattle.relay_recorder.specs.Recording.{Recording, max_capacity}
 use Rattle.relay_recorder.specs.Replaying.{Replays}
 use Rattle.relay_recorder.specs.declared.trace.Trace.{Trace}
 use Rattle.trace_lines.specs.Traced.{FitsLine}
@@ -16,7 +16,7 @@ pub record IsExport (r : Recording) (trace : Trace) : Type 0 where
   pub opening : trace.opening ≡ opening_of r.opening
   pub events : trace.events ≡ r.events
   pub fit : IsFitOpening trace.opening
-  pub few : length trace.events ≤ 1024
+  pub few : length trace.events ≤ max_capacity
   pub replays : Replays r (world_of_opening trace.opening)
 
 fits_text : (r : Recording) (trace : Trace) → IsExport r trace → All FitsLine r.events
@@ -30,7 +30,8 @@ fits_text r trace is fit = record {
 tells : (r : Recording) (trace : Trace) (text : List ℕ) → IsExport r trace → PrintsTheEnd r trace
     → text ≡ trace_text trace
     → (FitsText trace → length text ≤ max_bytes → trace_of text ≡ Ok trace)
-    → (FitsText trace → length trace.events ≤ 1024 → length text ≤ max_bytes) → TellsRun r text
+    → (FitsText trace → length trace.events ≤ max_capacity → length text ≤ max_bytes)
+    → TellsRun r text
 tells r trace text is prints written again short = record {
   trace = trace;
   written = written;
@@ -46,7 +47,8 @@ pub tells_run : {E : Type 0} (r exported : Recording) (trace : Trace) (result : 
     → PrintsTheEnd s t)
     → IfOk result (λ text. text ≡ trace_text trace)
     → IfOk result (λ text. FitsText trace → length text ≤ max_bytes → trace_of text ≡ Ok trace)
-    → IfOk result (λ text. FitsText trace → length trace.events ≤ 1024 → length text ≤ max_bytes)
+    → IfOk result (λ text. FitsText trace → length trace.events ≤ max_capacity
+    → length text ≤ max_bytes)
     → IfOk result (TellsRun r)
 tells_run r exported trace (Ok text) same is prints written again short =
     subst (λ (s : Recording). TellsRun s text) same

@@ -2,6 +2,7 @@
 use Rattle.std.proofs.Common.{◌≡◌, ◌≤◌, List, [], ◌∷◌, codes, length, map, refl, arith, length-append}
 use Rattle.std.proofs.lemmas.List.{length-map}
 use Rattle.relay_core.specs.declared.opening.Opening.{Opening}
+use Rattle.relay_recorder.specs.Recording.{max_capacity}
 use Rattle.relay_recorder.specs.declared.trace.Trace.{Trace}
 use Rattle.trace_lines.specs.Writing.{event_row}
 use Rattle.trace_openings.specs.OpeningRows.{opening_rows}
@@ -24,7 +25,7 @@ unfolding opening_rows
 thirty_rows o = refl
 
 pub few_are_short : (trace : Trace) → IsWritable trace.opening → AreTraced trace.events
-    → length trace.events ≤ 1024 → length (trace_text trace) ≤ max_bytes
+    → length trace.events ≤ max_capacity → length (trace_text trace) ≤ max_bytes
 few_are_short trace opening events few =
     let count : Row = number_row (codes "events") (length trace.events) in
     let others : List Row = map event_row trace.events in

@@ -18,8 +18,8 @@ use text_lines::split_line;
 use trace_lines::write_open_count;
 use trace_openings::write_opening;
 
-// The number of lines of an opening, in version 2 of the format.
-const OPENING_LINES: u32 = 30;
+/// The number of lines of an opening, in version 2 of the format.
+pub const OPENING_LINES: u32 = 30;
 
 // Returns the lines of a journal as text.
 #[tactic(auto, using(crate::proofs::EventsLeft::journal_joined))]

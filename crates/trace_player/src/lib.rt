@@ -20,7 +20,7 @@ mod writing;
 
 pub use exporting::recorder_trace;
 pub use fault::PlayFault;
-pub use journal::{is_journal, write_journal};
+pub use journal::{OPENING_LINES, is_journal, write_journal};
 pub use laws::{
     appended_journal_is_read, exported_run_is_played, read_trace_is_written,
     recovered_journal_is_read, torn_tails_have_no_line, written_journal_is_read,

@@ -3,6 +3,7 @@
 ghost use Rattle.std.specs.Prelude.{◌≡◌, ◌≤◌, ◌++◌, List, ℕ, length, Ok};
 ghost use Rattle.std.specs.List.{All};
 ghost use Rattle.relay_events.specs.declared.event.Event.{Event};
+ghost use Rattle.relay_recorder.specs.Recording.{max_capacity};
 ghost use Rattle.trace_lines.specs.Traced.{FitsLine, IsTraced};
 ghost use Rattle.trace_words.specs.WholeLines.{IsTail};
 ghost use Rattle.trace_player.specs.Journals.{FitsJournal, events_text, journal_text, with_events};
@@ -30,7 +31,7 @@ fn events_are_traced(events: &[Event])
 pub(crate) fn trace_is_read_again(trace: &Trace)
     ensures read_back { FitsText trace.now → length (trace_text trace.now) ≤ max_bytes
         → trace_of (trace_text trace.now) ≡ Ok trace.now }
-    ensures within_max { FitsText trace.now → length trace.now.events ≤ 1024
+    ensures within_max { FitsText trace.now → length trace.now.events ≤ max_capacity
         → length (trace_text trace.now) ≤ max_bytes }
 {
     opening_is_writable(&trace.opening);

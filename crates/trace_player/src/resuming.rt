@@ -1,5 +1,6 @@
 //! A meter that resumes from an earlier run.
-ghost use Rattle.std.specs.Prelude.{◌≡◌, ◌≤◌, [], IfOk, OnOk};
+ghost use Rattle.std.specs.Prelude.{◌≡◌, [], IfOk, OnOk};
+ghost use Rattle.relay_recorder.specs.Recording.{IsCapacity};
 ghost use Rattle.trace_player.specs.Resuming.{ContinuesRun, world_of};
 ghost use Rattle.relay_core.specs.Agreeing.{AreInRange, IsWorld};
 ghost use Rattle.relay_core.specs.Opening.{IsFitOpening, world_of_opening};
@@ -32,7 +33,7 @@ fn take_events(alloc: Global, core: &mut RelayCore, events: &[Event]) -> Result<
 #[tactic(auto, using(crate::proofs::Alike::goes_on))]
 pub fn resume_recorder(alloc: Global, trace: &Trace, capacity: u16) -> Result<Recorder, AllocError>
     requires fit { IsFitOpening trace.now.opening }
-    requires capacity { (1 ≤ capacity) × (capacity ≤ 1024) }
+    requires capacity { IsCapacity capacity }
     ensures empty { IfOk result (λ recorder. recorder.events ≡ []) }
     ensures capacity { IfOk result (λ recorder. recorder.capacity ≡ capacity) }
     ensures world { IfOk result (λ recorder. StandsFor recorder.core (world_of trace.now)) }

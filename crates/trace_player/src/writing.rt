@@ -1,5 +1,6 @@
 //! Writes a whole trace as text, which `read_trace` reads back.
 ghost use Rattle.std.specs.Prelude.{◌≡◌, ◌≤◌, ◌++◌, ◌∷◌, [], length, map, Ok, IfOk, OnOk};
+ghost use Rattle.relay_recorder.specs.Recording.{max_capacity};
 ghost use Rattle.trace_lines.specs.Writing.{event_row};
 ghost use Rattle.trace_player.specs.Traces.{max_bytes, trace_of, trace_text};
 ghost use Rattle.trace_player.specs.Written.{FitsText};
@@ -60,8 +61,8 @@ pub fn write_trace(alloc: Global, trace: &Trace) -> Result<Octets, AllocError>
     ensures text { IfOk result (λ text. text ≡ trace_text trace.now) }
     ensures read_back { IfOk result (λ text. FitsText trace.now → length text ≤ max_bytes
         → trace_of text ≡ Ok trace.now) }
-    ensures within_max { IfOk result (λ text. FitsText trace.now → length trace.now.events ≤ 1024
-        → length text ≤ max_bytes) }
+    ensures within_max { IfOk result (λ text. FitsText trace.now
+        → length trace.now.events ≤ max_capacity → length text ≤ max_bytes) }
 {
     // (no effect: the contract needs this law)
     trace_is_read_again(trace);

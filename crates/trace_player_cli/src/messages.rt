@@ -2,6 +2,7 @@
 //! has after its last whole line.
 use text_lines::{TextLines, Words, read_number};
 use thiserror::Error;
+use trace_lines::MAX_EVENTS;
 use trace_player::{MAX_BYTES, PlayFault};
 
 // The lines of an opening of version 2 in their order, each as its first word and the names of the
@@ -57,9 +58,6 @@ const LINES_BEFORE_EXPORT: u64 = 15;
 
 // The number of lines of the export limiter.
 const EXPORT_LINES: u64 = 10;
-
-// The maximum number of events of a trace.
-const MAX_EVENTS: u64 = 65_536;
 
 // The maximum length in bytes of a word that is shown in a message.
 const MAX_SHOWN: usize = 32;
@@ -191,7 +189,7 @@ fn last_line(text: &[u8]) -> Option<u64> {
     if words.next()? != b"events".as_slice() {
         return None;
     }
-    let count = read_number(words.next()?, MAX_EVENTS)?;
+    let count = read_number(words.next()?, u64::from(MAX_EVENTS))?;
     Some(head.saturating_add(count))
 }
 

@@ -14,6 +14,17 @@ use counted_io::Writer;
 use std::alloc::Global;
 use trace_player::{PlayFault, TraceFault, read_trace};
 
+// Returns the fault of a player for the fault of a text.
+fn play_fault(fault: TraceFault) -> PlayFault
+    ensures { result ≡ play_fault_of fault }
+{
+    match fault {
+        TraceFault::Line(number) => PlayFault::Line(number),
+        TraceFault::TooLong => PlayFault::TooLong,
+        TraceFault::Memory => PlayFault::Memory,
+    }
+}
+
 // Returns what a view shows of the trace of a text.
 fn view_text(alloc: Global, text: &[u8], view: &TraceView) -> Result<Vec<u8>, TraceFault>
     ensures ok { IfOk result (λ shown. ShowsTrace view.now text.now shown.items) }
@@ -43,9 +54,7 @@ pub fn play_view<W: Writer>(
 {
     let shown = match view_text(alloc, text, view) {
         Ok(shown) => shown,
-        Err(TraceFault::Line(number)) => return Err(PlayFault::Line(number)),
-        Err(TraceFault::TooLong) => return Err(PlayFault::TooLong),
-        Err(TraceFault::Memory) => return Err(PlayFault::Memory),
+        Err(fault) => return Err(play_fault(fault)),
     };
     match writer.write_all(shown.as_slice()) {
         Ok(()) => Ok(()),
@@ -68,17 +77,6 @@ fn view_front(
     let end = front.end;
     drop(front);
     Ok((shown?, end))
-}
-
-// Returns the fault of a player for the fault of a text.
-fn play_fault(fault: TraceFault) -> PlayFault
-    ensures { result ≡ play_fault_of fault }
-{
-    match fault {
-        TraceFault::Line(number) => PlayFault::Line(number),
-        TraceFault::TooLong => PlayFault::TooLong,
-        TraceFault::Memory => PlayFault::Memory,
-    }
 }
 
 /// Plays the front of the text of a trace: the whole events before its first wrong line. Writes the

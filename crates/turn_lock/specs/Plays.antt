@@ -92,7 +92,7 @@ module _ {T E R O : Type 0} (legal : O → List (Entry E R) → Type 0) where
     pub carried : move.after.carried ≡ []
     pub adds : AddsCall legal (last_call move.before.carried) move.before.view move.after.view
 
-  -- whether a seat that took in another loaded the count of drawn turns, and so knows what both had
+  -- whether a seat that took in another loaded the count of ended turns, and so knows what both had
   -- seen
   pub record Merges (move : Move T E R O) : Type 0 where
     pub carried : move.after.carried ≡ move.before.carried

@@ -1,6 +1,6 @@
 //! `Cursor`: reads bytes, slices and arrays from left to right, and fails with the fault that its
 //! caller passes.
-ghost use Rattle.std.specs.Prelude.{◌≡◌, ◌↔◌, [], Ok, length, IfOk, IsTrue};
+ghost use Rattle.std.specs.Prelude.{◌≡◌, ◌↔◌, [], Ok, length, IfOk, OnErr, IsTrue};
 ghost use Rattle.wire_bytes.specs.Reading.{Reads, whole_or, first_byte, first_bytes};
 
 use std::marker::Model;
@@ -56,7 +56,8 @@ impl<'a> Cursor<'a> {
 
     /// Reads the next byte, or returns `fault` if there is none.
     pub fn read_byte<F: Copy>(&mut self, fault: F) -> Result<u8, F>
-        ensures { Reads (λ byte. byte) result self.new (first_byte fault self.old) }
+        ensures read { Reads (λ byte. byte) result self.new (first_byte fault self.old) }
+        ensures err { OnErr result (self.new ≡ self.old) }
     {
         let [byte, rest @ ..] = self.rest else {
             return Err(fault);
@@ -70,6 +71,7 @@ impl<'a> Cursor<'a> {
         ensures read { Reads (λ bytes. bytes.now) result self.new
             (first_bytes fault count self.old) }
         ensures len { IfOk result (λ bytes. length bytes.now ≡ count) }
+        ensures err { OnErr result (self.new ≡ self.old) }
     {
         if self.rest.len() < count {
             return Err(fault);
@@ -81,7 +83,8 @@ impl<'a> Cursor<'a> {
 
     /// Reads the next `N` bytes. Returns `fault` and reads nothing if there are fewer.
     pub fn read_array<const N: usize, F: Copy>(&mut self, fault: F) -> Result<[u8; N], F>
-        ensures { Reads (λ bytes. bytes) result self.new (first_bytes fault N self.old) }
+        ensures read { Reads (λ bytes. bytes) result self.new (first_bytes fault N self.old) }
+        ensures err { OnErr result (self.new ≡ self.old) }
     {
         let mut array = [0; N];
         array.copy_from_slice(self.read_bytes(N, fault)?);

@@ -1,4 +1,4 @@
-use Rattle.std.proofs.Common.{◌≡◌, ℕ, ◌-◌, List, length, take, drop, ap, ◌∙◌}
+use Rattle.std.proofs.Common.{◌≡◌, ◌-◌, List, length, take, drop, ap, ◌∙◌}
 use Rattle.journal_files.proofs.RenewalLemmas as lemma
 use Rattle.relay_events.specs.declared.event.Event.{Event}
 use Rattle.journal_files.proofs.renewing.shorten_trace.Goals as goal

@@ -3,12 +3,12 @@ use Rattle.ledger_campaigns.proofs.DeskLemmas.{asked, asked_place}
 use Rattle.ledger_campaigns.proofs.asking.ask_to_send.Goals as goal
 
 pub returns-in-Ok-clause-permit : goal.returns-in-Ok-clause-permit
-returns-in-Ok-clause-permit g c = asked_place g.B.Book.is_honest g.B.Book.is_marked _ _ c.args.place
-    c.in-Ok.answer c.permit_in.result c.permit_in.ensures c.in-Ok.ensures.ok
+returns-in-Ok-clause-permit g c = asked_place g.B.Book.is_honest g.B.Book.is_marked g.B.Book.keeps _
+    _ c.args.place c.in-Ok.answer c.permit_in.result c.permit_in.ensures c.in-Ok.ensures.ok
 
 pub returns-in-Ok-clause-given : goal.returns-in-Ok-clause-given
-returns-in-Ok-clause-given g c = asked g.B.Book.is_honest g.B.Book.is_marked _ _ c.args.place
-    c.in-Ok.answer c.permit_in.result c.permit_in.ensures c.in-Ok.ensures.ok
+returns-in-Ok-clause-given g c = asked g.B.Book.is_honest g.B.Book.is_marked g.B.Book.keeps _ _
+    c.args.place c.in-Ok.answer c.permit_in.result c.permit_in.ensures c.in-Ok.ensures.ok
 
 pub returns-in-Ok-clause-last_call : goal.returns-in-Ok-clause-last_call
 returns-in-Ok-clause-last_call g c = inl (
@@ -16,4 +16,5 @@ returns-in-Ok-clause-last_call g c = inl (
   c.in-Ok.answer,
   c.in-Ok.ensures.ok.seen.1,
   c.permit_in.ensures,
+  c.in-Ok.ensures.ok.own_calls,
 )

@@ -39,9 +39,9 @@ returns-clause-run g c =
     _
     (λ p. p.attempt.stage) c.args.plan.now.jobs.now c.args.plan.now.passwords.now c.args.ledger
     c.close-ledger.result c.from_vec.result (omega (arith, count, ap length same))
-    (rw (whole, same) (run_by g.B.Book.is_honest g.B.Book.is_marked c.args.plan.now.jobs.now
-    c.args.plan.now.passwords.now c.args.ledger c.close-ledger.result c.run_places.new.lines
-    (map (λ p. p.attempt.stage) c.run_places.new.places)
+    (rw (whole, same) (run_by g.B.Book.is_honest g.B.Book.is_marked g.B.Book.keeps
+    c.args.plan.now.jobs.now c.args.plan.now.passwords.now c.args.ledger c.close-ledger.result
+    c.run_places.new.lines (map (λ p. p.attempt.stage) c.run_places.new.places)
     (map (λ p. permits_given p.port.known.seen) c.run_places.new.places)
     c.meet_all.new.port.known origin (rw found at c.run_places.ensures.uses)
     (λ i below is. permits_kept c.run_places.new.places (λ p. p.port.known.seen)

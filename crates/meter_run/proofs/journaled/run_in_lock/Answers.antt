@@ -2,7 +2,8 @@ use denote.Param.Send.{sendable}
 use Rattle.std.proofs.Crossing.{crosses}
 use Rattle.shared_meter.proofs.Sent.{kept_send}
 use Rattle.turn_lock.proofs.Sent.{note_send}
-use Rattle.meter_run.proofs.JournaledLemmas.{journaled_by}
+use Rattle.meter_run.proofs.JournaledLemmas.{acts_once_finished, journaled_by}
+use Rattle.meter_run.proofs.JournaledLemmas.{left_open_journaled}
 use Rattle.meter_run.proofs.journaled.run_in_lock.Goals as goal
 
 pub serve-port-requires-send-D : goal.serve-port-requires-send-D
@@ -16,7 +17,8 @@ returns-clause-run g c = λ recorder known.
     let D = g.F.DurableFile in
     let started = c.in-Some.started in
     journaled_by D.acts_as_file D.identity D.seen D.may_leave D.moment D.left_since D.stored
-    D.renews c.args.journal.file g.K.JournalIdentity.file g.K.JournalIdentity.first
+    D.renews g.A.FailureAction.has_acted c.args.journal.file g.K.JournalIdentity.file
+    g.K.JournalIdentity.first
     c.requires.file recorder (record {
       blocks = g.B.BlockSource.forecast c.args.sources.blocks;
       moments = g.M.MomentSource.forecast c.args.sources.moments;
@@ -27,3 +29,26 @@ returns-clause-run g c = λ recorder known.
     started.port c.serve-port.result.0 started.running.promise.worker.value c.in-Some.ensures.file
     c.file_is_idle.ensures (c.in-Some.ensures.starts _ known) c.serve-port.ensures.serves
     c.serve-port.ensures.journaled c.finish-trace.ensures.finished
+
+pub returns-clause-acted : goal.returns-clause-acted
+returns-clause-acted g c =
+    let D = g.F.DurableFile in
+    let task = c.in-Some.started.running.promise in
+    acts_once_finished D.acts_as_file D.identity D.seen D.may_leave D.moment D.left_since D.stored
+    D.renews g.A.FailureAction.has_acted task.worker.value task.port.value c.serve-port.result.0
+    c.finish-trace.result.0 c.finish-trace.result.1 c.finish-trace.ensures.finished
+
+pub returns-clause-still_out : goal.returns-clause-still_out
+returns-clause-still_out g c = λ recorder known busy.
+    let D = g.F.DurableFile in
+    let started = c.in-Some.started in
+    let task = started.running.promise in
+    left_open_journaled D.acts_as_file D.identity D.seen D.may_leave D.moment D.left_since D.stored
+    D.renews g.A.FailureAction.has_acted task.worker.value recorder (record {
+      blocks = g.B.BlockSource.forecast c.args.sources.blocks;
+      moments = g.M.MomentSource.forecast c.args.sources.moments;
+      presses = g.U.ButtonSource.forecast c.args.sources.buttons;
+      password = c.args.terms.now.password.now;
+    }) c.serve-port.result.1 c.finish-trace.result.0 c.finish-trace.result.1 task.port.value
+    started.port c.serve-port.result.0 (c.in-Some.ensures.starts _ known)
+    c.serve-port.ensures.serves c.finish-trace.ensures.finished busy

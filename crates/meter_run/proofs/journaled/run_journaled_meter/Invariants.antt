@@ -1,4 +1,5 @@
 -- The lock of the run, and its file.
+use Rattle.std.specs.Prelude.{⊤}
 use Rattle.durable_lines.specs.Lines.{lines_in}
 use Rattle.meter_run.proofs.journaled.run_journaled_meter.Given as goal
 
@@ -7,4 +8,5 @@ ghosts-run_in_lock g a = record {
   lock = a.meter.1.lock;
   file = g.F.DurableFile.identity a.journal.file;
   first = lines_in (g.F.DurableFile.seen a.journal.file);
+  may_end = ⊤;
 }

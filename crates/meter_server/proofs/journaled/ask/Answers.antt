@@ -1,10 +1,11 @@
-use Rattle.std.proofs.Common.{ℕ, Option, inr, subst, sym}
+use Rattle.std.proofs.Common.{◌≡◌, ◌∙◌, ℕ, Bool, true, false, Option, inr, subst, sym}
 use Rattle.std.specs.Prelude.{IfSome}
 use Rattle.meter_server.proofs.JournalLemmas.{reply_seen}
 use Rattle.meter_server.proofs.PortLemmas.{called_fits, is_same}
 use Rattle.shared_meter.proofs.SettlingLemmas.{found_count, known_later}
 use Rattle.shared_meter.specs.Settling.{AreDurable}
 use Rattle.turn_lock.proofs.Watching.{watches_refl}
+use Rattle.meter_server.proofs.journaled.ask.Goals.{else-not-is_read-via-then-not-is_read+else-has_failed, else-not-is_read-via-else-not-is_read}
 use Rattle.meter_server.proofs.journaled.ask.Goals as goal
 
 pub settle-requires-clause-known : goal.settle-requires-clause-known
@@ -16,6 +17,10 @@ settle-requires-clause-known g c =
     (reply_seen before c.args.event c.in_ok-reply.reply after c.in_ok-reply.ensures.ok)
     (subst (λ (known : Option ℕ). IfSome known (AreDurable D.is_durable before.seen))
     (sym c.take-known.ensures.value) c.requires.settled)
+
+-- an event is a read or not, and never both
+never_both : (read : Bool) → read ≡ false → read ≡ true → ⊥
+never_both read is_not is = absurd cc
 
 pub returns-in_default : goal.returns-in_default
 returns-in_default g c =
@@ -33,6 +38,13 @@ returns-in_default g c =
           same = is_same between;
           watches = watches_refl between.known c.in_ok-reply.ensures.ok.lawful;
         },
+        λ changing. elim c.else-not-is_read.branch [
+          | else-not-is_read-via-then-not-is_read+else-has_failed w ↦
+              w.has_failed.ensures.running w.if-has_failed.false
+          | else-not-is_read-via-else-not-is_read w ↦
+              absurd (never_both c.is_read.result (c.is_read.ensures ∙ changing)
+              w.if-not-is_read.false)
+        ],
       );
       fits = tt;
       settled = subst (λ (known : Option ℕ). IfSome known
@@ -56,6 +68,13 @@ returns-then-settle-clause-step g c =
       subst (λ (lines : ℕ). AreDurable g.D.Durability.is_durable c.settle.new.port.known.seen lines)
           (found_count between.known.seen c.in_ok-reply.found c.in-Count.lines c.in-Count.is
           c.in_ok-reply.ensures.finds) (c.settle.ensures.durable c.if-settle.true),
+      λ changing. elim c.else-not-is_read.branch [
+        | else-not-is_read-via-then-not-is_read+else-has_failed w ↦
+            w.has_failed.ensures.running w.if-has_failed.false
+        | else-not-is_read-via-else-not-is_read w ↦
+            absurd (never_both c.is_read.result (c.is_read.ensures ∙ changing)
+            w.if-not-is_read.false)
+      ],
     )
 
 pub returns-then-settle-clause-fits : goal.returns-then-settle-clause-fits

@@ -1,7 +1,7 @@
 use Rattle.std.proofs.Common.{◌∙◌}
 use Rattle.std.proofs.lemmas.Bool.{false≢true}
 use Rattle.port_threads.specs.Sessions.{port_of, terms_of}
-use Rattle.port_threads.proofs.Counting.{count_on, counted_on, counted_still}
+use Rattle.port_threads.proofs.Counting.{count_on, counted_on, counted_still, few_on, reasons_still}
 use Rattle.port_threads.proofs.PortsKept.{keeps_trans, keeps_by}
 use Rattle.port_threads.proofs.serving.accept_all.Goals as goal
 
@@ -30,6 +30,9 @@ connections-preserved g c =
       borrowed = c.take_next.ensures.borrowed ∙ c.connections.invariant.borrowed;
       counted = counted_on _ _ _ _ _ c.connections.invariant.counted
           c.in-Some-take_next.ensures.accepted c.count.ensures.counted c.count.ensures.rises;
+      few = few_on _ _ _ _ _ _ _ _ c.connections.invariant.few c.in-Some-take_next.ensures.crowded
+          c.in-Some-take_next.ensures.count c.in-Some-take_next.ensures.setup_failures
+          c.count.ensures.added;
       within = count_on c.args.limit _ _ c.ranges.limit.fits
           (λ reached. false≢true (c.if-has_reached.ensures.1 reached)) c.count.ensures.counted;
     }
@@ -41,3 +44,7 @@ returns-in_default-clause-counted g c =
 pub take_next-requires-clause-fits : goal.take_next-requires-clause-fits
 take_next-requires-clause-fits g c κs within = λ p same.
     c.requires.fits p (same ∙ c.connections.invariant.keeps_ports.goes.lock)
+
+pub returns-in_default-clause-reasons : goal.returns-in_default-clause-reasons
+returns-in_default-clause-reasons g c = reasons_still _ _ _ _ _ _ _ c.connections.invariant.few
+    c.in_default.ensures.setup_failures_none

@@ -1,6 +1,8 @@
 use Rattle.std.proofs.Common.{◌≡◌, ◌+◌, ◌<◌, ◌≤◌, false}
 use Rattle.port_threads.specs.Sessions.{port_of, terms_of, KeepsPorts, IsServed}
 use Rattle.port_threads.specs.Listening.{IsCounted}
+use Rattle.port_threads.proofs.Counting.{AreFew}
+use Rattle.slab.specs.Slab.{slab_len}
 use Rattle.port_threads.proofs.serving.accept_all.Given as goal
 
 abbrev pub invariant-connections : goal.invariant-connections
@@ -18,5 +20,8 @@ invariant-connections g l = record {
       ≡ g.L.ConnectionSource.borrowed l.initial.listener;
   counted : IsCounted (g.L.ConnectionSource.accepted l.initial.listener) (l.accepted.served
       + l.accepted.turned_away) (g.L.ConnectionSource.accepted l.listener);
+  few : AreFew (slab_len l.sessions.handles)
+      (g.L.ConnectionSource.setup_failures l.initial.listener) l.accepted
+      (g.L.ConnectionSource.setup_failures l.listener);
   within : 0 < l.limit → l.accepted.served + l.accepted.turned_away ≤ l.limit;
 }

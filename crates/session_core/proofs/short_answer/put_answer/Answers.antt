@@ -1,6 +1,6 @@
 use Rattle.std.proofs.Common.{sym, ◌∙◌, arith}
 use Rattle.std.proofs.lemmas.Option.{none-some}
-use Rattle.session_core.proofs.Shorts.{action_begins_none, action_payload, fits_answer, if_placed, placed_answer, set_begins_none, set_payload, short_action, short_set, short_value, value_begins_none, value_payload}
+use Rattle.session_core.proofs.Shorts.{action_begins_none, action_payload, counted_short, fits_answer, if_placed, placed_answer, set_begins_none, set_payload, short_action, short_set, short_value, value_begins_none, value_payload}
 use Rattle.session_core.proofs.short_answer.put_answer.Goals as goal
 
 pub returns-in_ok-value_answer-in-Get-clause-placed :
@@ -10,7 +10,7 @@ returns-in_ok-value_answer-in-Get-clause-placed c =
     placed_answer c.args.asked c.args.reply.now answer.field-0 _ _ _
     (value_payload c.args.asked c.args.reply.now c.in-Get.id c.in-Value.value answer.field-0
     c.in-Get.is c.in-Value.is answer.ensures.text
-    (omega (arith, answer.ensures.size)) c.holds_least_pdu.ensures) c.put_frame.ensures.placed
+    (omega (arith, answer.ensures.size)) c.holds_range.ensures.least) c.put_frame.ensures.placed
 
 pub returns-in_ok-value_answer-in-Get-clause-begins_none :
     goal.returns-in_ok-value_answer-in-Get-clause-begins_none
@@ -19,7 +19,7 @@ returns-in_ok-value_answer-in-Get-clause-begins_none c =
     if_placed _ _
     (value_begins_none c.args.asked c.args.reply.now c.in-Get.id c.in-Value.value answer.field-0
     c.in-Get.is c.in-Value.is answer.ensures.text
-    (omega (arith, answer.ensures.size)) c.holds_least_pdu.ensures)
+    (omega (arith, answer.ensures.size)) c.holds_range.ensures.least)
 
 pub returns-in_ok-value_answer-in-Get-clause-fits :
     goal.returns-in_ok-value_answer-in-Get-clause-fits
@@ -28,7 +28,7 @@ returns-in_ok-value_answer-in-Get-clause-fits c =
     fits_answer c.args.asked c.args.reply.now answer.field-0 c.args.buffer.now _
     (value_payload c.args.asked c.args.reply.now c.in-Get.id c.in-Value.value answer.field-0
     c.in-Get.is c.in-Value.is answer.ensures.text
-    (omega (arith, answer.ensures.size)) c.holds_least_pdu.ensures)
+    (omega (arith, answer.ensures.size)) c.holds_range.ensures.least)
     (omega (arith, answer.ensures.size))
     (short_value c.args.asked c.args.reply.now c.in-Get.id c.in-Value.value c.in-Get.is
     c.in-Value.is (answer.ensures.which.0 (λ e. none-some _ (sym e)))) c.put_frame.ensures.fits
@@ -69,3 +69,18 @@ returns-in-Action-clause-fits c =
     c.in-Action.is)
     (omega arith) (short_action c.args.asked c.args.reply.now c.in-Action.id c.in-Action.is)
     c.put_frame-in-Action.ensures.fits
+
+pub returns-in_ok-value_answer-in-Get-clause-within_max :
+    goal.returns-in_ok-value_answer-in-Get-clause-within_max
+returns-in_ok-value_answer-in-Get-clause-within_max c =
+    counted_short _ _ _ _ _ (omega (arith, c.in_ok-value_answer-in-Get.ensures.size))
+    c.put_frame.ensures.placed
+
+pub returns-in-Set-clause-within_max : goal.returns-in-Set-clause-within_max
+returns-in-Set-clause-within_max c =
+    counted_short _ c.set_answer.result _ _ _ (omega arith) c.put_frame-in-Set.ensures.placed
+
+pub returns-in-Action-clause-within_max : goal.returns-in-Action-clause-within_max
+returns-in-Action-clause-within_max c =
+    counted_short _ c.action_answer.result _ _ _ (omega arith)
+    c.put_frame-in-Action.ensures.placed

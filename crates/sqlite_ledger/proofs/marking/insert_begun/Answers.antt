@@ -8,7 +8,8 @@ use Rattle.sqlite_ledger.specs.Marks.{IsMarked}
 use Rattle.sqlite_ledger.specs.Taken.{is_taken}
 use Rattle.sqlite_ledger.proofs.MarkLemmas.{begun_text}
 use Rattle.sqlite_ledger.proofs.InsertStates.{not_run_keeps, not_run_no_key}
-use Rattle.sqlite_ledger.proofs.MarkStates.{durable, fresh, kept, schema, taken, was_marked}
+use Rattle.sqlite_ledger.proofs.MarkStates.{durable, fresh, kept, remains, schema, taken}
+use Rattle.sqlite_ledger.proofs.MarkStates.{was_marked}
 use Rattle.sqlite_ledger.proofs.marking.insert_begun.Goals as goal
 
 pub returns-clause-durable : goal.returns-clause-durable
@@ -70,6 +71,24 @@ returns-clause-remains_marked g c clean has other down =
     kept old mid new (pos c.args.place) _ has rest same.1 (settled c.args.conn.now) clean
     c.prepare.ensures.survives (rw (same.0, c.params-to_sql.ensures, c.params-to_sql-2.ensures)
     at c.execute.ensures.survives) other down
+
+pub returns-clause-remains_safe : goal.returns-clause-remains_safe
+returns-clause-remains_safe g c clean has other held safe =
+    let old = state g.S.Store c.args.conn.now in
+    let mid = state g.S.Store c.prepare.new.self in
+    let new = state g.S.Store c.execute.new.conn in
+    let settled : (h : Held _) → IsSettled (state g.S.Store h) = λ h. record {
+      settled = λ o db
+          left. g.met.S.Store.settled h.store db o left;
+      stays = λ o. g.met.S.Store.stays h.store o;
+    }
+    in
+    let early : HasCleanDisk mid = omega (arith, c.execute.ensures.survives.clean) in
+    let same = c.in_ok-insert.ensures.ok early in
+    let rest : IsAtRest old = search rules in
+    remains old mid new (pos c.args.place) _ has rest same.1 (settled c.args.conn.now) clean
+    c.prepare.ensures.survives (rw (same.0, c.params-to_sql.ensures, c.params-to_sql-2.ensures)
+    at c.execute.ensures.survives) other held safe
 
 pub returns-clause-schema : goal.returns-clause-schema
 returns-clause-schema g c clean has =

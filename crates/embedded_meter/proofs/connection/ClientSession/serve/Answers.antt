@@ -9,4 +9,4 @@ returns-in_err-given-in-Nothing-clause-gives c =
 pub returns-in-None-clause-gives : goal.returns-in-None-clause-gives
 returns-in-None-clause-gives c =
     let none = rw c.in-None.is at (c.in_ok-given-in-Nothing.ensures.gives) in
-    rw (none.0, none.1, none.2) at (c.settle_and_give.ensures)
+    rw (none.0, none.1, none.2) at (c.settle_and_give.ensures.gives)

@@ -1,4 +1,4 @@
-use Rattle.std.proofs.Common.{◌∙◌, []}
+use Rattle.std.proofs.Common.{◌∙◌, [], arith}
 use Rattle.port_threads.specs.Sessions.{port_of, terms_of}
 use Rattle.port_threads.proofs.PortsKept.{keeps_trans}
 use Rattle.port_threads.proofs.sessions.Sessions.reap.Goals as goal
@@ -9,6 +9,7 @@ places-preserved g c =
       keeps_ports = λ t. keeps_trans port_of (terms_of g.C.PortConnection.terms)
           g.C.PortConnection.hands_back t _
           _ _ _ _ _ (c.places.invariant.keeps_ports t) (c.reap_one.ensures.keeps_ports t);
+      count = omega (arith, c.reap_one.ensures.count, c.places.invariant.count);
       splits = c.reap_one.ensures.splits ∙ c.places.invariant.splits;
     }
 

@@ -3,5 +3,5 @@ use Rattle.relay_core.proofs.relay.RelayCore.try_copy.Goals as goal
 
 pub returns : goal.returns
 returns c = copied c.args.self.now _ _ _ _ _ _ _
-    c.in_ok-device.ensures c.in_ok-import.ensures.import c.in_ok-import.ensures.export
-    c.in_ok-scripts.ensures.scripts c.in_ok-scripts.ensures.schedules
+    c.in_ok-lists.ensures.device c.in_ok-import.ensures.import c.in_ok-import.ensures.export
+    c.in_ok-lists.ensures.scripts c.in_ok-lists.ensures.schedules

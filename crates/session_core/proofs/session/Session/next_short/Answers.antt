@@ -37,4 +37,4 @@ pub returns-clause-answers : goal.returns-clause-answers
 returns-clause-answers c = λ reply is buffer room.
     answers_in c.in_ok-link.link.conformance.0 c.payload-payload.result.now
     (record { link = c.in_ok-link.link; form = c.in_ok-form.form }) c.in_ok-link.link.level
-    c.in_ok-form.request reply buffer c.in_ok-form.ensures.read c.holds_least_pdu.ensures is room
+    c.in_ok-form.request reply buffer c.in_ok-form.ensures.read c.holds_range.ensures.least is room
