@@ -257,7 +257,8 @@ def run_until_whole(name, campaign, choose, words_of):
         order = [int(line.split()[0][3:]) for line in known]
         assert order == sorted(order), "the rows that are known are not in the list's order"
         longest *= 1.5  # so that it ends
-    raise AssertionError(f"not whole after {MOST_RUNS} runs")
+    raise AssertionError(f"not whole after {MOST_RUNS} runs; the last: status {status}, "
+                         f"{campaign.errors.read_text()[-500:]}")
 
 
 @in_folder
