@@ -3,8 +3,9 @@
 they receive are stopped and killed at random times, by GNU parallel, by ssh with ledgers on each
 machine, and by a Slurm cluster of one node that the test starts, and run again until they are
 whole: no meter may get a second command, and the report must be whole and right. Also tested:
-ledgers that are missing, elsewhere or of another list, two campaigns at once, a machine that does
-not answer, a write that fails in mid campaign, and 20,000 jobs through Slurm that are stopped once.
+ledgers that are missing, elsewhere or of another list, a part that arrives cut, two campaigns at
+once, a machine that does not answer, a write that fails in mid campaign, and 20,000 jobs through
+Slurm that are stopped once.
 Every wait has a time limit. What a missing program would test is skipped.
 
 usage: tests/campaign_ledgers.py [--long] [--short] [--seed N]
@@ -193,6 +194,46 @@ def what_parallel_reserved_is_ended(name, folder):
         for it in held:
             it.kill()
             it.wait(LONGEST)
+        meters.stop()
+
+
+@in_folder
+def a_part_that_arrives_cut_is_refused(name, folder):
+    """If GNU parallel or a connection is killed while it writes a part, nothing is sent and the
+    ledger stays empty: it would be that of a shorter list, and refuse the part from then on."""
+    meters = CountedMeters(JOBS)
+    token, part, ledger = (folder / it for it in ("token", "part.1", "ledger.1"))
+    try:
+        campaign = Long(folder, meters)
+        jobs, rows = campaign.jobs[:50], campaign.rows[:50]
+        lines = text_of(jobs).splitlines(keepends=True)
+        token.write_text("a\n")
+        part.write_text("".join(lines))
+        ledger.touch()
+        words = [str(HEAD_END), "run", "--ledger", str(ledger)]
+        length = str(part.stat().st_size)
+        scripts = {"at a ledger": (script.AT_LEDGER, str(folder), "a", str(ledger), str(part)),
+                   "at a machine": (script.AT_MACHINE, "campaign", str(folder), "a", "1", length)}
+
+        def run(where, text):
+            return subprocess.run(["sh", "-c", *scripts[where], *words], input=text, text=True,
+                                  capture_output=True, timeout=LONGEST,
+                                  env={**os.environ, "METER_PASSWORD": PASSWORD})
+
+        for where in scripts:
+            for count in (0, 1, 49):
+                part.write_text("".join(lines))
+                ran = run(where, "".join(lines[:count]))
+                check(f"{name}: {where}: {count} of 50 lines", ran.returncode == 2
+                      and not ran.stdout and "did not arrive whole" in ran.stderr
+                      and not ledger.stat().st_size, ran)
+        check(f"{name}: nothing was sent",
+              not any(map(sum, map(dict.values, meters.take_counts()))))
+        part.write_text("".join(lines))
+        ran = run("at a ledger", "".join(lines) + "\n" * (LINES - 50))
+        check(f"{name}: whole", (ran.returncode, ran.stdout) == (0, report_of(jobs, rows)),
+              ran.returncode, first_differences(report_of(jobs, rows), ran.stdout), ran.stderr)
+    finally:
         meters.stop()
 
 
@@ -562,7 +603,7 @@ def machine_refusals(name, campaign, record):
 
 
 TESTS = (a_campaign_is_run_again, what_is_known_is_printed, what_parallel_reserved_is_ended,
-         killed_campaigns_command_nobody_twice, a_failed_write_ends_the_parts,
+         a_part_that_arrives_cut_is_refused, killed_campaigns_command_nobody_twice, a_failed_write_ends_the_parts,
          machines_command_nobody_twice,
          arrays_command_nobody_twice, long_arrays_command_nobody_twice)
 
