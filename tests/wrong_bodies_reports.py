@@ -64,6 +64,18 @@ impl Default for Page {
     }
 }
 
+impl From<Page> for u8 {
+    fn from(page: Page) -> u8 {
+        page.lines
+    }
+}
+
+impl TryFrom<u8> for Page {
+    fn try_from(lines: u8) -> Result<Page, Full> {
+        Ok(Page { lines })
+    }
+}
+
 const fn least() -> u8 {
     1
 }
@@ -100,7 +112,7 @@ pub extern "C" fn next_number(n: u8) -> u8 {
 }
 """
 KEPT = LEFT.replace("        self.lines\n", "loop {}\n").replace("    let one = 1;\n    one + 1\n", "loop {}\n\n").replace("    let one = 1;\n    n + one\n", "loop {}\n\n")
-NAMES = ["Page::lines", "PageDefault::default", "page::least", "page::is_even", "page::a_law", "ClientConnectionPortKept::serve", "page::line_count", "page::two", "page::next_number"]
+NAMES = ["Page::lines", "PageDefault::default", "U8FromPage::from", "PageTryFromU8::try_from", "page::least", "page::is_even", "page::a_law", "ClientConnectionPortKept::serve", "page::line_count", "page::two", "page::next_number"]
 HOLES = {
     "proofs/page/Page/lines/Proof.antt": "use Rattle.book.proofs.page.Page.lines.Statement.{statement}\n\npub lines_spec : {M : Type 1} → statement M\nlines_spec = ?\n",
     "proofs/page/two/Proof.antt": "use Rattle.book.proofs.page.two.Statement.{statement}\n\npub two_spec : {M : Type 1} → statement M\ntwo_spec = ?\n",
