@@ -5,7 +5,7 @@ ghost use Rattle.client_core.specs.declared.job.Outcome.{Outcome};
 ghost use Rattle.campaign_ledger.specs.declared.entry.LedgerEntry.TheVariants.{NotSent, MaybeSent};
 ghost use Rattle.campaign_ledger.specs.declared.entry.LedgerEntry.TheVariants.{Came};
 ghost use Rattle.campaign_ledger.specs.declared.fault.LedgerFault.TheVariants.{Failed};
-ghost use Rattle.campaign_ledger.specs.Entries.{HasGone, entry_at, entry_after_begin};
+ghost use Rattle.campaign_ledger.specs.Entries.{HasCome, HasGone, entry_at, entry_after_begin};
 ghost use Rattle.campaign_ledger.specs.Grants.{LedgerState, permits_in, Grants};
 
 use crate::book::Book;
@@ -140,8 +140,9 @@ impl<B: Book> Ledger<B> {
         }
     }
 
-    /// Stores the outcome of a place in the book. After an error no entry is changed, but the
-    /// outcome may be in the book.
+    /// Stores the outcome of a place in the book. Fails if an outcome of the place is known: the
+    /// first one is never replaced. After an error no entry is changed, but the outcome may be in
+    /// the book.
     pub fn record(&mut self, place: u32, outcome: Outcome) -> Result<(), LedgerFault>
         requires { place < length self.old.entries }
         ensures grants { Grants B.is_honest B.is_marked self.old self.new [] }
@@ -149,6 +150,7 @@ impl<B: Book> Ledger<B> {
             → OnOk result (B.keeps self.new.book place outcome) }
         ensures remains_kept { B.is_honest self.new.book → (other : ℕ) (kept : Outcome)
             → other ≢ place → B.keeps self.old.book other kept → B.keeps self.new.book other kept }
+        ensures first { OnOk result (¬ HasCome (entry_at self.old.entries place)) }
         ensures entry { OnOk result (entry_at self.new.entries place ≡ Came outcome) }
         ensures unfailed { OnOk result (self.new.has_failed ≡ false) }
         ensures others { (other : ℕ) → other ≢ place
@@ -159,6 +161,10 @@ impl<B: Book> Ledger<B> {
         ensures remains_failed { IsTrue self.old.has_failed → IsErrOf result Failed }
     {
         if self.has_failed {
+            return Err(LedgerFault::Failed);
+        }
+        if matches!(self.entry(place), LedgerEntry::Came(_)) {
+            self.has_failed = true;
             return Err(LedgerFault::Failed);
         }
         match self.book.record(place, outcome) {
