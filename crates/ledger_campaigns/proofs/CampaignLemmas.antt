@@ -1,5 +1,6 @@
 -- Lines that are filled with their rows one by one, the places after the run, and the run as a
 -- whole.
+use Rattle.std.proofs.Common.{◌∙◌}
 use Rattle.std.proofs.Common.{arith, ◌≡◌, ◌⊎◌, ◌+◌, ◌<◌, ℕ, List, length, slice_index_or, inl, inr}
 use Rattle.std.proofs.Math.Nat.{eq-or-lt_of_le}
 use Rattle.std.proofs.lemmas.List.{get_or_default}
@@ -61,11 +62,16 @@ pub closes : {B : Type 0} (is_honest : B → Type 0) (is_marked : B → ℕ → 
     (ledger : LedgerState B) → ledger ≡ desk.ledger
     → Yields (λ (d : DeskState B). d.start) (Stands is_honest is_marked keeps)
     (IsLegalHistory is_honest is_marked keeps) known desk
-    → Closes is_honest is_marked known ledger
+    → Closes is_honest is_marked keeps known ledger
 closes is_honest is_marked keeps known desk ledger same yields = record {
   start = desk.start;
   origin_is = yields.origin_is;
   calls = yields.history;
   seen = yields.seen;
-  grants = rw same yields.results.grants;
+  legal = yields.lawful;
+  results = record {
+    answers = yields.results.answers;
+    last_is = same ∙ yields.results.last_is;
+    grants = rw same yields.results.grants;
+  };
 }

@@ -1,8 +1,10 @@
 -- A ledger after one more call.
 use Rattle.std.proofs.Common.{rules, ◌≡◌, ℕ, List, [], ◌∷◌, ◌++◌, refl, ap, sym, ◌∙◌, inl, inr}
-use Rattle.std.specs.Prelude.{Option, Result, IfOk, IfSome, OnOk, OnSome}
+use Rattle.std.proofs.Common.{append_assoc}
+use Rattle.std.specs.Prelude.{◌⊎◌, Option, Result, IfOk, IfSome, IfNone, OnOk, OnErr, OnSome}
 use Rattle.turn_lock.specs.declared.known.Known.{Known}
-use Rattle.turn_lock.specs.History.{entry}
+use Rattle.turn_lock.specs.History.{entry, StartsWith}
+use Rattle.turn_lock.specs.Shown.{ShownPort}
 use Rattle.turn_lock.specs.Calls.{Called}
 use Rattle.client_core.specs.declared.job.Outcome.{Outcome}
 use Rattle.campaign_ledger.specs.declared.fault.LedgerFault.{LedgerFault}
@@ -17,7 +19,8 @@ use Rattle.ledger_campaigns.specs.declared.request.LedgerAnswer.TheVariants.{Rec
 use Rattle.ledger_campaigns.specs.Desks.{LedgerCall, LedgerCalls, DeskState, IsAnswer, AreAnswered}
 use Rattle.ledger_campaigns.specs.Desks.{permit_result, stored_result, EndsStored, permits_of}
 use Rattle.ledger_campaigns.specs.Desks.{permits_given, IsLegalHistory, Stands}
-use Rattle.ledger_campaigns.specs.Desks.{ledger_after, last_ledger}
+use Rattle.ledger_campaigns.specs.Desks.{ledger_after, last_ledger, HasRequest, HasNoPermit}
+use Rattle.ledger_campaigns.specs.Desks.{IsRefused}
 
 -- a place of the second of two lists
 pub in_second : (place : ℕ) (xs ys : List ℕ) → IsIn place ys → IsIn place (xs ++ ys)
@@ -30,7 +33,58 @@ in_first place [] ys none = absurd none
 in_first place (x ∷ xs) ys (inl same) = inl same
 in_first place (x ∷ xs) ys (inr later) = inr (in_first place xs ys later)
 
+-- one of two facts, of which the first is kept
+pub kept_or : {P Q R : Type 0} → (P → Q) → P ⊎ R → Q ⊎ R
+kept_or kept (inl p) = inl (kept p)
+kept_or kept (inr r) = inr r
+
 module _ {B : Type 0} where
+  -- a request that was made is one of more calls
+  pub request_kept : (request : LedgerRequest) (new old : LedgerCalls B) → StartsWith new old
+      → HasRequest request old → HasRequest request new
+  request_kept request new old (rest, same) (before, later, by, answer, is) = (
+    before,
+    later ++ rest,
+    by,
+    answer,
+    rw (same, is) (append_assoc before (entry by request answer ∷ later) rest),
+  )
+
+  -- a permit that was not given is not given by one of more calls
+  pub no_permit_kept : (place : ℕ) (new old : LedgerCalls B) → StartsWith new old
+      → HasNoPermit place old → HasNoPermit place new
+  no_permit_kept place new old (rest, same) (before, later, by, answer, is, none) = (
+    before,
+    later ++ rest,
+    by,
+    answer,
+    rw (same, is) (append_assoc before (entry by (Begin place) answer ∷ later) rest),
+    none,
+  )
+
+  -- an answer without a permit refuses it
+  pub refused_by : {O : Type 0} (place : ℕ) (port : ShownPort LedgerRequest (LedgerAnswer B) O)
+      (before : LedgerCalls B) (by : List ℕ) (answer : LedgerAnswer B)
+      → port.known.seen ≡ before ++ entry by (Begin place) answer ∷ []
+      → IfOk (permit_result answer) (λ given. IfNone given (IsRefused place port))
+  refused_by place port before by (Given permit ledger) seen = tt
+  refused_by place port before by (Refused ledger) seen =
+      inl (before, [], by, Refused ledger, seen, refl)
+  refused_by place port before by (Recorded ledger) seen =
+      inl (before, [], by, Recorded ledger, seen, refl)
+  refused_by place port before by (Failed fault ledger) seen = tt
+
+  -- so does one of a ledger that has failed
+  pub failed_by : {O : Type 0} (place : ℕ) (port : ShownPort LedgerRequest (LedgerAnswer B) O)
+      (before : LedgerCalls B) (by : List ℕ) (answer : LedgerAnswer B)
+      → port.known.seen ≡ before ++ entry by (Begin place) answer ∷ []
+      → OnErr (permit_result answer) (IsRefused place port)
+  failed_by place port before by (Given permit ledger) seen = tt
+  failed_by place port before by (Refused ledger) seen = tt
+  failed_by place port before by (Recorded ledger) seen = tt
+  failed_by place port before by (Failed fault ledger) seen =
+      inl (before, [], by, Failed fault ledger, seen, refl)
+
   -- the permits of one list of calls and then of another
   pub given_both : (calls more : LedgerCalls B)
       → permits_given (calls ++ more) ≡ permits_given calls ++ permits_given more
@@ -149,7 +203,8 @@ module _ {B : Type 0} (is_honest : B → Type 0) (is_marked : B → ℕ → Type
       ++ entry by (Record place outcome) answer ∷ []))
   stored_by was before by place outcome (Given permit ledger) is = tt
   stored_by was before by place outcome (Refused ledger) is = tt
-  stored_by was before by place outcome (Recorded ledger) is = (before, by, ledger, refl, is.1)
+  stored_by was before by place outcome (Recorded ledger) is =
+      (before, by, ledger, refl, is.1.kept)
   stored_by was before by place outcome (Failed fault ledger) is = tt
 
   -- an outcome that was stored

@@ -1,5 +1,6 @@
 pub mod CampaignLemmas
 pub mod DeskLemmas
+pub mod OutcomeLemmas
 pub mod PlaceLemmas
 pub mod QuestionLemmas
 pub mod RoundLemmas

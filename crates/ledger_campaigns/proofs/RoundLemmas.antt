@@ -12,6 +12,8 @@ use Rattle.head_end.specs.Attempts.{State, unused}
 use Rattle.head_end.specs.Campaigns.{EachChange}
 use Rattle.head_end.specs.Connections.{Forecast}
 use Rattle.head_end.specs.Rounds.{AreRounds}
+use Rattle.ledger_campaigns.specs.declared.request.LedgerRequest.{LedgerRequest}
+use Rattle.ledger_campaigns.specs.declared.request.LedgerAnswer.{LedgerAnswer}
 use Rattle.ledger_campaigns.specs.Campaigns.{IsPlaceRun}
 use Rattle.ledger_campaigns.specs.Rounds.{AreUnusedWhenDue, IsPlaceRound, IsPlaceRunUpTo}
 
@@ -47,36 +49,37 @@ pub moved : {X : Type 0} (old here new there : X) (R : X → X → Type 0) → h
 moved {X} old here new there R before after is =
     subst (λ (n : X). R old n) after (subst (λ (o : X). R o there) before is)
 
-module _ {X E R O : Type 0} (tells_of : X → List ℕ → Option Forecast) (permits_of : X → List ℕ)
-    (row_of : X → Row) (stage_of : X → State) (port_of : X → ShownPort E R O) (jobs : List Job)
-    (found : List LedgerEntry) (passwords : List (List ℕ)) (rounds : List ℕ) where
+module _ {X B O : Type 0} (tells_of : X → List ℕ → Option Forecast)
+    (port_of : X → ShownPort LedgerRequest (LedgerAnswer B) O) (row_of : X → Row)
+    (stage_of : X → State) (jobs : List Job) (found : List LedgerEntry)
+    (passwords : List (List ℕ)) (rounds : List ℕ) where
   -- a place before and after a round
   place_up_to_next : (round place : ℕ) (start now new : X)
-      → IsPlaceRunUpTo tells_of permits_of row_of stage_of jobs found passwords rounds round place
+      → IsPlaceRunUpTo tells_of port_of row_of stage_of jobs found passwords rounds round place
       start now
-      → IsPlaceRound tells_of permits_of row_of stage_of jobs found passwords rounds round place
+      → IsPlaceRound tells_of port_of row_of stage_of jobs found passwords rounds round place
       now new
-      → IsPlaceRunUpTo tells_of permits_of row_of stage_of jobs found passwords rounds (round + 1)
+      → IsPlaceRunUpTo tells_of port_of row_of stage_of jobs found passwords rounds (round + 1)
       place start new
   place_up_to_next round place start now new up step = record {
     ran = λ earlier. by_order _
         (eq-or-lt_of_le
         (let least : slice_index_or rounds place 0 ≤ round = omega arith in least))
         (λ is. subst (λ (x : X). IsPlaceRun jobs found passwords place (tells_of x)
-        (permits_of new) (row_of new) (stage_of new)) (up.waits (omega arith)) (step.ran is))
+        (port_of new) (row_of new) (stage_of new)) (up.waits (omega arith)) (step.ran is))
         (λ less. subst (λ (x : X). IsPlaceRun jobs found passwords place (tells_of start)
-        (permits_of x) (row_of x) (stage_of x))
+        (port_of x) (row_of x) (stage_of x))
         (sym (step.others (λ due. absurd (omega arith)))) (up.ran less));
     waits = λ later. step.others (λ due. absurd (omega arith)) ∙ up.waits (omega arith);
   }
 
   -- all places after one round more
   pub up_to_next : (round : ℕ) (start now new : List X) → length now ≡ length start
-      → EachChange (λ i o n. IsPlaceRunUpTo tells_of permits_of row_of stage_of jobs found
+      → EachChange (λ i o n. IsPlaceRunUpTo tells_of port_of row_of stage_of jobs found
       passwords rounds round i o n × IsSame (port_of o) (port_of n)) start now
-      → EachChange (λ i o n. IsPlaceRound tells_of permits_of row_of stage_of jobs found passwords
+      → EachChange (λ i o n. IsPlaceRound tells_of port_of row_of stage_of jobs found passwords
       rounds round i o n × IsSame (port_of o) (port_of n)) now new
-      → EachChange (λ i o n. IsPlaceRunUpTo tells_of permits_of row_of stage_of jobs found
+      → EachChange (λ i o n. IsPlaceRunUpTo tells_of port_of row_of stage_of jobs found
       passwords rounds (round + 1) i o n × IsSame (port_of o) (port_of n)) start new
   up_to_next round start now new same up step = λ i x below.
       let before = up i x below in
@@ -87,7 +90,7 @@ module _ {X E R O : Type 0} (tells_of : X → List ℕ → Option Forecast) (per
 
   -- before the first round
   pub up_to_first : (start : List X)
-      → EachChange (λ i o n. IsPlaceRunUpTo tells_of permits_of row_of stage_of jobs found
+      → EachChange (λ i o n. IsPlaceRunUpTo tells_of port_of row_of stage_of jobs found
       passwords rounds 0 i o n × IsSame (port_of o) (port_of n)) start start
   up_to_first start = λ i x below. (
     record {
@@ -100,9 +103,9 @@ module _ {X E R O : Type 0} (tells_of : X → List ℕ → Option Forecast) (per
   -- after the last round
   pub up_to_last : (count round : ℕ) (start new : List X) → AreRounds jobs rounds count
       → length start ≡ length jobs → count ≤ round
-      → EachChange (λ i o n. IsPlaceRunUpTo tells_of permits_of row_of stage_of jobs found
+      → EachChange (λ i o n. IsPlaceRunUpTo tells_of port_of row_of stage_of jobs found
       passwords rounds round i o n × IsSame (port_of o) (port_of n)) start new
-      → EachChange (λ i o n. IsPlaceRun jobs found passwords i (tells_of o) (permits_of n)
+      → EachChange (λ i o n. IsPlaceRun jobs found passwords i (tells_of o) (port_of n)
       (row_of n) (stage_of n) × IsSame (port_of o) (port_of n)) start new
   up_to_last count round start new are long all up = λ i x below.
       let here = up i x below in
@@ -111,7 +114,7 @@ module _ {X E R O : Type 0} (tells_of : X → List ℕ → Option Forecast) (per
   -- the attempts of a round's jobs before it
   pub unused_when_due : (round : ℕ) (start now : List X) → length now ≡ length start
       → All (λ x. stage_of x ≡ unused) start
-      → EachChange (λ i o n. IsPlaceRunUpTo tells_of permits_of row_of stage_of jobs found
+      → EachChange (λ i o n. IsPlaceRunUpTo tells_of port_of row_of stage_of jobs found
       passwords rounds round i o n × IsSame (port_of o) (port_of n)) start now
       → AreUnusedWhenDue rounds round stage_of now
   unused_when_due round start now same all up = λ i x below due.

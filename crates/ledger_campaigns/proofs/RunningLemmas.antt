@@ -54,8 +54,8 @@ pub closed_use : {E : Type 0} (asked : Asked) (job : Job) (password : List ℕ) 
     → Stands job.verb password [] 0 false client → IsNewLog before
     → SpeaksIfGiven job.verb asked client before result after
     → IsNewUse asked job password (row_in result) (closed job.address after)
-closed_use asked job password client before after result stands new (inl (same, unknown)) =
-    (refl, inl (rw same new, rw unknown refl))
+closed_use asked job password client before after result stands new
+    (inl (held, same, unknown)) = (refl, inl (held, rw same new, rw unknown refl))
 closed_use asked job password client before after (Ok outcome) stands new
     (inr (may, stored, speaks)) = (
       refl,

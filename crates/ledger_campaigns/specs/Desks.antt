@@ -2,19 +2,22 @@
 --     DeskState         the view that contracts have of a shared ledger
 --     LedgerCalls       the calls on a shared ledger
 --     ledger_after      the ledger after a call, and last_ledger after many
---     AreOthersSame     two ledgers with the same entries, except that of a place
+--     IsCallAbout       the ledger before and after a call about a place that did not fail
+--     HasOutcome        an outcome is the entry of its place, and the book keeps it
 --     IsAnswer          an answer that a request may have, and AreAnswered of many
 --     permit_result     the answer to the question for a permit
 --     stored_result     the answer to a request to store an outcome
 --     EndsStored        the last of the calls stored an outcome
 --     HasAsked          the last call of a port, and its result
---     IsAskedToStore    the ledger was asked to store an outcome
+--     HasNoPermit       a permit was asked for and not given
+--     IsRefused         a port asked for a permit and got none
+--     IsAskedToStore    a port asked to store an outcome
 --     permits_of        the places of the permits that an answer gives, and permits_given of all
 --                       calls
 --     IsLegalHistory    the calls of a ledger that had this state at the start
 --     Stands            a ledger that results from these calls
 use Rattle.std.specs.Prelude.{◌≡◌, ◌≢◌, ◌⊎◌, ℕ, ◌≤◌, List, [], ◌∷◌, ◌++◌, length, Option, Some}
-use Rattle.std.specs.Prelude.{None, Result, Ok, Err, IsTrue, ⊤}
+use Rattle.std.specs.Prelude.{None, Result, Ok, Err, IsTrue, ⊤, false}
 use Rattle.std.specs.declared.snapshot.Snapshot.{Snapshot}
 use Rattle.turn_lock.specs.declared.turned.Entry.{Entry}
 use Rattle.campaign_ledger.specs.declared.entry.LedgerEntry.TheVariants.{NotSent, Came}
@@ -23,7 +26,7 @@ use Rattle.turn_lock.specs.Shown.{ShownPort}
 use Rattle.client_core.specs.declared.job.Outcome.{Outcome}
 use Rattle.campaign_ledger.specs.declared.fault.LedgerFault.{LedgerFault}
 use Rattle.campaign_ledger.specs.declared.fault.LedgerFault.TheVariants as fault
-use Rattle.campaign_ledger.specs.Entries.{HasGone, entry_at}
+use Rattle.campaign_ledger.specs.Entries.{HasCome, HasGone, entry_at, entry_after_begin}
 use Rattle.campaign_ledger.specs.Grants.{LedgerState, Grants}
 use Rattle.campaign_ledger.specs.Runs.{IsIn, AreApart}
 use Rattle.ledger_campaigns.specs.declared.request.LedgerRequest.{LedgerRequest}
@@ -92,12 +95,27 @@ module _ {B : Type 0} where
   HasRequest request calls = (before later : LedgerCalls B) × (by : List ℕ)
       × (answer : LedgerAnswer B) × (calls ≡ before ++ entry by request answer ∷ later)
 
+  -- whether one of the calls asked for the permit of this place and got none
+  abbrev pub HasNoPermit : ℕ → LedgerCalls B → Type 0
+  HasNoPermit place calls = (before later : LedgerCalls B) × (by : List ℕ)
+      × (answer : LedgerAnswer B) × (calls ≡ before ++ entry by (Begin place) answer ∷ later)
+      × (permits_of answer ≡ [])
+
+  -- whether the port has read that all turns of the lock were drawn
+  abbrev pub HasRunOut : {O : Type 0} → ShownPort LedgerRequest (LedgerAnswer B) O → Type 0
+  HasRunOut port = port.bound ≤ port.known.drawn
+
+  -- whether a call that the port has seen asked for the permit of this place and got none, or all
+  -- turns were drawn
+  abbrev pub IsRefused : {O : Type 0} → ℕ → ShownPort LedgerRequest (LedgerAnswer B) O → Type 0
+  IsRefused place port = HasNoPermit place port.known.seen ⊎ HasRunOut port
+
   -- whether a call that the port has seen asked to store this outcome of a place, or all turns were
   -- drawn
   abbrev pub IsAskedToStore : {O : Type 0} → ℕ → Outcome
       → ShownPort LedgerRequest (LedgerAnswer B) O → Type 0
   IsAskedToStore place outcome port = HasRequest (Record place outcome) port.known.seen
-      ⊎ (port.bound ≤ port.known.drawn)
+      ⊎ HasRunOut port
 
   -- Whether a port has made a call with this request, the last one that it has seen and the only
   -- further call of its number, and returned the result of its answer; or all turns were drawn, and
@@ -120,33 +138,49 @@ module _ {B : Type 0} where
 
 module _ {B : Type 0} (is_honest : B → Type 0) (is_marked : B → ℕ → Type 0)
     (keeps : B → ℕ → Outcome → Type 0) where
-  -- whether the ledger has the same entries, except that of this place
-  abbrev pub AreOthersSame : ℕ → LedgerState B → LedgerState B → Type 0
-  AreOthersSame place before now = (other : ℕ) → other ≢ place
-      → entry_at now.entries other ≡ entry_at before.entries other
+  -- Whether a call about a place did not fail, on a ledger that had not failed, and changed nothing
+  -- of another place: neither its entry, nor, if the book is honest, its outcome in the book.
+  pub record IsCallAbout (place : ℕ) (before now : LedgerState B) : Type 0 where
+    pub had_not_failed : before.has_failed ≡ false
+    pub has_not_failed : now.has_failed ≡ false
+    pub count : length now.entries ≡ length before.entries
+    pub others : (other : ℕ) → other ≢ place
+        → entry_at now.entries other ≡ entry_at before.entries other
+    pub honest : is_honest now.book → is_honest before.book
+    pub kept : is_honest now.book → (other : ℕ) (outcome : Outcome) → other ≢ place
+        → keeps before.book other outcome → keeps now.book other outcome
+
+  -- whether this outcome of a place is its entry, and the book keeps it, if it is honest
+  pub record HasOutcome (place : ℕ) (outcome : Outcome) (ledger : LedgerState B) : Type 0 where
+    pub entry_is : entry_at ledger.entries place ≡ Came outcome
+    pub kept : is_honest ledger.book → keeps ledger.book place outcome
 
   -- Whether a request may have this answer, if `before` is the ledger before the call. A permit is
-  -- for the place that was asked for, which is marked in the book after the call. It is refused
-  -- only if its command may have been sent, by its entry or by its mark in the book before the
-  -- call. An outcome that is stored is the entry of its place, and the book keeps it; it is refused
-  -- only for a place that the campaign lacks. No call changes the entry of another place, and one
-  -- that failed changes no entry. What the book says holds if it was honest.
+  -- for the place that was asked for, whose command was not sent before, by its entry, and which is
+  -- marked in the book after the call. It is refused only if its command may have been sent, by its
+  -- entry or by its mark in the book before the call. An outcome that is stored is the first one of
+  -- its place, and then the entry, and the book keeps it; it is refused only for a place that the
+  -- campaign lacks. No call changes the entry of another place, and one that failed changes no
+  -- entry. What the book says holds if it was honest.
   abbrev pub IsAnswer : LedgerState B → LedgerRequest → LedgerAnswer B → Type 0
   IsAnswer before (Begin place) (Given permit now) = (permit ≡ place)
+      × (entry_at before.entries place ≡ NotSent)
       × (is_honest now.value.book → is_marked now.value.book place)
-      × AreOthersSame place before now.value
+      × IsCallAbout place before now.value
   IsAnswer before (Begin place) (Refused now) = HasGone (entry_at now.value.entries place)
+      × (entry_at now.value.entries place ≡ entry_after_begin (entry_at before.entries place))
       × (is_honest now.value.book → entry_at before.entries place ≡ NotSent
       → is_marked before.book place)
-      × AreOthersSame place before now.value
+      × (is_honest now.value.book → (outcome : Outcome) → keeps before.book place outcome
+      → keeps now.value.book place outcome)
+      × IsCallAbout place before now.value
   IsAnswer before (Begin place) (Recorded now) = ⊥
   IsAnswer before (Record place outcome) (Given permit now) = ⊥
   IsAnswer before (Record place outcome) (Refused now) = (length now.value.entries ≤ place)
-      × (now.value.entries ≡ before.entries)
+      × (now.value ≡ before)
   IsAnswer before (Record place outcome) (Recorded now) =
-      (entry_at now.value.entries place ≡ Came outcome)
-      × (is_honest now.value.book → keeps now.value.book place outcome)
-      × AreOthersSame place before now.value
+      (¬ HasCome (entry_at before.entries place))
+      × HasOutcome place outcome now.value × IsCallAbout place before now.value
   IsAnswer before request (Failed fault now) = IsTrue now.value.has_failed
       × (now.value.entries ≡ before.entries)
 

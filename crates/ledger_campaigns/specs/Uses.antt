@@ -1,6 +1,7 @@
 -- The row of a job and the use of its attempt, by the entry that the run found at its place.
 --     MayAsk            a request that may be sent if a permit was given
 --     Asked             what the ledger was asked for a job
+--     IsHeldBack        the permit of a switching command was refused
 --     IsNewUse          the use of an attempt by a job whose command was not sent before
 --     IsUse             the use of an attempt by a job
 --     IsRowFor          the row of a job
@@ -26,7 +27,9 @@ use Rattle.head_end.specs.Logs.{Happening, IsNewLog}
 use Rattle.head_end.specs.Rows.{IsRow}
 use Rattle.ledger_campaigns.specs.declared.request.LedgerRequest.{LedgerRequest}
 use Rattle.ledger_campaigns.specs.declared.request.LedgerAnswer.{LedgerAnswer}
-use Rattle.ledger_campaigns.specs.Desks.{permits_given, IsAskedToStore}
+use Rattle.ledger_campaigns.specs.declared.request.LedgerRequest.TheVariants.{Record}
+use Rattle.ledger_campaigns.specs.Desks.{LedgerCalls, permits_given, IsAskedToStore, IsRefused}
+use Rattle.ledger_campaigns.specs.Desks.{HasNoPermit, HasRequest, HasRunOut}
 
 -- whether the verb operates the switch
 abbrev pub IsSwitching : Verb → Type 0
@@ -47,16 +50,23 @@ abbrev pub IfCame : Row → (Outcome → Type 0) → Type 0
 IfCame (Came outcome) stored = stored outcome
 IfCame Memory stored = ⊤
 
--- What the ledger was asked: whether the permit was given, and which outcomes it was to store.
+-- What the ledger was asked: whether the permit was given or refused, and which outcomes it was to
+-- store.
 pub record Asked : Type 1 where
   pub given : Type 0
+  pub refused : Type 0
   pub stored : Outcome → Type 0
 
--- whether the connection was closed before anything was sent or received, or it was used for a
--- conversation that needs a permit only for a switching command, and whose outcome is the row and
--- is stored
+-- whether the permit of a switching command was refused
+abbrev pub IsHeldBack : Verb → Asked → Type 0
+IsHeldBack verb asked = IsSwitching verb × asked.refused
+
+-- whether the permit of a switching command was refused and the connection was closed before
+-- anything was sent or received, or it was used for a conversation that needs a permit only for a
+-- switching command, and whose outcome is the row and is stored
 abbrev pub IsClosedUse : Asked → Job → List ℕ → Row → Option (List Happening) → Type 0
-IsClosedUse asked job password row log = (IsNewLog log × (row ≡ Came Unknown))
+IsClosedUse asked job password row log =
+    (IsHeldBack job.verb asked × IsNewLog log × (row ≡ Came Unknown))
     ⊎ (MayAsk job.verb asked.given × IfCame row asked.stored × HasRow job.verb password row log)
 
 -- Whether a use is that of the attempt by a job whose command was not sent before: unused, if out
@@ -75,16 +85,23 @@ IsUse NotSent asked job password row stage = IsNewUse asked job password row sta
 IsUse MaybeSent asked job password row stage = stage ≡ unused
 IsUse (entry.Came outcome) asked job password row stage = stage ≡ unused
 
--- the permit was given, if it is in this list; nothing is said of outcomes
-abbrev pub permit_in : ℕ → List ℕ → Asked
-permit_in place permits = record { given = IsIn place permits; stored = λ outcome. ⊤ }
-
--- what a port has asked: a permit that it has seen given, and outcomes of the place, unless all
--- turns of the lock were drawn
+-- what a port has asked: a permit that it has seen given or refused, and outcomes of the place,
+-- unless all turns of the lock were drawn
 abbrev pub asked_through : {B O : Type 0} → ℕ → ShownPort LedgerRequest (LedgerAnswer B) O → Asked
 asked_through place port = record {
   given = IsIn place (permits_given port.known.seen);
+  refused = IsRefused place port;
   stored = λ outcome. IsAskedToStore place outcome port;
+}
+
+-- what a ledger was asked by these calls: a permit that it gave or refused, and outcomes of the
+-- place, unless all turns of the lock were drawn, by the port of the place
+abbrev pub asked_within : {B O : Type 0} → ℕ → LedgerCalls B
+    → ShownPort LedgerRequest (LedgerAnswer B) O → Asked
+asked_within place calls port = record {
+  given = IsIn place (permits_given calls);
+  refused = HasNoPermit place calls ⊎ HasRunOut port;
+  stored = λ outcome. HasRequest (Record place outcome) calls ⊎ HasRunOut port;
 }
 
 -- Whether a row is that of the job: the outcome that was found; unknown, if its command may have
@@ -112,10 +129,11 @@ HasSwitched verb stage = IsSwitching verb × HasTalked stage
 abbrev pub IsToldOutcome : Client → Option Forecast → Outcome → Type 0
 IsToldOutcome client before outcome = Converses client before outcome ⊎ (outcome ≡ Unknown)
 
--- whether nothing was sent or received and the outcome is unknown, or a conversation took place
--- whose request may be sent and whose outcome the ledger was asked to store
+-- whether the permit of a switching command was refused, nothing was sent or received and the
+-- outcome is unknown, or a conversation took place whose request may be sent and whose outcome the
+-- ledger was asked to store
 abbrev pub SpeaksIfGiven : {E : Type 0} → Verb → Asked → Client → Option (List Happening)
     → Result Outcome E → Option (List Happening) → Type 0
 SpeaksIfGiven verb asked client before result after =
-    ((after ≡ before) × (result ≡ Ok Unknown))
+    (IsHeldBack verb asked × (after ≡ before) × (result ≡ Ok Unknown))
     ⊎ (MayAsk verb asked.given × IfOk result asked.stored × Speaks client before result after)

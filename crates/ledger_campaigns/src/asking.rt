@@ -1,11 +1,11 @@
 //! Requests to a shared ledger through a port.
-ghost use Rattle.std.specs.Prelude.{◌≡◌, IfOk, IfSome, OnOk, OnSome};
+ghost use Rattle.std.specs.Prelude.{◌≡◌, IfOk, IfSome, IfNone, OnOk, OnErr, OnSome};
 ghost use Rattle.turn_lock.specs.History.{StartsWith};
 ghost use Rattle.turn_lock.specs.Shown.{IsSame};
 ghost use Rattle.campaign_ledger.specs.Runs.{IsIn};
 ghost use Rattle.ledger_campaigns.specs.declared.request.LedgerRequest.TheVariants.{Begin, Record};
 ghost use Rattle.ledger_campaigns.specs.Desks.{permit_result, permits_given, stored_result};
-ghost use Rattle.ledger_campaigns.specs.Desks.{EndsStored, HasAsked, IsAskedToStore};
+ghost use Rattle.ledger_campaigns.specs.Desks.{EndsStored, HasAsked, IsAskedToStore, IsRefused};
 
 use crate::desk::Desk;
 use crate::request::{LedgerAnswer, LedgerRequest};
@@ -31,6 +31,8 @@ pub fn ask_to_send<B: Book, W: Wait>(
     ensures permit { IfOk result (λ given. IfSome given (λ permit. permit ≡ place)) }
     ensures given { IfOk result (λ given. OnSome given
         (IsIn place (permits_given port.new.known.seen))) }
+    ensures refused { IfOk result (λ given. IfNone given (IsRefused place port.new)) }
+    ensures failed { OnErr result (IsRefused place port.new) }
     ensures last_call { HasAsked (Begin place) permit_result result port.old port.new }
 {
     match port.call(rt, alloc, LedgerRequest::Begin(place)) {

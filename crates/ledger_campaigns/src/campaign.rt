@@ -14,7 +14,6 @@ ghost use Rattle.head_end.specs.Campaigns.{EachChange};
 ghost use Rattle.head_end.specs.Connections.{Forecast};
 ghost use Rattle.head_end.specs.Rounds.{AreRounds};
 ghost use Rattle.ledger_campaigns.specs.Campaigns.{IsPlaceRun, AreLinesFor, AreSwitched, AreUses};
-ghost use Rattle.ledger_campaigns.specs.Desks.{permits_given};
 ghost use Rattle.ledger_campaigns.specs.Rounds.{AreUnusedWhenDue, HasRound, IsPlaceRound};
 
 use crate::place::LedgeredPlace;
@@ -66,7 +65,7 @@ impl<'a, W: Watcher> Course<'a, W> {
         requires unused { All (λ place. place.attempt.stage ≡ unused) places.old }
         ensures runs { EachChange (λ i old new. IsPlaceRun self.now.jobs.now self.now.found.now
             self.now.passwords.now i (C.tells old.attempt.source.value)
-            (permits_given new.port.known.seen) new.row new.attempt.stage
+            new.port new.row new.attempt.stage
             × IsSame old.port new.port) places.old places.new }
     {
         'rounds: for round in 0..self.count {
@@ -87,10 +86,9 @@ impl<'a, W: Watcher> Course<'a, W> {
             (λ place. place.attempt.stage) places.old }
         ensures runs { EachChange (λ i old new. IsPlaceRound
             (λ place. C.tells place.attempt.source.value)
-            (λ place. permits_given place.port.known.seen)
-            (λ place. place.row) (λ place. place.attempt.stage) self.now.jobs.now
-            self.now.found.now self.now.passwords.now self.now.rounds.now round i old new
-            × IsSame old.port new.port) places.old places.new }
+            (λ place. place.port) (λ place. place.row) (λ place. place.attempt.stage)
+            self.now.jobs.now self.now.found.now self.now.passwords.now self.now.rounds.now
+            round i old new × IsSame old.port new.port) places.old places.new }
     {
         let course = self;
         thread::for_each_mut(
@@ -101,8 +99,7 @@ impl<'a, W: Watcher> Course<'a, W> {
                 requires { (i < length course.now.jobs.now)
                     × (HasRound course.now.rounds.now round i → place.now.attempt.stage ≡ unused) }
                 ensures { IsPlaceRound (λ place. C.tells place.attempt.source.value)
-                    (λ place. permits_given place.port.known.seen)
-                    (λ place. place.row) (λ place. place.attempt.stage)
+                    (λ place. place.port) (λ place. place.row) (λ place. place.attempt.stage)
                     course.entry.now.jobs.now course.entry.now.found.now
                     course.entry.now.passwords.now course.entry.now.rounds.now round i
                     place.entry.now place.exit.now
@@ -126,9 +123,8 @@ impl<'a, W: Watcher> Course<'a, W> {
         requires unused { HasRound self.now.rounds.now round i
             → place.old.attempt.stage ≡ unused }
         ensures run { IsPlaceRound (λ place. C.tells place.attempt.source.value)
-            (λ place. permits_given place.port.known.seen)
-            (λ place. place.row) (λ place. place.attempt.stage) self.now.jobs.now
-            self.now.found.now self.now.passwords.now self.now.rounds.now round i
+            (λ place. place.port) (λ place. place.row) (λ place. place.attempt.stage)
+            self.now.jobs.now self.now.found.now self.now.passwords.now self.now.rounds.now round i
             place.old place.new }
         ensures port { IsSame place.old.port place.new.port }
     {

@@ -1,5 +1,5 @@
 //! A whole run of a campaign on a ledger.
-ghost use Rattle.std.specs.Prelude.{◌≡◌, ℕ, List, Option, length, map, IfOk, IfSome};
+ghost use Rattle.std.specs.Prelude.{◌≡◌, ℕ, List, Option, length, map, false, IfOk, IfSome};
 ghost use Rattle.std.specs.List.{All};
 ghost use Rattle.turn_lock.specs.Shown.{IsSame};
 ghost use Rattle.campaign_ledger.specs.Grants.{MakesSafeRuns};
@@ -9,8 +9,7 @@ ghost use Rattle.head_end.specs.Campaigns.{EachChange};
 ghost use Rattle.head_end.specs.Connections.{Forecast};
 ghost use Rattle.head_end.specs.Rounds.{AreRounds};
 ghost use Rattle.ledger_campaigns.specs.Campaigns.{AreLinesFor, AreSwitched, AreUsesBy};
-ghost use Rattle.ledger_campaigns.specs.Campaigns.{IsLedgeredRun};
-ghost use Rattle.ledger_campaigns.specs.Desks.{permits_given};
+ghost use Rattle.ledger_campaigns.specs.Campaigns.{AreStored, IsLedgeredRun};
 
 use crate::campaign::{Course, gather};
 use crate::place::{LedgeredPlace, ledgered_places_for};
@@ -40,8 +39,9 @@ pub struct LedgeredRun<'a, C: Connector, B: Book> {
 /// A job with an outcome keeps it. A job whose command may have been sent is not run, and is
 /// unknown. For each other job `run_ledgered_job` asks for the permit of its place before its
 /// command goes out. Once the ledger has failed it gives no further permit; a worker that has one
-/// may still send its command. Jobs of one address are in different rounds, in the order of the
-/// list, and a round begins when the one before it has ended.
+/// may still send its command. A ledger that has not failed has the outcome of each conversation,
+/// unless all turns of its lock, 2^62, were drawn. Jobs of one address are in different rounds, in
+/// the order of the list, and a round begins when the one before it has ended.
 ///
 /// All memory of the report is allocated before the first connection is made: after an error the
 /// ledger is unchanged and dropped.
@@ -61,9 +61,14 @@ pub fn run_ledgered_campaign<
     requires { length ledger.entries ≡ length plan.now.jobs.now }
     ensures lines { IfOk result (λ run. AreLinesFor (C.tells connector.now) plan.now.jobs.now
         ledger.entries run.report) }
-    ensures run { IfOk result (λ run. IsLedgeredRun B.is_honest B.is_marked plan.now.jobs.now
-        plan.now.passwords.now ledger run.ledger run.report
-        (map (λ place. place.attempt.stage) run.places.items)) }
+    ensures run { IfOk result (λ run. IsLedgeredRun B.is_honest B.is_marked B.keeps
+        plan.now.jobs.now plan.now.passwords.now ledger run.ledger run.report
+        (map (λ place. place.attempt.stage) run.places.items)
+        (map (λ place. place.port) run.places.items)) }
+    ensures stored { IfOk result (λ run. IfSome run.ledger (λ now. now.has_failed ≡ false
+        → AreStored B.is_honest B.is_marked B.keeps plan.now.jobs.now run.report
+        (map (λ place. place.attempt.stage) run.places.items)
+        (map (λ place. place.port) run.places.items) now)) }
     ensures safe { IfOk result (λ run. IfSome run.ledger (λ now. (sent : List ℕ) → AreApart sent
         → AreSwitched plan.now.jobs.now (map (λ place. place.attempt.stage) run.places.items) sent
         → MakesSafeRuns B.is_honest B.is_marked B.may_leave ledger now sent)) }
@@ -113,7 +118,7 @@ fn run_places<R: Threads + Wait + Sync, C: Connector, B: Book + Send, W: Watcher
         → All (λ place. C.tells place.attempt.source.value ≡ tells) places.old
         → AreLinesFor tells plan.now.jobs.now found.now lines.new }
     ensures uses { AreUsesBy plan.now.jobs.now found.now plan.now.passwords.now
-        (map (λ place. permits_given place.port.known.seen) places.new) lines.new
+        (map (λ place. place.port) places.new) lines.new
         (map (λ place. place.attempt.stage) places.new) }
     ensures ports { EachChange (λ _ old new. IsSame old.port new.port) places.old places.new }
     ensures len { length lines.new ≡ length lines.old }

@@ -1,5 +1,5 @@
 //! Runs one job at one meter, with a permit of the shared ledger.
-ghost use Rattle.std.specs.Prelude.{◌≡◌, ◌⊎◌, IfOk, OnSome};
+ghost use Rattle.std.specs.Prelude.{◌≡◌, ◌⊎◌, IfOk, IfNone, OnSome};
 ghost use Rattle.acse_ber.specs.Password.{IsPassword};
 ghost use Rattle.turn_lock.specs.Shown.{IsSame};
 ghost use Rattle.client_core.specs.declared.job.Outcome.TheVariants.{Unknown};
@@ -8,9 +8,9 @@ ghost use Rattle.campaign_ledger.specs.Runs.{IsIn};
 ghost use Rattle.head_end.specs.Attempts.{unused, row_in};
 ghost use Rattle.head_end.specs.Conversations.{Converses, Speaks};
 ghost use Rattle.head_end.specs.Rows.{IsOutcome};
-ghost use Rattle.ledger_campaigns.specs.Desks.{permits_given};
+ghost use Rattle.ledger_campaigns.specs.Desks.{IsRefused, permits_given};
 ghost use Rattle.ledger_campaigns.specs.Uses.{IsNewUse, IsRowFor, IsToldOutcome, IsUse, MayAsk};
-ghost use Rattle.ledger_campaigns.specs.Uses.{SpeaksIfGiven, asked_through};
+ghost use Rattle.ledger_campaigns.specs.Uses.{IsSwitching, SpeaksIfGiven, asked_through};
 
 use crate::asking::{ask_to_send, report_outcome};
 use crate::desk::Desk;
@@ -175,6 +175,7 @@ fn clearance_for<B: Book, W: Wait>(
     port: &mut Port<Desk<B>>,
 ) -> Option<Clearance>
     ensures given { OnSome result (MayAsk verb (IsIn place (permits_given port.new.known.seen))) }
+    ensures refused { IfNone result (IsSwitching verb × IsRefused place port.new) }
     ensures port { IsSame port.old port.new }
 {
     match verb {
@@ -191,6 +192,7 @@ fn command_clearance<B: Book, W: Wait>(
     port: &mut Port<Desk<B>>,
 ) -> Option<Clearance>
     ensures given { OnSome result (IsIn place (permits_given port.new.known.seen)) }
+    ensures refused { IfNone result (IsRefused place port.new) }
     ensures port { IsSame port.old port.new }
 {
     match ask_to_send(rt, alloc, port, place) {

@@ -50,7 +50,7 @@ pub(crate) fn meet_all<C: Connector, B: Book>(
 // Closes the lock and returns its ledger, or `None` if a turn of the lock has not ended.
 pub(crate) fn close<B: Book>(shared: Shared<Desk<B>>, port: Port<Desk<B>>) -> Option<Ledger<B>>
     requires { port.lock ≡ shared }
-    ensures { IfSome result (λ ledger. Closes B.is_honest B.is_marked port.known ledger) }
+    ensures { IfSome result (λ ledger. Closes B.is_honest B.is_marked B.keeps port.known ledger) }
 {
     match shared.close(port) {
         Ok(desk) => Some(desk.into_ledger()),

@@ -69,7 +69,7 @@ pub fn run_on_ledger<R: Threads + Wait + Sync, C: Connector, W: Watcher, B: Book
     connector: &C,
 ) -> Result<(Result<LedgerTexts, AllocError>, Option<Ledger<B>>), AllocError>
     requires { length ledger.entries ≡ length plan.now.jobs.now }
-    ensures { IfOk result (λ ended. IsRunOnLedger B.is_honest B.is_marked B.may_leave
+    ensures { IfOk result (λ ended. IsRunOnLedger B.is_honest B.is_marked B.keeps B.may_leave
         (C.tells connector.now) plan.now.jobs.now plan.now.passwords.now ledger ended.1 ended.0) }
 {
     match run_ledgered_campaign(threads, alloc, plan, ledger, connector) {

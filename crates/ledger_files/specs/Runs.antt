@@ -12,6 +12,7 @@ use Rattle.client_core.specs.declared.job.Job.{Job}
 use Rattle.campaign_ledger.specs.Grants.{LedgerState}
 use Rattle.head_end.specs.Connections.{Forecast}
 use Rattle.sqlite_ledger.specs.Marks.{IsMarked, LeavesEntries}
+use Rattle.sqlite_ledger.specs.Outcomes.{IsSafe}
 use Rattle.sqlite_ledger.specs.Schema.{ledger_schema}
 use Rattle.ledger_files.specs.Opened.{IsOpenedFrom}
 use Rattle.ledger_files.specs.declared.end.LedgerEnd.{LedgerEnd}
@@ -28,8 +29,8 @@ IsEnd (Some ledger) NotClosed = ledger.has_failed ≡ false
 IsEnd (Some ledger) Failed = IsTrue ledger.has_failed
 
 -- Whether the ledger was opened from what the files held, the run was on this ledger, and the
--- ledger ended like this. The disk is honest if it returned what was written, and a place is marked
--- if whatever a crash leaves has its mark.
+-- ledger ended like this. The disk is honest if it returned what was written, a place is marked if
+-- whatever a crash leaves has its mark, and an outcome is kept if whatever a crash leaves has it.
 pub record IsRunOnFile {D F : Type 0} (g : Ghosts D) (held : Image)
     (tells : List ℕ → Option Forecast) (jobs : List Job) (passwords : List (List ℕ))
     (texts : Result LedgerTexts F) (end : LedgerEnd) : Type 0 where
@@ -40,5 +41,6 @@ pub record IsRunOnFile {D F : Type 0} (g : Ghosts D) (held : Image)
   pub opened : HasCleanDisk (file_state start.book) → IsOpenedFrom held start.book
   pub run : IsRunOnLedger (λ book. HasCleanDisk (file_state book))
       (λ book place. IsMarked (file_state book).may_leave (pos place))
+      (λ book place outcome. IsSafe (file_state book).may_leave (pos place) outcome)
       (λ book entries. LeavesEntries (file_state book).may_leave entries) tells jobs passwords
       start now texts

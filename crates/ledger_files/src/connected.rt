@@ -3,6 +3,7 @@ ghost use Rattle.std.specs.Prelude.{◌≡◌, length, pos, IfOk};
 ghost use Rattle.sqlite.specs.State.{HasCleanDisk};
 ghost use Rattle.sqlite.specs.Held.{state};
 ghost use Rattle.sqlite_ledger.specs.Marks.{IsMarked, LeavesEntries};
+ghost use Rattle.sqlite_ledger.specs.Outcomes.{IsSafe};
 ghost use Rattle.ledger_campaigns.specs.Texts.{IsRunOnLedger};
 
 use campaign_ledger::Ledger;
@@ -37,6 +38,7 @@ pub(crate) fn run_on_connection<
     ensures { IfOk result (λ ended. IsRunOnLedger
         (λ book. HasCleanDisk (state T.Store book))
         (λ book place. IsMarked (state T.Store book).may_leave (pos place))
+        (λ book place outcome. IsSafe (state T.Store book).may_leave (pos place) outcome)
         (λ book entries. LeavesEntries (state T.Store book).may_leave entries)
         (C.tells connector.now) plan.now.jobs.now plan.now.passwords.now ledger ended.1 ended.0) }
 {

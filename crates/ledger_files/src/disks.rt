@@ -7,6 +7,7 @@ ghost use Rattle.std.specs.Prelude.{◌≡◌, length, pos, Some, IfOk, OnOk, fa
 ghost use Rattle.sqlite.specs.State.{HasCleanDisk, IsUnchanged};
 ghost use Rattle.sqlite.specs.Files.{file_state};
 ghost use Rattle.sqlite_ledger.specs.Marks.{IsMarked, LeavesCommit, LeavesEntries};
+ghost use Rattle.sqlite_ledger.specs.Outcomes.{IsSafe};
 ghost use Rattle.sqlite_ledger.specs.Schema.{ledger_schema};
 ghost use Rattle.ledger_campaigns.specs.Texts.{IsRunOnLedger};
 ghost use Rattle.ledger_files.specs.Answered.{AreAppended};
@@ -75,6 +76,7 @@ pub(crate) fn run_on_disk<
     ensures { IfOk result (λ ended. IsRunOnLedger
         (λ book. HasCleanDisk (file_state book))
         (λ book place. IsMarked (file_state book).may_leave (pos place))
+        (λ book place outcome. IsSafe (file_state book).may_leave (pos place) outcome)
         (λ book entries. LeavesEntries (file_state book).may_leave entries)
         (C.tells connector.now) plan.now.jobs.now plan.now.passwords.now ledger ended.1 ended.0) }
 {

@@ -1,7 +1,7 @@
 use Rattle.std.proofs.Common.{arith, ◌≡◌, ◌∙◌, sym, Some, length, map, ap}
-use Rattle.ledger_campaigns.specs.Desks.{permits_given}
-use Rattle.ledger_campaigns.proofs.RunLemmas.{written, told_all, permits_kept, run_by, run_safe}
-use Rattle.ledger_campaigns.proofs.RunLemmas.{locks_kept, taken_run}
+use Rattle.std.proofs.lemmas.List.{length-map}
+use Rattle.ledger_campaigns.proofs.RunLemmas.{written, told_all, seen_kept, run_by, run_safe}
+use Rattle.ledger_campaigns.proofs.RunLemmas.{locks_kept, run_stored, taken_run}
 use Rattle.ledger_campaigns.proofs.run.run_ledgered_campaign.Goals as goal
 
 pub returns-clause-lines : goal.returns-clause-lines
@@ -35,25 +35,34 @@ returns-clause-run g c =
     let origin : c.meet_all.new.port.known.origin ≡ Some c.args.ledger =
     c.meet_all.ensures.origin ∙ (c.in_ok-places.ensures.origin
     ∙ ap (λ k. k.origin) c.in_ok-shared.ensures.known) in
-    taken_run g.B.Book.is_honest g.B.Book.is_marked c.in_ok-places.places.len c.meet_all.new.places
-    _
-    (λ p. p.attempt.stage) c.args.plan.now.jobs.now c.args.plan.now.passwords.now c.args.ledger
-    c.close-ledger.result c.from_vec.result (omega (arith, count, ap length same))
+    taken_run g.B.Book.is_honest g.B.Book.is_marked g.B.Book.keeps c.in_ok-places.places.len
+    c.meet_all.new.places _ (λ p. p.attempt.stage) (λ p. p.port) c.args.plan.now.jobs.now
+    c.args.plan.now.passwords.now c.args.ledger c.close-ledger.result c.from_vec.result
+    (omega (arith, count, ap length same))
     (rw (whole, same) (run_by g.B.Book.is_honest g.B.Book.is_marked g.B.Book.keeps
     c.args.plan.now.jobs.now c.args.plan.now.passwords.now c.args.ledger c.close-ledger.result
     c.run_places.new.lines (map (λ p. p.attempt.stage) c.run_places.new.places)
-    (map (λ p. permits_given p.port.known.seen) c.run_places.new.places)
-    c.meet_all.new.port.known origin (rw found at c.run_places.ensures.uses)
-    (λ i below is. permits_kept c.run_places.new.places (λ p. p.port.known.seen)
-    c.meet_all.new.port.known.seen (rw met at c.meet_all.ensures.seen) i
-    (omega (arith, count, below, c.in_ok-places.ensures.count, c.len.ensures.count)) is)
+    (map (λ p. p.port) c.run_places.new.places) c.meet_all.new.port.known
+    (length-map c.run_places.new.places (λ p. p.port)
+    ∙ omega (arith, count, c.in_ok-places.ensures.count, c.len.ensures.count))
+    origin (rw found at c.run_places.ensures.uses)
+    (λ port i below. seen_kept c.run_places.new.places (λ p. p.port)
+    c.meet_all.new.port.known.seen (rw met at c.meet_all.ensures.seen) port i
+    (omega (arith, count, below, c.in_ok-places.ensures.count, c.len.ensures.count)))
     c.history_is_legal.ensures c.close-ledger.ensures))
+
+pub returns-clause-stored : goal.returns-clause-stored
+returns-clause-stored g c =
+    run_stored g.B.Book.is_honest g.B.Book.is_marked g.B.Book.keeps c.args.plan.now.jobs.now
+    c.args.plan.now.passwords.now c.args.ledger c.close-ledger.result c.from_vec.result _ _
+    c.requires (returns-clause-run g c)
 
 pub returns-clause-safe : goal.returns-clause-safe
 returns-clause-safe g c =
-    run_safe g.B.Book.is_honest g.B.Book.is_marked g.B.Book.may_leave c.grants_add_up.ensures.runs
-    c.args.plan.now.jobs.now c.args.plan.now.passwords.now c.args.ledger c.close-ledger.result
-    c.from_vec.result _ (returns-clause-lines g c).count (returns-clause-run g c)
+    run_safe g.B.Book.is_honest g.B.Book.is_marked g.B.Book.keeps g.B.Book.may_leave
+    c.grants_add_up.ensures.runs c.args.plan.now.jobs.now c.args.plan.now.passwords.now
+    c.args.ledger c.close-ledger.result c.from_vec.result _ _
+    (returns-clause-lines g c).count (returns-clause-run g c)
 
 pub meet_all-requires-after_bounds : goal.meet_all-requires-after_bounds
 meet_all-requires-after_bounds g c κs within =

@@ -1,13 +1,12 @@
 use Rattle.std.proofs.Common.{arith}
-use Rattle.ledger_campaigns.specs.Desks.{permits_given}
 use Rattle.ledger_campaigns.proofs.PlaceLemmas.{lines_for, uses_by}
 use Rattle.ledger_campaigns.proofs.run.run_places.Goals as goal
 
 pub returns-clause-lines : goal.returns-clause-lines
 returns-clause-lines g c =
     lines_for c.args.places.now c.work.new.places
-    (λ p. g.C.Connector.tells p.attempt.source.value) (λ p. permits_given p.port.known.seen)
-    (λ p. p.row) (λ p. p.attempt.stage) c.args.plan.now.jobs.now c.args.found.now
+    (λ p. g.C.Connector.tells p.attempt.source.value) (λ p. p.port) (λ p. p.row)
+    (λ p. p.attempt.stage) c.args.plan.now.jobs.now c.args.found.now
     c.args.plan.now.passwords.now c.requires.count (omega arith)
     (λ i place below. rw (← c.as_slice.ensures.jobs) (c.work.ensures.runs i place below).0)
     c.args.lines.now c.gather.new.lines c.requires.names
@@ -20,8 +19,8 @@ returns-clause-lines g c =
 pub returns-clause-uses : goal.returns-clause-uses
 returns-clause-uses g c =
     uses_by c.args.places.now c.work.new.places
-    (λ p. g.C.Connector.tells p.attempt.source.value) (λ p. permits_given p.port.known.seen)
-    (λ p. p.row) (λ p. p.attempt.stage) c.args.plan.now.jobs.now c.args.found.now
+    (λ p. g.C.Connector.tells p.attempt.source.value) (λ p. p.port) (λ p. p.row)
+    (λ p. p.attempt.stage) c.args.plan.now.jobs.now c.args.found.now
     c.args.plan.now.passwords.now c.requires.count (omega arith)
     (λ i place below. rw (← c.as_slice.ensures.jobs) (c.work.ensures.runs i place below).0)
     c.args.lines.now c.gather.new.lines c.requires.names

@@ -1,5 +1,4 @@
 use Rattle.std.proofs.Common.{arith, refl}
-use Rattle.ledger_campaigns.specs.Desks.{permits_given}
 use Rattle.ledger_campaigns.proofs.RoundLemmas.{up_to_first, up_to_next, up_to_last}
 use Rattle.ledger_campaigns.proofs.campaign.Course.work.Goals as goal
 
@@ -7,7 +6,7 @@ pub rounds-init : goal.rounds-init
 rounds-init g c = (
   refl,
   up_to_first (λ p. g.C.Connector.tells p.attempt.source.value)
-      (λ p. permits_given p.port.known.seen) (λ p. p.row) (λ p. p.attempt.stage) (λ p. p.port)
+      (λ p. p.port) (λ p. p.row) (λ p. p.attempt.stage)
       c.args.self.now.jobs.now c.args.self.now.found.now c.args.self.now.passwords.now
       c.args.self.now.rounds.now c.args.places.now,
 )
@@ -16,7 +15,7 @@ pub rounds-preserved : goal.rounds-preserved
 rounds-preserved g c = (
   omega (arith, c.rounds.invariant.0),
   up_to_next (λ p. g.C.Connector.tells p.attempt.source.value)
-      (λ p. permits_given p.port.known.seen) (λ p. p.row) (λ p. p.attempt.stage) (λ p. p.port)
+      (λ p. p.port) (λ p. p.row) (λ p. p.attempt.stage)
       c.args.self.now.jobs.now c.args.self.now.found.now c.args.self.now.passwords.now
       c.args.self.now.rounds.now c.rounds.round c.args.places.now c.rounds.places
       c.work_round.new.places c.rounds.invariant.0 c.rounds.invariant.1 c.work_round.ensures.runs,
@@ -25,7 +24,7 @@ rounds-preserved g c = (
 pub returns : goal.returns
 returns g c = record {
   runs = up_to_last (λ p. g.C.Connector.tells p.attempt.source.value)
-      (λ p. permits_given p.port.known.seen) (λ p. p.row) (λ p. p.attempt.stage) (λ p. p.port)
+      (λ p. p.port) (λ p. p.row) (λ p. p.attempt.stage)
       c.args.self.now.jobs.now c.args.self.now.found.now c.args.self.now.passwords.now
       c.args.self.now.rounds.now c.args.self.now.count c.rounds.round c.args.places.now
       c.rounds.places c.args.self.now.ordered c.requires.count

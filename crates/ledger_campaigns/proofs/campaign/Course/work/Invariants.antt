@@ -1,7 +1,6 @@
 use Rattle.std.proofs.Common.{◌≡◌, length}
 use Rattle.turn_lock.specs.Shown.{IsSame}
 use Rattle.head_end.specs.Campaigns.{EachChange}
-use Rattle.ledger_campaigns.specs.Desks.{permits_given}
 use Rattle.ledger_campaigns.specs.Rounds.{IsPlaceRunUpTo}
 use Rattle.ledger_campaigns.proofs.campaign.Course.work.Given as goal
 
@@ -9,6 +8,6 @@ use Rattle.ledger_campaigns.proofs.campaign.Course.work.Given as goal
 abbrev pub invariant-rounds : goal.invariant-rounds
 invariant-rounds g l = (length l.places ≡ length l.fn.places)
     × EachChange (λ i o n. IsPlaceRunUpTo (λ p. g.C.Connector.tells p.attempt.source.value)
-    (λ p. permits_given p.port.known.seen) (λ p. p.row) (λ p. p.attempt.stage) l.self.jobs.now
+    (λ p. p.port) (λ p. p.row) (λ p. p.attempt.stage) l.self.jobs.now
     l.self.found.now l.self.passwords.now l.self.rounds.now l.round i o n
     × IsSame o.port n.port) l.fn.places l.places

@@ -3,7 +3,6 @@ use Rattle.std.proofs.Common.{slice_index_or}
 use Rattle.std.proofs.Crossing.{crosses}
 use Rattle.turn_lock.proofs.Sent.{port_send}
 use Rattle.turn_lock.specs.Shown.{IsSame}
-use Rattle.ledger_campaigns.specs.Desks.{permits_given}
 use Rattle.ledger_campaigns.specs.Rounds.{IsPlaceRound}
 use Rattle.ledger_campaigns.proofs.RoundLemmas.{moved}
 use Rattle.ledger_campaigns.proofs.campaign.Course.work_round.Goals as goal
@@ -21,7 +20,7 @@ returns g c = record {
       moved (slice_index_or c.args.places.now i place) changes.argument.now
       (slice_index_or c.for_each_mut.new.s i place) changes.after_call.now
       (λ o n. IsPlaceRound (λ p. g.C.Connector.tells p.attempt.source.value)
-      (λ p. permits_given p.port.known.seen) (λ p. p.row) (λ p. p.attempt.stage)
+      (λ p. p.port) (λ p. p.row) (λ p. p.attempt.stage)
       c.args.self.now.jobs.now c.args.self.now.found.now c.args.self.now.passwords.now
       c.args.self.now.rounds.now c.args.round i o n × IsSame o.port n.port)
       changes.argument_is changes.left changes.call;
