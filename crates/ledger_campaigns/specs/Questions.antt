@@ -1,10 +1,13 @@
 -- The questions to the meters of a ledger whose jobs need a second look.
 --     question          asks the meter of a job for its state
 --     questions         the questions of all jobs that need a second look
-use Rattle.std.specs.Prelude.{List, [], ◌∷◌}
+--     IsRefusal         why these questions are not asked
+use Rattle.std.specs.Prelude.{ℕ, ◌<◌, List, [], ◌∷◌, length, ⊤}
 use Rattle.std.specs.List.{flat_map}
 use Rattle.client_core.specs.declared.job.Job.{Job}
 use Rattle.client_core.specs.declared.job.Verb.TheVariants.{ReadState}
+use Rattle.head_end.specs.declared.fault.JobsFault.{JobsFault}
+use Rattle.head_end.specs.declared.fault.JobsFault.TheVariants as fault
 use Rattle.ledger_reports.specs.Status.{standing_of}
 use Rattle.ledger_reports.specs.declared.line.LedgerLine.{LedgerLine}
 use Rattle.ledger_reports.specs.declared.state.Standing.{Standing}
@@ -31,3 +34,10 @@ question_in line = question_for line.job (standing_of line.entry)
 -- the questions of all lines, in their order
 unfoldable pub questions : List LedgerLine → List Job
 questions lines = flat_map question_in lines
+
+-- whether the questions of these lines are refused for this cause: `TooMany` only if there are more
+-- than 1,000
+abbrev pub IsRefusal : List LedgerLine → JobsFault → Type 0
+IsRefusal lines fault.TooMany = 1000 < length (questions lines)
+IsRefusal lines fault.Memory = ⊤
+IsRefusal lines (fault.Line number) = ⊥

@@ -1,6 +1,6 @@
 //! `questions`: the jobs that ask for the states of meters.
-ghost use Rattle.std.specs.Prelude.{◌≡◌, ◌++◌, ◌∷◌, [], IfOk, OnOk};
-ghost use Rattle.ledger_campaigns.specs.Questions.{question, question_in, questions};
+ghost use Rattle.std.specs.Prelude.{◌≡◌, ◌++◌, ◌∷◌, [], IfOk, IfErr, OnOk};
+ghost use Rattle.ledger_campaigns.specs.Questions.{IsRefusal, question, question_in, questions};
 
 use campaign_ledger::LedgerEntry;
 use client_core::{Job, Outcome, Verb};
@@ -61,7 +61,8 @@ fn questions_in(alloc: Global, lines: &[LedgerLine]) -> Result<Listed<Job>, Allo
 ///
 /// Errors: `TooMany` if there are more than 1,000; `Memory`.
 pub fn questions(alloc: Global, lines: &[LedgerLine]) -> Result<Jobs, JobsFault>
-    ensures { IfOk result (λ jobs. jobs ≡ questions lines.now) }
+    ensures jobs { IfOk result (λ jobs. jobs ≡ questions lines.now) }
+    ensures refusal { IfErr result (IsRefusal lines.now) }
 {
     match questions_in(alloc, lines) {
         Ok(jobs) => Jobs::try_from(jobs),
