@@ -1,5 +1,5 @@
 //! `SqliteBook`: a ledger's book over an SQLite connection.
-ghost use Rattle.std.specs.Prelude.{◌≡◌, pos, IfOk, IfErr};
+ghost use Rattle.std.specs.Prelude.{◌≡◌, ◌≢◌, pos, IfOk, IfErr};
 ghost use Rattle.sqlite.specs.State.{HasCleanDisk};
 ghost use Rattle.sqlite.specs.Held.{state};
 ghost use Rattle.sqlite_ledger.specs.Marks.{IsMarked, LeavesEntries, left_marked, left_kept};
@@ -47,7 +47,7 @@ impl<S: Alter + Drop> SqliteBook<S> {
     /// Returns the book over a connection, or the connection if its schema is not a ledger's.
     pub fn new(rt: &HostRuntime, conn: Connection<S>) -> Result<SqliteBook<S>, Connection<S>>
         ensures ok { IfOk result (λ book. (book ≡ conn) × (book.schema ≡ ledger_schema)) }
-        ensures err { IfErr result (λ same. same ≡ conn) }
+        ensures err { IfErr result (λ same. (same ≡ conn) × (conn.schema ≢ ledger_schema)) }
     {
         if !is_ledger_schema(conn.schema()) {
             return Err(conn);
