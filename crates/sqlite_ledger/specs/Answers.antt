@@ -1,14 +1,29 @@
 -- The answers of a file.
+--     IsControlState    a number that is a state of the control
+--     IsAnswerIn        the answer of a row that was read
 --     answer_row        the row of an answer
 --     IsRecorded        the trees have the answer
 --     IsSafe            all trees that a crash may leave have it
-use Rattle.std.specs.Prelude.{ℕ, ℤ, pos, [], ◌∷◌, Option, Some, None}
+use Rattle.std.specs.Prelude.{◌≡◌, ◌≤◌, ℕ, ℤ, pos, [], ◌∷◌, Option, Some, None}
 use Rattle.sqlite.specs.declared.types.Value.TheVariants.{Null, Int, Text as Words}
-use Rattle.sqlite.specs.Order.{Row}
+use Rattle.sqlite.specs.Order.{Row, column}
 use Rattle.sqlite.specs.Tree.{Trees}
 use Rattle.sqlite_rules.specs.Lists.{Has}
 use Rattle.ledger_reports.specs.declared.answer.StateAnswer.{StateAnswer}
 use Rattle.sqlite_ledger.specs.AnswersSchema.{answer_tree}
+
+-- whether a number is a state of the control: disconnected, connected or ready for reconnection
+-- (IEC 62056-6-2, class 70, control_state)
+abbrev pub IsControlState : ℕ → Type 0
+IsControlState state = state ≤ 2
+
+-- whether a row that was read has this answer: the name, the address and the state, which is one of
+-- the control
+pub record IsAnswerIn (row : Row) (answer : StateAnswer) : Type 0 where
+  pub name_is : column row 0 ≡ Words answer.name
+  pub address_is : column row 1 ≡ Words answer.address
+  pub state_is : column row 2 ≡ Int (pos answer.answer.state)
+  pub is_state : IsControlState answer.answer.state
 
 -- the second of an asking as the file has it: 0 if it is not known
 abbrev pub second_of : Option ℕ → ℕ

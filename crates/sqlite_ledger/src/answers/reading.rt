@@ -1,7 +1,9 @@
 //! `read_answers`: reads all answers.
 ghost use Rattle.std.specs.Prelude.{◌≡◌, ◌⊎◌, [], IfOk, OnOk};
+ghost use Rattle.std.specs.List.{All};
 ghost use Rattle.sqlite.specs.State.{HasCleanDisk, IsUnchanged};
 ghost use Rattle.sqlite.specs.Held.{state};
+ghost use Rattle.sqlite_ledger.specs.Answers.{IsAnswerIn, IsControlState};
 ghost use Rattle.sqlite_ledger.specs.AnswersSchema.{answers_schema};
 
 use crate::answers::schema::is_answers_schema;
@@ -16,15 +18,21 @@ use std::alloc::Global;
 // The answers, the first one first.
 const SELECT_ANSWERS: &str = "SELECT name, address, state, asked_at FROM answer ORDER BY number";
 
+// The last state of the control: ready for reconnection.
+const MAX_CONTROL_STATE: u8 = 2;
+
 // Returns the answer of a row of the table `answer`. Fails with `Answers` if its state is none, and
 // with `NotALedger` if another value of the row is not that of an answer.
-fn read_answer(alloc: Global, row: &Row) -> Result<StateAnswer, LedgerOpenFault> {
+fn read_answer(alloc: Global, row: &Row) -> Result<StateAnswer, LedgerOpenFault>
+    ensures { IfOk result (IsAnswerIn row.now) }
+{
     let name: String = row.get(0)?;
     let address: String = row.get(1)?;
     let number: i64 = row.get(2)?;
     let asked_at: i64 = row.get(3)?;
-    let Ok(state) = u8::try_from(number) else {
-        return Err(LedgerOpenFault::Answers);
+    let state = match u8::try_from(number) {
+        Ok(state) if state <= MAX_CONTROL_STATE => state,
+        _ => return Err(LedgerOpenFault::Answers),
     };
     Ok(StateAnswer {
         name: Octets::from_slice(alloc, name.as_bytes())?,
@@ -37,9 +45,12 @@ fn read_answer(alloc: Global, row: &Row) -> Result<StateAnswer, LedgerOpenFault>
 }
 
 // Returns the answers of these rows.
-fn answers_of(alloc: Global, rows: &[Row]) -> Result<Vec<StateAnswer>, LedgerOpenFault> {
+fn answers_of(alloc: Global, rows: &[Row]) -> Result<Vec<StateAnswer>, LedgerOpenFault>
+    ensures { IfOk result (λ answers. All (λ answer. IsControlState answer.answer.state)
+        answers.items) }
+{
     let mut answers = Vec::with_capacity(alloc, rows.len())?;
-    for row in rows {
+    'rows: for row in rows {
         let answer = match read_answer(alloc, row) {
             Ok(answer) => answer,
             Err(LedgerOpenFault::NotALedger) => return Err(LedgerOpenFault::Answers),
@@ -63,14 +74,16 @@ fn select_answers<S: Alter>(conn: &mut Connection<S>) -> Result<Vec<Row>, Error>
 
 /// Returns all answers, the first one first, and changes nothing.
 ///
-/// Errors: `Answers` for a database with other tables, or with a state that is none; `File` and
-/// `Memory`.
+/// Errors: `Answers` for a database with other tables, or with a state that the control does not
+/// have; `File` and `Memory`.
 pub fn read_answers<S: Alter>(
     alloc: Global,
     conn: &mut Connection<S>,
 ) -> Result<Vec<StateAnswer>, LedgerOpenFault>
     ensures clean { HasCleanDisk (state S.Store conn.new) → HasCleanDisk (state S.Store conn.old) }
     ensures schema { IfOk result (λ _. conn.old.schema ≡ answers_schema) }
+    ensures states { IfOk result (λ answers. All (λ answer. IsControlState answer.answer.state)
+        answers.items) }
     ensures unchanged { HasCleanDisk (state S.Store conn.new)
         → OnOk result (IsUnchanged (state S.Store conn.old) (state S.Store conn.new)) }
 {
@@ -84,8 +97,8 @@ pub fn read_answers<S: Alter>(
 /// Returns all answers, the first one first, or none if the database has no table yet, as a crash
 /// may leave it before the table is made. Changes nothing.
 ///
-/// Errors: `Answers` for a database with other tables, or with a state that is none; `File` and
-/// `Memory`.
+/// Errors: `Answers` for a database with other tables, or with a state that the control does not
+/// have; `File` and `Memory`.
 pub fn read_answers_if_made<S: Alter>(
     alloc: Global,
     conn: &mut Connection<S>,
@@ -93,6 +106,8 @@ pub fn read_answers_if_made<S: Alter>(
     ensures clean { HasCleanDisk (state S.Store conn.new) → HasCleanDisk (state S.Store conn.old) }
     ensures schema { IfOk result (λ answers. (conn.old.schema ≡ answers_schema)
         ⊎ ((conn.old.schema.tables ≡ []) × (answers.items ≡ []))) }
+    ensures states { IfOk result (λ answers. All (λ answer. IsControlState answer.answer.state)
+        answers.items) }
     ensures unchanged { HasCleanDisk (state S.Store conn.new) → conn.old.schema ≡ answers_schema
         → OnOk result (IsUnchanged (state S.Store conn.old) (state S.Store conn.new)) }
 {
