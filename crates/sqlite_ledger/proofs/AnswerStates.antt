@@ -9,7 +9,8 @@ use Rattle.sqlite.specs.Listing.{understood}
 use Rattle.sqlite.specs.State.{State, HasCleanDisk, IsUnchanged, Survives, Executes, CommitsBy}
 use Rattle.sqlite.specs.State.{Writes, text_of}
 use Rattle.sqlite.proofs.Callers.{IsPlain, command_of, statement_of, runs_as}
-use Rattle.sqlite_ledger.proofs.InsertStates.{IsSettled, IsAtRest}
+use Rattle.sqlite_ledger.specs.AtRest.{IsAtRest}
+use Rattle.sqlite_ledger.proofs.InsertStates.{IsSettled}
 use Rattle.ledger_reports.specs.declared.answer.StateAnswer.{StateAnswer}
 use Rattle.sqlite_ledger.specs.Answers.{answer_row, IsRecorded, IsSafe}
 use Rattle.sqlite_ledger.specs.AnswersSchema.{answers_schema}

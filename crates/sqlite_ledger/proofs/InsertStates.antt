@@ -19,6 +19,7 @@ use Rattle.sqlite.specs.Listing.{understood}
 use Rattle.sqlite.specs.State.{State, HasCleanDisk, IsUnchanged, Survives, Executes, CommitsBy}
 use Rattle.sqlite.specs.State.{Writes, IsNotRun, ExecutesIn, shows_rows, store_error, text_of}
 use Rattle.sqlite.specs.State.{mode_of, IsNoStatement, IsMisplaced}
+use Rattle.sqlite_ledger.specs.AtRest.{IsAtRest}
 use Rattle.sqlite.proofs.Callers.{IsPlain, command_of, statement_of, runs_as}
 use Rattle.sqlite_ledger.specs.Schema.{ledger_schema}
 use Rattle.sqlite_ledger.specs.Taken.{is_taken}
@@ -95,10 +96,6 @@ taken_is_unchanged text params mid new e h taken = elim h [
 pub record IsSettled (s : State) : Type 0 where
   pub settled : IsTrue s.is_open → (db : Trees) → s.may_leave db → db ≡ s.committed.trees
   pub stays : IsTrue s.is_open → s.may_leave s.committed.trees
-
--- Outside a transaction, the connection sees the last commit.
-abbrev pub IsAtRest : State → Type 0
-IsAtRest s = (s.in_transaction ≡ false) × (IsTrue s.is_open → s.now ≡ s.committed)
 
 -- A text that inserts one row into a table of the ledger.
 pub record IsInsert (text : List ℕ) (params : Row) (at : ℕ) (source : Source) (tree : ℕ) (row : Row)

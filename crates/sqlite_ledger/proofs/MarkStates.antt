@@ -16,7 +16,8 @@ use Rattle.sqlite_ledger.proofs.MarkLemmas.{begun_text, begun_source, begun_is, 
 use Rattle.sqlite_ledger.proofs.MarkLemmas.{begun_does, mark_row, begun_after, begun_kept}
 use Rattle.sqlite_ledger.proofs.MarkLemmas.{not_before, outcomes_same}
 use Rattle.sqlite_ledger.proofs.TakenLemmas.{begun_taken}
-use Rattle.sqlite_ledger.proofs.InsertStates.{IsSettled, IsAtRest, IsInsert}
+use Rattle.sqlite_ledger.specs.AtRest.{IsAtRest}
+use Rattle.sqlite_ledger.proofs.InsertStates.{IsSettled, IsInsert}
 use Rattle.sqlite_ledger.proofs.InsertStates as insert
 
 abbrev mark_params : ℤ → Value → Row

@@ -12,7 +12,8 @@ use Rattle.sqlite_ledger.proofs.MarkLemmas.{begun_same}
 use Rattle.sqlite_ledger.proofs.OutcomeLemmas.{outcome_text, outcome_source, outcome_params}
 use Rattle.sqlite_ledger.proofs.OutcomeLemmas.{outcome_is, outcome_plain, outcome_does, marks_same}
 use Rattle.sqlite_ledger.proofs.OutcomeLemmas.{recorded, recorded_kept}
-use Rattle.sqlite_ledger.proofs.InsertStates.{IsSettled, IsAtRest, IsInsert}
+use Rattle.sqlite_ledger.specs.AtRest.{IsAtRest}
+use Rattle.sqlite_ledger.proofs.InsertStates.{IsSettled, IsInsert}
 use Rattle.sqlite_ledger.proofs.InsertStates as insert
 
 ending : (place : ℤ) (outcome : Outcome) (at : Value) → IsInsert outcome_text (outcome_params place

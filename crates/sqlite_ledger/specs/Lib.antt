@@ -2,6 +2,7 @@
 -- tables, the marks, the outcomes and the answers.
 pub mod Answers
 pub mod AnswersSchema
+pub mod AtRest
 pub mod Campaigns
 pub mod EntryCode
 pub mod Marks

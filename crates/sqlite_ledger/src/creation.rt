@@ -1,8 +1,9 @@
 //! `create_ledger`: makes the tables of a new ledger, with the campaign's jobs.
+use crate::at_rest::check_at_rest;
 use crate::campaign_row::VERSION;
 use crate::jobs::insert_job;
 use client_core::Job;
-use sqlite::{Alter, Connection, Error, ErrorCode, Transaction, params};
+use sqlite::{Alter, Connection, Error, Transaction, params};
 
 // The tables of a ledger; docs/CAMPAIGNS.md describes them.
 const TABLES: &str = "\
@@ -37,10 +38,7 @@ fn fill<S: Alter>(transaction: &mut Transaction<'_, S>, jobs: &[Job]) -> Result<
 // Makes the tables of a ledger and writes the jobs, in one transaction: after an error, or a crash,
 // the database is empty or has all of it.
 pub(crate) fn create_ledger<S: Alter>(conn: &mut Connection<S>, jobs: &[Job]) -> Result<(), Error> {
-    // (an open transaction would hold back what is written)
-    if !conn.is_autocommit() {
-        return Err(Error::SqliteFailure(ErrorCode::TransactionState));
-    }
+    check_at_rest(conn)?;
     let mut transaction = conn.transaction();
     fill(&mut transaction, jobs)?;
     transaction.commit()

@@ -13,6 +13,7 @@
 #![tactic(auto)]
 
 mod answers;
+mod at_rest;
 mod book;
 mod campaign_row;
 mod clock;

@@ -8,7 +8,8 @@ ghost use Rattle.sqlite_ledger.specs.Outcomes.{IsSafe};
 ghost use Rattle.client_core.specs.declared.job.Outcome.{Outcome};
 ghost use Rattle.sqlite_ledger.specs.Taken.{is_taken};
 
-use sqlite::{Alter, Connection, Error, ErrorCode, params};
+use crate::at_rest::check_at_rest;
+use sqlite::{Alter, Connection, Error, params};
 
 // Writes the mark of a place and the second of the mark. It fails if the mark is there.
 const INSERT_BEGUN: &str = "INSERT INTO begun (place, at) VALUES (?1, ?2)";
@@ -39,10 +40,7 @@ pub(crate) fn insert_begun<S: Alter>(
         → IfErr result (λ e. IsTrue (is_taken e)
         → IsMarked (state S.Store conn.old).may_leave (pos place)) }
 {
-    // (an open transaction would hold back what is written)
-    if !conn.is_autocommit() {
-        return Err(Error::SqliteFailure(ErrorCode::TransactionState));
-    }
+    check_at_rest(conn)?;
     let insert = conn.prepare(INSERT_BEGUN)?;
     insert.execute(conn, params![place, at])
 }

@@ -11,9 +11,10 @@ ghost use Rattle.sqlite.specs.declared.types.Value.TheVariants.{Int, Text as Wor
 ghost use Rattle.sqlite.specs.Order.{column};
 ghost use Rattle.client_core.specs.declared.job.Outcome.{Outcome};
 
+use crate::at_rest::check_at_rest;
 use crate::open_fault::LedgerOpenFault;
 use client_core::Outcome;
-use sqlite::{Alter, Connection, Error, ErrorCode, Row, params};
+use sqlite::{Alter, Connection, Error, Row, params};
 
 // Writes the outcome of a place: its kind, its number or NULL, and the second.
 const INSERT_OUTCOME: &str =
@@ -63,10 +64,7 @@ pub(crate) fn insert_outcome<S: Alter>(
     ensures schema { HasCleanDisk (state S.Store conn.new) → conn.old.schema ≡ ledger_schema
         → OnOk result (conn.new.schema ≡ ledger_schema) }
 {
-    // (an open transaction would hold back what is written)
-    if !conn.is_autocommit() {
-        return Err(Error::SqliteFailure(ErrorCode::TransactionState));
-    }
+    check_at_rest(conn)?;
     let insert = conn.prepare(INSERT_OUTCOME)?;
     insert.execute(
         conn,

@@ -7,10 +7,11 @@ ghost use Rattle.ledger_reports.specs.declared.answer.StateAnswer.{StateAnswer};
 ghost use Rattle.sqlite_ledger.specs.Answers.{IsSafe, second_of};
 ghost use Rattle.sqlite_ledger.specs.AnswersSchema.{answers_schema};
 
+use crate::at_rest::check_at_rest;
 use crate::open_fault::LedgerOpenFault;
 use ledger_reports::StateAnswer;
 use sqlite::types::{ToSql, ValueRef};
-use sqlite::{Alter, Connection, Error, ErrorCode, Row};
+use sqlite::{Alter, Connection, Error, Row};
 
 // Appends an answer: its number, the name and the address of the job, the state, and the second.
 const INSERT_ANSWER: &str =
@@ -46,10 +47,7 @@ fn insert_answer<S: Alter>(
     ensures schema { HasCleanDisk (state S.Store conn.new) → conn.old.schema ≡ answers_schema
         → OnOk result (conn.new.schema ≡ answers_schema) }
 {
-    // (an open transaction would hold back what is written)
-    if !conn.is_autocommit() {
-        return Err(Error::SqliteFailure(ErrorCode::TransactionState));
-    }
+    check_at_rest(conn)?;
     let insert = conn.prepare(INSERT_ANSWER)?;
     let values = [
         ToSql::to_sql(number),

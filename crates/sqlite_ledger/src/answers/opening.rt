@@ -3,9 +3,10 @@ ghost use Rattle.std.specs.Prelude.{◌≡◌, OnOk};
 ghost use Rattle.sqlite_ledger.specs.AnswersSchema.{answers_schema};
 
 use crate::answers::schema::is_answers_schema;
+use crate::at_rest::check_at_rest;
 use crate::open_fault::LedgerOpenFault;
 use crate::schema::is_empty;
-use sqlite::{Alter, Connection, Error, ErrorCode};
+use sqlite::{Alter, Connection, Error};
 
 // The table of the answers; the README describes it.
 const TABLE: &str = "\
@@ -19,10 +20,7 @@ fn create_if_empty<S: Alter>(conn: &mut Connection<S>) -> Result<(), Error>
     if !is_empty(conn.schema()) {
         return Ok(());
     }
-    // (an open transaction would hold back what is written)
-    if !conn.is_autocommit() {
-        return Err(Error::SqliteFailure(ErrorCode::TransactionState));
-    }
+    check_at_rest(conn)?;
     conn.execute_batch(TABLE)
 }
 

@@ -1,7 +1,8 @@
 use Rattle.std.proofs.Common.{◌≡◌, pos, [], IsTrue, ap, ◌∙◌, arith, rules}
 use Rattle.sqlite.specs.Held.{Held, state}
 use Rattle.sqlite.specs.State.{HasCleanDisk}
-use Rattle.sqlite_ledger.proofs.InsertStates.{IsSettled, IsAtRest}
+use Rattle.sqlite_ledger.specs.AtRest.{IsAtRest}
+use Rattle.sqlite_ledger.proofs.InsertStates.{IsSettled}
 use Rattle.sqlite.specs.Effect.{Database}
 use Rattle.sqlite_ledger.specs.Schema.{ledger_schema}
 use Rattle.sqlite_ledger.specs.Marks.{IsMarked}

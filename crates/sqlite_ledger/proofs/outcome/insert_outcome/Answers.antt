@@ -2,7 +2,8 @@ use Rattle.std.proofs.Common.{pos, to_z, of_z, w64, arith, rules}
 use Rattle.sqlite.specs.Held.{Held, state}
 use Rattle.sqlite.specs.declared.types.Value.TheVariants.{Int}
 use Rattle.sqlite.specs.State.{HasCleanDisk, Executes, CommitsBy, Survives}
-use Rattle.sqlite_ledger.proofs.InsertStates.{IsSettled, IsAtRest}
+use Rattle.sqlite_ledger.specs.AtRest.{IsAtRest}
+use Rattle.sqlite_ledger.proofs.InsertStates.{IsSettled}
 use Rattle.sqlite_ledger.proofs.OutcomeLemmas.{outcome_text, outcome_params, bound_number}
 use Rattle.sqlite_ledger.proofs.OutcomeStates.{safe, kept, remains, schema}
 use Rattle.sqlite_ledger.proofs.outcome.insert_outcome.Goals as goal

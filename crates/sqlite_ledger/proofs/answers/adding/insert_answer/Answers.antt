@@ -1,7 +1,8 @@
 use Rattle.std.proofs.Common.{pos, arith, rules}
 use Rattle.sqlite.specs.Held.{Held, state}
 use Rattle.sqlite.specs.State.{HasCleanDisk, Executes, CommitsBy, Survives}
-use Rattle.sqlite_ledger.proofs.InsertStates.{IsSettled, IsAtRest}
+use Rattle.sqlite_ledger.specs.AtRest.{IsAtRest}
+use Rattle.sqlite_ledger.proofs.InsertStates.{IsSettled}
 use Rattle.sqlite_ledger.proofs.AnswerLemmas.{answer_text, answer_params}
 use Rattle.sqlite_ledger.proofs.AnswerStates.{safe, remains, schema}
 use Rattle.sqlite_ledger.proofs.answers.adding.insert_answer.Goals as goal
