@@ -1,5 +1,5 @@
 //! Why a call on a durable file fails, or a file is not locked.
-ghost use Rattle.std.specs.Prelude.{◌≡◌};
+ghost use Rattle.std.specs.Prelude.{◌≡◌, ◌↔◌, false, true, IsErrOf};
 ghost use Rattle.durable_lines.specs.declared.fault.FileFault.TheVariants as file_fault;
 
 use std::alloc::AllocError;
@@ -36,5 +36,24 @@ impl From<AllocError> for FileFault {
 
     fn from(_error: AllocError) -> FileFault {
         FileFault::Memory
+    }
+}
+
+/// Returns the result of a call on a file, and records in a flag whether the call failed. For the
+/// types whose calls all fail once one has.
+pub fn record_failure<T: Drop>(
+    has_failed: &mut bool,
+    call: Result<T, FileFault>,
+) -> Result<T, FileFault>
+    requires { has_failed.old ≡ false }
+    ensures call { result ≡ call }
+    ensures failed { IsErrOf call FileFault.Failed ↔ (has_failed.new ≡ true) }
+{
+    match call {
+        Err(FileFault::Failed) => {
+            *has_failed = true;
+            Err(FileFault::Failed)
+        }
+        call => call,
     }
 }

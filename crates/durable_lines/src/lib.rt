@@ -26,7 +26,7 @@ mod stored_place;
 pub use append::{append_and_renew, append_lines};
 pub use byte_fate::ByteFate;
 pub use durable_file::DurableFile;
-pub use fault::{FileFault, LockFault};
+pub use fault::{FileFault, LockFault, record_failure};
 pub use laws::{
     examples_of_lines, files_hold_their_lines, text_of_lines_is_read, texts_are_appended,
 };

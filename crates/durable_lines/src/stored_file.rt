@@ -1,9 +1,9 @@
 //! `StoredFile`: a file of the operating system as a durable file.
-ghost use Rattle.std.specs.Prelude.{◌≡◌, ◌≤◌, ◌↔◌, [], false, true, IfOk, IsErrOf, length};
+ghost use Rattle.std.specs.Prelude.{◌≡◌, ◌≤◌, [], IfOk, length};
 ghost use Rattle.durable_lines.specs.StoredFile.{limit_of, HasFailed};
 
 use crate::durable_file::DurableFile;
-use crate::fault::{FileFault, LockFault};
+use crate::fault::{FileFault, LockFault, record_failure};
 use std::alloc::Global;
 use std::fs::{File, TryLockError};
 use std::io;
@@ -42,21 +42,6 @@ impl StoredFile {
             limit,
             has_failed: false,
         })
-    }
-
-    // Returns the result of a call, and records whether it failed.
-    fn record<T: Drop>(&mut self, call: Result<T, FileFault>) -> Result<T, FileFault>
-        requires { self.now.has_failed ≡ false }
-        ensures call { result ≡ call }
-        ensures failed { IsErrOf call FileFault.Failed ↔ HasFailed self.new }
-    {
-        match call {
-            Err(FileFault::Failed) => {
-                self.has_failed = true;
-                Err(FileFault::Failed)
-            }
-            call => call,
-        }
     }
 }
 
@@ -125,35 +110,39 @@ impl DurableFile for StoredFile {
 
     ghost only_now = { λ file c left. left };
 
+    #[tactic(auto, using(crate::proofs::PastLemmas::elapses_unclaimed))]
     fn read(&mut self, alloc: Global) -> Result<Vec<u8>, FileFault> {
         if self.has_failed {
             return Err(FileFault::Failed);
         }
         let call = read_within(alloc, &mut self.file, self.limit);
-        self.record(call)
+        record_failure(&mut self.has_failed, call)
     }
 
+    #[tactic(auto, using(crate::proofs::PastLemmas::elapses_unclaimed))]
     fn append(&mut self, bytes: &[u8]) -> Result<(), FileFault> {
         if self.has_failed {
             return Err(FileFault::Failed);
         }
         let call = append_within(&mut self.file, self.limit, bytes);
-        self.record(call)
+        record_failure(&mut self.has_failed, call)
     }
 
+    #[tactic(auto, using(crate::proofs::PastLemmas::elapses_unclaimed))]
     fn cut(&mut self, len: usize) -> Result<(), FileFault> {
         if self.has_failed {
             return Err(FileFault::Failed);
         }
         let call = self.file.set_len(len as u64).map_err(|_| FileFault::Failed);
-        self.record(call)
+        record_failure(&mut self.has_failed, call)
     }
 
+    #[tactic(auto, using(crate::proofs::PastLemmas::elapses_unclaimed))]
     fn sync(&mut self) -> Result<(), FileFault> {
         if self.has_failed {
             return Err(FileFault::Failed);
         }
         let call = self.file.sync_data().map_err(|_| FileFault::Failed);
-        self.record(call)
+        record_failure(&mut self.has_failed, call)
     }
 }

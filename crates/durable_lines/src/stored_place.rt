@@ -1,9 +1,9 @@
 //! `StoredPlace`: a name in a folder of the operating system.
-ghost use Rattle.std.specs.Prelude.{◌≡◌, ◌↔◌, [], false, IsErrOf};
+ghost use Rattle.std.specs.Prelude.{◌≡◌, []};
 ghost use Rattle.durable_lines.specs.StoredPlace.{with_file, HasFailed};
 
 use crate::durable_file::DurableFile;
-use crate::fault::FileFault;
+use crate::fault::{FileFault, record_failure};
 use crate::older_files::keep_older;
 use crate::place::Place;
 use crate::stored_file::StoredFile;
@@ -65,21 +65,6 @@ impl<R: Files<File = File> + Drop> StoredPlace<R> {
         ensures { self.new ≡ with_file self.old file }
     {
         self.file = Some(file);
-    }
-
-    // Returns the result of a call, and records whether it failed.
-    fn record<T: Drop>(&mut self, call: Result<T, FileFault>) -> Result<T, FileFault>
-        requires { self.now.has_failed ≡ false }
-        ensures call { result ≡ call }
-        ensures failed { IsErrOf call FileFault.Failed ↔ HasFailed self.new }
-    {
-        match call {
-            Err(FileFault::Failed) => {
-                self.has_failed = true;
-                Err(FileFault::Failed)
-            }
-            call => call,
-        }
     }
 }
 
@@ -145,6 +130,7 @@ impl<R: Files<File = File> + Drop> DurableFile for StoredPlace<R> {
 
     ghost only_now = { λ place c left. left };
 
+    #[tactic(auto, using(crate::proofs::PastLemmas::elapses_unclaimed))]
     fn read(&mut self, alloc: Global) -> Result<Vec<u8>, FileFault> {
         if self.has_failed {
             return Err(FileFault::Failed);
@@ -153,9 +139,10 @@ impl<R: Files<File = File> + Drop> DurableFile for StoredPlace<R> {
             Ok(file) => file.read(alloc),
             Err(fault) => Err(fault),
         };
-        self.record(call)
+        record_failure(&mut self.has_failed, call)
     }
 
+    #[tactic(auto, using(crate::proofs::PastLemmas::elapses_unclaimed))]
     fn append(&mut self, bytes: &[u8]) -> Result<(), FileFault> {
         if self.has_failed {
             return Err(FileFault::Failed);
@@ -164,9 +151,10 @@ impl<R: Files<File = File> + Drop> DurableFile for StoredPlace<R> {
             Ok(file) => file.append(bytes),
             Err(fault) => Err(fault),
         };
-        self.record(call)
+        record_failure(&mut self.has_failed, call)
     }
 
+    #[tactic(auto, using(crate::proofs::PastLemmas::elapses_unclaimed))]
     fn cut(&mut self, len: usize) -> Result<(), FileFault> {
         if self.has_failed {
             return Err(FileFault::Failed);
@@ -175,16 +163,17 @@ impl<R: Files<File = File> + Drop> DurableFile for StoredPlace<R> {
             Ok(file) => file.cut(len),
             Err(fault) => Err(fault),
         };
-        self.record(call)
+        record_failure(&mut self.has_failed, call)
     }
 
+    #[tactic(auto, using(crate::proofs::PastLemmas::elapses_unclaimed))]
     fn sync(&mut self) -> Result<(), FileFault> {
         if self.has_failed {
             return Err(FileFault::Failed);
         }
         let call = sync_both(&mut self.file, &self.folder, self.is_renamed);
         self.is_renamed = self.is_renamed && call.is_err();
-        self.record(call)
+        record_failure(&mut self.has_failed, call)
     }
 }
 
@@ -195,14 +184,16 @@ impl<R: Files<File = File> + Drop> Place for StoredPlace<R> {
 
     ghost drafts_act = { λ acts. acts };
 
+    #[tactic(auto, using(crate::proofs::PastLemmas::elapses_unclaimed))]
     fn create_draft(&mut self) -> Result<StoredFile, FileFault> {
         if self.has_failed {
             return Err(FileFault::Failed);
         }
         let call = open_draft(&self.files, self.paths.draft.as_str(), self.limit);
-        self.record(call)
+        record_failure(&mut self.has_failed, call)
     }
 
+    #[tactic(auto, using(crate::proofs::PastLemmas::elapses_unclaimed))]
     fn rename(&mut self, draft: StoredFile) -> Result<(), FileFault> {
         if self.has_failed {
             return Err(FileFault::Failed);
@@ -210,15 +201,16 @@ impl<R: Files<File = File> + Drop> Place for StoredPlace<R> {
         let call = replace_file(&self.files, &self.paths);
         self.file = Some(draft);
         self.is_renamed = true;
-        self.record(call.map_err(|_| FileFault::Failed))
+        record_failure(&mut self.has_failed, call.map_err(|_| FileFault::Failed))
     }
 
+    #[tactic(auto, using(crate::proofs::PastLemmas::elapses_unclaimed))]
     fn sync_folder(&mut self) -> Result<(), FileFault> {
         if self.has_failed {
             return Err(FileFault::Failed);
         }
         let call = self.folder.sync_all();
         self.is_renamed = self.is_renamed && call.is_err();
-        self.record(call.map_err(|_| FileFault::Failed))
+        record_failure(&mut self.has_failed, call.map_err(|_| FileFault::Failed))
     }
 }
