@@ -1,7 +1,10 @@
--- The calls on a file, and which file a call failed on.
---     FileCall        a call on a file
---     HasFailedPart   a place or a draft of it has failed
-use Rattle.std.specs.Prelude.{◌⊎◌, ℕ, List}
+-- The calls on a file, and why the replacement of a file failed.
+--     FileCall         a call on a file
+--     HasFailedDraft   the draft of a replacement failed
+--     HasFailedPart    the place of a replacement failed, or its draft
+--     OverflowsDraft   an empty draft would exceed its limit with some bytes
+use Rattle.std.specs.Prelude.{◌≡◌, ◌⊎◌, ℕ, List, []}
+use Rattle.durable_lines.specs.CrashModel.{Follows, TornAppend}
 
 -- a call on a file, other than a renewal
 pub data FileCall : Type 0 where
@@ -10,6 +13,25 @@ pub data FileCall : Type 0 where
   Cut : (len : ℕ) → FileCall
   Sync : FileCall
 
--- whether a place or a draft of it has failed. Generic code gets a draft only from the place.
-abbrev pub HasFailedPart : {P D : Type 0} → (P → Type 0) → (D → Type 0) → P → Type 0
-HasFailedPart {D = D} failed draft_failed place = failed place ⊎ ((draft : D) × draft_failed draft)
+-- Whether the draft of a replacement by these bytes failed: an empty file that had not failed has
+-- failed, and meanwhile these bytes were appended to it, wholly, in part or not at all.
+pub record HasFailedDraft {D : Type 0} (seen : D → List ℕ) (may_leave : D → List ℕ → Type 0)
+    (failed : D → Type 0) (bytes : List ℕ) : Type 0 where
+  pub created : D
+  pub empty : seen created ≡ []
+  pub unfailed : failed created → ⊥
+  pub draft : D
+  pub appended : Follows (TornAppend bytes) (may_leave created) (may_leave draft)
+  pub has_failed : failed draft
+
+-- whether a replacement failed at the place, or at a draft that was to get such bytes
+abbrev pub HasFailedPart : {P D : Type 0} → (P → Type 0) → (D → List ℕ)
+    → (D → List ℕ → Type 0) → (D → Type 0) → (Bytes : List ℕ → Type 0) → P → Type 0
+HasFailedPart failed seen may_leave draft_failed Bytes place = failed place
+    ⊎ ((bytes : List ℕ) × Bytes bytes × HasFailedDraft seen may_leave draft_failed bytes)
+
+-- whether an empty draft would exceed its limit with these bytes
+abbrev pub OverflowsDraft : {D : Type 0} → (seen : D → List ℕ)
+    → (overflows : D → List ℕ → Type 0) → List ℕ → Type 0
+OverflowsDraft {D = D} seen overflows bytes =
+    (draft : D) × (seen draft ≡ []) × overflows draft bytes

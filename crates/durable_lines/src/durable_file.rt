@@ -49,6 +49,10 @@ pub trait DurableFile: Drop {
     // Ghost predicate: the file has failed.
     ghost has_failed: { Self → Type 0 };
 
+    // Ghost predicate: the file would exceed its limit with these further bytes. The default claims
+    // nothing.
+    ghost overflows: { Self → List ℕ → Type 0 } = { λ _ _. ⊤ };
+
     // Ghost relation: what a call that returns `Ok` does besides what its other clauses say. A file
     // whose calls do no more keeps the default. A renewal is no such call.
     ghost also: { FileCall → Self → Self → Type 0 } = { λ _ _ _. ⊤ };
@@ -73,6 +77,7 @@ pub trait DurableFile: Drop {
         ensures time { Elapses (moment self.old) (moment self.new) (left_since self.old)
             (left_since self.new) (may_leave self.new) }
         ensures also { OnOk result (also (Append bytes.now) self.old self.new) }
+        ensures too_long { IsErrOf result FileFault.TooLong → overflows self.old bytes.now }
         ensures identity { identity self.new ≡ identity self.old }
         ensures failed { IsErrOf result FileFault.Failed ↔ has_failed self.new }
         ensures remains_failed { has_failed self.old → has_failed self.new };
@@ -85,6 +90,7 @@ pub trait DurableFile: Drop {
         ensures time { Elapses (moment self.old) (moment self.new) (left_since self.old)
             (left_since self.new) (may_leave self.new) }
         ensures also { OnOk result (also (Cut len) self.old self.new) }
+        ensures not_too_long { ¬ IsErrOf result FileFault.TooLong }
         ensures identity { identity self.new ≡ identity self.old }
         ensures failed { IsErrOf result FileFault.Failed ↔ has_failed self.new }
         ensures remains_failed { has_failed self.old → has_failed self.new };
@@ -98,6 +104,7 @@ pub trait DurableFile: Drop {
         ensures time { Elapses (moment self.old) (moment self.new) (left_since self.old)
             (left_since self.new) (may_leave self.new) }
         ensures also { OnOk result (also Sync self.old self.new) }
+        ensures not_too_long { ¬ IsErrOf result FileFault.TooLong }
         ensures identity { identity self.new ≡ identity self.old }
         ensures failed { IsErrOf result FileFault.Failed ↔ has_failed self.new }
         ensures remains_failed { has_failed self.old → has_failed self.new };

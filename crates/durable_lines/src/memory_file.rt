@@ -32,6 +32,7 @@ impl MemoryFile {
         ensures bytes { bytes_of result ≡ bytes.items }
         ensures synced { states_of result ≡ synced_with bytes.items ∷ [] }
         ensures syncs { syncs_left result ≡ 2 ^ 64 - 1 }
+        ensures unfailed { ¬ HasFailed result }
     {
         MemoryFile::failing_after(alloc, bytes, u64::MAX)
     }
@@ -42,6 +43,7 @@ impl MemoryFile {
         ensures bytes { bytes_of result ≡ bytes.items }
         ensures synced { states_of result ≡ synced_with bytes.items ∷ [] }
         ensures syncs { syncs_left result ≡ syncs }
+        ensures unfailed { ¬ HasFailed result }
     {
         MemoryFile {
             alloc,
@@ -152,6 +154,8 @@ impl DurableFile for MemoryFile {
     ghost stored = { λ _ _. ⊤ };
 
     ghost has_failed = { HasFailed };
+
+    ghost overflows = { λ _ _. ⊥ };
 
     ghost counts_now = { λ m t c le now. inl now };
 

@@ -200,6 +200,8 @@ impl DurableFile for MemoryPlace {
 
     ghost has_failed = { λ _. ⊥ };
 
+    ghost overflows = { λ _ _. ⊥ };
+
     ghost counts_now = { λ p t c le now. inl now };
 
     ghost only_now = { λ p c left. only_present MayBeLeft p.past.items p.state c left };

@@ -22,9 +22,11 @@ pub trait Place: DurableFile {
     /// Creates an empty draft. It replaces an earlier one.
     fn create_draft(&mut self) -> Result<Self::Draft, FileFault>
         ensures empty { IfOk result (λ draft. Self.Draft.seen draft ≡ []) }
+        ensures unfailed { IfOk result (λ draft. ¬ Self.Draft.has_failed draft) }
         ensures crash { Narrows (Self.may_leave self.old) (Self.may_leave self.new) }
         ensures time { Elapses (Self.moment self.old) (Self.moment self.new)
             (Self.left_since self.old) (Self.left_since self.new) (Self.may_leave self.new) }
+        ensures not_too_long { ¬ IsErrOf result FileFault.TooLong }
         ensures identity { Self.identity self.new ≡ Self.identity self.old }
         ensures failed { IsErrOf result FileFault.Failed ↔ Self.has_failed self.new }
         ensures remains_failed { Self.has_failed self.old → Self.has_failed self.new };
@@ -42,6 +44,7 @@ pub trait Place: DurableFile {
             → Self.may_leave self.old c ⊎ Self.Draft.may_leave draft c }
         ensures time { Elapses (Self.moment self.old) (Self.moment self.new)
             (Self.left_since self.old) (Self.left_since self.new) (Self.may_leave self.new) }
+        ensures not_too_long { ¬ IsErrOf result FileFault.TooLong }
         ensures identity { Self.identity self.new ≡ Self.identity self.old }
         ensures failed { IsErrOf result FileFault.Failed ↔ Self.has_failed self.new }
         ensures remains_failed { Self.has_failed self.old → Self.has_failed self.new };
@@ -53,6 +56,7 @@ pub trait Place: DurableFile {
         ensures crash { Narrows (Self.may_leave self.old) (Self.may_leave self.new) }
         ensures time { Elapses (Self.moment self.old) (Self.moment self.new)
             (Self.left_since self.old) (Self.left_since self.new) (Self.may_leave self.new) }
+        ensures not_too_long { ¬ IsErrOf result FileFault.TooLong }
         ensures identity { Self.identity self.new ≡ Self.identity self.old }
         ensures failed { IsErrOf result FileFault.Failed ↔ Self.has_failed self.new }
         ensures remains_failed { Self.has_failed self.old → Self.has_failed self.new };

@@ -1,5 +1,6 @@
 //! `StoredPlace`: a name in a folder of the operating system.
-ghost use Rattle.std.specs.Prelude.{◌≡◌, []};
+ghost use Rattle.std.specs.Prelude.{◌≡◌, [], IfOk, IfErr, IsErrOf};
+ghost use Rattle.durable_lines.specs.StoredFile.{HasFailed as FileHasFailed};
 ghost use Rattle.durable_lines.specs.StoredPlace.{with_file, HasFailed};
 
 use crate::durable_file::DurableFile;
@@ -73,7 +74,10 @@ fn open_draft<R: Files<File = File>>(
     files: &R,
     path: &str,
     limit: usize,
-) -> Result<StoredFile, FileFault> {
+) -> Result<StoredFile, FileFault>
+    ensures unfailed { IfOk result (λ draft. ¬ FileHasFailed draft) }
+    ensures not_too_long { ¬ IsErrOf result FileFault.TooLong }
+{
     let mut options = File::options();
     options.read(true).write(true).create(true);
     let file = options.open(files, path).map_err(|_| FileFault::Failed)?;
@@ -89,7 +93,9 @@ fn replace_file<R: Files<File = File>>(files: &R, paths: &PlacePaths) -> io::Res
 }
 
 // Returns the file of a place, or `Failed` if there is none.
-fn file_of(file: &mut Option<StoredFile>) -> Result<&mut StoredFile, FileFault> {
+fn file_of(file: &mut Option<StoredFile>) -> Result<&mut StoredFile, FileFault>
+    ensures { IfErr result (λ fault. fault ≡ FileFault.Failed) }
+{
     match file {
         Some(file) => Ok(file),
         None => Err(FileFault::Failed),
@@ -101,7 +107,9 @@ fn sync_both(
     file: &mut Option<StoredFile>,
     folder: &File,
     is_renamed: bool,
-) -> Result<(), FileFault> {
+) -> Result<(), FileFault>
+    ensures { ¬ IsErrOf result FileFault.TooLong }
+{
     file_of(file)?.sync()?;
     if is_renamed {
         return folder.sync_all().map_err(|_| FileFault::Failed);

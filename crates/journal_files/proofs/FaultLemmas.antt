@@ -72,6 +72,16 @@ file_failed fault given is failed = found fault (sym is ∙ failed)
     found file.TooLong same = cc
     found file.Memory same = cc
 
+-- a file that was reported as too long is too long
+pub file_too_long : (fault : FileFault) (given : StartFault) → given ≡ of_file fault
+    → given ≡ journal.TooLong → fault ≡ file.TooLong
+file_too_long fault given is long = found fault (sym is ∙ long)
+  where
+    found : (fault : FileFault) → of_file fault ≡ journal.TooLong → fault ≡ file.TooLong
+    found file.Failed same = cc
+    found file.TooLong same = refl
+    found file.Memory same = cc
+
 -- a fault of a file is a cause of its own
 pub file_resumes_not : (device text : List ℕ) (fault : FileFault) (given : StartFault)
     → given ≡ of_file fault → IsResumeFault device text given
@@ -106,4 +116,4 @@ pub ruleset resume_faults = (resume_unread, text_no_file, file_failed, file_resu
 pub ruleset renew_faults =
     (renew_unread, renew_unwritten, text_no_file, unwritable_no_file, file_failed, file_renews_not)
 
-pub ruleset begin_faults = (file_failed, file_begins_not)
+pub ruleset begin_faults = (file_failed, file_too_long, file_begins_not)

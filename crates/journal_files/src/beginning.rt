@@ -1,6 +1,6 @@
 //! Begins a journal: its first text, written as a whole.
-ghost use Rattle.std.specs.Prelude.{◌≡◌, ◌⊎◌, IfErr, IfOk, IsErrOf, OnOk};
-ghost use Rattle.durable_lines.specs.Calls.{HasFailedPart};
+ghost use Rattle.std.specs.Prelude.{◌≡◌, ◌⊎◌, ℕ, List, IfErr, IfOk, IsErrOf, OnOk};
+ghost use Rattle.durable_lines.specs.Calls.{HasFailedPart, OverflowsDraft};
 ghost use Rattle.durable_lines.specs.CrashModel.{LeavesOnly};
 ghost use Rattle.durable_lines.specs.Lines.{IsSettled};
 ghost use Rattle.journal_files.specs.Faults.{IsBeginFault};
@@ -30,8 +30,8 @@ fn journal_of(alloc: Global, recorder: &Recorder) -> Result<Octets, StartFault>
 ///
 /// After `Ok` every crash leaves that journal under the name; a crash during the call leaves it, or
 /// what could be left before. Errors: `Memory`; `File` if a call on the place or its draft failed,
-/// after which the name has the old file or the new one; `TooLong` if the text is longer than the
-/// file may be; `Line(1)` if the text has a byte 0, which is tested, since no contract excludes it.
+/// after which the name has the old file or the new one; `TooLong` if the text exceeds the limit of
+/// a draft; `Line(1)` if the text has a byte 0, which is tested, since no contract excludes it.
 #[tactic(auto, using(crate::proofs::FaultLemmas::begin_faults))]
 pub fn begin_journal<P: Place>(
     alloc: Global,
@@ -45,7 +45,11 @@ pub fn begin_journal<P: Place>(
     ensures identity { P.identity place.new ≡ P.identity place.old }
     ensures cause { IfErr result (IsBeginFault recorder.now) }
     ensures failed { IsErrOf result StartFault.File
-        → HasFailedPart P.has_failed P.Draft.has_failed place.new }
+        → HasFailedPart P.has_failed P.Draft.seen P.Draft.may_leave P.Draft.has_failed
+        (IsJournalOf recorder.now) place.new }
+    ensures too_long { IsErrOf result StartFault.TooLong → (text : List ℕ)
+        × IsJournalOf recorder.now text
+        × OverflowsDraft P.Draft.seen P.Draft.overflows text }
     // A crash at any moment of the call leaves what could be left before, or the new journal.
     ensures any_moment { P.acts_as_file
         → LeavesOnly P.moment P.left_since place.old place.new

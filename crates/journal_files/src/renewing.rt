@@ -224,7 +224,8 @@ pub fn renew_journal<P: Place>(alloc: Global, place: &mut P, depth: usize) -> Re
     ensures cause { IfErr result (λ fault. P.acts_as_file
         → IsRenewFault (P.seen place.old) fault) }
     ensures failed { IsErrOf result StartFault.File
-        → HasFailedPart P.has_failed P.Draft.has_failed place.new }
+        → HasFailedPart P.has_failed P.Draft.seen P.Draft.may_leave P.Draft.has_failed
+        (λ text. P.acts_as_file → IsRenewalOf depth (P.seen place.old) text) place.new }
     // A crash at any moment of the call leaves what could be left before, or the new journal.
     ensures any_moment { P.acts_as_file
         → LeavesOnly P.moment P.left_since place.old place.new
@@ -252,7 +253,8 @@ pub fn renew_long_journal<P: Place>(
     ensures cause { IfErr result (λ fault. P.acts_as_file
         → IsRenewFault (P.seen place.old) fault) }
     ensures failed { IsErrOf result StartFault.File
-        → HasFailedPart P.has_failed P.Draft.has_failed place.new }
+        → HasFailedPart P.has_failed P.Draft.seen P.Draft.may_leave P.Draft.has_failed
+        (λ text. P.acts_as_file → IsRenewalOf depth (P.seen place.old) text) place.new }
     // A crash at any moment of the call leaves what could be left before, or the new journal.
     ensures any_moment { P.acts_as_file
         → LeavesOnly P.moment P.left_since place.old place.new
