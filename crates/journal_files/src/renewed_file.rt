@@ -1,10 +1,15 @@
 //! `RenewedFile`: the file of a journal that is renewed each time it has grown by a limit.
-ghost use Rattle.std.specs.Prelude.{◌≡◌, ◌↔◌, false, true, IsErrOf};
-ghost use Rattle.journal_files.specs.RenewedFile.{grown_of, place_of, terms_of, HasFailed};
+ghost use Rattle.std.specs.Prelude.{◌≡◌, None, OnOk, IsErrOf};
+ghost use Rattle.durable_lines.specs.CrashModel.{LeavesOnly};
+ghost use Rattle.durable_lines.specs.Holding.{IsSameOrRenewed};
+ghost use Rattle.durable_lines.specs.Lines.{IsSettled};
+ghost use Rattle.journal_files.specs.RenewedFile.{grown_of, held_back_of, place_of, terms_of};
+ghost use Rattle.journal_files.specs.RenewedFile.{GrowsBy, HasFailed, RenewsOnTerms};
 ghost use Rattle.journal_files.specs.Renewals.{IsRenewedAs};
 
+use crate::fault::StartFault;
 use crate::renewing::renew_file;
-use durable_lines::{DurableFile, FileFault, Place};
+use durable_lines::{DurableFile, FileFault, Place, record_failure};
 use std::alloc::Global;
 
 /// When a journal is renewed, and what then stays in it.
@@ -30,6 +35,8 @@ pub struct RenewedFile<P: Place> {
     terms: RenewalTerms,
     // The number of bytes that were appended since the last renewal.
     grown: usize,
+    // Why the last renewal that was tried left the old file, if it did.
+    held_back: Option<StartFault>,
     has_failed: bool,
 }
 
@@ -39,6 +46,7 @@ impl<P: Place> RenewedFile<P> {
         ensures place { place_of result ≡ place }
         ensures terms { terms_of result ≡ terms }
         ensures grown { grown_of result ≡ 0 }
+        ensures not_held_back { held_back_of result ≡ None }
         ensures whole { ¬ HasFailed result }
     {
         RenewedFile {
@@ -46,8 +54,16 @@ impl<P: Place> RenewedFile<P> {
             place,
             terms,
             grown: 0,
+            held_back: None,
             has_failed: false,
         }
+    }
+
+    /// Returns why the last renewal that was tried left the old file, if it did.
+    pub fn held_back(&self) -> Option<StartFault>
+        ensures { result ≡ held_back_of self.now }
+    {
+        self.held_back
     }
 
     /// Returns the place of the file.
@@ -55,21 +71,6 @@ impl<P: Place> RenewedFile<P> {
         ensures { result.now ≡ place_of self.now }
     {
         &self.place
-    }
-}
-
-// Returns the result of a call, and records whether it failed.
-fn record<T: Drop>(has_failed: &mut bool, call: Result<T, FileFault>) -> Result<T, FileFault>
-    requires { has_failed.old ≡ false }
-    ensures call { result ≡ call }
-    ensures failed { IsErrOf call FileFault.Failed ↔ (has_failed.new ≡ true) }
-{
-    match call {
-        Err(FileFault::Failed) => {
-            *has_failed = true;
-            Err(FileFault::Failed)
-        }
-        call => call,
     }
 }
 
@@ -92,6 +93,10 @@ impl<P: Place> DurableFile for RenewedFile<P> {
 
     ghost has_failed = { HasFailed };
 
+    ghost overflows = { λ file bytes. P.overflows file.place bytes };
+
+    ghost also = { GrowsBy };
+
     ghost counts_now = { λ file t c le now. P.counts_now file.place t c le now };
 
     ghost only_now = { λ file c left. P.only_now file.place c left };
@@ -102,7 +107,7 @@ impl<P: Place> DurableFile for RenewedFile<P> {
             return Err(FileFault::Failed);
         }
         let call = self.place.read(alloc);
-        record(&mut self.has_failed, call)
+        record_failure(&mut self.has_failed, call)
     }
 
     #[tactic(auto, using(crate::proofs::RenewalLemmas::same_files))]
@@ -112,7 +117,7 @@ impl<P: Place> DurableFile for RenewedFile<P> {
         }
         let call = self.place.append(bytes);
         self.grown = self.grown.saturating_add(bytes.len());
-        record(&mut self.has_failed, call)
+        record_failure(&mut self.has_failed, call)
     }
 
     #[tactic(auto, using(crate::proofs::RenewalLemmas::same_files))]
@@ -121,7 +126,7 @@ impl<P: Place> DurableFile for RenewedFile<P> {
             return Err(FileFault::Failed);
         }
         let call = self.place.cut(len);
-        record(&mut self.has_failed, call)
+        record_failure(&mut self.has_failed, call)
     }
 
     #[tactic(auto, using(crate::proofs::RenewalLemmas::same_files))]
@@ -130,10 +135,24 @@ impl<P: Place> DurableFile for RenewedFile<P> {
             return Err(FileFault::Failed);
         }
         let call = self.place.sync();
-        record(&mut self.has_failed, call)
+        record_failure(&mut self.has_failed, call)
     }
 
-    fn renew(&mut self) -> Result<(), FileFault> {
+    fn renew(&mut self) -> Result<(), FileFault>
+        requires { P.acts_as_file → IsSettled (λ f. P.seen (place_of f))
+            (λ f. P.may_leave (place_of f)) (λ f. P.identity (place_of f)) P.stored self.old }
+        ensures settled { OnOk result (P.acts_as_file → IsSettled (λ f. P.seen (place_of f))
+            (λ f. P.may_leave (place_of f)) (λ f. P.identity (place_of f)) P.stored self.new) }
+        ensures renewed { OnOk result (P.acts_as_file → IsSameOrRenewed IsRenewedAs
+            (P.seen (place_of self.old)) (P.seen (place_of self.new))) }
+        ensures on_terms { OnOk result (RenewsOnTerms P.acts_as_file P.seen self.old self.new) }
+        ensures any_moment { P.acts_as_file → LeavesOnly (λ f. P.moment (place_of f))
+            (λ f. P.left_since (place_of f)) self.old self.new
+            (IsSameOrRenewed IsRenewedAs (P.seen (place_of self.old))) }
+        ensures identity { P.identity (place_of self.new) ≡ P.identity (place_of self.old) }
+        ensures failed { IsErrOf result FileFault.Failed → HasFailed self.new }
+        ensures remains_failed { HasFailed self.old → HasFailed self.new }
+    {
         if self.has_failed {
             return Err(FileFault::Failed);
         }
@@ -142,6 +161,7 @@ impl<P: Place> DurableFile for RenewedFile<P> {
         }
         self.grown = 0;
         let call = renew_file(self.alloc, &mut self.place, self.terms.depth);
-        record(&mut self.has_failed, call)
+        self.held_back = record_failure(&mut self.has_failed, call)?;
+        Ok(())
     }
 }

@@ -6,6 +6,7 @@ ghost use Rattle.durable_lines.specs.CrashModel.{Elapses, LeavesOnly, Narrows, H
 ghost use Rattle.durable_lines.specs.Holding.{IsSameOrRenewed};
 ghost use Rattle.durable_lines.specs.Lines.{IsSettled, IsText};
 ghost use Rattle.journal_files.specs.Faults.{IsRenewFault, IsUnwritable};
+ghost use Rattle.journal_files.specs.RenewedFile.{IsRenewedUnless};
 ghost use Rattle.journal_files.specs.Renewals.{IsLaterTrace, IsRenewalOf, IsRenewedAs};
 ghost use Rattle.journal_files.specs.Renewals.{IsRenewedOver};
 ghost use Rattle.relay_core.specs.Agreeing.{Agree, IsWorld};
@@ -270,26 +271,32 @@ pub fn renew_long_journal<P: Place>(
 }
 
 // Renews a journal as `renew_journal` does, with the file of its place as one that lines are
-// appended to while the journal's meter runs. If the text is not renewed, its file stays.
+// appended to while the journal's meter runs. If the text is not renewed, its file stays, and the
+// fault is returned.
 #[tactic(auto, using(crate::proofs::RenewalLemmas::file_renewals))]
 pub(crate) fn renew_file<P: Place>(
     alloc: Global,
     place: &mut P,
     depth: usize,
-) -> Result<(), FileFault>
+) -> Result<Option<StartFault>, FileFault>
     requires { P.acts_as_file → IsSettled P.seen P.may_leave P.identity P.stored place.old }
     ensures settled { OnOk result (P.acts_as_file
         → IsSettled P.seen P.may_leave P.identity P.stored place.new) }
     ensures renewed { OnOk result (P.acts_as_file
         → IsSameOrRenewed IsRenewedAs (P.seen place.old) (P.seen place.new)) }
+    ensures outcome { IfOk result (λ held_back. P.acts_as_file
+        → IsRenewedUnless depth held_back (P.seen place.old) (P.seen place.new)) }
     ensures identity { P.identity place.new ≡ P.identity place.old }
     // A crash at any moment of the call leaves the old journal or the new one.
     ensures any_moment { P.acts_as_file → LeavesOnly P.moment P.left_since place.old place.new
         (IsSameOrRenewed IsRenewedAs (P.seen place.old)) }
 {
     match renew_text_of(alloc, place, depth) {
-        Ok(text) => Ok(replace(place, text.as_slice())?),
+        Ok(text) => {
+            replace(place, text.as_slice())?;
+            Ok(None)
+        }
         Err(StartFault::File) => Err(FileFault::Failed),
-        Err(_) => Ok(()),
+        Err(fault) => Ok(Some(fault)),
     }
 }
