@@ -167,7 +167,8 @@ module _ {B : Type 0} (is_honest : B → Type 0) (is_marked : B → ℕ → Type
   pub outcomes_in : (start now : LedgerState B) (calls : LedgerCalls B)
       → AreAnswered is_honest is_marked keeps start calls → now ≡ last_ledger start calls
       → now.has_failed ≡ false → (place : ℕ) (outcome : Outcome) → place < length start.entries
-      → HasRequest (Record place outcome) calls → HasOutcome is_honest is_marked keeps place outcome now
+      → HasRequest (Record place outcome) calls
+      → HasOutcome is_honest is_marked keeps place outcome now
   outcomes_in start now calls all last ok place outcome below (before, later, by, answer, is) =
       rw (last, is) (stored_at_end place outcome start before later by answer (rw is at all)
       (rw (← is, ← last) ok) below)
