@@ -1,9 +1,10 @@
 //! `open_book`: opens the ledger of a campaign over a connection.
-ghost use Rattle.std.specs.Prelude.{◌≡◌, length, OnOk, IfOk, false};
+ghost use Rattle.std.specs.Prelude.{◌≡◌, ◌≢◌, [], length, Ok, Err, OnOk, IfOk, false};
 ghost use Rattle.sqlite.specs.State.{HasCleanDisk, IsUnchanged};
 ghost use Rattle.sqlite.specs.Held.{state};
 ghost use Rattle.sqlite_ledger.specs.Marks.{LeavesCommit};
 ghost use Rattle.sqlite_ledger.specs.Schema.{ledger_schema};
+ghost use Rattle.sqlite_ledger.specs.declared.open_fault.LedgerOpenFault.TheVariants.{NotALedger};
 
 use crate::book::SqliteBook;
 use crate::creation::create_ledger;
@@ -18,7 +19,9 @@ use std::rt::HostRuntime;
 
 // Makes the ledger if the database is empty.
 fn create_if_empty<S: Alter>(conn: &mut Connection<S>, jobs: &[Job]) -> Result<(), LedgerOpenFault>
-    ensures { conn.old.schema ≡ ledger_schema → conn.new ≡ conn.old }
+    ensures ledger_unchanged { conn.old.schema ≡ ledger_schema → conn.new ≡ conn.old }
+    ensures tables_unchanged { conn.old.schema.tables ≢ []
+        → (result ≡ Ok tt) × (conn.new ≡ conn.old) }
 {
     if !is_empty(conn.schema()) {
         return Ok(());
@@ -50,7 +53,7 @@ fn read_ledger<S: Alter>(
 }
 
 /// Opens the ledger of a campaign with these jobs over a connection. An empty database gets the
-/// tables and the jobs, in one transaction.
+/// tables and the jobs, in one transaction. A database with other tables is unchanged.
 ///
 /// Errors, each with the connection: `NotALedger` for a database with other tables, of another
 /// version, or with a mark or an outcome that is none; `OtherList` for the ledger of another list
@@ -63,6 +66,8 @@ pub fn open_book<S: Alter + Drop>(
     ensures schema { IfOk result (λ ledger. ledger.book.schema ≡ ledger_schema) }
     ensures entries { IfOk result (λ ledger. length ledger.entries ≡ length jobs.now) }
     ensures unfailed { IfOk result (λ ledger. ledger.has_failed ≡ false) }
+    ensures other_tables_unchanged { conn.schema.tables ≢ [] → conn.schema ≢ ledger_schema
+        → result ≡ Err (NotALedger, conn) }
     ensures clean { conn.schema ≡ ledger_schema → IfOk result (λ ledger.
         HasCleanDisk (state S.Store ledger.book) → HasCleanDisk (state S.Store conn)) }
     ensures settled { IfOk result (λ ledger. LeavesCommit (state S.Store ledger.book)) }

@@ -1,10 +1,12 @@
 //! What a ledger's file has: its campaign, its jobs, its marks and its outcomes.
-ghost use Rattle.std.specs.Prelude.{◌≡◌, ◌<◌, ◌^◌, ℕ, pos, Some, None, length, IfOk, OnOk, vec_len};
+ghost use Rattle.std.specs.Prelude.{◌≡◌, ◌≢◌, ◌<◌, ◌^◌, ℕ, pos, Some, None, Err, length, IfOk};
+ghost use Rattle.std.specs.Prelude.{OnOk, vec_len};
 ghost use Rattle.sqlite.specs.State.{HasCleanDisk, IsUnchanged};
 ghost use Rattle.sqlite.specs.Given.{IsPlain};
 ghost use Rattle.sqlite.specs.Listing.{understood};
 ghost use Rattle.sqlite.specs.Held.{state};
 ghost use Rattle.sqlite_ledger.specs.Schema.{ledger_schema};
+ghost use Rattle.sqlite_ledger.specs.declared.open_fault.LedgerOpenFault.TheVariants.{NotALedger};
 
 use crate::campaign_row::check_campaign_rows;
 use crate::jobs::{are_rows_of, read_job};
@@ -256,6 +258,8 @@ pub fn read_lines<S: Alter>(
 ) -> Result<Vec<LedgerLine>, LedgerOpenFault>
     ensures clean { HasCleanDisk (state S.Store conn.new) → HasCleanDisk (state S.Store conn.old) }
     ensures schema { IfOk result (λ _. conn.old.schema ≡ ledger_schema) }
+    ensures other_tables_unchanged { conn.old.schema ≢ ledger_schema
+        → (result ≡ Err NotALedger) × (conn.new ≡ conn.old) }
     ensures unchanged { HasCleanDisk (state S.Store conn.new)
         → OnOk result (IsUnchanged (state S.Store conn.old) (state S.Store conn.new)) }
 {
