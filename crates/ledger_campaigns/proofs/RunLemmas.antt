@@ -11,6 +11,7 @@ use Rattle.turn_lock.specs.Shown.{ShownPort, IsSame}
 use Rattle.turn_lock.proofs.Lists.{starts_trans}
 use Rattle.client_core.specs.declared.job.Job.{Job}
 use Rattle.client_core.specs.declared.job.Outcome.{Outcome}
+use Rattle.client_core.specs.declared.job.Outcome.TheVariants.{Unknown}
 use Rattle.client_core.specs.declared.job.Verb.{Verb}
 use Rattle.client_core.specs.declared.job.Verb.TheVariants.{Disconnect, Reconnect, ReadState}
 use Rattle.campaign_ledger.specs.declared.entry.LedgerEntry.{LedgerEntry}
@@ -31,7 +32,7 @@ use Rattle.ledger_campaigns.specs.Campaigns.{IsLedgeredRun}
 use Rattle.ledger_campaigns.specs.Desks.{LedgerCalls, IsLegalHistory, permits_given}
 use Rattle.ledger_campaigns.specs.Desks.{HasOutcome, HasRequest, HasRunOut}
 use Rattle.ledger_campaigns.specs.Uses.{Asked, IsUse, MayAsk, IsSwitching, HasSwitched}
-use Rattle.ledger_campaigns.specs.Uses.{HasTalked, asked_within}
+use Rattle.ledger_campaigns.specs.Uses.{EndedWith, asked_within}
 use Rattle.ledger_campaigns.proofs.OutcomeLemmas.{outcomes_in}
 use Rattle.ledger_campaigns.proofs.PlaceLemmas.{an_element, uses_all}
 
@@ -91,14 +92,17 @@ switched_given (Came outcome) asked job password row stage is (switching, talked
 -- the outcome of a conversation was to be stored
 talked_stored : (entry : LedgerEntry) (asked : Asked) (job : Job) (password : List ℕ) (row : Row)
     (stage : State) (outcome : Outcome) → IsUse entry asked job password row stage
-    → HasTalked stage → row ≡ rows.Came outcome → asked.stored outcome
+    → EndedWith outcome stage → row ≡ rows.Came outcome → asked.stored outcome
 talked_stored NotSent asked job password row unused outcome is talked came = absurd talked
 talked_stored NotSent asked job password row (refused address) outcome is talked came =
     absurd talked
 talked_stored NotSent asked job password row (connected address) outcome is talked came =
     absurd talked
-talked_stored NotSent asked job password row (closed address None) outcome is talked came =
-    absurd talked
+talked_stored NotSent asked job password row (closed address None) outcome
+    (same, inl (held, new, unknown)) talked came =
+    absurd (talked (let is : outcome ≡ Unknown = cc in is))
+talked_stored NotSent asked job password row (closed address None) outcome
+    (same, inr (may, stored, row_is)) talked came = rw came at stored
 talked_stored NotSent asked job password row (closed address (Some log)) outcome
     (same, inl (held, new, unknown)) talked came = absurd (talked new)
 talked_stored NotSent asked job password row (closed address (Some log)) outcome

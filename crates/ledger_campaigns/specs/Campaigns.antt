@@ -30,7 +30,7 @@ use Rattle.ledger_campaigns.specs.declared.request.LedgerAnswer.{LedgerAnswer}
 use Rattle.ledger_campaigns.specs.Desks.{LedgerCalls, permits_given, HasRequest, HasOutcome}
 use Rattle.ledger_campaigns.specs.Desks.{HasRunOut, IsLegalHistory, Stands}
 use Rattle.ledger_campaigns.specs.Uses.{Asked, IsUse, IsRowFor, HasSwitched, asked_through}
-use Rattle.ledger_campaigns.specs.Uses.{HasTalked, asked_within}
+use Rattle.ledger_campaigns.specs.Uses.{EndedWith, asked_within}
 
 -- whether the row of a place is that of its job, and the job used its attempt as the entry found at
 -- the place and what the port of the place has asked allow
@@ -103,14 +103,13 @@ module _ {B : Type 0} (is_honest : B → Type 0) (is_marked : B → ℕ → Type
       → place < length start.entries → HasRequest (Record place outcome) calls
       → HasOutcome is_honest is_marked keeps place outcome now
 
-  -- whether the outcome of each job that had a conversation in this run, by the log of its
-  -- connection, is in the ledger at the end, unless the port of its place has read that all turns
-  -- of the lock were drawn
+  -- whether the outcome of each job that had a conversation in this run is in the ledger at the
+  -- end, unless the port of its place has read that all turns of the lock were drawn
   abbrev pub AreStored : {O : Type 0} → List Job → List ReportLine → List State
       → List (ShownPort LedgerRequest (LedgerAnswer B) O) → LedgerState B → Type 0
   AreStored {O} jobs lines stages ports now = (place : ℕ) (line : ReportLine) (outcome : Outcome)
       (port : ShownPort LedgerRequest (LedgerAnswer B) O) → place < length jobs
-      → HasTalked (slice_index_or stages place unused)
+      → EndedWith outcome (slice_index_or stages place unused)
       → (slice_index_or lines place line).row ≡ Came outcome
       → HasOutcome is_honest is_marked keeps place outcome now
       ⊎ HasRunOut (slice_index_or ports place port)

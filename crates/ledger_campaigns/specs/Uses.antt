@@ -5,6 +5,7 @@
 --     IsNewUse          the use of an attempt by a job whose command was not sent before
 --     IsUse             the use of an attempt by a job
 --     IsRowFor          the row of a job
+--     EndedWith         a job with an outcome had a conversation
 --     HasSwitched       a switching command may have been sent, by the log of the connection
 use Rattle.std.specs.Prelude.{◌≡◌, ◌≢◌, ◌⊎◌, ℕ, List, [], Option, Some, None, Result, Ok, IfOk, ⊤}
 use Rattle.turn_lock.specs.Shown.{ShownPort}
@@ -118,6 +119,15 @@ HasTalked (refused address) = ⊥
 HasTalked (connected address) = ⊥
 HasTalked (closed address None) = ⊥
 HasTalked (closed address (Some log)) = log ≢ []
+
+-- whether a job that has this outcome had a conversation, by the log of its connection; if there is
+-- no log, by an outcome other than unknown
+abbrev pub EndedWith : Outcome → State → Type 0
+EndedWith outcome unused = ⊥
+EndedWith outcome (refused address) = ⊥
+EndedWith outcome (connected address) = ⊥
+EndedWith outcome (closed address None) = outcome ≢ Unknown
+EndedWith outcome (closed address (Some log)) = log ≢ []
 
 -- Whether a switching command may have been sent: the log of the connection is not empty.
 abbrev pub HasSwitched : Verb → State → Type 0
