@@ -26,7 +26,9 @@ use std::thread::Threads;
 // The line on standard error if a call on the ledger failed.
 const LEDGER_FAILED: &str = "ledger: the file failed; jobs that were not reached were not run";
 
-// The line on standard error if no call on the ledger failed, but its file could not be closed.
+// The line on standard error if no call on the ledger failed, but its file could not be closed. The
+// outcome of each conversation of this run is then in the ledger (`run` of `IsRunOnFile`), unless
+// all 2^62 turns of its lock were drawn; the row of a job that was not run is no outcome.
 const LEDGER_NOT_CLOSED: &str = "ledger: the file was not closed; it has all outcomes";
 
 // A campaign whose jobs and options are all valid, and the path of its ledger.

@@ -43,8 +43,8 @@ pub struct LedgeredRun<'a, C: Connector, B: Book> {
 /// unless all turns of its lock, 2^62, were drawn. Jobs of one address are in different rounds, in
 /// the order of the list, and a round begins when the one before it has ended.
 ///
-/// All memory of the report is allocated before the first connection is made: after an error the
-/// ledger is unchanged and dropped.
+/// Errors: `AllocError`; the ledger is dropped. The code allocates all memory of the report before
+/// it starts a worker; no contract states that no connection is made before an error.
 pub fn run_ledgered_campaign<
     'a,
     R: Threads + Wait + Sync,

@@ -60,7 +60,7 @@ fn take_apart<C: Connector, B: Book>(
 /// Runs the jobs of a campaign with permits of a ledger. Returns the texts, unless out of memory,
 /// and the ledger as `run_ledgered_campaign` does.
 ///
-/// Errors: `AllocError`, before the first connection is made; the ledger is dropped.
+/// Errors: `AllocError` as `run_ledgered_campaign` does; the ledger is dropped.
 pub fn run_on_ledger<R: Threads + Wait + Sync, C: Connector, W: Watcher, B: Book + Send>(
     threads: &R,
     alloc: Global,

@@ -39,7 +39,8 @@ fn close<S: Start>(ledger: Option<Ledger<BookFrom<S>>>) -> LedgerEnd
 /// Opens the ledger of a campaign at a path, where `S` stands for what the file holds, runs its
 /// jobs with permits of the ledger, and closes it.
 ///
-/// Errors, all before the first connection is made: those of [`open_ledger_from`], and `Memory`.
+/// Errors: those of [`open_ledger_from`], and `Memory`. The code returns them before it starts a
+/// worker; no contract states that no connection is made then.
 pub fn run_with_ledger<S: Start + Send, R: Threads + Wait + Sync, C: Connector, W: Watcher>(
     rt: &HostRuntime,
     threads: &R,
